@@ -11,14 +11,14 @@ demo:
 prove:
 	@tools/progress $$PPID &
 	@tools/demo run
-	cd crates/quick_start && rt run
+	cd crates/example_quick_start && rt run
 
 # The quick way for a change: proves what changed in the libraries, in order, and lays out every crate.
 check:
 	@tools/progress $$PPID &
 	cd crates/fe2o3_sasl_wire && rt check
 	cd crates/fe2o3_scram && rt check
-	cd crates/fe2o3_sasl_runs && rt check
+	cd crates/fe2o3_sasl_core && rt check
 	cd crates/fe2o3_sasl && rt check
 	cd crates/fe2o3_sasl_negotiation && rt check
 	for crate in crates/*/; do (cd $$crate && rt fmt) || exit 1; done

@@ -21,7 +21,7 @@ for library in "$@"; do
     done
 done
 # (the exports are over the lower four)
-libraries="fe2o3_sasl_wire fe2o3_scram fe2o3_sasl_runs fe2o3_sasl"
+libraries="fe2o3_sasl_wire fe2o3_scram fe2o3_sasl_core fe2o3_sasl"
 
 # lay CRATE FILE..: a crate of these files, of which it has no other.
 lay() {

@@ -83,7 +83,7 @@ static int read_line(FILE *in, char *line, size_t room)
 static uint32_t read_message(FILE *in, struct text *message)
 {
     char line[4096];
-    return read_line(in, line, sizeof line) && read_base64(line, message) ? FE2O3_DONE : OTHER_SIDE_ENDED;
+    return read_line(in, line, sizeof line) && read_base64(line, message) ? FE2O3_OK : OTHER_SIDE_ENDED;
 }
 
 static int random_bytes(uint8_t *bytes, size_t len)
@@ -139,20 +139,20 @@ static uint32_t log_in(FILE *in, FILE *out, const struct fe2o3_login *login, str
     if (!read_line(in, line, sizeof line) || !read_line(in, line, sizeof line) || !random_bytes(nonce, sizeof nonce))
         return OTHER_SIDE_ENDED;
     status = fe2o3_scram_client_first(login, client, nonce, answer.bytes, sizeof answer.bytes, &answer.len);
-    if (status != FE2O3_DONE)
+    if (status != FE2O3_OK)
         return status;
     write_base64(out, &answer);
-    if ((status = read_message(in, &message)) != FE2O3_DONE)
+    if ((status = read_message(in, &message)) != FE2O3_OK)
         return status;
     status = fe2o3_scram_client_final(
         login, client, message.bytes, message.len, answer.bytes, sizeof answer.bytes, &answer.len);
-    if (status != FE2O3_DONE)
+    if (status != FE2O3_OK)
         return status;
     write_base64(out, &answer);
-    if ((status = read_message(in, &message)) != FE2O3_DONE)
+    if ((status = read_message(in, &message)) != FE2O3_OK)
         return status;
     status = fe2o3_scram_client_verify(login, client, message.bytes, message.len);
-    if (status == FE2O3_DONE)
+    if (status == FE2O3_OK)
         write_base64(out, &empty);
     return status;
 }
@@ -176,39 +176,39 @@ static uint32_t read_password(const char *typed, int prepared, uint32_t unassign
     password->len = strlen(typed);
     memcpy(password->bytes, typed, password->len);
     if (!prepared)
-        return FE2O3_DONE;
+        return FE2O3_OK;
     return fe2o3_saslprep(
         (const uint8_t *)typed, strlen(typed), unassigned, password->bytes, sizeof password->bytes, &password->len);
 }
 
 static int run_client(char **words, int prepared, int again, const char *typed)
 {
-    struct fe2o3_client_keys keys = {0};
+    struct fe2o3_scram_keys keys = {0};
     struct fe2o3_scram_client client = {0};
     struct fe2o3_login login = {0};
     struct text password;
     uint32_t status = read_password(typed, prepared, FE2O3_UNASSIGNED_ALLOWED, &password);
     login.secret = prepared ? FE2O3_BY_PREPARED : FE2O3_BY_PASSWORD;
     login.version = version_of(words[1]);
-    login.least_iterations = (uint32_t)strtoul(words[3], NULL, 10);
-    login.most_iterations = (uint32_t)strtoul(words[4], NULL, 10);
+    login.min_iterations = (uint32_t)strtoul(words[3], NULL, 10);
+    login.max_iterations = (uint32_t)strtoul(words[4], NULL, 10);
     login.username = (const uint8_t *)words[2];
     login.username_len = strlen(words[2]);
     login.password = password.bytes;
     login.password_len = password.len;
     login.keys = &keys;
-    if (status == FE2O3_DONE)
+    if (status == FE2O3_OK)
         status = connected(loopback(words[0], 0), &login, &client);
-    told(status == FE2O3_DONE ? "logged in" : "not logged in", status);
-    if (status != FE2O3_DONE || !again)
-        return status != FE2O3_DONE;
-    status = fe2o3_scram_client_keys(&client, &keys);
+    told(status == FE2O3_OK ? "logged in" : "not logged in", status);
+    if (status != FE2O3_OK || !again)
+        return status != FE2O3_OK;
+    status = fe2o3_scram_client_get_keys(&client, &keys);
     login.secret = FE2O3_BY_KEYS;
     login.password_len = 0;
-    if (status == FE2O3_DONE)
+    if (status == FE2O3_OK)
         status = connected(loopback(words[0], 0), &login, &client);
-    told(status == FE2O3_DONE ? "logged in by keys" : "not logged in by keys", status);
-    return status != FE2O3_DONE;
+    told(status == FE2O3_OK ? "logged in by keys" : "not logged in by keys", status);
+    return status != FE2O3_OK;
 }
 
 static uint8_t users[65536], secret[32];
@@ -219,8 +219,8 @@ static int takes_unbound;
 static void fetch(const struct text *name, uint32_t version, struct fe2o3_scram_record *record)
 {
     size_t line = 0;
-    if (fe2o3_scram_lines_find(users, users_len, name->bytes, name->len, version, &line, record) != FE2O3_DONE)
-        fe2o3_scram_record_of_nobody(version, secret, sizeof secret, name->bytes, name->len, 16, 4096, record);
+    if (fe2o3_scram_lines_find(users, users_len, name->bytes, name->len, version, &line, record) != FE2O3_OK)
+        fe2o3_scram_record_mock(version, secret, sizeof secret, name->bytes, name->len, 16, 4096, record);
 }
 
 static uint32_t serve(FILE *in, FILE *out, const char *mechanism, struct fe2o3_scram_server *server)
@@ -232,22 +232,22 @@ static uint32_t serve(FILE *in, FILE *out, const char *mechanism, struct fe2o3_s
     uint32_t status;
     if (!read_line(in, line, sizeof line) || strcmp(line, mechanism) != 0 || !random_bytes(nonce, sizeof nonce))
         return OTHER_SIDE_ENDED;
-    if ((status = read_message(in, &message)) != FE2O3_DONE)
+    if ((status = read_message(in, &message)) != FE2O3_OK)
         return status;
-    status = fe2o3_scram_server_user(message.bytes, message.len, name.bytes, sizeof name.bytes, &name.len);
-    if (status != FE2O3_DONE)
+    status = fe2o3_scram_server_claimed_user(message.bytes, message.len, name.bytes, sizeof name.bytes, &name.len);
+    if (status != FE2O3_OK)
         return status;
     fetch(&name, version_of(mechanism), &record);
-    status = (takes_unbound ? fe2o3_scram_server_first_unbound : fe2o3_scram_server_first)(
+    status = (takes_unbound ? fe2o3_scram_server_first_with_cbind_flag_y : fe2o3_scram_server_first)(
         &record, server, nonce, message.bytes, message.len, answer.bytes, sizeof answer.bytes, &answer.len);
-    if (status != FE2O3_DONE)
+    if (status != FE2O3_OK)
         return status;
     write_base64(out, &answer);
-    if ((status = read_message(in, &message)) != FE2O3_DONE)
+    if ((status = read_message(in, &message)) != FE2O3_OK)
         return status;
     status = fe2o3_scram_server_final(
         &record, server, message.bytes, message.len, answer.bytes, sizeof answer.bytes, &answer.len);
-    if (status == FE2O3_DONE) {
+    if (status == FE2O3_OK) {
         write_base64(out, &answer);
         read_message(in, &message);
         write_base64(out, &empty);
@@ -262,9 +262,9 @@ static void served(int channel, const char *mechanism)
     int other = channel < 0 ? -1 : dup(channel);
     FILE *in = channel < 0 ? NULL : fdopen(channel, "r"), *out = other < 0 ? NULL : fdopen(other, "w");
     uint32_t status = in == NULL || out == NULL ? OTHER_SIDE_ENDED : serve(in, out, mechanism, &server);
-    if (status == FE2O3_DONE)
-        status = fe2o3_scram_server_logged_in(&server, name.bytes, sizeof name.bytes, &name.len);
-    if (status == FE2O3_DONE)
+    if (status == FE2O3_OK)
+        status = fe2o3_scram_server_authenticated_user(&server, name.bytes, sizeof name.bytes, &name.len);
+    if (status == FE2O3_OK)
         printf("logged in: %.*s\n", (int)name.len, (const char *)name.bytes);
     else
         told("not logged in", status);
@@ -302,16 +302,16 @@ static int run_record(char **words, int prepared, const char *typed)
     uint32_t status = read_password(typed, prepared, FE2O3_UNASSIGNED_REFUSED, &password);
     if (!read_base64(words[1], &salt))
         status = FE2O3_RECORD_BASE64_DECODE_ERROR;
-    if (status == FE2O3_DONE)
+    if (status == FE2O3_OK)
         status = (prepared ? fe2o3_scram_record_make_prepared : fe2o3_scram_record_make)(
             version_of(words[0]), password.bytes, password.len, salt.bytes, salt.len, count, &record);
-    if (status == FE2O3_DONE)
+    if (status == FE2O3_OK)
         status = fe2o3_scram_record_text(&record, out.bytes, sizeof out.bytes, &out.len);
-    if (status == FE2O3_DONE)
+    if (status == FE2O3_OK)
         printf("%.*s\n", (int)out.len, (const char *)out.bytes);
     else
         told("no record", status);
-    return status != FE2O3_DONE;
+    return status != FE2O3_OK;
 }
 
 static int run_verify(const char *text, int prepared, const char *typed)
@@ -319,13 +319,13 @@ static int run_verify(const char *text, int prepared, const char *typed)
     struct fe2o3_scram_record record = {0};
     struct text password;
     uint32_t status = read_password(typed, prepared, FE2O3_UNASSIGNED_ALLOWED, &password);
-    if (status == FE2O3_DONE)
+    if (status == FE2O3_OK)
         status = fe2o3_scram_record_parse((const uint8_t *)text, strlen(text), &record);
-    if (status == FE2O3_DONE)
+    if (status == FE2O3_OK)
         status = (prepared ? fe2o3_scram_record_verify_prepared : fe2o3_scram_record_verify)(
             &record, password.bytes, password.len);
-    told(status == FE2O3_DONE ? "verified" : "not verified", status);
-    return status != FE2O3_DONE;
+    told(status == FE2O3_OK ? "verified" : "not verified", status);
+    return status != FE2O3_OK;
 }
 
 int main(int count, char **words)

@@ -1,4 +1,4 @@
-"""The bytes of a login as rows of stored vectors in crates/sasl_vectors/data: of one over lines as in peer-runs.txt,
+"""The bytes of a login as rows of stored vectors in crates/test_vectors_sasl/data: of one over lines as in peer-runs.txt,
 whose frames are made here around real messages, and of one over frames as in peer-streams.txt."""
 
 from __future__ import annotations

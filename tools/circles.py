@@ -17,7 +17,7 @@ import sys
 from pathlib import Path
 
 TOP = Path(sys.argv[1]) if len(sys.argv) > 1 else Path(__file__).resolve().parent.parent
-LIBRARIES = ("fe2o3_sasl_wire", "fe2o3_scram", "fe2o3_sasl_runs", "fe2o3_sasl", "fe2o3_sasl_negotiation", "sasl_c")
+LIBRARIES = ("fe2o3_sasl_wire", "fe2o3_scram", "fe2o3_sasl_core", "fe2o3_sasl", "fe2o3_sasl_negotiation", "sasl_c")
 NO_CODE = re.compile(r"""//[^\n]*|/\*.*?\*/|b?'(?:\\.|[^'\\])'|b?"(?:\\.|[^"\\])*"|#!?\[tactic\(.*?\)\]\n""", re.S)
 PATH = re.compile(r"(?<![\w:])(crate|super)\s*::")
 NAME = re.compile(r"\s*(r#)?(\w+|\*)\s*")

@@ -1,6 +1,6 @@
 /* SCRAM (RFC 5802, RFC 7677) and SASL's layer of AMQP 1.0. Written by tools/header.py.
  *
- * A call answers a number: FE2O3_DONE, or why it is not done. There is nothing to begin with and nothing to free: what
+ * A call answers a number: FE2O3_OK, or why it is not done. There is nothing to begin with and nothing to free: what
  * an exchange keeps between its calls stands in structs of the caller's, and the library keeps nothing.
  *
  * What a caller owes, since no call can test it:
@@ -70,12 +70,12 @@ extern "C" {
 #define FE2O3_OFFER_PLAIN 2u
 #define FE2O3_OFFER_ANONYMOUS 4u
 #define FE2O3_OFFER_EXTERNAL 8u
-#define FE2O3_TAKE_UNBOUND 16u
+#define FE2O3_ACCEPT_CBIND_FLAG_Y 16u
 
 /* How a connection stands. */
-#define FE2O3_WANTING 0u
-#define FE2O3_LOGGED_IN 1u
-#define FE2O3_TO_BE_CLOSED 2u
+#define FE2O3_IN_PROGRESS 0u
+#define FE2O3_AUTHENTICATED 1u
+#define FE2O3_FAILED 2u
 
 /* An empty text: a pointer and its length, as an argument or behind `=` in a struct. */
 #define FE2O3_NONE (const uint8_t *)"", 0

@@ -37,7 +37,7 @@ from typing import NamedTuple
 from scopes import brackets, closing, locals_of
 
 TOP = Path(__file__).resolve().parent.parent
-LIBRARIES = ("fe2o3_sasl_wire", "fe2o3_scram", "fe2o3_sasl_runs", "fe2o3_sasl", "fe2o3_sasl_negotiation",
+LIBRARIES = ("fe2o3_sasl_wire", "fe2o3_scram", "fe2o3_sasl_core", "fe2o3_sasl", "fe2o3_sasl_negotiation",
              "sasl_c")
 UNCOUNTED = ("sasl_c",)
 LIST = "tools/meters.txt"

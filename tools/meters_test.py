@@ -9,7 +9,7 @@ import meters
 
 TEXTS = meters.texts_of(meters.TOP)
 LISTED = (meters.TOP / meters.LIST).read_text(encoding="utf-8")
-SCRAM, RUNS, SASL = "crates/fe2o3_scram/src/", "crates/fe2o3_sasl_runs/src/", "crates/fe2o3_sasl/src/"
+SCRAM, RUNS, SASL = "crates/fe2o3_scram/src/", "crates/fe2o3_sasl_core/src/", "crates/fe2o3_sasl/src/"
 C_FINAL, C_CONNECTION = "crates/sasl_c/src/client_final.rt", "crates/sasl_c/src/sasl_server.rt"
 C_KEYS, C_RECORDS = "crates/sasl_c/src/keys.rt", "crates/sasl_c/src/records.rt"
 CLIENT, FINAL = SCRAM + "scram_client.rt", SCRAM + "scram_messages/client_final.rt"
@@ -165,7 +165,7 @@ class Meters(unittest.TestCase):
             "let salted_password = self.salted_password(", "let stretch = plain; plain(*self, b\"\");\n        "))
         exported = (renamed[0], renamed[1].replace("use crate::hmac::hasher", "pub(crate) use crate::hmac::hasher"))
         self.assertIn("another name", "\n".join(self.faults(FINAL, exported)))
-        constant = first("impl ScramClientKeys {", "const H: fn(ScramVersion, &[u8]) -> Digest = digest_of;\n\n")
+        constant = first("impl CachedKeys {", "const H: fn(ScramVersion, &[u8]) -> Digest = digest_of;\n\n")
         self.assertIn("a function that is a constant", "\n".join(self.faults(FINAL, IMPORT, constant)))
 
     def test_an_answer_for_c_before_there_is_room(self):
@@ -207,9 +207,9 @@ class Meters(unittest.TestCase):
                 self.refused(["step: Meter::new", "step: answered x2"], path, first("has_room(out, len)?;", step))
 
     def test_keys_and_passwords_for_c_that_are_stretched_twice(self):
-        again = "let _ = ScramClientKeys::from_prepared_password(alloc, version, password, salt, iterations," \
+        again = "let _ = CachedKeys::from_prepared_password(alloc, version, password, salt, iterations," \
                 " &mut Meter::new());\n    "
-        self.refused(["made: Meter::new x2", "made: ScramClientKeys::from_prepared_password x2"], C_KEYS,
+        self.refused(["made: Meter::new x2", "made: CachedKeys::from_prepared_password x2"], C_KEYS,
                      first("let mut meter = Meter::new();", again))
         verified = "number(verify(kept, PasswordForm::Typed, password))"
         self.refused(["fe2o3_scram_record_verify: verify x2"], C_RECORDS,

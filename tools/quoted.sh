@@ -1,6 +1,6 @@
 #!/bin/sh
 # Checks that README.md and each CALLING.md quote the sources word for word. A block names its file in
-# its first line, as `// crates/quick_start/src/client.rt` or `# crates.txt`; what follows has to stand
+# its first line, as `// crates/example_quick_start/src/client.rt` or `# crates.txt`; what follows has to stand
 # there, line after line, whatever the indentation. A line of the comment's mark and two dots leaves
 # lines out. Every block of Rust and of antt has to name its file.
 set -eu

@@ -1,7 +1,7 @@
 #!/usr/bin/env python3
 """Starts the built `broker` and `scram server` again and again, and compares what known and unknown users get.
 
-    tools/restarts.py       the programs crates/broker/out/broker and crates/scram/out/scram, which `make test` builds
+    tools/restarts.py       the programs crates/example_broker/out/broker and crates/scram/out/scram, which `make test` builds
 
 An unknown user has to get the salt that the secret beside the records gives, at each start and from processes that
 start at once; challenge and refusal have to be those of a known user but for the salt. It prints nothing where all

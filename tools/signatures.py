@@ -15,7 +15,7 @@ from dataclasses import dataclass, field
 from pathlib import Path
 
 CRATES = Path(__file__).resolve().parent.parent / "crates"
-LIBRARIES = ("fe2o3_sasl_wire", "fe2o3_scram", "fe2o3_sasl_runs", "fe2o3_sasl", "fe2o3_sasl_negotiation", "saslprep")
+LIBRARIES = ("fe2o3_sasl_wire", "fe2o3_scram", "fe2o3_sasl_core", "fe2o3_sasl", "fe2o3_sasl_negotiation", "saslprep")
 WIDTH = 100
 ITEM = re.compile(r"pub (?:const )?(fn|struct|enum|trait|const|static|type) (\w+)")
 CONTRACT = re.compile(r"\s*(ensures|requires|ghost|decreases|terminates)\b")

@@ -23,7 +23,7 @@ static uint8_t client_nonce[32], server_nonce[32], salt[32];
 static struct login {
     struct fe2o3_login who;
     struct fe2o3_scram_record record;
-    struct fe2o3_client_keys keys;
+    struct fe2o3_scram_keys keys;
     struct fe2o3_scram_client started, answered, complete;
     struct fe2o3_scram_server open;
     struct text client_first, server_first, client_final, server_final, record_text, line;
@@ -33,13 +33,13 @@ static struct login {
 static struct fe2o3_scram_client client;
 static struct fe2o3_scram_server server;
 static struct fe2o3_scram_record record;
-static struct fe2o3_client_keys keys;
+static struct fe2o3_scram_keys keys;
 static struct fe2o3_sasl_frame_view view = FE2O3_SASL_FRAME_VIEW_INIT;
 static struct text out;
 static size_t line;
 
 static void need(uint32_t status, const char *what) {
-    if (status == FE2O3_DONE) return;
+    if (status == FE2O3_OK) return;
     fprintf(stderr, "%s answers %u\n", what, (unsigned)status);
     exit(2);
 }
@@ -111,10 +111,10 @@ static void records(struct login *login) {
     COUNT("record-read", (void)0, fe2o3_scram_record_parse(GIVEN(login->record_text), &record));
     COUNT("record-verify", (void)0, fe2o3_scram_record_verify(&login->record, TEXT("pencil")));
     COUNT("record-of-nobody", (void)0,
-          fe2o3_scram_record_of_nobody(FE2O3_SHA_256, salt, sizeof salt, TEXT("nobody"), 32, 1, &record));
+          fe2o3_scram_record_mock(FE2O3_SHA_256, salt, sizeof salt, TEXT("nobody"), 32, 1, &record));
     COUNT("keys-make", (void)0, fe2o3_scram_keys_make(FE2O3_SHA_256, TEXT("pencil"), salt, sizeof salt, 1, &keys));
-    COUNT("client-keys", (void)0, fe2o3_scram_client_keys(&login->complete, &keys));
-    COUNT("server-user", (void)0, fe2o3_scram_server_user(GIVEN(login->client_first), ROOM(out)));
+    COUNT("client-keys", (void)0, fe2o3_scram_client_get_keys(&login->complete, &keys));
+    COUNT("server-user", (void)0, fe2o3_scram_server_claimed_user(GIVEN(login->client_first), ROOM(out)));
     COUNT("lines-find", (void)0,
           fe2o3_scram_lines_find(GIVEN(login->line), TEXT("user"), FE2O3_SHA_256, &line, &record));
     COUNT("line-write", (void)0, fe2o3_scram_line(TEXT("user"), &login->record, ROOM(out)));

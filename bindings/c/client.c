@@ -79,7 +79,7 @@ static int64_t negotiate(int channel, const struct fe2o3_sasl_login *login, stru
     uint8_t came[4096], out[512], nonce[32];
     size_t len = 0, at = 0, taken = 0, out_len = 0;
     uint32_t status = fe2o3_sasl_client_open(out, sizeof out, &out_len);
-    while (status == FE2O3_DONE && sent(channel, out, out_len) && client->connection.standing == FE2O3_WANTING) {
+    while (status == FE2O3_OK && sent(channel, out, out_len) && client->connection.progress == FE2O3_IN_PROGRESS) {
         if (at == len) {
             ssize_t some = recv(channel, came, sizeof came, 0);
             if (some <= 0)
@@ -93,7 +93,7 @@ static int64_t negotiate(int channel, const struct fe2o3_sasl_login *login, stru
             login, client, came + at, len - at, nonce, &taken, out, sizeof out, &out_len);
         at += taken;
     }
-    return status == FE2O3_DONE && client->connection.standing == FE2O3_WANTING ? -1 : (int64_t)status;
+    return status == FE2O3_OK && client->connection.progress == FE2O3_IN_PROGRESS ? -1 : (int64_t)status;
 }
 
 static int told(const char *what, uint32_t status, int ends)
@@ -107,7 +107,7 @@ static int told(const char *what, uint32_t status, int ends)
 int main(int count, char **words)
 {
     char password[1024];
-    struct fe2o3_client_keys no_keys = {0};
+    struct fe2o3_scram_keys no_keys = {0};
     struct fe2o3_sasl_client client = {0};
     struct fe2o3_sasl_login login = {0, NULL, 0, {0, 0, 4096, 1000000, NULL, 0, NULL, 0, NULL}};
     size_t which = count == 5 ? known(words[3]) : known("");
@@ -135,8 +135,8 @@ int main(int count, char **words)
         puts("no connection");
         return 2;
     }
-    if (answer != FE2O3_DONE)
+    if (answer != FE2O3_OK)
         return told("refused", (uint32_t)answer, 2);
-    return client.connection.standing == FE2O3_LOGGED_IN ? told("logged in", FE2O3_DONE, 0)
+    return client.connection.progress == FE2O3_AUTHENTICATED ? told("logged in", FE2O3_OK, 0)
                                             : told("not logged in", client.connection.why, 1);
 }

@@ -1,6 +1,6 @@
 /* SCRAM (RFC 5802, RFC 7677) and SASL's layer of AMQP 1.0. Written by tools/header.py.
  *
- * A call answers a number: FE2O3_DONE, or why it is not done. There is nothing to begin with and nothing to free: what
+ * A call answers a number: FE2O3_OK, or why it is not done. There is nothing to begin with and nothing to free: what
  * an exchange keeps between its calls stands in structs of the caller's, and the library keeps nothing.
  *
  * What a caller owes, since no call can test it:
@@ -70,12 +70,12 @@ extern "C" {
 #define FE2O3_OFFER_PLAIN 2u
 #define FE2O3_OFFER_ANONYMOUS 4u
 #define FE2O3_OFFER_EXTERNAL 8u
-#define FE2O3_TAKE_UNBOUND 16u
+#define FE2O3_ACCEPT_CBIND_FLAG_Y 16u
 
 /* How a connection stands. */
-#define FE2O3_WANTING 0u
-#define FE2O3_LOGGED_IN 1u
-#define FE2O3_TO_BE_CLOSED 2u
+#define FE2O3_IN_PROGRESS 0u
+#define FE2O3_AUTHENTICATED 1u
+#define FE2O3_FAILED 2u
 
 /* An empty text: a pointer and its length, as an argument or behind `=` in a struct. */
 #define FE2O3_NONE (const uint8_t *)"", 0
@@ -83,7 +83,7 @@ extern "C" {
 /* What a call answers. */
 enum fe2o3_status {
     /* The call is done. */
-    FE2O3_DONE = 0,
+    FE2O3_OK = 0,
     /* There was no memory. Nothing has changed, and the call can be made again. */
     FE2O3_OUT_OF_MEMORY = 1,
     /* The room is too small. Nothing has changed, and the length says what suffices. */
@@ -113,7 +113,7 @@ enum fe2o3_status {
     /* The connection has ended: its client is logged in, or it is to be closed. */
     FE2O3_ENDED = 13,
     /* The struct of the connection is none that a call leaves. */
-    FE2O3_NOT_KEPT = 14,
+    FE2O3_INVALID_SNAPSHOT = 14,
     /* The bytes complete no frame that names a user. */
     FE2O3_NAMES_NOBODY = 15,
     /* The message is not UTF-8. */
@@ -143,7 +143,7 @@ enum fe2o3_status {
     /* The message names another salt or another iteration count than the client's keys are of, and the
      * client has no password. Whoever is on the way can bring this about: it is no reason to forget the
      * keys. */
-    FE2O3_CLIENT_OTHER_KEYS = 32,
+    FE2O3_CLIENT_STALE_KEYS = 32,
     /* Never answered, since HMAC takes keys of every length. */
     FE2O3_CLIENT_HMAC_ERROR_INVALID_LENGTH = 33,
     /* Never answered by the client, whose texts of an exclusive or are digests of one hash. */
@@ -203,15 +203,15 @@ enum fe2o3_status {
     /* A line feed stands in the name, or the iteration count is 0. */
     FE2O3_NOT_WRITABLE = 69,
     /* The other side's header is not that of SASL. */
-    FE2O3_OTHER_HEADER = 70,
+    FE2O3_PROTOCOL_HEADER_MISMATCH = 70,
     /* The size of a frame is below 8 or above 512. */
     FE2O3_FRAME_SIZE = 71,
     /* The frame is not the one that is due. */
-    FE2O3_OUT_OF_TURN = 72,
+    FE2O3_UNEXPECTED_FRAME = 72,
     /* The answer fits in no frame of 512 bytes. */
     FE2O3_REPLY_TOO_LARGE = 73,
     /* The bytes of the frame are none of its type. */
-    FE2O3_FRAME_UNREAD = 74,
+    FE2O3_MALFORMED_FRAME = 74,
     /* The frame's type or its data offset is not that of a SASL frame. */
     FE2O3_NO_SASL_FRAME = 75,
     /* A size of the frame is more than 32 bits can say. */
@@ -244,7 +244,7 @@ struct fe2o3_connection {
      * waited for; by the other mechanisms the server's word is all that there is. Behind an outcome of another code
      * it stands at 2, and so it does behind one that is Ok and does not show the signature. A server stands at 1 with
      * the outcome Ok that it writes, and at 2 with any other. */
-    uint32_t standing;
+    uint32_t progress;
     /* Why it is to be closed: a status, as `REFUSED_AUTH` of an outcome that says so, or
      * `CLIENT_SERVER_SIGNATURE_MISMATCH` of a server that a client does not believe. */
     uint32_t why;
@@ -286,7 +286,7 @@ struct fe2o3_sasl_frame_view {
 #define FE2O3_SASL_FRAME_VIEW_INIT { 0, 0, 0, 0, 0, 0, (const uint8_t *)"", 0, (const uint8_t *)"", 0, (const uint8_t *)"", 0 }
 
 /* What a client keeps in place of its password: a secret, with which one can log in. */
-struct fe2o3_client_keys {
+struct fe2o3_scram_keys {
     /* 1, 256 or 512, for the mechanism's hash; 0 where there are no keys. */
     uint32_t version;
     /* The iteration count that they are of. */
@@ -358,9 +358,9 @@ struct fe2o3_login {
      * `fe2o3_saslprep` writes one. */
     uint32_t secret;
     /* The lowest iteration count that is answered. RFC 7677 asks for 4096 at least. */
-    uint32_t least_iterations;
+    uint32_t min_iterations;
     /* The highest iteration count that is answered. */
-    uint32_t most_iterations;
+    uint32_t max_iterations;
     /* The plain name of the user. */
     const uint8_t *username;
     size_t username_len;
@@ -368,7 +368,7 @@ struct fe2o3_login {
     const uint8_t *password;
     size_t password_len;
     /* The keys that an earlier login handed out. */
-    const struct fe2o3_client_keys *keys;
+    const struct fe2o3_scram_keys *keys;
 };
 
 /* What a client keeps of an exchange. All zeros is a client that has sent nothing. A call that succeeds writes zeros to
@@ -385,14 +385,14 @@ struct fe2o3_scram_client {
     /* The signature that is waited for. */
     uint8_t signature[64];
     /* The keys of the answer. */
-    struct fe2o3_client_keys keys;
+    struct fe2o3_scram_keys keys;
 };
 
 /* What a server offers, and whose record it has: lent for each call. */
-struct fe2o3_sasl_host {
+struct fe2o3_sasl_server_config {
     /* Which mechanisms are offered: the sum of 1 for SCRAM of the version, 2 for PLAIN, 4 for ANONYMOUS, and 8 for
      * EXTERNAL where there is a peer; and of 16 where SCRAM takes a client whose GS2 header is `y,,`, as
-     * `fe2o3_scram_server_first_unbound` does. PLAIN shows the password to whoever reads the connection, and is for
+     * `fe2o3_scram_server_first_with_cbind_flag_y` does. PLAIN shows the password to whoever reads the connection, and is for
      * TLS alone. */
     uint32_t mechanisms;
     /* 1, 256 or 512, for the hash of SCRAM and of the record. */
@@ -415,7 +415,7 @@ struct fe2o3_sasl_server {
     /* The connection. */
     struct fe2o3_connection connection;
     /* What SCRAM keeps. Once a client is logged in, it names the user of any mechanism
-     * (`fe2o3_scram_server_logged_in`); ANONYMOUS names nobody. */
+     * (`fe2o3_scram_server_authenticated_user`); ANONYMOUS names nobody. */
     struct fe2o3_scram_server scram;
 };
 
@@ -434,7 +434,7 @@ struct fe2o3_sasl_login {
 struct fe2o3_sasl_client {
     /* The connection. */
     struct fe2o3_connection connection;
-    /* What SCRAM keeps. Once the client is logged in, it hands out the keys (`fe2o3_scram_client_keys`). */
+    /* What SCRAM keeps. Once the client is logged in, it hands out the keys (`fe2o3_scram_client_get_keys`). */
     struct fe2o3_scram_client scram;
 };
 
@@ -445,10 +445,10 @@ uint32_t fe2o3_scram_client_first(
     struct fe2o3_scram_client *client,
     const uint8_t nonce[32],
     uint8_t *out,
-    size_t out_room,
+    size_t out_size,
     size_t *len);
 
-/* Believes the server-final message, or refuses it. The login is done only where the number is 0. */
+/* Verifies the server-final message, or refuses it. The login is done only where the number is 0. */
 uint32_t fe2o3_scram_client_verify(
     const struct fe2o3_login *login,
     struct fe2o3_scram_client *client,
@@ -457,7 +457,7 @@ uint32_t fe2o3_scram_client_verify(
 
 /* Hands out the keys of a login whose server was believed: with them the next login to a server that keeps its salt
  * and its count takes no password, and two hashes of HMAC. Whoever has them can log in. */
-uint32_t fe2o3_scram_client_keys(const struct fe2o3_scram_client *client, struct fe2o3_client_keys *keys);
+uint32_t fe2o3_scram_client_get_keys(const struct fe2o3_scram_client *client, struct fe2o3_scram_keys *keys);
 
 /* Answers the server-first message with the client-final message. A room of 128 bytes more than the server-first
  * message suffices, and is asked for before any hash is made. */
@@ -467,12 +467,12 @@ uint32_t fe2o3_scram_client_final(
     const uint8_t *server_first,
     size_t server_first_len,
     uint8_t *out,
-    size_t out_room,
+    size_t out_size,
     size_t *len);
 
 /* Takes the body of a frame that the server sent, behind the four bytes of the frame's size, and writes the body that
  * is to be sent: the init to its mechanisms, the response to its challenge, and nothing (a length of 0) to its outcome.
- * Standing is 0 while the login goes on, 1 once the client is logged in, and the number of a refusal (81 to 84) where
+ * Progress is 0 while the login goes on, 1 once the client is logged in, and the number of a refusal (81 to 84) where
  * the outcome is one; hand in no body after that. A room of 508 bytes suffices, and is asked for before any hash is
  * made. The nonce is 32 random bytes, fresh for each call.
  *
@@ -486,9 +486,9 @@ uint32_t fe2o3_sasl_client_step(
     const uint8_t *body,
     size_t body_len,
     const uint8_t nonce[32],
-    uint32_t *standing,
+    uint32_t *progress,
     uint8_t *out,
-    size_t out_room,
+    size_t out_size,
     size_t *len);
 
 /* Reads the body of a frame, which begins with its data offset, behind the four bytes of its size. It takes no memory.
@@ -507,7 +507,7 @@ uint32_t fe2o3_scram_keys_make(
     const uint8_t *salt,
     size_t salt_len,
     uint32_t iterations,
-    struct fe2o3_client_keys *keys);
+    struct fe2o3_scram_keys *keys);
 
 /* Makes the keys of a prepared password (RFC 4013), for a server that keeps this salt and this count: any text, which is
  * taken as it stands. */
@@ -518,7 +518,7 @@ uint32_t fe2o3_scram_keys_make_prepared(
     const uint8_t *salt,
     size_t salt_len,
     uint32_t iterations,
-    struct fe2o3_client_keys *keys);
+    struct fe2o3_scram_keys *keys);
 
 /* Finds the record of this version that a user has in a text of users, a line for each: the name, with each comma as
  * `=2C` and each equals sign as `=3D`, a space, the text of the record, and a line feed. Of several lines for one name
@@ -540,7 +540,7 @@ uint32_t fe2o3_scram_line(
     size_t username_len,
     const struct fe2o3_scram_record *kept,
     uint8_t *out,
-    size_t out_room,
+    size_t out_size,
     size_t *len);
 
 /* Writes what SASLprep (RFC 4013) prepares a text to, as a password is before it is compared or hashed: printable ASCII
@@ -552,7 +552,7 @@ uint32_t fe2o3_saslprep(
     size_t text_len,
     uint32_t unassigned,
     uint8_t *out,
-    size_t out_room,
+    size_t out_size,
     size_t *len);
 
 /* Makes the record of a password. Where the number is not 0, the struct stays as it was. */
@@ -580,12 +580,12 @@ uint32_t fe2o3_scram_record_make_prepared(
 uint32_t fe2o3_scram_record_parse(const uint8_t *text, size_t text_len, struct fe2o3_scram_record *kept);
 
 /* Writes the text of a record, as PostgreSQL reads it (RFC 5803, section 2): at most 384 bytes. */
-uint32_t fe2o3_scram_record_text(const struct fe2o3_scram_record *kept, uint8_t *out, size_t out_room, size_t *len);
+uint32_t fe2o3_scram_record_text(const struct fe2o3_scram_record *kept, uint8_t *out, size_t out_size, size_t *len);
 
 /* Makes up a record for a name that a server does not know, so that it can answer as to one that it knows: the login
  * is refused at its proof. The secret is 32 random bytes, the same for all names and kept as long as the records;
  * `made_salt_len`, of at most 64, and the count are those of the server's other records. */
-uint32_t fe2o3_scram_record_of_nobody(
+uint32_t fe2o3_scram_record_mock(
     uint32_t version,
     const uint8_t *secret,
     size_t secret_len,
@@ -609,7 +609,7 @@ uint32_t fe2o3_scram_record_verify_prepared(
     size_t password_len);
 
 /* Writes the header of SASL, with which a client begins a connection. */
-uint32_t fe2o3_sasl_client_open(uint8_t *out, size_t out_room, size_t *len);
+uint32_t fe2o3_sasl_client_open(uint8_t *out, size_t out_size, size_t *len);
 
 /* Takes bytes of the connection as they came, to the end of the header or of the frame that is due, and writes what is
  * to be sent, of at most 512 bytes, a room that is asked for before any hash is made. The number is 0 also where these
@@ -625,29 +625,29 @@ uint32_t fe2o3_sasl_client_receive(
     const uint8_t nonce[32],
     size_t *taken,
     uint8_t *out,
-    size_t out_room,
+    size_t out_size,
     size_t *len);
 
 /* Takes bytes of the connection as they came, to the end of the header or of the frame that is due, and writes what is
  * to be sent, of at most 520 bytes, a room that is asked for before any hash is made. What is left of the bytes is to
  * be handed in again while the connection stands at 0; behind a login it is AMQP's. Before it the caller fetches the
- * record of the user whom the bytes name (`fe2o3_sasl_server_user`), if they name one. The nonce is 32 random bytes,
+ * record of the user whom the bytes name (`fe2o3_sasl_server_claimed_user`), if they name one. The nonce is 32 random bytes,
  * fresh for each call. Where a name or a message has no room in the struct, the call is refused by `TOO_LONG`, and the
  * connection is to be closed. */
 uint32_t fe2o3_sasl_server_receive(
-    const struct fe2o3_sasl_host *host,
+    const struct fe2o3_sasl_server_config *host,
     struct fe2o3_sasl_server *server,
     const uint8_t *bytes,
     size_t bytes_len,
     const uint8_t nonce[32],
     size_t *taken,
     uint8_t *out,
-    size_t out_room,
+    size_t out_size,
     size_t *len);
 
 /* Answers a client-first message with the server-first message, which starts an exchange afresh at any time. The
  * GS2 header of the message has to be `n,,`. The record is that of the user whom the message names
- * (`fe2o3_scram_server_user`), or one that is made up (`fe2o3_scram_record_of_nobody`). The nonce is 32 random
+ * (`fe2o3_scram_server_claimed_user`), or one that is made up (`fe2o3_scram_record_mock`). The nonce is 32 random
  * bytes, fresh for each. */
 uint32_t fe2o3_scram_server_first(
     const struct fe2o3_scram_record *kept,
@@ -656,28 +656,28 @@ uint32_t fe2o3_scram_server_first(
     const uint8_t *client_first,
     size_t client_first_len,
     uint8_t *out,
-    size_t out_room,
+    size_t out_size,
     size_t *len);
 
 /* As `fe2o3_scram_server_first`, and the GS2 header may be `y,,` too: that of a client which could bind a
  * channel and believes that the server cannot, since it was offered no mechanism with `-PLUS` (RFC 5802,
  * section 6). Only for a server that offers none. */
-uint32_t fe2o3_scram_server_first_unbound(
+uint32_t fe2o3_scram_server_first_with_cbind_flag_y(
     const struct fe2o3_scram_record *kept,
     struct fe2o3_scram_server *server,
     const uint8_t nonce[32],
     const uint8_t *client_first,
     size_t client_first_len,
     uint8_t *out,
-    size_t out_room,
+    size_t out_size,
     size_t *len);
 
 /* Writes the plain name of the user whom a client-first message names, and whose record is to be fetched. */
-uint32_t fe2o3_scram_server_user(
+uint32_t fe2o3_scram_server_claimed_user(
     const uint8_t *client_first,
     size_t client_first_len,
     uint8_t *out,
-    size_t out_room,
+    size_t out_size,
     size_t *len);
 
 /* Answers a client-final message with the server-final message, where its proof meets the record: the user is
@@ -689,25 +689,25 @@ uint32_t fe2o3_scram_server_final(
     const uint8_t *client_final,
     size_t client_final_len,
     uint8_t *out,
-    size_t out_room,
+    size_t out_size,
     size_t *len);
 
 /* Writes the plain name of the user who has logged in: the one whose challenge was answered. */
-uint32_t fe2o3_scram_server_logged_in(
+uint32_t fe2o3_scram_server_authenticated_user(
     const struct fe2o3_scram_server *server,
     uint8_t *out,
-    size_t out_room,
+    size_t out_size,
     size_t *len);
 
 /* Writes the body of the frame with which a server offers its mechanisms, to whoever has sent the header of SASL. */
-uint32_t fe2o3_sasl_server_offer(const struct fe2o3_sasl_host *host, uint8_t *out, size_t out_room, size_t *len);
+uint32_t fe2o3_sasl_server_offer(const struct fe2o3_sasl_server_config *host, uint8_t *out, size_t out_size, size_t *len);
 
 /* Takes the body of a frame that the client sent, behind the four bytes of the frame's size, and writes the body that
- * is to be sent: a challenge, or the outcome. Standing is 0 while the login goes on, 1 once the client is logged in, and
+ * is to be sent: a challenge, or the outcome. Progress is 0 while the login goes on, 1 once the client is logged in, and
  * the number of a refusal (81 to 84) where the outcome is one, which is to be sent too; hand in no body after that. A
  * room of 508 bytes suffices, and is asked for before any hash is made. Before the call the caller fetches the record
- * of the user whom the body names (`fe2o3_sasl_server_step_user`), if it names one. Once the client is logged in, the
- * struct names the user of any mechanism (`fe2o3_scram_server_logged_in`); ANONYMOUS names nobody. The nonce is 32
+ * of the user whom the body names (`fe2o3_sasl_server_step_claimed_user`), if it names one. Once the client is logged in, the
+ * struct names the user of any mechanism (`fe2o3_scram_server_authenticated_user`); ANONYMOUS names nobody. The nonce is 32
  * random bytes, fresh for each call.
  *
  * It is for who reads the frames, refuses those of more than 512 bytes, and knows whose turn it is: a login takes an
@@ -716,36 +716,36 @@ uint32_t fe2o3_sasl_server_offer(const struct fe2o3_sasl_host *host, uint8_t *ou
  * Where a name or a message has no room in the struct, the call is refused by `TOO_LONG`, and the connection is to be
  * closed. */
 uint32_t fe2o3_sasl_server_step(
-    const struct fe2o3_sasl_host *host,
+    const struct fe2o3_sasl_server_config *host,
     struct fe2o3_scram_server *server,
     const uint8_t *body,
     size_t body_len,
     const uint8_t nonce[32],
-    uint32_t *standing,
+    uint32_t *progress,
     uint8_t *out,
-    size_t out_room,
+    size_t out_size,
     size_t *len);
 
 /* Writes the plain name of the user whom the body of a frame names, and whose record is to be fetched before it is
  * taken: that of an init of SCRAM or PLAIN, and for a response that of the open challenge. Where it names nobody, the
  * number is that of `NAMES_NOBODY`, and no record is needed. */
-uint32_t fe2o3_sasl_server_step_user(
+uint32_t fe2o3_sasl_server_step_claimed_user(
     const struct fe2o3_scram_server *server,
     const uint8_t *body,
     size_t body_len,
     uint8_t *out,
-    size_t out_room,
+    size_t out_size,
     size_t *len);
 
 /* Writes the plain name of the user whom the frame names that these bytes complete, and whose record is to be fetched
  * before they are taken: that of an init of SCRAM or PLAIN, and for a response that of the open challenge. Where they
  * complete no frame, or one that names nobody, the number is that of `NAMES_NOBODY`, and no record is needed. */
-uint32_t fe2o3_sasl_server_user(
+uint32_t fe2o3_sasl_server_claimed_user(
     const struct fe2o3_sasl_server *server,
     const uint8_t *bytes,
     size_t bytes_len,
     uint8_t *out,
-    size_t out_room,
+    size_t out_size,
     size_t *len);
 
 /* Lends the text of a status for ever, with a zero behind it. */
@@ -754,9 +754,9 @@ void fe2o3_status_text(uint32_t status, struct fe2o3_text *text);
 /* The version of the library: its three numbers, each of two digits. */
 uint32_t fe2o3_version(void);
 
-/* How many bytes a struct has here: 0 `fe2o3_login`, 1 `fe2o3_scram_client`, 2 `fe2o3_client_keys`, 3
+/* How many bytes a struct has here: 0 `fe2o3_login`, 1 `fe2o3_scram_client`, 2 `fe2o3_scram_keys`, 3
  * `fe2o3_scram_server`, 4 `fe2o3_scram_record`, 5 `fe2o3_connection`, 6 `fe2o3_sasl_login`, 7 `fe2o3_sasl_client`,
- * 8 `fe2o3_sasl_frame_view`, 9 `fe2o3_sasl_host`, 10 `fe2o3_sasl_server`; of other numbers 0. A caller whose own
+ * 8 `fe2o3_sasl_frame_view`, 9 `fe2o3_sasl_server_config`, 10 `fe2o3_sasl_server`; of other numbers 0. A caller whose own
  * declarations have other sizes has another header. */
 size_t fe2o3_size(uint32_t which);
 

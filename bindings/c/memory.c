@@ -56,7 +56,7 @@ struct text {
 /* All that the calls write, so that it can be compared. */
 static struct {
     struct fe2o3_scram_record record, read, nobody;
-    struct fe2o3_client_keys keys;
+    struct fe2o3_scram_keys keys;
     struct fe2o3_scram_client client;
     struct fe2o3_scram_server server;
     struct fe2o3_sasl_client client_side;
@@ -65,13 +65,13 @@ static struct {
     size_t taken, line_number;
 } all;
 
-static struct fe2o3_client_keys no_keys;
+static struct fe2o3_scram_keys no_keys;
 static const uint8_t nonce[32] = {1}, salt[16] = {4}, secret[32] = {3};
 static struct fe2o3_login login;
 
 /* The two sides of a connection, and what has come to the one that is called. */
 static struct fe2o3_sasl_login sasl_login;
-static struct fe2o3_sasl_host host;
+static struct fe2o3_sasl_server_config host;
 static struct text came;
 
 static int differences;
@@ -94,7 +94,7 @@ static void tried(const char *name, uint32_t (*call)(void))
         holds &= blocks == 0;
         requests++;
     } while (was_refused && requests < 10000);
-    holds &= status == FE2O3_DONE;
+    holds &= status == FE2O3_OK;
     printf("%s: %ld requests, %s\n", name, requests - 1, holds ? "ok" : "DIFFERS");
     differences += !holds;
 }
@@ -125,17 +125,17 @@ static uint32_t make_prepared_keys(void)
 }
 static uint32_t make_up(void)
 {
-    return fe2o3_scram_record_of_nobody(FE2O3_SHA_256, secret, 32, TEXT("who"), 16, 4096, &all.nobody);
+    return fe2o3_scram_record_mock(FE2O3_SHA_256, secret, 32, TEXT("who"), 16, 4096, &all.nobody);
 }
 static uint32_t first(void) { return fe2o3_scram_client_first(&login, &all.client, nonce, ROOM(all.client_first)); }
-static uint32_t user(void) { return fe2o3_scram_server_user(GIVEN(all.client_first), ROOM(all.user)); }
+static uint32_t user(void) { return fe2o3_scram_server_claimed_user(GIVEN(all.client_first), ROOM(all.user)); }
 static uint32_t challenge(void)
 {
     return fe2o3_scram_server_first(&all.record, &all.server, nonce, GIVEN(all.client_first), ROOM(all.server_first));
 }
 static uint32_t challenge_unbound(void)
 {
-    return fe2o3_scram_server_first_unbound(
+    return fe2o3_scram_server_first_with_cbind_flag_y(
         &all.record, &all.server, nonce, GIVEN(all.client_first), ROOM(all.server_first));
 }
 static uint32_t answer(void)
@@ -158,14 +158,14 @@ static uint32_t client_takes(void)
 {
     return fe2o3_sasl_client_receive(&sasl_login, &all.client_side, GIVEN(came), nonce, &all.taken, ROOM(all.out));
 }
-static uint32_t name(void) { return fe2o3_sasl_server_user(&all.server_side, GIVEN(came), ROOM(all.user)); }
+static uint32_t name(void) { return fe2o3_sasl_server_claimed_user(&all.server_side, GIVEN(came), ROOM(all.user)); }
 static uint32_t server_takes(void)
 {
     return fe2o3_sasl_server_receive(&host, &all.server_side, GIVEN(came), nonce, &all.taken, ROOM(all.out));
 }
 
 /* A side takes what has come to it, and what it sends is what comes to the other. */
-static void side_takes(const char *who, uint32_t (*call)(void), const uint32_t *standing)
+static void side_takes(const char *who, uint32_t (*call)(void), const uint32_t *progress)
 {
     struct text sent = {{0}, 0};
     do {
@@ -174,7 +174,7 @@ static void side_takes(const char *who, uint32_t (*call)(void), const uint32_t *
         memmove(came.bytes, came.bytes + all.taken, came.len);
         memcpy(sent.bytes + sent.len, all.out.bytes, all.out.len);
         sent.len += all.out.len;
-    } while (came.len > 0 && all.taken > 0 && *standing == FE2O3_WANTING);
+    } while (came.len > 0 && all.taken > 0 && *progress == FE2O3_IN_PROGRESS);
     came = sent;
 }
 
@@ -188,28 +188,28 @@ static void connection(uint32_t mechanism, const char *user_name)
     host.username_len = 0;
     tried("client_open", begin);
     came = all.out;
-    while (came.len > 0 && all.server_side.connection.standing == FE2O3_WANTING && differences == 0) {
+    while (came.len > 0 && all.server_side.connection.progress == FE2O3_IN_PROGRESS && differences == 0) {
         /* (of the frames that come to a server those of these mechanisms name a user) */
         if (came.bytes[0] == 0 && (mechanism == FE2O3_SCRAM || mechanism == FE2O3_PLAIN)) {
             tried("server_user", name);
             host.username = all.user.bytes;
             host.username_len = all.user.len;
         }
-        side_takes("server_receive", server_takes, &all.server_side.connection.standing);
-        side_takes("client_receive", client_takes, &all.client_side.connection.standing);
+        side_takes("server_receive", server_takes, &all.server_side.connection.progress);
+        side_takes("client_receive", client_takes, &all.client_side.connection.progress);
     }
-    differences += all.client_side.connection.standing != FE2O3_LOGGED_IN
-        || all.server_side.connection.standing != FE2O3_LOGGED_IN
-        || (fe2o3_scram_server_logged_in(&all.server_side.scram, ROOM(told)) == FE2O3_DONE) != (user_name != NULL)
+    differences += all.client_side.connection.progress != FE2O3_AUTHENTICATED
+        || all.server_side.connection.progress != FE2O3_AUTHENTICATED
+        || (fe2o3_scram_server_authenticated_user(&all.server_side.scram, ROOM(told)) == FE2O3_OK) != (user_name != NULL)
         || (user_name != NULL && (told.len != strlen(user_name) || memcmp(told.bytes, user_name, told.len) != 0));
 }
 
 int main(void)
 {
-    login = (struct fe2o3_login){.version = FE2O3_SHA_256, .least_iterations = 4096, .most_iterations = 4096,
+    login = (struct fe2o3_login){.version = FE2O3_SHA_256, .min_iterations = 4096, .max_iterations = 4096,
         .username = TEXT("us,er"), .password = TEXT("pencil"), .keys = &no_keys};
     sasl_login = (struct fe2o3_sasl_login){.hostname = TEXT("host"), .login = login};
-    host = (struct fe2o3_sasl_host){.mechanisms = FE2O3_OFFER_SCRAM | FE2O3_OFFER_PLAIN | FE2O3_OFFER_ANONYMOUS
+    host = (struct fe2o3_sasl_server_config){.mechanisms = FE2O3_OFFER_SCRAM | FE2O3_OFFER_PLAIN | FE2O3_OFFER_ANONYMOUS
             | FE2O3_OFFER_EXTERNAL, .version = FE2O3_SHA_256, .iterations = 4096, .username = FE2O3_NONE,
         .record = &all.record, .peer = TEXT("pe,er")};
     tried("record_make", make);

@@ -22,7 +22,7 @@ struct text {
 
 /* All that the calls of a round write, so that it can be compared: six structs of random bytes, and what is written. */
 static struct all {
-    struct fe2o3_client_keys keys;
+    struct fe2o3_scram_keys keys;
     struct fe2o3_scram_record record;
     struct fe2o3_scram_client client;
     struct fe2o3_scram_server server;
@@ -141,7 +141,7 @@ static void answered(const char *name, uint32_t status)
     }
     if (status == FE2O3_ROOM_TOO_SMALL)
         all.out.len = drawn.out.len;
-    if (status != FE2O3_DONE && memcmp(&all, &drawn, sizeof all) != 0) {
+    if (status != FE2O3_OK && memcmp(&all, &drawn, sizeof all) != 0) {
         printf("%s answers %u, and has changed something\n", name, (unsigned)status);
         differences++;
     }
@@ -151,7 +151,7 @@ static void answered(const char *name, uint32_t status)
 /* Notes why a connection is to be closed. */
 static void closed(const char *name, const struct fe2o3_connection *connection)
 {
-    if (connection->standing == FE2O3_TO_BE_CLOSED)
+    if (connection->progress == FE2O3_FAILED)
         noted(name, connection->why);
 }
 
@@ -168,7 +168,7 @@ static size_t room(void) { return below(8) == 0 ? below(300) : sizeof all.out.by
 
 /* ---- structs */
 
-static void draw_keys(struct fe2o3_client_keys *keys)
+static void draw_keys(struct fe2o3_scram_keys *keys)
 {
     fill(keys, sizeof *keys);
     if (below(2)) {
@@ -217,7 +217,7 @@ static void draw_connection(struct fe2o3_connection *connection, uint32_t due)
 {
     fill(connection, sizeof *connection);
     if (below(2)) {
-        connection->standing = below(8) == 0 ? below(3) : FE2O3_WANTING;
+        connection->progress = below(8) == 0 ? below(3) : FE2O3_IN_PROGRESS;
         connection->due = below(4) == 0 ? below(7) : due;
         connection->held_len = below(4) == 0 ? below(514) : 0;
     }
@@ -231,7 +231,7 @@ static uint8_t nonce[32];
 /* A server-first message that fits the nonce of a client's struct, which the client-first message shows. */
 static void fitting(const struct fe2o3_scram_client *client, struct text *server_first)
 {
-    static struct fe2o3_client_keys no_keys;
+    static struct fe2o3_scram_keys no_keys;
     const struct fe2o3_login who = {.version = FE2O3_SHA_1, .username = TEXT("user"), .password = TEXT("pencil"),
         .keys = &no_keys};
     struct fe2o3_scram_client other = {0};
@@ -257,7 +257,7 @@ static void with_a_client(void)
     answered("client_first", fe2o3_scram_client_first(&login, &all.client, nonce, ROOM));
     answered("client_final", fe2o3_scram_client_final(&login, &all.client, GIVEN(server_first), ROOM));
     answered("client_verify", fe2o3_scram_client_verify(&login, &all.client, GIVEN(server_final)));
-    answered("client_keys", fe2o3_scram_client_keys(&all.client, &all.keys));
+    answered("client_keys", fe2o3_scram_client_get_keys(&all.client, &all.keys));
 }
 
 /* A client-final message with the nonce of a server's struct, and a proof of random bytes. */
@@ -279,9 +279,9 @@ static void with_a_server(void)
     client_first.bytes[0] = below(2) ? 'n' : 'y';
     answered("server_first", fe2o3_scram_server_first(&all.record, &all.server, nonce, GIVEN(client_first), ROOM));
     answered("server_first_unbound",
-        fe2o3_scram_server_first_unbound(&all.record, &all.server, nonce, GIVEN(client_first), ROOM));
+        fe2o3_scram_server_first_with_cbind_flag_y(&all.record, &all.server, nonce, GIVEN(client_first), ROOM));
     answered("server_final", fe2o3_scram_server_final(&all.record, &all.server, GIVEN(client_final), ROOM));
-    answered("server_logged_in", fe2o3_scram_server_logged_in(&all.server, ROOM));
+    answered("server_logged_in", fe2o3_scram_server_authenticated_user(&all.server, ROOM));
 }
 
 static void with_a_record(void)
@@ -346,8 +346,8 @@ static void with_a_side_of_a_client(void)
     if (below(4) == 0)
         fill(came.bytes, came.len);
     status = fe2o3_sasl_client_receive(&who, &all.client_side, GIVEN(came), nonce, &all.taken, ROOM);
-    never("sasl_client_receive", status == FE2O3_DONE && all.client_side.connection.standing == FE2O3_LOGGED_IN);
-    if (status == FE2O3_DONE)
+    never("sasl_client_receive", status == FE2O3_OK && all.client_side.connection.progress == FE2O3_AUTHENTICATED);
+    if (status == FE2O3_OK)
         closed("sasl_client_receive, why it closes", &all.client_side.connection);
     answered("sasl_client_receive", status);
 }
@@ -381,7 +381,7 @@ static void to_server(const struct fe2o3_sasl_server *side, struct text *came)
 
 static void with_a_side_of_a_server(void)
 {
-    struct fe2o3_sasl_host host = {.mechanisms = below(33), .version = FE2O3_SHA_256, .iterations = below(9),
+    struct fe2o3_sasl_server_config host = {.mechanisms = below(33), .version = FE2O3_SHA_256, .iterations = below(9),
         .username = TEXT("user"), .record = &all.record, .peer = TEXT("peer")};
     struct text came = {{0}, 0};
     uint32_t status;
@@ -390,10 +390,10 @@ static void with_a_side_of_a_server(void)
     to_server(&drawn.server_side, &came);
     if (below(4) == 0)
         fill(came.bytes, came.len);
-    answered("sasl_server_user", fe2o3_sasl_server_user(&all.server_side, GIVEN(came), ROOM));
+    answered("sasl_server_user", fe2o3_sasl_server_claimed_user(&all.server_side, GIVEN(came), ROOM));
     status = fe2o3_sasl_server_receive(&host, &all.server_side, GIVEN(came), nonce, &all.taken, ROOM);
-    never("sasl_server_receive", status == FE2O3_DONE && all.server_side.connection.standing == FE2O3_LOGGED_IN);
-    if (status == FE2O3_DONE)
+    never("sasl_server_receive", status == FE2O3_OK && all.server_side.connection.progress == FE2O3_AUTHENTICATED);
+    if (status == FE2O3_OK)
         closed("sasl_server_receive, why it closes", &all.server_side.connection);
     answered("sasl_server_receive", status);
 }
@@ -413,7 +413,7 @@ static void one_round(void)
     fill(nonce, sizeof nonce);
     all = drawn;
     login = (struct fe2o3_login){.version = below(4) ? drawn.keys.version : ONE_OF(1, 2, 256, 512),
-        .secret = below(2) ? 0 : below(6), .least_iterations = below(3), .most_iterations = 5 + below(4),
+        .secret = below(2) ? 0 : below(6), .min_iterations = below(3), .max_iterations = 5 + below(4),
         .username = TEXT("user"), .password = TEXT("pencil"), .keys = &drawn.keys};
     with_a_client();
     with_a_server();
@@ -436,46 +436,46 @@ int main(void)
 {
     for (int round = 0; round < ROUNDS; round++)
         one_round();
-    never("client_verify", seen("client_verify")->of[FE2O3_DONE] != 0);
-    never("server_final", seen("server_final")->of[FE2O3_DONE] != 0);
-    never("record_verify", seen("record_verify")->of[FE2O3_DONE] != 0);
-    never("record_verify_prepared", seen("record_verify_prepared")->of[FE2O3_DONE] != 0);
-    reached("client_first", FE2O3_DONE);
-    reached("client_final", FE2O3_DONE);
+    never("client_verify", seen("client_verify")->of[FE2O3_OK] != 0);
+    never("server_final", seen("server_final")->of[FE2O3_OK] != 0);
+    never("record_verify", seen("record_verify")->of[FE2O3_OK] != 0);
+    never("record_verify_prepared", seen("record_verify_prepared")->of[FE2O3_OK] != 0);
+    reached("client_first", FE2O3_OK);
+    reached("client_final", FE2O3_OK);
     reached("client_verify", FE2O3_CLIENT_SERVER_SIGNATURE_MISMATCH);
-    reached("client_keys", FE2O3_DONE);
+    reached("client_keys", FE2O3_OK);
     reached("client_final", FE2O3_NO_SUCH_SECRET);
-    reached("server_first", FE2O3_DONE);
+    reached("server_first", FE2O3_OK);
     reached("server_first", FE2O3_SERVER_CANNOT_PARSE_GS2_HEADER);
-    reached("server_first_unbound", FE2O3_DONE);
+    reached("server_first_unbound", FE2O3_OK);
     reached("server_final", FE2O3_SERVER_AUTHENTICATION_FAILED);
-    reached("server_logged_in", FE2O3_DONE);
-    reached("record_text", FE2O3_DONE);
-    reached("line", FE2O3_DONE);
+    reached("server_logged_in", FE2O3_OK);
+    reached("record_text", FE2O3_OK);
+    reached("line", FE2O3_OK);
     reached("record_verify", FE2O3_OTHER_PASSWORD);
     reached("record_verify_prepared", FE2O3_OTHER_PASSWORD);
-    reached("saslprep", FE2O3_DONE);
+    reached("saslprep", FE2O3_OK);
     reached("saslprep", FE2O3_NOT_UTF8);
     reached("saslprep", FE2O3_NO_SUCH_CHOICE);
     reached("saslprep", FE2O3_PROHIBITED_CHARACTER);
     reached("saslprep", FE2O3_MIXED_DIRECTIONS);
     reached("saslprep", FE2O3_UNASSIGNED_CODE_POINT);
-    reached("sasl_client_receive", FE2O3_DONE);
+    reached("sasl_client_receive", FE2O3_OK);
     reached("sasl_client_receive", FE2O3_ENDED);
-    reached("sasl_client_receive", FE2O3_NOT_KEPT);
+    reached("sasl_client_receive", FE2O3_INVALID_SNAPSHOT);
     reached("sasl_client_receive, why it closes", FE2O3_CLIENT_SERVER_SIGNATURE_MISMATCH);
-    reached("sasl_client_receive, why it closes", FE2O3_OUT_OF_TURN);
-    reached("sasl_server_user", FE2O3_DONE);
-    reached("sasl_server_receive", FE2O3_DONE);
+    reached("sasl_client_receive, why it closes", FE2O3_UNEXPECTED_FRAME);
+    reached("sasl_server_user", FE2O3_OK);
+    reached("sasl_server_receive", FE2O3_OK);
     reached("sasl_server_receive", FE2O3_ENDED);
-    reached("sasl_server_receive", FE2O3_NOT_KEPT);
+    reached("sasl_server_receive", FE2O3_INVALID_SNAPSHOT);
     reached("sasl_server_receive, why it closes", FE2O3_REFUSED_AUTH);
-    reached("sasl_server_receive, why it closes", FE2O3_OUT_OF_TURN);
+    reached("sasl_server_receive, why it closes", FE2O3_UNEXPECTED_FRAME);
     for (const struct seen *one = calls; one->name != NULL; one++) {
         int others = 0;
         for (uint32_t status = 1; status < STATUSES; status++)
             others += one->of[status] > 0;
-        printf("%s: %ld times, %ld done, %d other statuses\n", one->name, one->calls, one->of[FE2O3_DONE], others);
+        printf("%s: %ld times, %ld done, %d other statuses\n", one->name, one->calls, one->of[FE2O3_OK], others);
     }
     printf("%ld structs of random bytes\n", (long)ROUNDS * STRUCTS);
     return differences != 0;

@@ -72,14 +72,14 @@ static uint32_t run(struct exchange *one, const struct fe2o3_login *login, const
     uint32_t number;
     memset(one, 0, sizeof *one);
     number = fe2o3_scram_client_first(login, &one->client, client_nonce, ROOM(one->client_first));
-    if (number == FE2O3_DONE)
+    if (number == FE2O3_OK)
         number = fe2o3_scram_server_first(
             record, &one->server, server_nonce, GIVEN(one->client_first), ROOM(one->server_first));
-    if (number == FE2O3_DONE)
+    if (number == FE2O3_OK)
         number = fe2o3_scram_client_final(login, &one->client, GIVEN(one->server_first), ROOM(one->client_final));
-    if (number == FE2O3_DONE)
+    if (number == FE2O3_OK)
         number = fe2o3_scram_server_final(record, &one->server, GIVEN(one->client_final), ROOM(one->server_final));
-    if (number == FE2O3_DONE)
+    if (number == FE2O3_OK)
         number = fe2o3_scram_client_verify(login, &one->client, GIVEN(one->server_final));
     return number;
 }
@@ -95,7 +95,7 @@ static int rooms(const struct fe2o3_login *login, const struct exchange *whole)
         == FE2O3_ROOM_TOO_SMALL;
     holds &= out.len == first_len && memcmp(out.bytes, empty.bytes, sizeof out.bytes) == 0;
     holds &= memcmp(&client, &before, sizeof client) == 0;
-    holds &= fe2o3_scram_client_first(login, &client, client_nonce, out.bytes, first_len, &out.len) == FE2O3_DONE;
+    holds &= fe2o3_scram_client_first(login, &client, client_nonce, out.bytes, first_len, &out.len) == FE2O3_OK;
     before = client;
     out = empty;
     holds &= fe2o3_scram_client_final(login, &client, GIVEN(whole->server_first), out.bytes, suffices - 1, &out.len)
@@ -103,93 +103,93 @@ static int rooms(const struct fe2o3_login *login, const struct exchange *whole)
     holds &= out.len == suffices && memcmp(out.bytes, empty.bytes, sizeof out.bytes) == 0;
     holds &= memcmp(&client, &before, sizeof client) == 0;
     holds &= fe2o3_scram_client_final(login, &client, GIVEN(whole->server_first), out.bytes, suffices, &out.len)
-        == FE2O3_DONE;
+        == FE2O3_OK;
     return holds && out.len == whole->client_final.len && memcmp(out.bytes, whole->client_final.bytes, out.len) == 0;
 }
 
 static void cases(uint32_t version)
 {
-    struct fe2o3_client_keys no_keys = {0}, keys = {0}, made = {0};
+    struct fe2o3_scram_keys no_keys = {0}, keys = {0}, made = {0};
     struct fe2o3_scram_record record = {0}, read = {0}, other = {0}, nobody = {0};
-    struct fe2o3_login login = {.version = version, .least_iterations = 4096, .most_iterations = 100000,
+    struct fe2o3_login login = {.version = version, .min_iterations = 4096, .max_iterations = 100000,
         .username = TEXT("user"), .password = TEXT("pencil"), .keys = &no_keys};
-    struct fe2o3_login by_keys = {.version = version, .secret = 1, .least_iterations = 4096, .most_iterations = 100000,
+    struct fe2o3_login by_keys = {.version = version, .secret = 1, .min_iterations = 4096, .max_iterations = 100000,
         .username = TEXT("user"), .password = FE2O3_NONE, .keys = &keys};
     struct fe2o3_login stranger = login;
     struct text text = {{0}, 0}, user = {{0}, 0};
     struct exchange one, next;
 
     told(version, "a record is written and read",
-        fe2o3_scram_record_make(version, TEXT("pencil"), salt, sizeof salt, 4096, &record) == FE2O3_DONE
-            && fe2o3_scram_record_text(&record, ROOM(text)) == FE2O3_DONE
-            && fe2o3_scram_record_parse(GIVEN(text), &read) == FE2O3_DONE && memcmp(&read, &record, sizeof read) == 0);
+        fe2o3_scram_record_make(version, TEXT("pencil"), salt, sizeof salt, 4096, &record) == FE2O3_OK
+            && fe2o3_scram_record_text(&record, ROOM(text)) == FE2O3_OK
+            && fe2o3_scram_record_parse(GIVEN(text), &read) == FE2O3_OK && memcmp(&read, &record, sizeof read) == 0);
     told(version, "the record knows its password",
-        fe2o3_scram_record_verify(&record, TEXT("pencil")) == FE2O3_DONE
-            && fe2o3_scram_record_verify(&record, TEXT("pencils")) != FE2O3_DONE);
-    told(version, "a login", run(&one, &login, &record) == FE2O3_DONE);
+        fe2o3_scram_record_verify(&record, TEXT("pencil")) == FE2O3_OK
+            && fe2o3_scram_record_verify(&record, TEXT("pencils")) != FE2O3_OK);
+    told(version, "a login", run(&one, &login, &record) == FE2O3_OK);
     told(version, "the server knows who it is, before and after",
-        fe2o3_scram_server_user(GIVEN(one.client_first), ROOM(user)) == FE2O3_DONE && spells(&user, "user")
-            && fe2o3_scram_server_logged_in(&one.server, ROOM(text)) == FE2O3_DONE && spells(&text, "user"));
+        fe2o3_scram_server_claimed_user(GIVEN(one.client_first), ROOM(user)) == FE2O3_OK && spells(&user, "user")
+            && fe2o3_scram_server_authenticated_user(&one.server, ROOM(text)) == FE2O3_OK && spells(&text, "user"));
 
     told(version, "the login hands out its keys",
-        fe2o3_scram_client_keys(&one.client, &keys) == FE2O3_DONE
-            && fe2o3_scram_keys_make(version, TEXT("pencil"), salt, sizeof salt, 4096, &made) == FE2O3_DONE
+        fe2o3_scram_client_get_keys(&one.client, &keys) == FE2O3_OK
+            && fe2o3_scram_keys_make(version, TEXT("pencil"), salt, sizeof salt, 4096, &made) == FE2O3_OK
             && memcmp(&keys, &made, sizeof keys) == 0);
-    told(version, "a login by keys", run(&next, &by_keys, &record) == FE2O3_DONE);
+    told(version, "a login by keys", run(&next, &by_keys, &record) == FE2O3_OK);
     fe2o3_scram_record_make(version, TEXT("pencil"), other_salt, sizeof other_salt, 4096, &other);
-    told(version, "keys of another salt", run(&next, &by_keys, &other) == FE2O3_CLIENT_OTHER_KEYS);
+    told(version, "keys of another salt", run(&next, &by_keys, &other) == FE2O3_CLIENT_STALE_KEYS);
 
     stranger.password_len--;
     told(version, "a wrong password",
         run(&next, &stranger, &record) == FE2O3_SERVER_AUTHENTICATION_FAILED
-            && fe2o3_scram_server_logged_in(&next.server, ROOM(text)) != FE2O3_DONE);
+            && fe2o3_scram_server_authenticated_user(&next.server, ROOM(text)) != FE2O3_OK);
     told(version, "an unknown user, who is told the same salt each time",
-        fe2o3_scram_record_of_nobody(version, secret, 32, TEXT("user"), sizeof salt, 4096, &nobody) == FE2O3_DONE
-            && fe2o3_scram_record_of_nobody(version, secret, 32, TEXT("user"), sizeof salt, 4096, &read) == FE2O3_DONE
+        fe2o3_scram_record_mock(version, secret, 32, TEXT("user"), sizeof salt, 4096, &nobody) == FE2O3_OK
+            && fe2o3_scram_record_mock(version, secret, 32, TEXT("user"), sizeof salt, 4096, &read) == FE2O3_OK
             && memcmp(&nobody, &read, sizeof nobody) == 0
             && run(&next, &login, &nobody) == FE2O3_SERVER_AUTHENTICATION_FAILED);
-    login.most_iterations = 4095;
+    login.max_iterations = 4095;
     told(version, "an iteration count above the limit",
         run(&next, &login, &record) == FE2O3_CLIENT_ITERATION_COUNT_TOO_LARGE);
-    login.most_iterations = 4096;
+    login.max_iterations = 4096;
     told(version, "a room that is too small, and then large enough", rooms(&login, &one));
 }
 
 /* A password past ASCII: what it is prepared to, the record of that, and logins by it and by its keys. */
 static void prepared(uint32_t version, const char *words)
 {
-    struct fe2o3_client_keys no_keys = {0}, keys = {0}, made = {0};
+    struct fe2o3_scram_keys no_keys = {0}, keys = {0}, made = {0};
     struct fe2o3_scram_record record = {0}, other = {0};
     struct text password = {{0}, 0}, text = {{0}, 0};
     struct exchange one;
-    struct fe2o3_login login = {.version = version, .secret = FE2O3_BY_PREPARED, .least_iterations = 4096,
-        .most_iterations = 4096, .username = TEXT("user"), .password = FE2O3_NONE, .keys = &no_keys};
+    struct fe2o3_login login = {.version = version, .secret = FE2O3_BY_PREPARED, .min_iterations = 4096,
+        .max_iterations = 4096, .username = TEXT("user"), .password = FE2O3_NONE, .keys = &no_keys};
 
     told(version, "a password past ASCII is prepared",
-        fe2o3_saslprep(TEXT(TYPED), FE2O3_UNASSIGNED_REFUSED, ROOM(password)) == FE2O3_DONE
+        fe2o3_saslprep(TEXT(TYPED), FE2O3_UNASSIGNED_REFUSED, ROOM(password)) == FE2O3_OK
             && spells(&password, PREPARED));
     told(version, "the record of a prepared password",
         fe2o3_scram_record_make_prepared(version, GIVEN(password), known_salt, sizeof known_salt, 4096, &record)
-                == FE2O3_DONE
-            && fe2o3_scram_record_text(&record, ROOM(text)) == FE2O3_DONE && spells(&text, words));
+                == FE2O3_OK
+            && fe2o3_scram_record_text(&record, ROOM(text)) == FE2O3_OK && spells(&text, words));
     told(version, "the record knows its prepared password",
-        fe2o3_scram_record_verify_prepared(&record, GIVEN(password)) == FE2O3_DONE
+        fe2o3_scram_record_verify_prepared(&record, GIVEN(password)) == FE2O3_OK
             && fe2o3_scram_record_verify_prepared(&record, TEXT(TYPED)) == FE2O3_OTHER_PASSWORD
             && fe2o3_scram_record_verify(&record, GIVEN(password)) == FE2O3_OTHER_PASSWORD);
     login.password = password.bytes;
     login.password_len = password.len;
-    told(version, "a login by a prepared password", run(&one, &login, &record) == FE2O3_DONE);
+    told(version, "a login by a prepared password", run(&one, &login, &record) == FE2O3_OK);
     told(version, "its keys",
-        fe2o3_scram_client_keys(&one.client, &keys) == FE2O3_DONE
+        fe2o3_scram_client_get_keys(&one.client, &keys) == FE2O3_OK
             && fe2o3_scram_keys_make_prepared(version, GIVEN(password), known_salt, sizeof known_salt, 4096, &made)
-                == FE2O3_DONE
+                == FE2O3_OK
             && memcmp(&keys, &made, sizeof keys) == 0);
     login.secret = FE2O3_BY_PREPARED_AND_KEYS;
     told(version, "a login by both without keys", run(&one, &login, &record) == FE2O3_NO_KEYS);
     login.keys = &keys;
     fe2o3_scram_record_make_prepared(version, GIVEN(password), other_salt, sizeof other_salt, 4096, &other);
     told(version, "a login by both, also with another salt",
-        run(&one, &login, &record) == FE2O3_DONE && run(&one, &login, &other) == FE2O3_DONE);
+        run(&one, &login, &record) == FE2O3_OK && run(&one, &login, &other) == FE2O3_OK);
     login.secret = FE2O3_BY_PASSWORD;
     told(version, "the same as a typed one is refused",
         run(&one, &login, &record) == FE2O3_CLIENT_NORMALIZE_ERROR
@@ -206,15 +206,15 @@ static void preparing(void)
         const char *typed, *prepared;
         uint32_t unassigned, number;
     } rows[] = {
-        {"I\xc2\xadX", "IX", 0, FE2O3_DONE},
-        {"user", "user", 0, FE2O3_DONE},
-        {"USER", "USER", 0, FE2O3_DONE},
-        {"\xc2\xaa", "a", 0, FE2O3_DONE},
-        {"\xe2\x85\xa8", "IX", 0, FE2O3_DONE},
+        {"I\xc2\xadX", "IX", 0, FE2O3_OK},
+        {"user", "user", 0, FE2O3_OK},
+        {"USER", "USER", 0, FE2O3_OK},
+        {"\xc2\xaa", "a", 0, FE2O3_OK},
+        {"\xe2\x85\xa8", "IX", 0, FE2O3_OK},
         {"\x07", "", 0, FE2O3_PROHIBITED_CHARACTER},
         {"\xd8\xa7\x31", "", 0, FE2O3_MIXED_DIRECTIONS},
         {"\xc8\xa1", "", 0, FE2O3_UNASSIGNED_CODE_POINT},
-        {"\xc8\xa1", "\xc8\xa1", 1, FE2O3_DONE},
+        {"\xc8\xa1", "\xc8\xa1", 1, FE2O3_OK},
         {"\xff", "", 0, FE2O3_NOT_UTF8},
         {"\xff", "", 2, FE2O3_NO_SUCH_CHOICE},
     };
@@ -241,16 +241,16 @@ static void unbound(void)
         fe2o3_scram_server_first(&record, &server, server_nonce, TEXT(UNBOUND_FIRST), ROOM(text))
             == FE2O3_SERVER_CANNOT_PARSE_GS2_HEADER);
     told(FE2O3_SHA_256, "the header `y,,` is taken on wish",
-        fe2o3_scram_server_user(TEXT(UNBOUND_FIRST), ROOM(text)) == FE2O3_DONE && spells(&text, "user")
-            && fe2o3_scram_server_first_unbound(&record, &server, server_nonce, TEXT(UNBOUND_FIRST), ROOM(text))
-                == FE2O3_DONE
+        fe2o3_scram_server_claimed_user(TEXT(UNBOUND_FIRST), ROOM(text)) == FE2O3_OK && spells(&text, "user")
+            && fe2o3_scram_server_first_with_cbind_flag_y(&record, &server, server_nonce, TEXT(UNBOUND_FIRST), ROOM(text))
+                == FE2O3_OK
             && spells(&text, "r=" BOTH_NONCES ",s=W22ZaJ0SNY7soEsUEjb6gQ==,i=4096"));
     told(FE2O3_SHA_256, "the last message repeats it",
         fe2o3_scram_server_final(&record, &server, TEXT(PLAIN_FINAL), ROOM(text))
                 == FE2O3_SERVER_INVALID_CHANNEL_BINDING
-            && fe2o3_scram_server_final(&record, &server, TEXT(UNBOUND_FINAL), ROOM(text)) == FE2O3_DONE
+            && fe2o3_scram_server_final(&record, &server, TEXT(UNBOUND_FINAL), ROOM(text)) == FE2O3_OK
             && spells(&text, "v=mZx4E2gu+jcdDC0u/pNy5NPrR0Zh6PMH8UcHTIgvIxU=")
-            && fe2o3_scram_server_logged_in(&server, ROOM(text)) == FE2O3_DONE && spells(&text, "user"));
+            && fe2o3_scram_server_authenticated_user(&server, ROOM(text)) == FE2O3_OK && spells(&text, "user"));
 }
 
 int main(void)
@@ -259,7 +259,7 @@ int main(void)
     struct text text = {{0}, 0};
     fe2o3_scram_record_make(FE2O3_SHA_256, TEXT("pencil"), known_salt, sizeof known_salt, 4096, &record);
     told(FE2O3_SHA_256, "the record of the standard's example",
-        fe2o3_scram_record_text(&record, ROOM(text)) == FE2O3_DONE && spells(&text, known_record));
+        fe2o3_scram_record_text(&record, ROOM(text)) == FE2O3_OK && spells(&text, known_record));
     cases(FE2O3_SHA_1);
     cases(FE2O3_SHA_256);
     cases(FE2O3_SHA_512);

@@ -56,8 +56,8 @@ static int sent(int channel, const uint8_t *bytes, size_t len)
 static void fetch(const uint8_t *name, size_t len, struct fe2o3_scram_record *record)
 {
     size_t line = 0;
-    if (fe2o3_scram_lines_find(users, users_len, name, len, version, &line, record) != FE2O3_DONE)
-        fe2o3_scram_record_of_nobody(version, secret, sizeof secret, name, len, 16, 4096, record);
+    if (fe2o3_scram_lines_find(users, users_len, name, len, version, &line, record) != FE2O3_OK)
+        fe2o3_scram_record_mock(version, secret, sizeof secret, name, len, 16, 4096, record);
 }
 
 /* Reads and answers until a client is logged in or the connection is to be closed. Answers the number of a call that is
@@ -66,9 +66,9 @@ static int64_t serve(int channel, struct fe2o3_sasl_server *server)
 {
     uint8_t came[4096], out[520], nonce[32], name[256];
     size_t len = 0, at = 0, taken = 0, out_len = 0, name_len = 0;
-    while (server->connection.standing == FE2O3_WANTING) {
+    while (server->connection.progress == FE2O3_IN_PROGRESS) {
         struct fe2o3_scram_record record = {0};
-        struct fe2o3_sasl_host host = {mechanisms, version, 4096, name, 0, &record, FE2O3_NONE};
+        struct fe2o3_sasl_server_config host = {mechanisms, version, 4096, name, 0, &record, FE2O3_NONE};
         uint32_t status;
         if (at == len) {
             ssize_t some = recv(channel, came, sizeof came, 0);
@@ -77,8 +77,8 @@ static int64_t serve(int channel, struct fe2o3_sasl_server *server)
             len = (size_t)some;
             at = 0;
         }
-        status = fe2o3_sasl_server_user(server, came + at, len - at, name, sizeof name, &name_len);
-        if (status == FE2O3_DONE) {
+        status = fe2o3_sasl_server_claimed_user(server, came + at, len - at, name, sizeof name, &name_len);
+        if (status == FE2O3_OK) {
             fetch(name, name_len, &record);
             host.username_len = name_len;
         }
@@ -86,13 +86,13 @@ static int64_t serve(int channel, struct fe2o3_sasl_server *server)
             return -1;
         status = fe2o3_sasl_server_receive(
             &host, server, came + at, len - at, nonce, &taken, out, sizeof out, &out_len);
-        if (status != FE2O3_DONE)
+        if (status != FE2O3_OK)
             return status;
         at += taken;
         if (!sent(channel, out, out_len))
             return -1;
     }
-    return FE2O3_DONE;
+    return FE2O3_OK;
 }
 
 static void told(int64_t answer, const struct fe2o3_sasl_server *server)
@@ -100,14 +100,14 @@ static void told(int64_t answer, const struct fe2o3_sasl_server *server)
     struct fe2o3_text text = FE2O3_TEXT_INIT;
     uint8_t user[256];
     size_t len = 0;
-    if (answer == FE2O3_DONE && server->connection.standing == FE2O3_LOGGED_IN) {
+    if (answer == FE2O3_OK && server->connection.progress == FE2O3_AUTHENTICATED) {
         /* (by ANONYMOUS it names nobody) */
-        fe2o3_scram_server_logged_in(&server->scram, user, sizeof user, &len);
+        fe2o3_scram_server_authenticated_user(&server->scram, user, sizeof user, &len);
         printf("logged in: %.*s\n", (int)len, (const char *)user);
     } else if (answer < 0) {
         puts("no connection");
     } else {
-        fe2o3_status_text(answer == FE2O3_DONE ? server->connection.why : (uint32_t)answer, &text);
+        fe2o3_status_text(answer == FE2O3_OK ? server->connection.why : (uint32_t)answer, &text);
         printf("not logged in: %s\n", (const char *)text.bytes);
     }
 }

@@ -57,7 +57,7 @@ struct exchange {
 
 static const struct fe2o3_scram_client fresh_client;
 static const struct fe2o3_scram_server fresh_server;
-static const struct fe2o3_client_keys no_keys;
+static const struct fe2o3_scram_keys no_keys;
 static const struct fe2o3_scram_record no_record;
 static int differences;
 
@@ -75,10 +75,10 @@ static int spells(const struct body *body, const uint8_t *bytes, size_t len)
 static int names(const struct fe2o3_scram_server *server, const uint8_t *name, size_t len)
 {
     struct body user;
-    return fe2o3_scram_server_logged_in(server, ROOM(user)) == FE2O3_DONE && spells(&user, name, len);
+    return fe2o3_scram_server_authenticated_user(server, ROOM(user)) == FE2O3_OK && spells(&user, name, len);
 }
 
-static int names_nobody(const struct fe2o3_scram_server *server)
+static int names_no_user(const struct fe2o3_scram_server *server)
 {
     return memcmp(server, &fresh_server, sizeof fresh_server) == 0;
 }
@@ -100,35 +100,35 @@ static struct fe2o3_scram_record record_by(uint32_t version)
 }
 
 /* A host of all mechanisms, which knows one user: the one of this record. */
-static struct fe2o3_sasl_host host_of(const struct fe2o3_scram_record *record)
+static struct fe2o3_sasl_server_config host_of(const struct fe2o3_scram_record *record)
 {
-    struct fe2o3_sasl_host host = {
+    struct fe2o3_sasl_server_config host = {
         FE2O3_OFFER_SCRAM | FE2O3_OFFER_PLAIN | FE2O3_OFFER_ANONYMOUS | FE2O3_OFFER_EXTERNAL,
         record->version, 4096, TEXT("user"), record, TEXT("peer")};
     return host;
 }
 
 /* What a server makes of a body, with the record of the user whom the body names, if the host knows one. */
-static uint32_t served(struct exchange *one, const struct fe2o3_sasl_host *host, const struct body *came,
+static uint32_t served(struct exchange *one, const struct fe2o3_sasl_server_config *host, const struct body *came,
     struct body *next)
 {
-    struct fe2o3_sasl_host with = *host;
+    struct fe2o3_sasl_server_config with = *host;
     struct body name;
-    uint32_t number = fe2o3_sasl_server_step_user(&one->server, GIVEN(*came), ROOM(name));
-    if (number != FE2O3_DONE && number != FE2O3_NAMES_NOBODY)
+    uint32_t number = fe2o3_sasl_server_step_claimed_user(&one->server, GIVEN(*came), ROOM(name));
+    if (number != FE2O3_OK && number != FE2O3_NAMES_NOBODY)
         return number;
-    if (number != FE2O3_DONE || !spells(&name, host->username, host->username_len))
+    if (number != FE2O3_OK || !spells(&name, host->username, host->username_len))
         with.record = &no_record;
     return fe2o3_sasl_server_step(&with, &one->server, GIVEN(*came), server_nonce, &one->server_stands, ROOM(*next));
 }
 
 /* A whole login, or one up to the call that is refused. Answers the number of its last call. */
-static uint32_t run(struct exchange *one, const struct fe2o3_sasl_login *login, const struct fe2o3_sasl_host *host)
+static uint32_t run(struct exchange *one, const struct fe2o3_sasl_login *login, const struct fe2o3_sasl_server_config *host)
 {
     uint32_t number;
     memset(one, 0, sizeof *one);
     number = fe2o3_sasl_server_offer(host, ROOM(one->sent[0]));
-    while (number == FE2O3_DONE && one->client_stands == FE2O3_WANTING && ++one->count < 6) {
+    while (number == FE2O3_OK && one->client_stands == FE2O3_IN_PROGRESS && ++one->count < 6) {
         const struct body *came = &one->sent[one->count - 1];
         struct body *next = &one->sent[one->count];
         one->client_before = one->client;
@@ -142,15 +142,15 @@ static uint32_t run(struct exchange *one, const struct fe2o3_sasl_login *login, 
 }
 
 /* Whether a login ends so on both sides, and nothing is sent behind the outcome. */
-static int ends(const struct fe2o3_sasl_login *login, const struct fe2o3_sasl_host *host, uint32_t stands,
+static int ends(const struct fe2o3_sasl_login *login, const struct fe2o3_sasl_server_config *host, uint32_t stands,
     struct exchange *one)
 {
-    return run(one, login, host) == FE2O3_DONE && one->client_stands == stands && one->server_stands == stands
+    return run(one, login, host) == FE2O3_OK && one->client_stands == stands && one->server_stands == stands
         && one->count < 6 && one->sent[one->count].len == 0;
 }
 
 /* Each side with a room that is a byte too small, at a body that would bring it further. */
-static int too_little_room(const struct fe2o3_sasl_login *login, const struct fe2o3_sasl_host *host,
+static int too_little_room(const struct fe2o3_sasl_login *login, const struct fe2o3_sasl_server_config *host,
     const struct exchange *whole)
 {
     struct fe2o3_scram_client client = fresh_client;
@@ -167,7 +167,7 @@ static int too_little_room(const struct fe2o3_sasl_login *login, const struct fe
         &out.len) == FE2O3_ROOM_TOO_SMALL && out.len == 508;
     holds &= fe2o3_sasl_server_offer(host, out.bytes, whole->sent[0].len - 1, &out.len) == FE2O3_ROOM_TOO_SMALL
         && out.len == whole->sent[0].len;
-    holds &= fe2o3_sasl_server_step_user(&server, GIVEN(whole->sent[1]), out.bytes, 3, &out.len)
+    holds &= fe2o3_sasl_server_step_claimed_user(&server, GIVEN(whole->sent[1]), out.bytes, 3, &out.len)
         == FE2O3_ROOM_TOO_SMALL && out.len == 4;
     return holds && stands == 9 && memcmp(&client, &fresh_client, sizeof client) == 0
         && memcmp(&server, &fresh_server, sizeof server) == 0
@@ -175,48 +175,48 @@ static int too_little_room(const struct fe2o3_sasl_login *login, const struct fe
 }
 
 /* The names of the bodies of a login: that of the init, and then that of the open challenge for any response. */
-static int bodies_name(const struct fe2o3_sasl_host *host, const struct exchange *whole)
+static int bodies_name(const struct fe2o3_sasl_server_config *host, const struct exchange *whole)
 {
     struct fe2o3_scram_server server = fresh_server;
     struct body name, out;
     uint32_t stands = 9;
-    int holds = fe2o3_sasl_server_step_user(&server, GIVEN(whole->sent[1]), ROOM(name)) == FE2O3_DONE
+    int holds = fe2o3_sasl_server_step_claimed_user(&server, GIVEN(whole->sent[1]), ROOM(name)) == FE2O3_OK
         && spells(&name, TEXT("user"));
-    holds &= fe2o3_sasl_server_step_user(&server, GIVEN(whole->sent[3]), ROOM(name)) == FE2O3_NAMES_NOBODY;
-    holds &= fe2o3_sasl_server_step_user(&server, GIVEN(whole->sent[0]), ROOM(name)) == FE2O3_NAMES_NOBODY;
+    holds &= fe2o3_sasl_server_step_claimed_user(&server, GIVEN(whole->sent[3]), ROOM(name)) == FE2O3_NAMES_NOBODY;
+    holds &= fe2o3_sasl_server_step_claimed_user(&server, GIVEN(whole->sent[0]), ROOM(name)) == FE2O3_NAMES_NOBODY;
     holds &= fe2o3_sasl_server_step(host, &server, GIVEN(whole->sent[1]), server_nonce, &stands, ROOM(out))
-        == FE2O3_DONE && stands == FE2O3_WANTING;
-    return holds && fe2o3_sasl_server_step_user(&server, GIVEN(whole->sent[3]), ROOM(name)) == FE2O3_DONE
+        == FE2O3_OK && stands == FE2O3_IN_PROGRESS;
+    return holds && fe2o3_sasl_server_step_claimed_user(&server, GIVEN(whole->sent[3]), ROOM(name)) == FE2O3_OK
         && spells(&name, TEXT("user"));
 }
 
 static void by_scram(const char *mechanism, uint32_t version)
 {
     struct fe2o3_scram_record record = record_by(version), other = record;
-    struct fe2o3_client_keys keys = {0}, made = {0};
+    struct fe2o3_scram_keys keys = {0}, made = {0};
     struct fe2o3_sasl_login login = login_by(FE2O3_SCRAM, version), stranger = login;
-    struct fe2o3_sasl_host host = host_of(&record), without_verifier = host_of(&other);
+    struct fe2o3_sasl_server_config host = host_of(&record), without_verifier = host_of(&other);
     struct exchange whole, one;
     told(mechanism, "a login",
-        ends(&login, &host, FE2O3_LOGGED_IN, &whole) && names(&whole.server, TEXT("user")));
+        ends(&login, &host, FE2O3_AUTHENTICATED, &whole) && names(&whole.server, TEXT("user")));
     told(mechanism, "the login hands out its keys",
-        fe2o3_scram_client_keys(&whole.client, &keys) == FE2O3_DONE
-            && fe2o3_scram_keys_make(version, TEXT("pencil"), salt, sizeof salt, 4096, &made) == FE2O3_DONE
+        fe2o3_scram_client_get_keys(&whole.client, &keys) == FE2O3_OK
+            && fe2o3_scram_keys_make(version, TEXT("pencil"), salt, sizeof salt, 4096, &made) == FE2O3_OK
             && memcmp(&keys, &made, sizeof keys) == 0);
     stranger.login.password_len--;
     told(mechanism, "a wrong password",
-        ends(&stranger, &host, FE2O3_REFUSED_AUTH, &one) && names_nobody(&one.server)
-            && spells(&one.sent[4], TEXT(BARE_AUTH)) && fe2o3_scram_client_keys(&one.client, &keys) != FE2O3_DONE);
+        ends(&stranger, &host, FE2O3_REFUSED_AUTH, &one) && names_no_user(&one.server)
+            && spells(&one.sent[4], TEXT(BARE_AUTH)) && fe2o3_scram_client_get_keys(&one.client, &keys) != FE2O3_OK);
     stranger = login;
     stranger.login.username_len--;
     told(mechanism, "an unknown user",
-        ends(&stranger, &host, FE2O3_REFUSED_AUTH, &one) && names_nobody(&one.server));
+        ends(&stranger, &host, FE2O3_REFUSED_AUTH, &one) && names_no_user(&one.server));
     other.server_key[0] ^= 1;
     told(mechanism, "a server without the verifier is not believed",
         run(&one, &login, &without_verifier) == FE2O3_CLIENT_SERVER_SIGNATURE_MISMATCH && one.count == 5
-            && one.client_stands == FE2O3_WANTING
+            && one.client_stands == FE2O3_IN_PROGRESS
             && memcmp(&one.client, &one.client_before, sizeof one.client) == 0
-            && fe2o3_scram_client_keys(&one.client, &keys) == FE2O3_CLIENT_ILLEGAL_CLIENT_STATE);
+            && fe2o3_scram_client_get_keys(&one.client, &keys) == FE2O3_CLIENT_ILLEGAL_CLIENT_STATE);
     told(mechanism, "a room that is too small", too_little_room(&login, &host, &whole));
     told(mechanism, "whom a body names", bodies_name(&host, &whole));
 }
@@ -226,22 +226,22 @@ static void by_hand(void)
 {
     struct fe2o3_scram_record record = record_by(FE2O3_SHA_256);
     struct fe2o3_sasl_login login = login_by(FE2O3_SCRAM, FE2O3_SHA_256);
-    struct fe2o3_sasl_host host = host_of(&record);
+    struct fe2o3_sasl_server_config host = host_of(&record);
     struct body offer;
     struct exchange one;
     told("SCRAM-SHA-256", "each body is the one that was written by hand",
-        ends(&login, &host, FE2O3_LOGGED_IN, &one) && one.count == 5 && spells(&one.sent[0], TEXT(OFFERS_ALL))
+        ends(&login, &host, FE2O3_AUTHENTICATED, &one) && one.count == 5 && spells(&one.sent[0], TEXT(OFFERS_ALL))
             && spells(&one.sent[1], TEXT(INIT)) && spells(&one.sent[2], TEXT(CHALLENGE))
             && spells(&one.sent[3], TEXT(RESPONSE)) && spells(&one.sent[4], TEXT(OUTCOME_OK)));
     host.mechanisms = FE2O3_OFFER_SCRAM;
     told("SCRAM-SHA-256", "offered alone",
-        fe2o3_sasl_server_offer(&host, ROOM(offer)) == FE2O3_DONE && spells(&offer, TEXT(OFFERS_SCRAM)));
+        fe2o3_sasl_server_offer(&host, ROOM(offer)) == FE2O3_OK && spells(&offer, TEXT(OFFERS_SCRAM)));
     host.mechanisms = 0;
     told("nothing", "offered", fe2o3_sasl_server_offer(&host, ROOM(offer)) == FE2O3_NO_SUCH_MECHANISM);
 }
 
 /* EXTERNAL on a connection whose client the transport has not authenticated. */
-static void without_peer(const struct fe2o3_sasl_login *external, struct fe2o3_sasl_host host)
+static void without_peer(const struct fe2o3_sasl_login *external, struct fe2o3_sasl_server_config host)
 {
     struct fe2o3_scram_server server = fresh_server;
     struct body offer, out;
@@ -252,8 +252,8 @@ static void without_peer(const struct fe2o3_sasl_login *external, struct fe2o3_s
     told("EXTERNAL", "not offered without a peer", run(&one, external, &host) == FE2O3_NOT_IMPLEMENTED);
     told("EXTERNAL", "an init without a peer",
         fe2o3_sasl_server_step(&host, &server, TEXT("\2\1\0\0\0\x53\x41\xc0\x12\3\xa3\10EXTERNAL\x40\xa1\4host"),
-            server_nonce, &stands, ROOM(out)) == FE2O3_DONE
-            && stands == FE2O3_REFUSED_AUTH && spells(&out, TEXT(BARE_AUTH)) && names_nobody(&server));
+            server_nonce, &stands, ROOM(out)) == FE2O3_OK
+            && stands == FE2O3_REFUSED_AUTH && spells(&out, TEXT(BARE_AUTH)) && names_no_user(&server));
     host.mechanisms = FE2O3_OFFER_EXTERNAL;
     told("EXTERNAL", "nothing offered without a peer",
         fe2o3_sasl_server_offer(&host, ROOM(offer)) == FE2O3_NO_SUCH_MECHANISM);
@@ -264,20 +264,20 @@ static void by_others(void)
     struct fe2o3_scram_record record = record_by(FE2O3_SHA_256);
     struct fe2o3_sasl_login plain = login_by(FE2O3_PLAIN, 0), external = login_by(FE2O3_EXTERNAL, 0);
     struct fe2o3_sasl_login anonymous = login_by(FE2O3_ANONYMOUS, 0);
-    struct fe2o3_sasl_host host = host_of(&record);
+    struct fe2o3_sasl_server_config host = host_of(&record);
     struct body name;
     struct exchange one;
-    told("PLAIN", "a login", ends(&plain, &host, FE2O3_LOGGED_IN, &one) && names(&one.server, TEXT("user"))
+    told("PLAIN", "a login", ends(&plain, &host, FE2O3_AUTHENTICATED, &one) && names(&one.server, TEXT("user"))
             && spells(&one.sent[1], TEXT("\2\1\0\0\0\x53\x41\xc0\x1c\3\xa3\5PLAIN\xa0\14\0user\0pencil\xa1\4host"))
             && spells(&one.sent[2], TEXT(BARE_OK)));
     told("PLAIN", "whom its init names",
-        fe2o3_sasl_server_step_user(&fresh_server, GIVEN(one.sent[1]), ROOM(name)) == FE2O3_DONE
+        fe2o3_sasl_server_step_claimed_user(&fresh_server, GIVEN(one.sent[1]), ROOM(name)) == FE2O3_OK
             && spells(&name, TEXT("user")));
     plain.login.password_len--;
-    told("PLAIN", "a wrong password", ends(&plain, &host, FE2O3_REFUSED_AUTH, &one) && names_nobody(&one.server));
-    told("ANONYMOUS", "a login", ends(&anonymous, &host, FE2O3_LOGGED_IN, &one) && names_nobody(&one.server)
+    told("PLAIN", "a wrong password", ends(&plain, &host, FE2O3_REFUSED_AUTH, &one) && names_no_user(&one.server));
+    told("ANONYMOUS", "a login", ends(&anonymous, &host, FE2O3_AUTHENTICATED, &one) && names_no_user(&one.server)
             && spells(&one.sent[1], TEXT("\2\1\0\0\0\x53\x41\xc0\x13\3\xa3\11ANONYMOUS\x40\xa1\4host")));
-    told("EXTERNAL", "a login", ends(&external, &host, FE2O3_LOGGED_IN, &one) && names(&one.server, TEXT("peer"))
+    told("EXTERNAL", "a login", ends(&external, &host, FE2O3_AUTHENTICATED, &one) && names(&one.server, TEXT("peer"))
             && spells(&one.sent[1], TEXT("\2\1\0\0\0\x53\x41\xc0\x12\3\xa3\10EXTERNAL\x40\xa1\4host")));
     host.mechanisms = FE2O3_OFFER_SCRAM;
     told("EXTERNAL", "where it is not offered", run(&one, &external, &host) == FE2O3_NOT_IMPLEMENTED);
@@ -297,7 +297,7 @@ static void out_of_turn(void)
 {
     struct fe2o3_scram_record record = record_by(FE2O3_SHA_256);
     struct fe2o3_sasl_login scram = login_by(FE2O3_SCRAM, FE2O3_SHA_256), plain = login_by(FE2O3_PLAIN, 0);
-    struct fe2o3_sasl_host host = host_of(&record);
+    struct fe2o3_sasl_server_config host = host_of(&record);
     struct fe2o3_scram_server server = fresh_server;
     struct body out;
     uint32_t stands = 9;
@@ -307,43 +307,43 @@ static void out_of_turn(void)
     told("SCRAM-SHA-256", "a challenge first is not answered",
         heard(&scram, TEXT(CHALLENGE), &stands) == FE2O3_CLIENT_ILLEGAL_CLIENT_STATE && stands == 9);
     told("PLAIN", "an outcome Ok first is believed",
-        heard(&plain, TEXT(BARE_OK), &stands) == FE2O3_DONE && stands == FE2O3_LOGGED_IN);
+        heard(&plain, TEXT(BARE_OK), &stands) == FE2O3_OK && stands == FE2O3_AUTHENTICATED);
     stands = 9;
     told("PLAIN", "a challenge is not answered",
         heard(&plain, TEXT(CHALLENGE), &stands) == FE2O3_NOT_IMPLEMENTED && stands == 9);
     told("a client", "a body that is none of a frame",
-        heard(&plain, TEXT("\2\1\0"), &stands) == FE2O3_FRAME_UNREAD && stands == 9);
+        heard(&plain, TEXT("\2\1\0"), &stands) == FE2O3_MALFORMED_FRAME && stands == 9);
     told("a server", "a frame that no client sends",
         fe2o3_sasl_server_step(&host, &server, TEXT(CHALLENGE), server_nonce, &stands, ROOM(out))
             == FE2O3_NO_SASL_FRAME && stands == 9);
     told("a server", "a response without a challenge is refused by an outcome",
-        fe2o3_sasl_server_step(&host, &server, TEXT(RESPONSE), server_nonce, &stands, ROOM(out)) == FE2O3_DONE
-            && stands == FE2O3_REFUSED_AUTH && spells(&out, TEXT(BARE_AUTH)) && names_nobody(&server));
+        fe2o3_sasl_server_step(&host, &server, TEXT(RESPONSE), server_nonce, &stands, ROOM(out)) == FE2O3_OK
+            && stands == FE2O3_REFUSED_AUTH && spells(&out, TEXT(BARE_AUTH)) && names_no_user(&server));
     host.mechanisms = FE2O3_OFFER_PLAIN;
     told("a server", "an init of a mechanism that it does not offer",
-        fe2o3_sasl_server_step(&host, &server, TEXT(INIT), server_nonce, &stands, ROOM(out)) == FE2O3_DONE
-            && stands == FE2O3_REFUSED_AUTH && spells(&out, TEXT(BARE_AUTH)) && names_nobody(&server));
+        fe2o3_sasl_server_step(&host, &server, TEXT(INIT), server_nonce, &stands, ROOM(out)) == FE2O3_OK
+            && stands == FE2O3_REFUSED_AUTH && spells(&out, TEXT(BARE_AUTH)) && names_no_user(&server));
 }
 
 /* A client that could bind a channel, at a server that takes it and at one that does not. */
 static void unbound(void)
 {
     struct fe2o3_scram_record record = record_by(FE2O3_SHA_256);
-    struct fe2o3_sasl_host host = host_of(&record);
+    struct fe2o3_sasl_server_config host = host_of(&record);
     struct fe2o3_scram_server server = fresh_server;
     struct body out;
     uint32_t stands = 9;
     told("SCRAM-SHA-256", "the header `y,,` is refused",
-        fe2o3_sasl_server_step(&host, &server, TEXT(UNBOUND_INIT), server_nonce, &stands, ROOM(out)) == FE2O3_DONE
-            && stands == FE2O3_REFUSED_AUTH && spells(&out, TEXT(BARE_AUTH)) && names_nobody(&server));
-    host.mechanisms = FE2O3_OFFER_SCRAM | FE2O3_TAKE_UNBOUND;
+        fe2o3_sasl_server_step(&host, &server, TEXT(UNBOUND_INIT), server_nonce, &stands, ROOM(out)) == FE2O3_OK
+            && stands == FE2O3_REFUSED_AUTH && spells(&out, TEXT(BARE_AUTH)) && names_no_user(&server));
+    host.mechanisms = FE2O3_OFFER_SCRAM | FE2O3_ACCEPT_CBIND_FLAG_Y;
     told("SCRAM-SHA-256", "the header `y,,` is taken on wish",
-        fe2o3_sasl_server_step(&host, &server, TEXT(UNBOUND_INIT), server_nonce, &stands, ROOM(out)) == FE2O3_DONE
-            && stands == FE2O3_WANTING && spells(&out, TEXT(CHALLENGE))
+        fe2o3_sasl_server_step(&host, &server, TEXT(UNBOUND_INIT), server_nonce, &stands, ROOM(out)) == FE2O3_OK
+            && stands == FE2O3_IN_PROGRESS && spells(&out, TEXT(CHALLENGE))
             && fe2o3_sasl_server_step(&host, &server, TEXT(UNBOUND_RESPONSE), server_nonce, &stands, ROOM(out))
-                == FE2O3_DONE
-            && stands == FE2O3_LOGGED_IN && spells(&out, TEXT(UNBOUND_OK)) && names(&server, TEXT("user")));
-    host.mechanisms = FE2O3_TAKE_UNBOUND;
+                == FE2O3_OK
+            && stands == FE2O3_AUTHENTICATED && spells(&out, TEXT(UNBOUND_OK)) && names(&server, TEXT("user")));
+    host.mechanisms = FE2O3_ACCEPT_CBIND_FLAG_Y;
     told("nothing", "offered, but to take `y,,`",
         fe2o3_sasl_server_offer(&host, ROOM(out)) == FE2O3_NO_SUCH_MECHANISM);
 }

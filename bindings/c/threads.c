@@ -26,7 +26,7 @@ struct outcome {
 };
 
 /* All threads read these at once. */
-static struct fe2o3_client_keys no_keys;
+static struct fe2o3_scram_keys no_keys;
 static struct fe2o3_scram_record records[VERSIONS];
 static struct outcome expected[LOGINS];
 
@@ -35,7 +35,7 @@ static void run(size_t place, struct outcome *one)
 {
     static const uint32_t versions[VERSIONS] = {FE2O3_SHA_1, FE2O3_SHA_256, FE2O3_SHA_512};
     const struct fe2o3_scram_record *record = &records[place % VERSIONS];
-    struct fe2o3_login login = {.version = versions[place % VERSIONS], .least_iterations = 1, .most_iterations = 100,
+    struct fe2o3_login login = {.version = versions[place % VERSIONS], .min_iterations = 1, .max_iterations = 100,
         .username = TEXT("user"), .password = TEXT("pencil"), .keys = &no_keys};
     struct fe2o3_scram_client client = {0};
     struct fe2o3_scram_server server = {0};
@@ -45,17 +45,17 @@ static void run(size_t place, struct outcome *one)
     login.password_len -= place % 5 == 0;
     memset(one, 0, sizeof *one);
     one->number = fe2o3_scram_client_first(&login, &client, client_nonce, ROOM(one->client_first));
-    if (one->number == FE2O3_DONE)
+    if (one->number == FE2O3_OK)
         one->number = fe2o3_scram_server_first(
             record, &server, server_nonce, GIVEN(one->client_first), ROOM(one->server_first));
-    if (one->number == FE2O3_DONE)
+    if (one->number == FE2O3_OK)
         one->number = fe2o3_scram_client_final(&login, &client, GIVEN(one->server_first), ROOM(one->client_final));
-    if (one->number == FE2O3_DONE)
+    if (one->number == FE2O3_OK)
         one->number = fe2o3_scram_server_final(record, &server, GIVEN(one->client_final), ROOM(one->server_final));
-    if (one->number == FE2O3_DONE)
+    if (one->number == FE2O3_OK)
         one->number = fe2o3_scram_client_verify(&login, &client, GIVEN(one->server_final));
-    if (one->number == FE2O3_DONE)
-        one->number = fe2o3_scram_server_logged_in(&server, ROOM(one->user));
+    if (one->number == FE2O3_OK)
+        one->number = fe2o3_scram_server_authenticated_user(&server, ROOM(one->user));
 }
 
 static int same_text(const struct text *left, const struct text *right)
@@ -91,15 +91,15 @@ int main(void)
     struct share shares[THREADS];
     size_t logins = 0, differences = 0;
 
-    if (fe2o3_scram_record_make(FE2O3_SHA_1, TEXT("pencil"), salt, sizeof salt, 100, &records[0]) != FE2O3_DONE
-        || fe2o3_scram_record_make(FE2O3_SHA_256, TEXT("pencil"), salt, sizeof salt, 100, &records[1]) != FE2O3_DONE
-        || fe2o3_scram_record_make(FE2O3_SHA_512, TEXT("pencil"), salt, sizeof salt, 100, &records[2]) != FE2O3_DONE) {
+    if (fe2o3_scram_record_make(FE2O3_SHA_1, TEXT("pencil"), salt, sizeof salt, 100, &records[0]) != FE2O3_OK
+        || fe2o3_scram_record_make(FE2O3_SHA_256, TEXT("pencil"), salt, sizeof salt, 100, &records[1]) != FE2O3_OK
+        || fe2o3_scram_record_make(FE2O3_SHA_512, TEXT("pencil"), salt, sizeof salt, 100, &records[2]) != FE2O3_OK) {
         printf("no record\n");
         return 1;
     }
     for (size_t place = 0; place < LOGINS; place++) {
         run(place, &expected[place]);
-        differences += expected[place].number != (place % 5 == 0 ? FE2O3_SERVER_AUTHENTICATION_FAILED : FE2O3_DONE);
+        differences += expected[place].number != (place % 5 == 0 ? FE2O3_SERVER_AUTHENTICATION_FAILED : FE2O3_OK);
     }
     for (size_t thread = 0; thread < THREADS; thread++) {
         shares[thread] = (struct share){.first = thread};

@@ -19,7 +19,7 @@ A server:
     send(server.final(receive()))
     name = server.logged_in()           # logged in
 
-where `record_of` answers `Record.of_nobody(..)` for a name that it does not know.
+where `record_of` answers `Record.mock(..)` for a name that it does not know.
 
 A password past ASCII is prepared on both sides, before it is kept and before it is handed in:
 
@@ -32,20 +32,20 @@ The client's side of a connection of AMQP 1.0, before its first frame of AMQP:
     side = ClientConnection(client, hostname="broker.example")   # or ClientConnection.plain("user", "pencil")
     socket.sendall(side.open())
     rest = b""
-    while side.standing == Standing.WANTING:
+    while side.progress == Progress.WANTING:
         answer, rest = side.receive(socket.recv(4096))
         socket.sendall(answer)
-    # logged in where side.standing is Standing.LOGGED_IN, and `rest` is AMQP's; else side.why says why not
+    # logged in where side.progress is Progress.LOGGED_IN, and `rest` is AMQP's; else side.why says why not
 
 The same over the bodies of frames, each from the data offset on, for who reads and writes the frames:
 
     side = ClientSteps(client, hostname="broker.example")
     for _ in range(3):                  # the mechanisms, a challenge, and the outcome
         answer = side.on_frame(receive_body())
-        if side.standing != Standing.WANTING:
+        if side.progress != Progress.WANTING:
             break
         send_body(answer)
-    # logged in where side.standing is Standing.LOGGED_IN; else side.why says why not
+    # logged in where side.progress is Progress.LOGGED_IN; else side.why says why not
 
 A call that the library refuses raises `Refused` and leaves the object as it was. A call that does not raise is done.
 An argument that is none (another type, a number outside of its C type) raises TypeError or ValueError before any call.
@@ -80,7 +80,7 @@ __all__ = [
     "Server",
     "ServerConnection",
     "ServerSteps",
-    "Standing",
+    "Progress",
     "Status",
     "library_version",
     "offers",
@@ -177,7 +177,7 @@ class Status(enum.IntEnum):
     UNASSIGNED_CODE_POINT = 88
 
 
-class Standing(enum.IntEnum):
+class Progress(enum.IntEnum):
     """How a login stands: more is wanted of the other side, the client is logged in, or the connection is to be
     closed."""
 
@@ -250,8 +250,8 @@ class _LoginStruct(ctypes.Structure):
     _fields_ = [
         ("version", ctypes.c_uint32),
         ("secret", ctypes.c_uint32),
-        ("least_iterations", ctypes.c_uint32),
-        ("most_iterations", ctypes.c_uint32),
+        ("min_iterations", ctypes.c_uint32),
+        ("max_iterations", ctypes.c_uint32),
         ("username", ctypes.c_char_p),
         ("username_len", ctypes.c_size_t),
         ("password", ctypes.c_char_p),
@@ -272,7 +272,7 @@ class _ClientStruct(ctypes.Structure):
 
 class _ConnectionStruct(ctypes.Structure):
     _fields_ = [
-        ("standing", ctypes.c_uint32),
+        ("progress", ctypes.c_uint32),
         ("why", ctypes.c_uint32),
         ("due", ctypes.c_uint32),
         ("held_len", ctypes.c_uint32),
@@ -361,7 +361,7 @@ def _load(name: str) -> ctypes.CDLL:
         "fe2o3_scram_client_first": (number, [login, client, read, *written]),
         "fe2o3_scram_client_final": (number, [login, client, read, length, *written]),
         "fe2o3_scram_client_verify": (number, [login, client, read, length]),
-        "fe2o3_scram_client_keys": (number, [client, keys]),
+        "fe2o3_scram_client_get_keys": (number, [client, keys]),
         "fe2o3_saslprep": (number, [read, length, number, *written]),
         "fe2o3_scram_keys_make": (number, [number, read, length, read, length, number, keys]),
         "fe2o3_scram_keys_make_prepared": (number, [number, read, length, read, length, number, keys]),
@@ -369,24 +369,24 @@ def _load(name: str) -> ctypes.CDLL:
         "fe2o3_scram_record_make_prepared": (number, [number, read, length, read, length, number, record]),
         "fe2o3_scram_record_parse": (number, [read, length, record]),
         "fe2o3_scram_record_text": (number, [record, *written]),
-        "fe2o3_scram_record_of_nobody": (number, [number, read, length, read, length, length, number, record]),
+        "fe2o3_scram_record_mock": (number, [number, read, length, read, length, length, number, record]),
         "fe2o3_scram_record_verify": (number, [record, read, length]),
         "fe2o3_scram_record_verify_prepared": (number, [record, read, length]),
         "fe2o3_scram_lines_find": (number, [read, length, read, length, number, count, record]),
         "fe2o3_scram_line": (number, [read, length, record, *written]),
         "fe2o3_scram_server_first": (number, [record, server, read, read, length, *written]),
-        "fe2o3_scram_server_first_unbound": (number, [record, server, read, read, length, *written]),
-        "fe2o3_scram_server_user": (number, [read, length, *written]),
+        "fe2o3_scram_server_first_with_cbind_flag_y": (number, [record, server, read, read, length, *written]),
+        "fe2o3_scram_server_claimed_user": (number, [read, length, *written]),
         "fe2o3_scram_server_final": (number, [record, server, read, length, *written]),
-        "fe2o3_scram_server_logged_in": (number, [server, *written]),
+        "fe2o3_scram_server_authenticated_user": (number, [server, *written]),
         "fe2o3_sasl_client_open": (number, written),
         "fe2o3_sasl_client_receive": (number, [sasl_login, sasl_client, read, length, read, count, *written]),
         "fe2o3_sasl_server_receive": (number, [host, sasl_server, read, length, read, count, *written]),
-        "fe2o3_sasl_server_user": (number, [sasl_server, read, length, *written]),
+        "fe2o3_sasl_server_claimed_user": (number, [sasl_server, read, length, *written]),
         "fe2o3_sasl_client_step": (number, [sasl_login, client, read, length, read, stands, *written]),
         "fe2o3_sasl_server_offer": (number, [host, *written]),
         "fe2o3_sasl_server_step": (number, [host, server, read, length, read, stands, *written]),
-        "fe2o3_sasl_server_step_user": (number, [server, read, length, *written]),
+        "fe2o3_sasl_server_step_claimed_user": (number, [server, read, length, *written]),
         "fe2o3_sasl_view_frame": (number, [read, length, ctypes.POINTER(_FrameViewStruct)]),
         "fe2o3_sasl_offers": (number, [read, length, read, length]),
         "fe2o3_status_text": (None, [number, text]),
@@ -560,7 +560,7 @@ class Record:
     __slots__ = ("_struct",)
 
     def __init__(self) -> None:
-        raise TypeError("a record is made by Record.make, Record.parse or Record.of_nobody")
+        raise TypeError("a record is made by Record.make, Record.parse or Record.mock")
 
     @classmethod
     def _of(cls, struct: _RecordStruct) -> Record:
@@ -595,7 +595,7 @@ class Record:
         return cls._of(struct)
 
     @classmethod
-    def of_nobody(
+    def mock(
         cls, version: int, secret: Bytes, username: Text, *, salt_length: int = 16, iterations: int = 4096
     ) -> Record:
         """A record for a name that a server does not know, so that it can answer as to one that it knows: the login
@@ -605,7 +605,7 @@ class Record:
         if len(secret) < 32:
             raise ValueError("the secret has fewer than 32 bytes")
         _done(
-            _library.fe2o3_scram_record_of_nobody(
+            _library.fe2o3_scram_record_mock(
                 _number(version),
                 secret,
                 len(secret),
@@ -699,8 +699,8 @@ class Client:
         keys: Optional[Keys] = None,
         *,
         prepared_password: Optional[Text] = None,
-        least_iterations: int = 4096,
-        most_iterations: int = 1_000_000,
+        min_iterations: int = 4096,
+        max_iterations: int = 1_000_000,
     ) -> None:
         """A client that has sent nothing. It answers no iteration count below the least, which a server could name to
         learn the password sooner (RFC 7677 asks for 4096 at least), and none above the most, which costs time."""
@@ -717,8 +717,8 @@ class Client:
         self._login = _LoginStruct(
             version=_number(version),
             secret=secret,
-            least_iterations=_number(least_iterations),
-            most_iterations=_number(most_iterations),
+            min_iterations=_number(min_iterations),
+            max_iterations=_number(max_iterations),
             username=name,
             username_len=len(name),
             password=typed,
@@ -749,7 +749,7 @@ class Client:
             )
 
     def verify(self, server_final: Bytes) -> None:
-        """Believes the server-final message, or raises `Refused`. The login is done only where this does not raise."""
+        """Verifies the server-final message, or raises `Refused`. The login is done only where this does not raise."""
         message = _bytes(server_final)
         with self._lock:
             _done(_library.fe2o3_scram_client_verify(self._login, self._struct, message, len(message)))
@@ -759,7 +759,7 @@ class Client:
         its count takes no password, and little time. Whoever has them can log in."""
         struct = _KeysStruct()
         with self._lock:
-            _done(_library.fe2o3_scram_client_keys(self._struct, ctypes.byref(struct)))
+            _done(_library.fe2o3_scram_client_get_keys(self._struct, ctypes.byref(struct)))
         return Keys._of(struct)
 
     def __repr__(self) -> str:
@@ -839,18 +839,18 @@ class _Login:
         raise NotImplementedError
 
     @property
-    def standing(self) -> int:
-        """How the login stands: one of `Standing`."""
+    def progress(self) -> int:
+        """How the login stands: one of `Progress`."""
         return self._ends()[0]
 
     @property
     def why(self) -> Optional[Refused]:
         """Why the connection is to be closed, and None where it is not."""
-        standing, why = self._ends()
-        return Refused(why, _status_text(why)) if standing == Standing.CLOSED else None
+        progress, why = self._ends()
+        return Refused(why, _status_text(why)) if progress == Progress.CLOSED else None
 
     def __repr__(self) -> str:
-        return f"{type(self).__name__}(standing={self.standing})"
+        return f"{type(self).__name__}(progress={self.progress})"
 
 
 class _Connection(_Login):
@@ -860,7 +860,7 @@ class _Connection(_Login):
 
     def _ends(self) -> tuple[int, int]:
         connection = self._struct.connection
-        return int(connection.standing), int(connection.why)
+        return int(connection.progress), int(connection.why)
 
 
 class _Steps(_Login):
@@ -870,10 +870,10 @@ class _Steps(_Login):
     _stands: int
 
     def _ends(self) -> tuple[int, int]:
-        return min(self._stands, int(Standing.CLOSED)), self._stands
+        return min(self._stands, int(Progress.CLOSED)), self._stands
 
     def _goes_on(self) -> None:
-        if self.standing != Standing.WANTING:
+        if self.progress != Progress.WANTING:
             _done(Status.ENDED)
 
     def _stepped(self, call: Callable[..., int]) -> bytes:
@@ -936,7 +936,7 @@ class _ClientSide(_Login):
         """The keys of a login by SCRAM, as `Client.keys` hands them out."""
         struct = _KeysStruct()
         with self._lock:
-            _done(_library.fe2o3_scram_client_keys(ctypes.byref(self._scram()), ctypes.byref(struct)))
+            _done(_library.fe2o3_scram_client_get_keys(ctypes.byref(self._scram()), ctypes.byref(struct)))
         return Keys._of(struct)
 
 
@@ -962,7 +962,7 @@ class ClientConnection(_Connection, _ClientSide):
         behind a login what is AMQP's."""
         rest, answers, taken = _bytes(data), [], ctypes.c_size_t()
         with self._lock:
-            while rest and self.standing == Standing.WANTING:
+            while rest and self.progress == Progress.WANTING:
                 nonce = secrets.token_bytes(32)
                 answers.append(
                     _written(
@@ -995,7 +995,7 @@ class ClientSteps(_Steps, _ClientSide):
 
     def on_frame(self, body: Bytes) -> bytes:
         """The body that is to be sent for one that came: the init for the mechanisms, the response for a challenge, and
-        nothing for an outcome, behind which `standing` says how the login stands. Where it raises, other than for want
+        nothing for an outcome, behind which `progress` says how the login stands. Where it raises, other than for want
         of memory, the connection is to be closed.
 
         PLAIN, ANONYMOUS and EXTERNAL are logged in by any outcome Ok, also by one that comes first; SCRAM by one alone
@@ -1036,7 +1036,7 @@ class _ServerSide(_Login):
         peer: Optional[Text] = None,
     ) -> None:
         """A login by one of the mechanisms. `record_of` is asked for the record of a name: for one that it does not
-        know it answers `Record.of_nobody(..)`, so that nobody learns that, or None. The count is what PLAIN takes for
+        know it answers `Record.mock(..)`, so that nobody learns that, or None. The count is what PLAIN takes for
         an unknown user. EXTERNAL lets in the peer, the name that the transport has authenticated. Where that is None or
         empty, EXTERNAL is not offered, and an init of it is refused."""
         self._record_of, self._mechanisms, self._version = record_of, _number(mechanisms), _number(version)
@@ -1079,9 +1079,9 @@ class _ServerSide(_Login):
         """The plain name of the user who has logged in; None by ANONYMOUS. Raises `Refused` before."""
         with self._lock:
             scram = self._scram()
-            if self.standing == Standing.LOGGED_IN and not scram.stands:
+            if self.progress == Progress.LOGGED_IN and not scram.stands:
                 return None
-            name = _written(256, lambda *room: _library.fe2o3_scram_server_logged_in(ctypes.byref(scram), *room))
+            name = _written(256, lambda *room: _library.fe2o3_scram_server_authenticated_user(ctypes.byref(scram), *room))
         return name.decode("utf-8")
 
 
@@ -1101,14 +1101,14 @@ class ServerConnection(_Connection, _ServerSide):
         """What is to be sent for bytes that came, and those of them that are left, as `ClientConnection.receive`."""
         rest, answers = _bytes(data), []
         with self._lock:
-            while rest and self.standing == Standing.WANTING:
+            while rest and self.progress == Progress.WANTING:
                 answer, taken = self._step(rest)
                 answers.append(answer)
                 rest = rest[taken:]
         return b"".join(answers), rest
 
     def _step(self, data: bytes) -> tuple[bytes, int]:
-        name = self._named(lambda *room: _library.fe2o3_sasl_server_user(self._struct, data, len(data), *room))
+        name = self._named(lambda *room: _library.fe2o3_sasl_server_claimed_user(self._struct, data, len(data), *room))
         host, nonce, taken = self._host(name), secrets.token_bytes(32), ctypes.c_size_t()
         answer = _written(
             520,
@@ -1141,12 +1141,12 @@ class ServerSteps(_Steps, _ServerSide):
         return _written(508, lambda *room: _library.fe2o3_sasl_server_offer(host, *room))
 
     def on_frame(self, body: Bytes) -> bytes:
-        """The body that is to be sent for one that came: a challenge, or the outcome, behind which `standing` says how
+        """The body that is to be sent for one that came: a challenge, or the outcome, behind which `progress` says how
         the login stands. Where it raises, other than for want of memory, the connection is to be closed."""
         came, nonce = _bytes(body), secrets.token_bytes(32)
         with self._lock:
             self._goes_on()
-            name = self._named(lambda *room: _library.fe2o3_sasl_server_step_user(self._struct, came, len(came), *room))
+            name = self._named(lambda *room: _library.fe2o3_sasl_server_step_claimed_user(self._struct, came, len(came), *room))
             host = self._host(name)
             return self._stepped(
                 lambda *room: _library.fe2o3_sasl_server_step(host, self._struct, came, len(came), nonce, *room)
@@ -1170,18 +1170,18 @@ class Server:
     def user(client_first: Bytes) -> str:
         """The plain name of the user whom a client-first message names, and whose record is to be fetched."""
         message = _bytes(client_first)
-        name = _written(256, lambda *room: _library.fe2o3_scram_server_user(message, len(message), *room))
+        name = _written(256, lambda *room: _library.fe2o3_scram_server_claimed_user(message, len(message), *room))
         return name.decode("utf-8")
 
     def first(self, record: Record, client_first: Bytes, *, unbound: bool = False) -> bytes:
         """The server-first message, with a fresh nonce, which answers the client-first message. The record is that of
-        the user whom the message names, or `Record.of_nobody`.
+        the user whom the message names, or `Record.mock`.
 
         The GS2 header of the message has to be `n,,`. With `unbound` it may be `y,,` too: that of a client which could
         bind a channel, and was offered no mechanism with `-PLUS` (RFC 5802, section 6). Only for a server that offers
         none."""
         message, nonce, opened = _bytes(client_first), secrets.token_bytes(32), _ServerStruct()
-        call = _library.fe2o3_scram_server_first_unbound if unbound else _library.fe2o3_scram_server_first
+        call = _library.fe2o3_scram_server_first_with_cbind_flag_y if unbound else _library.fe2o3_scram_server_first
         answer = _written(1024, lambda *room: call(record._struct, opened, nonce, message, len(message), *room))
         with self._lock:
             self._exchange = record, opened
@@ -1201,7 +1201,7 @@ class Server:
         """The plain name of the user who has logged in: the one whose challenge was answered."""
         with self._lock:
             opened = self._exchange[1]
-            name = _written(256, lambda *room: _library.fe2o3_scram_server_logged_in(opened, *room))
+            name = _written(256, lambda *room: _library.fe2o3_scram_server_authenticated_user(opened, *room))
         return name.decode("utf-8")
 
     def __repr__(self) -> str:

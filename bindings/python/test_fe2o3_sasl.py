@@ -19,7 +19,7 @@ from typing import Any, Callable, Optional
 from unittest import mock
 
 import fe2o3_sasl
-from fe2o3_sasl import SHA_1, SHA_256, SHA_512, Client, ClientConnection, Keys, Record, Refused, Server, Standing, Status
+from fe2o3_sasl import SHA_1, SHA_256, SHA_512, Client, ClientConnection, Keys, Record, Refused, Server, Progress, Status
 from fe2o3_sasl import ClientSteps, Offer, ServerConnection, ServerSteps
 from peers import (
     CHALLENGE,
@@ -179,8 +179,8 @@ class Logins(Case):
             self.refused(
                 Status.CLIENT_ITERATION_COUNT_TOO_SMALL, login, Client(version, "user", "pencil"), Server(), low
             )
-            login(Client(version, "user", "pencil", least_iterations=4095), Server(), low)
-            client = Client(version, "user", "pencil", most_iterations=4096)
+            login(Client(version, "user", "pencil", min_iterations=4095), Server(), low)
+            client = Client(version, "user", "pencil", max_iterations=4096)
             self.refused(Status.CLIENT_ITERATION_COUNT_TOO_LARGE, login, client, Server(), high)
 
     def test_wrong_password_and_unknown_user(self) -> None:
@@ -191,7 +191,7 @@ class Logins(Case):
                 client = Client(version, "u", "pencils")
                 self.refused(Status.SERVER_AUTHENTICATION_FAILED, login, client, server, record)
                 self.refused(Status.SERVER_ILLEGAL_AUTHENTICATOR_STATE, server.logged_in)
-                nobody = Record.of_nobody(version, secret, "u", salt_length=20, iterations=5000)
+                nobody = Record.mock(version, secret, "u", salt_length=20, iterations=5000)
                 label = f"Salt:{MECHANISMS[version]}:u".encode()
                 salt = hmac.new(secret, label, "sha512").digest()[:20]
                 stored, server_key = mac(version, secret, b"StoredKey:u"), mac(version, secret, b"ServerKey:u")
@@ -202,9 +202,9 @@ class Logins(Case):
                 )
                 self.refused(Status.SERVER_AUTHENTICATION_FAILED, login, Client(version, "u", "pencil"), server, nobody)
                 self.assertFalse(nobody.verify("pencil"))
-        self.refused(Status.TOO_LONG, lambda: Record.of_nobody(SHA_256, secret, "u", salt_length=65))
+        self.refused(Status.TOO_LONG, lambda: Record.mock(SHA_256, secret, "u", salt_length=65))
         with self.assertRaises(ValueError):
-            Record.of_nobody(SHA_256, secret[:31], "u")
+            Record.mock(SHA_256, secret[:31], "u")
 
     def test_another_server_is_not_believed(self) -> None:
         client, server = Client(SHA_256, "user", "pencil"), Server()
@@ -287,10 +287,10 @@ class Prepared(Case):
                     self.assertEqual(both.keys().salt, OTHER_SALT)
                     side = ClientConnection(Client(version, "user", prepared_password=password))
                     connected(side, Broker(known, MECHANISMS[version]), 4096)
-                    self.assertEqual(side.standing, Standing.LOGGED_IN)
+                    self.assertEqual(side.progress, Progress.LOGGED_IN)
                     steps = ClientSteps(Client(version, "user", keys=keys, prepared_password=password))
                     stepped(steps, Broker(known, MECHANISMS[version]))
-                    self.assertEqual(steps.standing, Standing.LOGGED_IN)
+                    self.assertEqual(steps.progress, Progress.LOGGED_IN)
                     if not password.isascii():
                         plain = Client(version, "user", password)
                         self.refused(Status.CLIENT_NORMALIZE_ERROR, login, plain, Server(), record)
@@ -331,7 +331,7 @@ class Unbound(Case):
                     steps = ServerSteps(known.get, mechanisms=mechanisms, version=version)
                     steps_served(steps, by)
                     for side in (connection, steps):
-                        self.assertEqual(side.standing == Standing.LOGGED_IN, taken)
+                        self.assertEqual(side.progress == Progress.LOGGED_IN, taken)
                         if taken:
                             self.assertEqual(side.logged_in(), "user")
                     self.assertEqual(by.logged_in, taken)
@@ -339,7 +339,7 @@ class Unbound(Case):
 
 class Connections(Case):
     def closed(self, side: ClientConnection, status: int) -> None:
-        self.assertEqual(side.standing, Standing.CLOSED)
+        self.assertEqual(side.progress, Progress.CLOSED)
         assert side.why is not None
         self.assertEqual(side.why.status, status)
         self.assertTrue(side.why.text)
@@ -357,14 +357,14 @@ class Connections(Case):
                         broker = Broker(known, "PLAIN", mechanism)
                         side = ClientConnection(Client(version, name, password), hostname="broker.example")
                         self.assertEqual(connected(side, broker, piece, b"AMQP\0\1\0\0"), b"AMQP\0\1\0\0")
-                        self.assertEqual((side.standing, side.why), (Standing.LOGGED_IN, None))
+                        self.assertEqual((side.progress, side.why), (Progress.LOGGED_IN, None))
                         bare = bare_of(name, base64.b64decode((broker.init[1] or b"").split(b",r=")[1]))
                         self.assertEqual(broker.init, [mechanism.encode(), b"n,," + bare, b"broker.example"])
                         keys = side.keys()
                         self.assertEqual((keys.client_key, keys.server_key), (known.client_key, known.server_key))
                         again = ClientConnection(Client(version, name, keys=keys))
                         connected(again, Broker(known, mechanism), piece)
-                        self.assertEqual(again.standing, Standing.LOGGED_IN)
+                        self.assertEqual(again.progress, Progress.LOGGED_IN)
 
     def test_other_mechanisms(self) -> None:
         known = Secret(SHA_1, "pencil", SALT, 1)
@@ -373,12 +373,12 @@ class Connections(Case):
             (ClientConnection.anonymous(), [b"ANONYMOUS", None, None]),
             (ClientConnection.external(hostname="b"), [b"EXTERNAL", None, b"b"]),
         ):
-            for code, standing in ((0, Standing.LOGGED_IN), (1, Standing.CLOSED)):
+            for code, progress in ((0, Progress.LOGGED_IN), (1, Progress.CLOSED)):
                 broker, side_again = Broker(known, "PLAIN", "ANONYMOUS", "EXTERNAL", code=code), side
                 side = ClientConnection.__new__(ClientConnection)
                 side._begin(side_again._login[0].mechanism, side_again._login[1], side_again._login[0].hostname)
                 connected(side, broker, 5)
-                self.assertEqual(side.standing, standing)
+                self.assertEqual(side.progress, progress)
                 self.assertEqual((broker.init + [None, None])[:3], init)
 
     def test_refusals(self) -> None:
@@ -401,7 +401,7 @@ class Connections(Case):
         for mar in (lambda m: m[:-4] + b"AAA=", lambda m: b"v=", lambda m: b"e=other-error"):
             one = side()
             connected(one, Broker(known, name, mar=mar), 4096)
-            self.assertEqual(one.standing, Standing.CLOSED)
+            self.assertEqual(one.progress, Progress.CLOSED)
             assert one.why is not None
             self.assertIn(one.why.status, (Status.CLIENT_SERVER_SIGNATURE_MISMATCH, Status.CLIENT_BASE64_DECODE_ERROR))
 
@@ -440,7 +440,7 @@ class Connections(Case):
             for name in NAMES:
                 record = Record.make(version, "pencil", salt=SALT, iterations=4096)
                 known = {name: record}
-                for password, standing in (("pencil", Standing.LOGGED_IN), ("pencils", Standing.CLOSED)):
+                for password, progress in (("pencil", Progress.LOGGED_IN), ("pencils", Progress.CLOSED)):
                     for by in (Login(version, name, password), Plain(name, password)):
                         for piece in (1, 7, 4096):
                             side = ServerConnection(
@@ -451,9 +451,9 @@ class Connections(Case):
                             # (PLAIN has no empty name, and the frames that are made here have 255 bytes at most)
                             if (name == "" and isinstance(by, Plain)) or len(name) > 200:
                                 continue
-                            self.assertEqual(side.standing, standing, (name, password, piece))
-                            self.assertEqual(by.logged_in, standing == Standing.LOGGED_IN)
-                            if standing == Standing.LOGGED_IN:
+                            self.assertEqual(side.progress, progress, (name, password, piece))
+                            self.assertEqual(by.logged_in, progress == Progress.LOGGED_IN)
+                            if progress == Progress.LOGGED_IN:
                                 self.assertEqual(side.logged_in(), name)
                             else:
                                 assert side.why is not None
@@ -472,12 +472,12 @@ class Connections(Case):
             side = server(mechanisms)
             by.begin()
             served(side, by, 5)
-            self.assertEqual((side.standing, side.logged_in()), (Standing.LOGGED_IN, name))
+            self.assertEqual((side.progress, side.logged_in()), (Progress.LOGGED_IN, name))
         for by, mechanisms in ((Other("EXTERNAL", b"other"), Offer.EXTERNAL), (Other("ANONYMOUS"), Offer.EXTERNAL)):
             side = server(mechanisms)
             by.begin(ask=True)
             served(side, by, 5)
-            self.assertEqual(side.standing, Standing.CLOSED)
+            self.assertEqual(side.progress, Progress.CLOSED)
         self.refused(Status.NO_SUCH_MECHANISM, server(0).receive, b"A")
         self.refused(Status.NO_SUCH_MECHANISM, server(16).receive, b"A")
         self.refused(Status.NO_SUCH_VERSION, ServerConnection(lambda name: None, version=2).receive, b"A")
@@ -492,7 +492,7 @@ class Connections(Case):
             for _ in range(4):
                 to_client, _ = server.receive(to_server)
                 to_server, _ = side.receive(to_client)
-            self.assertEqual((side.standing, server.standing), (Standing.LOGGED_IN, Standing.LOGGED_IN))
+            self.assertEqual((side.progress, server.progress), (Progress.LOGGED_IN, Progress.LOGGED_IN))
             self.assertEqual(server.logged_in(), "user")
 
     def test_structs_of_random_bytes(self) -> None:
@@ -505,7 +505,7 @@ class Connections(Case):
             client = struct_of(bits.getrandbits(8 * size).to_bytes(size, "little"))
             kept = client.connection
             if bits.random() < 0.9:
-                kept.standing = 0
+                kept.progress = 0
                 kept.due = bits.randrange(7)
                 kept.held_len = bits.choice((0, bits.randrange(8), bits.randrange(520)))
                 kept.held[:4] = list(bits.choice((12, 300, 513)).to_bytes(4, "big"))
@@ -515,7 +515,7 @@ class Connections(Case):
                 mechanism=bits.choice((0, 0, 0, bits.randrange(5))),
                 hostname=b"",
                 login=fe2o3_sasl._LoginStruct(
-                    version=256, most_iterations=2, username=b"u", username_len=1, password=b"p", password_len=1,
+                    version=256, max_iterations=2, username=b"u", username_len=1, password=b"p", password_len=1,
                     keys=ctypes.pointer(keys),
                 ),
             )
@@ -533,7 +533,7 @@ class Connections(Case):
                 login, client, data, len(data), bytes(32), ctypes.byref(taken), out, room, ctypes.byref(length)
             )
             self.assertIn(status, set(Status))
-            seen.add((status, int(client.connection.standing) if status == 0 else None))
+            seen.add((status, int(client.connection.progress) if status == 0 else None))
             if status == Status.DONE:
                 self.assertLessEqual(taken.value, len(data))
                 self.assertLessEqual(length.value, room)
@@ -543,13 +543,13 @@ class Connections(Case):
                 self.assertEqual((bytes(client), out.raw, taken.value), (before, b"\xa5" * 600, 99))
         for status in (Status.ROOM_TOO_SMALL, Status.ENDED, Status.NOT_KEPT, Status.NO_SUCH_MECHANISM):
             self.assertIn((status, None), seen)
-        for standing in Standing:
-            self.assertIn((Status.DONE, standing), seen)
+        for progress in Progress:
+            self.assertIn((Status.DONE, progress), seen)
 
 
 class Steps(Case):
     def closed(self, side: Any, status: int) -> None:
-        self.assertEqual(side.standing, Standing.CLOSED)
+        self.assertEqual(side.progress, Progress.CLOSED)
         assert side.why is not None
         self.assertEqual((side.why.status, bool(side.why.text)), (status, True))
 
@@ -575,13 +575,13 @@ class Steps(Case):
                     self.assertEqual(challenge, body_of(CHALLENGE, short(0xA0, server_first)))
                     response = client.on_frame(challenge)
                     self.assertEqual(response, body_of(RESPONSE, short(0xA0, client_final)))
-                    self.assertEqual((client.standing, server.standing), (Standing.WANTING, Standing.WANTING))
+                    self.assertEqual((client.progress, server.progress), (Progress.WANTING, Progress.WANTING))
                     self.refused(Status.SERVER_ILLEGAL_AUTHENTICATOR_STATE, server.logged_in)
                     outcome = server.on_frame(response)
                     self.assertEqual(outcome, body_of(OUTCOME, b"\x50\0", short(0xA0, server_final)))
                     self.assertEqual(client.on_frame(outcome), b"")
-                    self.assertEqual((client.standing, client.why), (Standing.LOGGED_IN, None))
-                    self.assertEqual((server.standing, server.why), (Standing.LOGGED_IN, None))
+                    self.assertEqual((client.progress, client.why), (Progress.LOGGED_IN, None))
+                    self.assertEqual((server.progress, server.why), (Progress.LOGGED_IN, None))
                     self.assertEqual(server.logged_in(), name)
                     self.assertEqual(client.keys().client_key, known.client_key)
 
@@ -591,10 +591,10 @@ class Steps(Case):
                 known = Secret(version, "pencil", SALT, 4096)
                 side, broker = ClientSteps(Client(version, name, "pencil")), Broker(known, "PLAIN", mechanism)
                 stepped(side, broker)
-                self.assertEqual((side.standing, broker.init[0]), (Standing.LOGGED_IN, mechanism.encode()))
+                self.assertEqual((side.progress, broker.init[0]), (Progress.LOGGED_IN, mechanism.encode()))
                 by_keys = ClientSteps(Client(version, name, keys=side.keys()))
                 stepped(by_keys, Broker(known, mechanism))
-                self.assertEqual(by_keys.standing, Standing.LOGGED_IN)
+                self.assertEqual(by_keys.progress, Progress.LOGGED_IN)
                 side = ClientSteps(Client(version, name, "pencils"))
                 stepped(side, Broker(known, mechanism))
                 self.closed(side, Status.REFUSED_AUTH)
@@ -613,14 +613,14 @@ class Steps(Case):
                 stepped(side, broker)
                 self.assertEqual((broker.init + [None, None])[:3], init)
                 if code == 0:
-                    self.assertEqual((side.standing, side.why), (Standing.LOGGED_IN, None))
+                    self.assertEqual((side.progress, side.why), (Progress.LOGGED_IN, None))
                 else:
                     self.closed(side, Status.REFUSED_AUTH + code - 1)
                 self.refused(Status.ENDED, side.on_frame, body_of(OUTCOME, b"\x50\0"))
             # What is not of SCRAM takes the server at its word, whenever that comes.
             side = side_of()
             self.assertEqual(side.on_frame(body_of(OUTCOME, b"\x50\0")), b"")
-            self.assertEqual(side.standing, Standing.LOGGED_IN)
+            self.assertEqual(side.progress, Progress.LOGGED_IN)
 
     def test_refusals_of_a_client(self) -> None:
         def scram() -> ClientSteps:
@@ -634,7 +634,7 @@ class Steps(Case):
             self.assertIn(
                 caught.exception.status, (Status.CLIENT_SERVER_SIGNATURE_MISMATCH, Status.CLIENT_BASE64_DECODE_ERROR)
             )
-            self.assertEqual(side.standing, Standing.WANTING)
+            self.assertEqual(side.progress, Progress.WANTING)
             self.refused(Status.CLIENT_ILLEGAL_CLIENT_STATE, side.keys)
         few = Broker(Secret(SHA_256, "pencil", SALT, 4095), name)
         self.refused(Status.CLIENT_ITERATION_COUNT_TOO_SMALL, stepped, scram(), few)
@@ -653,7 +653,7 @@ class Steps(Case):
         ):
             side = scram()
             self.refused(status, side.on_frame, body)
-            self.assertEqual(side.standing, Standing.WANTING)
+            self.assertEqual(side.progress, Progress.WANTING)
             self.assertEqual(bytes(side._struct), bytes(ctypes.sizeof(side._struct)))
         self.refused(Status.NOT_IMPLEMENTED, ClientSteps.anonymous().on_frame, challenge)
         self.refused(Status.NOT_UTF8, ClientSteps.anonymous(hostname=b"\xff").on_frame, challenge)
@@ -663,14 +663,14 @@ class Steps(Case):
         for version in VERSIONS:
             for name in NAMES[:-1]:
                 record = Record.make(version, "pencil", salt=SALT)
-                for password, standing in (("pencil", Standing.LOGGED_IN), ("pencils", Standing.CLOSED)):
+                for password, progress in (("pencil", Progress.LOGGED_IN), ("pencils", Progress.CLOSED)):
                     for by in (Login(version, name, password), Plain(name, password)):
                         if name == "" and isinstance(by, Plain):
                             continue  # (PLAIN has no empty name)
                         side = ServerSteps({name: record}.get, mechanisms=Offer.SCRAM | Offer.PLAIN, version=version)
                         steps_served(side, by)
-                        self.assertEqual((side.standing, by.logged_in), (standing, standing == Standing.LOGGED_IN))
-                        if standing == Standing.LOGGED_IN:
+                        self.assertEqual((side.progress, by.logged_in), (progress, progress == Progress.LOGGED_IN))
+                        if progress == Progress.LOGGED_IN:
                             self.assertEqual(side.logged_in(), name)
                         else:
                             self.closed(side, Status.REFUSED_AUTH)
@@ -684,7 +684,7 @@ class Steps(Case):
 
             def record_of(name: str) -> Record:
                 asked.append(name)
-                return record if known else Record.of_nobody(SHA_256, bytes(32), name)
+                return record if known else Record.mock(SHA_256, bytes(32), name)
 
             record = Record.make(SHA_256, "pencil")
             side, by = ServerSteps(record_of), Login(SHA_256, "a=b,c", "pencil")
@@ -694,7 +694,7 @@ class Steps(Case):
             asked.clear()
             side = ServerSteps(record_of, mechanisms=Offer.ANONYMOUS)
             steps_served(side, Other("ANONYMOUS"))
-            self.assertEqual((asked, side.standing), ([], Standing.LOGGED_IN))
+            self.assertEqual((asked, side.progress), ([], Progress.LOGGED_IN))
 
     def test_external_without_a_peer(self) -> None:
         for peer in (None, "", b""):
@@ -718,7 +718,7 @@ class Steps(Case):
         ):
             side = server(mechanisms)
             steps_served(side, by)
-            self.assertEqual((side.standing, side.logged_in(), by.logged_in), (Standing.LOGGED_IN, name, True))
+            self.assertEqual((side.progress, side.logged_in(), by.logged_in), (Progress.LOGGED_IN, name, True))
         for by, mechanisms in ((Other("EXTERNAL", b"other"), Offer.EXTERNAL), (Other("ANONYMOUS"), Offer.EXTERNAL)):
             side = server(mechanisms)
             steps_served(side, by, ask=True)
@@ -742,7 +742,7 @@ class Steps(Case):
             (b"\2\1\0", Status.FRAME_UNREAD),
         ):
             self.refused(status, side.on_frame, body)
-            self.assertEqual(side.standing, Standing.WANTING)
+            self.assertEqual(side.progress, Progress.WANTING)
             self.assertEqual(bytes(side._struct), bytes(ctypes.sizeof(side._struct)))
         # A response without a challenge is refused by the outcome, not by the call.
         self.assertEqual(side.on_frame(body_of(RESPONSE, short(0xA0, b"c=biws"))), body_of(OUTCOME, b"\x50\1"))
@@ -756,7 +756,7 @@ class Steps(Case):
             mechanism=0,
             hostname=b"",
             login=fe2o3_sasl._LoginStruct(
-                version=256, most_iterations=2, username=b"u", username_len=1, password=b"p", password_len=1,
+                version=256, max_iterations=2, username=b"u", username_len=1, password=b"p", password_len=1,
                 keys=ctypes.pointer(keys),
             ),
         )
@@ -955,11 +955,11 @@ class Arguments(Case):
             with self.assertRaises(ValueError):
                 Keys.make(SHA_1, "a", SALT, number)
             with self.assertRaises(ValueError):
-                Client(SHA_1, "a", "a", least_iterations=number)
+                Client(SHA_1, "a", "a", min_iterations=number)
             with self.assertRaises(ValueError):
-                Client(SHA_1, "a", "a", most_iterations=number)
+                Client(SHA_1, "a", "a", max_iterations=number)
             with self.assertRaises(ValueError):
-                Record.of_nobody(SHA_1, bytes(32), "a", salt_length=number)
+                Record.mock(SHA_1, bytes(32), "a", salt_length=number)
         for unfit in (None, 5, 5.0, object()):
             for call in (record.verify, Record.parse, Server.user, Client(SHA_1, "a", "a").verify, Server().final):
                 with self.assertRaises(TypeError):
@@ -1090,7 +1090,7 @@ class Refusals(Case):
         one, two = os.urandom(32), os.urandom(32)
         first = rooms(None, client._struct, lambda *room: LIBRARY.fe2o3_scram_client_first(*given, one, *room))
         known = record._struct, server
-        user = rooms(None, server, lambda *room: LIBRARY.fe2o3_scram_server_user(first, len(first), *room))
+        user = rooms(None, server, lambda *room: LIBRARY.fe2o3_scram_server_claimed_user(first, len(first), *room))
         self.assertEqual(user, b"user")
         challenge = rooms(
             None,
@@ -1104,7 +1104,7 @@ class Refusals(Case):
         )
         verdict = rooms(90, server, lambda *room: LIBRARY.fe2o3_scram_server_final(*known, final, len(final), *room))
         client.verify(verdict)
-        told = rooms(None, server, lambda *room: LIBRARY.fe2o3_scram_server_logged_in(server, *room))
+        told = rooms(None, server, lambda *room: LIBRARY.fe2o3_scram_server_authenticated_user(server, *room))
         self.assertEqual(told, b"user")
         text = rooms(None, record._struct, lambda *room: LIBRARY.fe2o3_scram_record_text(record._struct, *room))
         self.assertEqual(text.decode(), record.text())
@@ -1175,8 +1175,8 @@ class RandomStructs(Case):
             who = fe2o3_sasl._LoginStruct(
                 version=version,
                 secret=self.random.randrange(6),
-                least_iterations=self.random.randrange(3),
-                most_iterations=self.random.randrange(2, 9),
+                min_iterations=self.random.randrange(3),
+                max_iterations=self.random.randrange(2, 9),
                 username=b"user",
                 username_len=4,
                 password=b"pencil",
@@ -1190,7 +1190,7 @@ class RandomStructs(Case):
             server_first = b"r=%sx,s=%s,i=%d" % (base64_of(nonce), base64_of(salt), count)
             signature = bytes(client.signature)[: client.signature_len]
             given = who, client
-            self.ask("fe2o3_scram_client_keys", (client, handed), client, handed)
+            self.ask("fe2o3_scram_client_get_keys", (client, handed), client, handed)
             started = fe2o3_sasl._ClientStruct.from_buffer_copy(client)
             self.ask("fe2o3_scram_client_first", (started,), who, started, nonce, room=self.random.randrange(120))
             believing = fe2o3_sasl._ClientStruct.from_buffer_copy(client)
@@ -1264,11 +1264,11 @@ class RandomStructs(Case):
             said = b"c=" + base64_of(header) + b",r=" + bytes(server.nonce)[: min(server.nonce_len, 512)]
             client_final = said + b",p=" + base64_of(proof)
             stands = server.stands
-            self.ask("fe2o3_scram_server_logged_in", (server,), server, room=self.random.choice((0, 256)))
+            self.ask("fe2o3_scram_server_authenticated_user", (server,), server, room=self.random.choice((0, 256)))
             self.ask("fe2o3_scram_record_text", (record,), record, room=self.random.choice((200, 384)))
             again = fe2o3_sasl._ServerStruct.from_buffer_copy(server)
             first = self.random.choice((b"n,,", b"y,,")) + b"n=user,r=" + base64_of(os.urandom(32))
-            for export in ("fe2o3_scram_server_first", "fe2o3_scram_server_first_unbound"):
+            for export in ("fe2o3_scram_server_first", "fe2o3_scram_server_first_with_cbind_flag_y"):
                 self.ask(
                     export,
                     (again, record),

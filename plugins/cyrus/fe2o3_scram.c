@@ -81,7 +81,7 @@ static int told(const struct exchange *one, const sasl_utils_t *utils, uint32_t 
 {
     struct fe2o3_text text = FE2O3_TEXT_INIT;
     fe2o3_status_text(status == FE2O3_CLIENT_NORMALIZE_ERROR ? FE2O3_NOT_PRINTABLE : status, &text);
-    return status == FE2O3_DONE ? SASL_OK : refused(one, utils, code_of(status), (const char *)text.bytes);
+    return status == FE2O3_OK ? SASL_OK : refused(one, utils, code_of(status), (const char *)text.bytes);
 }
 
 /* Whether an option is on, by the words that libsasl2 takes for that. */
@@ -165,7 +165,7 @@ static int identify(struct exchange *one, sasl_client_params_t *params, sasl_int
 static int client_answer(struct exchange *one, enum due due, const sasl_utils_t *utils, const sasl_out_params_t *who,
     const char *in, unsigned in_len)
 {
-    static const struct fe2o3_client_keys no_keys;
+    static const struct fe2o3_scram_keys no_keys;
     const struct fe2o3_login login = {one->mechanism->version,
         one->prepares ? FE2O3_BY_PREPARED : FE2O3_BY_PASSWORD, LEAST_ITERATIONS, MOST_ITERATIONS,
         BYTES(who->authid, who->alen), BYTES(one->password, one->password_len), &no_keys};
@@ -253,10 +253,10 @@ static int from_password(struct exchange *one, const sasl_utils_t *utils, const 
         return code == SASL_BADPARAM ? SASL_NOVERIFY : code;
     if (len == 0)
         return refused(one, utils, SASL_NOVERIFY, "the password of the user is empty");
-    status = fe2o3_scram_record_of_nobody(
+    status = fe2o3_scram_record_mock(
         version, secret, sizeof secret, BYTES(who->authid, who->alen), SALT_LEN, count, &one->record);
     memcpy(salt, one->record.salt, SALT_LEN);
-    if (status == FE2O3_DONE)
+    if (status == FE2O3_OK)
         status = (one->prepares ? fe2o3_scram_record_make_prepared : fe2o3_scram_record_make)(
             version, BYTES(password, len), salt, SALT_LEN, count, &one->record);
     utils->erasebuffer(one->password, sizeof one->password);
@@ -284,7 +284,7 @@ static int look_up(struct exchange *one, sasl_server_params_t *params, const cha
         return code;
     }
     for (stored = found[1].values; stored && *stored; stored++)
-        if (fe2o3_scram_record_parse(BYTES(*stored, strlen(*stored)), &one->record) == FE2O3_DONE
+        if (fe2o3_scram_record_parse(BYTES(*stored, strlen(*stored)), &one->record) == FE2O3_OK
             && one->record.version == one->mechanism->version)
             return SASL_OK;
     return refused(one, utils, params->transition ? SASL_TRANS : stored ? SASL_NOVERIFY : SASL_NOUSER, "no secret");
@@ -306,11 +306,11 @@ static int server_first(struct exchange *one, sasl_server_params_t *params, cons
     const sasl_utils_t *utils = params->utils;
     uint8_t name[sizeof one->server.user + 1], nonce[32];
     size_t len = 0;
-    uint32_t status = fe2o3_scram_server_user(BYTES(in, in_len), name, sizeof name - 1, &len);
+    uint32_t status = fe2o3_scram_server_claimed_user(BYTES(in, in_len), name, sizeof name - 1, &len);
     int unbound = is_on(one, utils, "scram_unbound"), code;
     if (status == FE2O3_SERVER_CANNOT_PARSE_GS2_HEADER || (!unbound && in_len > 0 && *in == 'y'))
         return refused(one, utils, SASL_BADPROT, why_header(in, in_len));
-    if (status != FE2O3_DONE)
+    if (status != FE2O3_OK)
         return told(one, utils, status);
     if (len == 0 || memchr(name, 0, len))
         return refused(one, utils, SASL_BADPROT, "the name of the user is empty, or has a zero byte");
@@ -320,7 +320,7 @@ static int server_first(struct exchange *one, sasl_server_params_t *params, cons
         code = refused(one, utils, SASL_FAIL, "there are no random bytes");
     if (code != SASL_OK)
         return code;
-    status = (unbound ? fe2o3_scram_server_first_unbound : fe2o3_scram_server_first)(
+    status = (unbound ? fe2o3_scram_server_first_with_cbind_flag_y : fe2o3_scram_server_first)(
         &one->record, &one->server, nonce, BYTES(in, in_len), ROOM(one));
     return told(one, utils, status);
 }

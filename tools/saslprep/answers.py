@@ -1,5 +1,5 @@
 #!/usr/bin/env python3
-"""Writes what other programs answer to SASLprep: the rows of crates/scram_vectors/data/.
+"""Writes what other programs answer to SASLprep: the rows of crates/test_vectors_scram/data/.
 
     tools/saslprep/answers.py [--check]
 
@@ -20,7 +20,7 @@ sys.dont_write_bytecode = True
 import tables
 
 ROOT = os.path.dirname(os.path.dirname(os.path.dirname(os.path.realpath(__file__))))
-DATA = os.path.join(ROOT, "crates", "scram_vectors", "data")
+DATA = os.path.join(ROOT, "crates", "test_vectors_scram", "data")
 OLD = unicodedata.ucd_3_2_0
 CODE_POINTS = [c for c in range(0x110000) if not 0xD800 <= c < 0xE000]
 

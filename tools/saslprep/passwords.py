@@ -1,5 +1,5 @@
 #!/usr/bin/env python3
-"""Writes what other programs make of passwords that SASLprep changes: two files of crates/scram_vectors/data/.
+"""Writes what other programs make of passwords that SASLprep changes: two files of crates/test_vectors_scram/data/.
 
     tools/saslprep/passwords.py [--check]
 
@@ -18,7 +18,7 @@ import sys
 sys.dont_write_bytecode = True
 import answers
 
-DATA = os.path.join(answers.ROOT, "crates", "scram_vectors", "data")
+DATA = os.path.join(answers.ROOT, "crates", "test_vectors_scram", "data")
 HASHES = {"SCRAM-SHA-1": "sha1", "SCRAM-SHA-256": "sha256", "SCRAM-SHA-512": "sha512"}
 
 # Passwords as they are typed: of printable ASCII, examples of RFC 4013, section 3, and texts that are composed,

@@ -2,7 +2,7 @@
 
 use crate::calls::{done, filled};
 use crate::keys::NO_KEYS;
-use crate::{generate_nonce, sys, ScramClientKeys, ScramErrorKind, ScramVersion};
+use crate::{generate_nonce, sys, CachedKeys, ScramErrorKind, ScramVersion};
 use std::fmt;
 use std::marker::PhantomData;
 
@@ -24,8 +24,8 @@ pub(crate) struct Who {
     keys: sys::ClientKeys,
     secret: u32,
     version: ScramVersion,
-    least_iterations: u32,
-    most_iterations: u32,
+    min_iterations: u32,
+    max_iterations: u32,
 }
 
 /// A login of the library, whose pointers are to what is borrowed for `'a`.
@@ -43,15 +43,15 @@ impl Who {
         secret: u32,
         version: ScramVersion,
     ) -> Self {
-        Self { username, password, keys, secret, version, least_iterations: 1, most_iterations: u32::MAX }
+        Self { username, password, keys, secret, version, min_iterations: 1, max_iterations: u32::MAX }
     }
 
     pub(crate) fn lend(&self) -> Lent<'_> {
         let login = sys::Login {
             version: self.version.number(),
             secret: self.secret,
-            least_iterations: self.least_iterations,
-            most_iterations: self.most_iterations,
+            min_iterations: self.min_iterations,
+            max_iterations: self.max_iterations,
             username: self.username.as_ptr(),
             username_len: self.username.len(),
             password: self.password.as_ptr(),
@@ -82,7 +82,7 @@ impl Who {
 /// }
 ///
 /// let mut server = ScramAuthenticator::new(SingleScramCredential::new("user", "pencil", ScramVersion::Sha256)?);
-/// let mut client = ScramClient::new("user", "pencil", ScramVersion::Sha256).with_least_iterations(4096);
+/// let mut client = ScramClient::new("user", "pencil", ScramVersion::Sha256).with_min_iterations(4096);
 /// log_in(&mut client, &mut server)?;
 ///
 /// let keys = client.keys().ok_or("not logged in")?;
@@ -113,7 +113,7 @@ impl ScramClient {
     }
 
     /// A client that logs in by the keys of an earlier login.
-    pub fn with_keys(username: impl Into<String>, keys: ScramClientKeys) -> Self {
+    pub fn with_keys(username: impl Into<String>, keys: CachedKeys) -> Self {
         Self::by(username.into(), String::new(), keys.0, KEYS, keys.version())
     }
 
@@ -122,7 +122,7 @@ impl ScramClient {
     pub fn with_password_and_keys(
         username: impl Into<String>,
         password: impl Into<String>,
-        keys: ScramClientKeys,
+        keys: CachedKeys,
     ) -> Self {
         Self::by(username.into(), password.into(), keys.0, PASSWORD_AND_KEYS, keys.version())
     }
@@ -131,7 +131,7 @@ impl ScramClient {
     pub fn with_prepared_password_and_keys(
         username: impl Into<String>,
         password: impl Into<String>,
-        keys: ScramClientKeys,
+        keys: CachedKeys,
     ) -> Self {
         Self::by(username.into(), password.into(), keys.0, PREPARED_AND_KEYS, keys.version())
     }
@@ -142,14 +142,14 @@ impl ScramClient {
 
     /// The same client, which refuses an iteration count above the limit. Without this there is none.
     pub fn with_iteration_limit(mut self, limit: u32) -> Self {
-        self.who.most_iterations = limit;
+        self.who.max_iterations = limit;
         self
     }
 
     /// The same client, which refuses an iteration count below the least. RFC 7677 asks for 4096 at least; without this
     /// it is 1.
-    pub fn with_least_iterations(mut self, least: u32) -> Self {
-        self.who.least_iterations = least;
+    pub fn with_min_iterations(mut self, least: u32) -> Self {
+        self.who.min_iterations = least;
         self
     }
 
@@ -198,7 +198,7 @@ impl ScramClient {
         .map_err(ScramErrorKind::of)
     }
 
-    /// Believes the server-final message, or refuses it. The login is done only where this is `Ok`.
+    /// Verifies the server-final message, or refuses it. The login is done only where this is `Ok`.
     pub fn validate_server_final(&mut self, server_final: &[u8]) -> Result<(), ScramErrorKind> {
         let lent = self.who.lend();
         // SAFETY: the login's pointers are to what `lent` borrows, and the message is a slice that lives through the
@@ -211,8 +211,8 @@ impl ScramClient {
 
     /// The keys of a login whose server was believed; `None` before that, and where the server's salt is longer than
     /// the 128 bytes that keys have room for. Whoever has them can log in.
-    pub fn keys(&self) -> Option<ScramClientKeys> {
-        ScramClientKeys::handed_out(&self.state)
+    pub fn keys(&self) -> Option<CachedKeys> {
+        CachedKeys::handed_out(&self.state)
     }
 }
 

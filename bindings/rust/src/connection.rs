@@ -3,12 +3,12 @@
 use crate::calls::filled;
 use crate::client::{Who, NOTHING_SENT};
 use crate::keys::NO_KEYS;
-use crate::{generate_nonce, sys, ConnectionError, ScramClient, ScramClientKeys, ScramVersion};
+use crate::{generate_nonce, sys, ConnectionError, ScramClient, CachedKeys, ScramVersion};
 use std::fmt;
 use std::marker::PhantomData;
 
 /// A connection of which no byte has come.
-pub(crate) const FRESH: sys::Connection = sys::Connection { standing: 0, why: 0, due: 0, held_len: 0, held: [0; 512] };
+pub(crate) const FRESH: sys::Connection = sys::Connection { progress: 0, why: 0, due: 0, held_len: 0, held: [0; 512] };
 
 const NEW: sys::SaslClient = sys::SaslClient { connection: FRESH, scram: NOTHING_SENT };
 
@@ -96,9 +96,9 @@ impl Login {
 
 /// How a login stands.
 #[derive(Clone, Copy, Debug, PartialEq, Eq)]
-pub enum Standing {
+pub enum Progress {
     /// More is wanted of the other side.
-    Wanting,
+    InProgress,
 
     /// The client is logged in. What comes next on the connection is AMQP's.
     LoggedIn,
@@ -108,11 +108,11 @@ pub enum Standing {
 }
 
 /// How the connection of a struct stands.
-pub(crate) fn standing_of(connection: &sys::Connection) -> Standing {
-    match connection.standing {
-        0 => Standing::Wanting,
-        1 => Standing::LoggedIn,
-        _ => Standing::Closed(ConnectionError::of(connection.why)),
+pub(crate) fn standing_of(connection: &sys::Connection) -> Progress {
+    match connection.progress {
+        0 => Progress::InProgress,
+        1 => Progress::LoggedIn,
+        _ => Progress::Closed(ConnectionError::of(connection.why)),
     }
 }
 
@@ -142,12 +142,12 @@ impl fmt::Debug for Received {
 /// use std::io::{Read, Write};
 ///
 /// # fn main() -> Result<(), Box<dyn std::error::Error>> {
-/// let client = ScramClient::new("user", "pencil", ScramVersion::Sha256).with_least_iterations(4096);
+/// let client = ScramClient::new("user", "pencil", ScramVersion::Sha256).with_min_iterations(4096);
 /// let mut side = ClientNegotiation::new(client, Some("broker.example"));
 /// let mut socket = std::net::TcpStream::connect("broker.example:5672")?;
 /// socket.write_all(&ClientNegotiation::open())?;
 /// let mut came = [0; 4096];
-/// while side.standing() == Standing::Wanting {
+/// while side.progress() == Progress::InProgress {
 ///     let len = socket.read(&mut came)?;
 ///     let received = side.receive(&came[..len])?;
 ///     socket.write_all(&received.sent)?;
@@ -182,7 +182,7 @@ impl ClientNegotiation {
     /// Where the system has no random bytes.
     pub fn receive(&mut self, bytes: &[u8]) -> Result<Received, ConnectionError> {
         let mut received = Received { taken: 0, sent: Vec::new() };
-        while received.taken < bytes.len() && self.standing() == Standing::Wanting {
+        while received.taken < bytes.len() && self.progress() == Progress::InProgress {
             let (taken, sent) = self.step(&bytes[received.taken..], &generate_nonce())?;
             received.taken += taken;
             received.sent.extend(sent);
@@ -218,18 +218,18 @@ impl ClientNegotiation {
     }
 
     /// How the connection stands.
-    pub fn standing(&self) -> Standing {
+    pub fn progress(&self) -> Progress {
         standing_of(&self.state.connection)
     }
 
     /// The keys of a login by SCRAM whose server was believed, as [`ScramClient::keys`] hands them out.
-    pub fn keys(&self) -> Option<ScramClientKeys> {
-        ScramClientKeys::handed_out(&self.state.scram)
+    pub fn keys(&self) -> Option<CachedKeys> {
+        CachedKeys::handed_out(&self.state.scram)
     }
 }
 
 impl fmt::Debug for ClientNegotiation {
     fn fmt(&self, f: &mut fmt::Formatter<'_>) -> fmt::Result {
-        f.debug_struct("ClientNegotiation").field("standing", &self.standing()).finish_non_exhaustive()
+        f.debug_struct("ClientNegotiation").field("progress", &self.progress()).finish_non_exhaustive()
     }
 }

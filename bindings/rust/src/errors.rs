@@ -98,7 +98,7 @@ kinds! {
         NormalizeError = CLIENT_NORMALIZE_ERROR,
         /// The message names another salt or another iteration count than the client's keys are of, and the client has
         /// no password. Whoever is on the way can bring this about: it is no reason to forget the keys.
-        OtherKeys = CLIENT_OTHER_KEYS,
+        StaleKeys = CLIENT_OTHER_KEYS,
         /// Never answered, since HMAC takes keys of every length.
         HmacErrorInvalidLength = CLIENT_HMAC_ERROR_INVALID_LENGTH,
         /// Never answered by the client.
@@ -210,11 +210,11 @@ kinds! {
     /// [`ConnectionError::scram`] tells the kind.
     ConnectionError {
         /// The other side's header is not that of SASL.
-        OtherHeader = OTHER_HEADER,
+        ProtocolHeaderMismatch = OTHER_HEADER,
         /// The size of a frame is below 8 or above 512.
         FrameSize = FRAME_SIZE,
         /// The frame is not the one that is due.
-        OutOfTurn = OUT_OF_TURN,
+        UnexpectedFrame = OUT_OF_TURN,
         /// The answer fits in no frame of 512 bytes.
         ReplyTooLarge = REPLY_TOO_LARGE,
         /// The bytes of the frame are none of its type.

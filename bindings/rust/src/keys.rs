@@ -17,18 +17,18 @@ pub(crate) const NO_KEYS: sys::ClientKeys = sys::ClientKeys {
 /// can log in.
 ///
 /// ```
-/// use fe2o3_sasl_proved::{ScramClientKeys, ScramVersion};
+/// use fe2o3_sasl_proved::{CachedKeys, ScramVersion};
 ///
-/// let keys = ScramClientKeys::from_password(ScramVersion::Sha256, "pencil", b"a salt of the server", 4096)?;
-/// let kept = ScramClientKeys::from_parts(
+/// let keys = CachedKeys::from_password(ScramVersion::Sha256, "pencil", b"a salt of the server", 4096)?;
+/// let kept = CachedKeys::from_parts(
 ///     keys.version(), keys.salt(), keys.iterations(), keys.client_key(), keys.server_key())?;
 /// assert!(kept.salt() == keys.salt() && kept.client_key() == keys.client_key());
 /// # Ok::<(), fe2o3_sasl_proved::RecordError>(())
 /// ```
 #[derive(Clone)]
-pub struct ScramClientKeys(pub(crate) sys::ClientKeys);
+pub struct CachedKeys(pub(crate) sys::ClientKeys);
 
-impl ScramClientKeys {
+impl CachedKeys {
     /// The keys of a password as it is typed.
     pub fn from_password(
         version: ScramVersion,
@@ -74,7 +74,7 @@ impl ScramClientKeys {
     pub(crate) fn handed_out(state: &sys::ScramClient) -> Option<Self> {
         let mut keys = NO_KEYS;
         // SAFETY: the state is borrowed, and the struct is one of this function.
-        let status = unsafe { sys::fe2o3_scram_client_keys(state, &mut keys) };
+        let status = unsafe { sys::fe2o3_scram_client_get_keys(state, &mut keys) };
         done(status).ok()?;
         Some(Self(keys))
     }
@@ -105,9 +105,9 @@ impl ScramClientKeys {
     }
 }
 
-impl fmt::Debug for ScramClientKeys {
+impl fmt::Debug for CachedKeys {
     fn fmt(&self, f: &mut fmt::Formatter<'_>) -> fmt::Result {
-        f.debug_struct("ScramClientKeys")
+        f.debug_struct("CachedKeys")
             .field("version", &self.version())
             .field("iterations", &self.iterations())
             .finish_non_exhaustive()

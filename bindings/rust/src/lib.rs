@@ -46,11 +46,11 @@ mod version;
 
 pub use calls::{fits, generate_nonce, library_version};
 pub use client::ScramClient;
-pub use connection::{ClientNegotiation, Received, SaslProfile, Standing};
+pub use connection::{ClientNegotiation, Received, SaslProfile, Progress};
 pub use errors::{
     ConnectionError, RecordError, RecordTextError, SaslprepError, ScramErrorKind, ServerScramErrorKind, Status,
 };
-pub use keys::ScramClientKeys;
+pub use keys::CachedKeys;
 pub use preparation::{saslprep, Unassigned};
 pub use records::{ScramRecord, StoredPassword};
 pub use server::{ScramAuthenticator, ScramCredentialProvider, SingleScramCredential};

@@ -106,7 +106,7 @@ impl ScramRecord {
     /// Makes up a record for a name that a server does not know, so that it can answer as to one that it knows: the
     /// login is refused at its proof. The secret is 32 random bytes, the same for all names and kept as long as the
     /// records; the salt's length, of at most 64, and the count are those of the server's other records.
-    pub fn of_nobody(
+    pub fn mock(
         version: ScramVersion,
         secret: &[u8; 32],
         username: &str,
@@ -120,7 +120,7 @@ impl ScramRecord {
         // SAFETY: the secret and the name are slices that live through the call, and the struct is one of this
         // function.
         let status = unsafe {
-            sys::fe2o3_scram_record_of_nobody(
+            sys::fe2o3_scram_record_mock(
                 version.number(),
                 secret.as_ptr(),
                 secret.len(),

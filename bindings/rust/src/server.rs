@@ -100,7 +100,7 @@ impl fmt::Debug for SingleScramCredential {
 
 /// Of what records are made up for unknown names.
 #[derive(Clone)]
-struct Nobody {
+struct MockSettings {
     secret: [u8; 32],
     salt_len: usize,
     iterations: u32,
@@ -130,7 +130,7 @@ struct Nobody {
 #[derive(Clone)]
 pub struct ScramAuthenticator<C: ScramCredentialProvider + Clone> {
     credentials: C,
-    nobody: Option<Nobody>,
+    nobody: Option<MockSettings>,
     unbound: bool,
     challenged: String,
     state: sys::ScramServer,
@@ -142,15 +142,15 @@ impl<C: ScramCredentialProvider + Clone> ScramAuthenticator<C> {
         Self { credentials, nobody: None, unbound: false, challenged: String::new(), state: NO_CHALLENGE }
     }
 
-    /// The same server, which answers an unknown user by a record that is made up ([`ScramRecord::of_nobody`]).
+    /// The same server, which answers an unknown user by a record that is made up ([`ScramRecord::mock`]).
     pub fn hiding_unknown_users(mut self, secret: [u8; 32], salt_len: usize, iterations: u32) -> Self {
-        self.nobody = Some(Nobody { secret, salt_len, iterations });
+        self.nobody = Some(MockSettings { secret, salt_len, iterations });
         self
     }
 
     /// The same server, which takes a client whose GS2 header is `y,,` too: one that could bind a channel, and was
     /// offered no mechanism with `-PLUS` (RFC 5802, section 6). Only for a server that offers none.
-    pub fn accepts_unbound(mut self) -> Self {
+    pub fn accept_cbind_flag_y(mut self) -> Self {
         self.unbound = true;
         self
     }
@@ -194,7 +194,7 @@ impl<C: ScramCredentialProvider + Clone> ScramAuthenticator<C> {
             None => return Ok(None),
         };
         let state = &mut self.state;
-        let answer = if self.unbound { sys::fe2o3_scram_server_first_unbound } else { sys::fe2o3_scram_server_first };
+        let answer = if self.unbound { sys::fe2o3_scram_server_first_with_cbind_flag_y } else { sys::fe2o3_scram_server_first };
         let message = filled(client_first.len() + 256, |out, len| {
             // SAFETY: both exports have the same parameters; the record, the nonce and the message are borrowed and live
             // through the call; the state, the room and its length are borrowed for writing, and so overlap nothing.
@@ -262,8 +262,8 @@ impl<C: ScramCredentialProvider + Clone> ScramAuthenticator<C> {
         }
         match &self.nobody {
             Some(nobody) => {
-                let Nobody { secret, salt_len, iterations } = nobody;
-                Ok(Some(ScramRecord::of_nobody(version, secret, username, *salt_len, *iterations)?))
+                let MockSettings { secret, salt_len, iterations } = nobody;
+                Ok(Some(ScramRecord::mock(version, secret, username, *salt_len, *iterations)?))
             }
             None => Ok(None),
         }
@@ -274,7 +274,7 @@ impl<C: ScramCredentialProvider + Clone> ScramAuthenticator<C> {
 pub(crate) fn logged_in(state: &sys::ScramServer) -> Option<String> {
     let name = filled(state.user.len(), |out, len| {
         // SAFETY: the state is borrowed; the room and its length are borrowed for writing, and so overlap nothing.
-        unsafe { sys::fe2o3_scram_server_logged_in(state, out.as_mut_ptr(), out.len(), len) }
+        unsafe { sys::fe2o3_scram_server_authenticated_user(state, out.as_mut_ptr(), out.len(), len) }
     });
     String::from_utf8(name.ok()?).ok()
 }
@@ -285,7 +285,7 @@ fn named_user(client_first: &[u8]) -> Result<String, ServerScramErrorKind> {
         // SAFETY: the message is a slice that lives through the call; the room and its length are borrowed for writing,
         // and so overlap nothing.
         unsafe {
-            sys::fe2o3_scram_server_user(client_first.as_ptr(), client_first.len(), out.as_mut_ptr(), out.len(), len)
+            sys::fe2o3_scram_server_claimed_user(client_first.as_ptr(), client_first.len(), out.as_mut_ptr(), out.len(), len)
         }
     })
     .map_err(ServerScramErrorKind::of)?;

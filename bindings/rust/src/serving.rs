@@ -1,7 +1,7 @@
 //! The server's side of a connection.
 
 use crate::calls::filled;
-use crate::connection::{standing_of, Received, Standing, FRESH};
+use crate::connection::{standing_of, Received, Progress, FRESH};
 use crate::records::ScramRecord;
 use crate::server::{logged_in, ScramAuthenticator, ScramCredentialProvider, NO_CHALLENGE};
 use crate::{generate_nonce, sys, ConnectionError, DEFAULT_SCRAM_ITERATIONS};
@@ -128,7 +128,7 @@ pub(crate) fn named(
 ///     let answer = server.receive(&to_server)?.sent;
 ///     to_server = client.receive(&answer)?.sent;
 /// }
-/// assert_eq!((server.standing(), client.standing()), (Standing::LoggedIn, Standing::LoggedIn));
+/// assert_eq!((server.progress(), client.progress()), (Progress::LoggedIn, Progress::LoggedIn));
 /// assert_eq!(server.user().as_deref(), Some("user"));
 /// # Ok(())
 /// # }
@@ -162,7 +162,7 @@ impl<C: ScramCredentialProvider + Clone> ServerNegotiation<C> {
     /// Where the system has no random bytes.
     pub fn receive(&mut self, bytes: &[u8]) -> Result<Received, ConnectionError> {
         let mut received = Received { taken: 0, sent: Vec::new() };
-        while received.taken < bytes.len() && self.standing() == Standing::Wanting {
+        while received.taken < bytes.len() && self.progress() == Progress::InProgress {
             let rest = &bytes[received.taken..];
             let name = self.named(rest)?;
             let record = self.host.record(name.as_deref())?;
@@ -179,7 +179,7 @@ impl<C: ScramCredentialProvider + Clone> ServerNegotiation<C> {
             // SAFETY: the state and the bytes are borrowed and live through the call; the room and its length are
             // borrowed for writing, and so overlap nothing.
             unsafe {
-                sys::fe2o3_sasl_server_user(&self.state, bytes.as_ptr(), bytes.len(), out.as_mut_ptr(), out.len(), len)
+                sys::fe2o3_sasl_server_claimed_user(&self.state, bytes.as_ptr(), bytes.len(), out.as_mut_ptr(), out.len(), len)
             }
         })
     }
@@ -217,7 +217,7 @@ impl<C: ScramCredentialProvider + Clone> ServerNegotiation<C> {
     }
 
     /// How the connection stands.
-    pub fn standing(&self) -> Standing {
+    pub fn progress(&self) -> Progress {
         standing_of(&self.state.connection)
     }
 
@@ -229,6 +229,6 @@ impl<C: ScramCredentialProvider + Clone> ServerNegotiation<C> {
 
 impl<C: ScramCredentialProvider + Clone> fmt::Debug for ServerNegotiation<C> {
     fn fmt(&self, f: &mut fmt::Formatter<'_>) -> fmt::Result {
-        f.debug_struct("ServerNegotiation").field("standing", &self.standing()).finish_non_exhaustive()
+        f.debug_struct("ServerNegotiation").field("progress", &self.progress()).finish_non_exhaustive()
     }
 }

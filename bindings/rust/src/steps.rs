@@ -2,11 +2,11 @@
 
 use crate::calls::filled;
 use crate::client::NOTHING_SENT;
-use crate::connection::{Login, Standing};
+use crate::connection::{Login, Progress};
 use crate::records::ScramRecord;
 use crate::server::{logged_in, ScramAuthenticator, ScramCredentialProvider, NO_CHALLENGE};
 use crate::serving::{named, Host, Offers};
-use crate::{generate_nonce, sys, ConnectionError, SaslProfile, ScramClientKeys};
+use crate::{generate_nonce, sys, ConnectionError, SaslProfile, CachedKeys};
 use std::fmt;
 
 /// The most bytes of a body that is sent: those of a frame of 512 behind its size (AMQP 1.0, part 5, section 5.3.1).
@@ -19,32 +19,32 @@ pub struct Answered {
     pub body: Vec<u8>,
 
     /// How the login stands then.
-    pub standing: Standing,
+    pub progress: Progress,
 }
 
 impl fmt::Debug for Answered {
     fn fmt(&self, f: &mut fmt::Formatter<'_>) -> fmt::Result {
         f.debug_struct("Answered")
             .field("body", &format_args!("{} bytes", self.body.len()))
-            .field("standing", &self.standing)
+            .field("progress", &self.progress)
             .finish()
     }
 }
 
 /// How a login stands, by its number in the library.
-fn standing_of(number: u32) -> Standing {
+fn standing_of(number: u32) -> Progress {
     match number {
-        0 => Standing::Wanting,
-        1 => Standing::LoggedIn,
-        why => Standing::Closed(ConnectionError::of(why)),
+        0 => Progress::InProgress,
+        1 => Progress::LoggedIn,
+        why => Progress::Closed(ConnectionError::of(why)),
     }
 }
 
 /// `Ended` where a login wants no more.
-fn goes_on(standing: Standing) -> Result<(), ConnectionError> {
-    match standing {
-        Standing::Wanting => Ok(()),
-        Standing::LoggedIn | Standing::Closed(_) => Err(ConnectionError::of(sys::ENDED)),
+fn goes_on(progress: Progress) -> Result<(), ConnectionError> {
+    match progress {
+        Progress::InProgress => Ok(()),
+        Progress::LoggedIn | Progress::Closed(_) => Err(ConnectionError::of(sys::ENDED)),
     }
 }
 
@@ -52,7 +52,7 @@ fn goes_on(standing: Standing) -> Result<(), ConnectionError> {
 fn stepped(mut call: impl FnMut(&mut u32, &mut [u8], &mut usize) -> u32) -> Result<Answered, ConnectionError> {
     let mut number = 0;
     let body = filled(BODY_MOST, |out, len| call(&mut number, out, len)).map_err(ConnectionError::of)?;
-    Ok(Answered { body, standing: standing_of(number) })
+    Ok(Answered { body, progress: standing_of(number) })
 }
 
 /// The client's side of one login over the bodies of frames, each from the data offset on, behind the four bytes of the
@@ -86,17 +86,17 @@ fn stepped(mut call: impl FnMut(&mut u32, &mut [u8], &mut usize) -> u32) -> Resu
 /// socket.read_exact(&mut came)?;
 /// assert_eq!(came, header);
 ///
-/// let client = ScramClient::new("user", "pencil", ScramVersion::Sha256).with_least_iterations(4096);
+/// let client = ScramClient::new("user", "pencil", ScramVersion::Sha256).with_min_iterations(4096);
 /// let mut side = ClientSteps::new(client, Some("broker.example"));
 /// for _ in 0..3 {
 ///     let answered = side.on_frame(&next_body(&mut socket)?)?;
-///     if answered.standing != Standing::Wanting {
+///     if answered.progress != Progress::InProgress {
 ///         break;
 ///     }
 ///     socket.write_all(&(answered.body.len() as u32 + 4).to_be_bytes())?;
 ///     socket.write_all(&answered.body)?;
 /// }
-/// assert_eq!(side.standing(), Standing::LoggedIn);
+/// assert_eq!(side.progress(), Progress::LoggedIn);
 /// # Ok(())
 /// # }
 /// ```
@@ -104,13 +104,13 @@ fn stepped(mut call: impl FnMut(&mut u32, &mut [u8], &mut usize) -> u32) -> Resu
 pub struct ClientSteps {
     login: Login,
     state: sys::ScramClient,
-    standing: Standing,
+    progress: Progress,
 }
 
 impl ClientSteps {
     /// A login by this profile that has not begun. Its init names the hostname, if it is not empty.
     pub fn new(profile: impl Into<SaslProfile>, hostname: Option<&str>) -> Self {
-        Self { login: Login::new(profile.into(), hostname), state: NOTHING_SENT, standing: Standing::Wanting }
+        Self { login: Login::new(profile.into(), hostname), state: NOTHING_SENT, progress: Progress::InProgress }
     }
 
     /// Answers the body of a frame: the mechanisms by an init, a challenge by a response, and an outcome by how the
@@ -128,12 +128,12 @@ impl ClientSteps {
 
     /// The same with a nonce of the caller's: 32 random bytes, fresh for each call.
     pub fn on_frame_with(&mut self, body: &[u8], nonce: &[u8; 32]) -> Result<Answered, ConnectionError> {
-        goes_on(self.standing)?;
+        goes_on(self.progress)?;
         let lent = self.login.lend();
         let state = &mut self.state;
-        let answered = stepped(|standing, out, len| {
+        let answered = stepped(|progress, out, len| {
             // SAFETY: the login's pointers are to what `lent` borrows, and the body is a slice that lives through the
-            // call; the state, the standing, the room and its length are borrowed for writing, and so overlap nothing.
+            // call; the state, the progress, the room and its length are borrowed for writing, and so overlap nothing.
             unsafe {
                 sys::fe2o3_sasl_client_step(
                     &lent.login,
@@ -141,31 +141,31 @@ impl ClientSteps {
                     body.as_ptr(),
                     body.len(),
                     nonce,
-                    standing,
+                    progress,
                     out.as_mut_ptr(),
                     out.len(),
                     len,
                 )
             }
         })?;
-        self.standing = answered.standing;
+        self.progress = answered.progress;
         Ok(answered)
     }
 
     /// How the login stands.
-    pub fn standing(&self) -> Standing {
-        self.standing
+    pub fn progress(&self) -> Progress {
+        self.progress
     }
 
     /// The keys of a login by SCRAM whose server was believed, as [`crate::ScramClient::keys`] hands them out.
-    pub fn keys(&self) -> Option<ScramClientKeys> {
-        ScramClientKeys::handed_out(&self.state)
+    pub fn keys(&self) -> Option<CachedKeys> {
+        CachedKeys::handed_out(&self.state)
     }
 }
 
 impl fmt::Debug for ClientSteps {
     fn fmt(&self, f: &mut fmt::Formatter<'_>) -> fmt::Result {
-        f.debug_struct("ClientSteps").field("standing", &self.standing).finish_non_exhaustive()
+        f.debug_struct("ClientSteps").field("progress", &self.progress).finish_non_exhaustive()
     }
 }
 
@@ -187,8 +187,8 @@ impl fmt::Debug for ClientSteps {
 ///     let to_server = client.on_frame(&to_client)?.body;
 ///     to_client = server.on_frame(&to_server)?.body;
 /// }
-/// assert_eq!(client.on_frame(&to_client)?.standing, Standing::LoggedIn);
-/// assert_eq!(server.standing(), Standing::LoggedIn);
+/// assert_eq!(client.on_frame(&to_client)?.progress, Progress::LoggedIn);
+/// assert_eq!(server.progress(), Progress::LoggedIn);
 /// assert_eq!(server.user().as_deref(), Some("user"));
 /// # Ok(())
 /// # }
@@ -197,14 +197,14 @@ impl fmt::Debug for ClientSteps {
 pub struct ServerSteps<C: ScramCredentialProvider + Clone> {
     host: Host<C>,
     state: sys::ScramServer,
-    standing: Standing,
+    progress: Progress,
 }
 
 impl<C: ScramCredentialProvider + Clone> ServerSteps<C> {
     /// A login that has not begun over the credentials of this server, which hides unknown users where the server does.
     /// Its own challenge, if one is open, does not count.
     pub fn new(authenticator: ScramAuthenticator<C>, offers: Offers) -> Self {
-        Self { host: Host::new(authenticator, offers), state: NO_CHALLENGE, standing: Standing::Wanting }
+        Self { host: Host::new(authenticator, offers), state: NO_CHALLENGE, progress: Progress::InProgress }
     }
 
     /// Sets the name that the transport has authenticated, which EXTERNAL lets in. Without one, and with an empty one,
@@ -238,11 +238,11 @@ impl<C: ScramCredentialProvider + Clone> ServerSteps<C> {
 
     /// The same with a nonce of the caller's: 32 random bytes, fresh for each call.
     pub fn on_frame_with(&mut self, body: &[u8], nonce: &[u8; 32]) -> Result<Answered, ConnectionError> {
-        goes_on(self.standing)?;
+        goes_on(self.progress)?;
         let name = self.named(body)?;
         let record = self.host.record(name.as_deref())?;
         let answered = self.step(body, nonce, name.as_deref(), record.as_ref())?;
-        self.standing = answered.standing;
+        self.progress = answered.progress;
         Ok(answered)
     }
 
@@ -252,7 +252,7 @@ impl<C: ScramCredentialProvider + Clone> ServerSteps<C> {
             // SAFETY: the state and the body are borrowed and live through the call; the room and its length are
             // borrowed for writing, and so overlap nothing.
             unsafe {
-                sys::fe2o3_sasl_server_step_user(
+                sys::fe2o3_sasl_server_step_claimed_user(
                     &self.state,
                     body.as_ptr(),
                     body.len(),
@@ -274,9 +274,9 @@ impl<C: ScramCredentialProvider + Clone> ServerSteps<C> {
     ) -> Result<Answered, ConnectionError> {
         let lent = self.host.lend(name, record);
         let state = &mut self.state;
-        stepped(|standing, out, len| {
+        stepped(|progress, out, len| {
             // SAFETY: the host's pointers are to what `lent` borrows, and the body is a slice that lives through the
-            // call; the state, the standing, the room and its length are borrowed for writing, and so overlap nothing.
+            // call; the state, the progress, the room and its length are borrowed for writing, and so overlap nothing.
             unsafe {
                 sys::fe2o3_sasl_server_step(
                     &lent.host,
@@ -284,7 +284,7 @@ impl<C: ScramCredentialProvider + Clone> ServerSteps<C> {
                     body.as_ptr(),
                     body.len(),
                     nonce,
-                    standing,
+                    progress,
                     out.as_mut_ptr(),
                     out.len(),
                     len,
@@ -294,8 +294,8 @@ impl<C: ScramCredentialProvider + Clone> ServerSteps<C> {
     }
 
     /// How the login stands.
-    pub fn standing(&self) -> Standing {
-        self.standing
+    pub fn progress(&self) -> Progress {
+        self.progress
     }
 
     /// The user who has logged in; `None` before, and by ANONYMOUS.
@@ -306,6 +306,6 @@ impl<C: ScramCredentialProvider + Clone> ServerSteps<C> {
 
 impl<C: ScramCredentialProvider + Clone> fmt::Debug for ServerSteps<C> {
     fn fmt(&self, f: &mut fmt::Formatter<'_>) -> fmt::Result {
-        f.debug_struct("ServerSteps").field("standing", &self.standing).finish_non_exhaustive()
+        f.debug_struct("ServerSteps").field("progress", &self.progress).finish_non_exhaustive()
     }
 }

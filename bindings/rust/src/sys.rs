@@ -232,7 +232,7 @@ pub struct Connection {
     /// for; by the other mechanisms the server's word is all that there is. Behind an outcome of another code it stands
     /// at 2, and so it does behind one that is Ok and does not show the signature. A server stands at 1 with the
     /// outcome Ok that it writes, and at 2 with any other.
-    pub standing: u32,
+    pub progress: u32,
     /// Why it is to be closed: a status, as `REFUSED_AUTH` of an outcome that says so, or
     /// `CLIENT_SERVER_SIGNATURE_MISMATCH` of a server that a client does not believe.
     pub why: u32,
@@ -355,9 +355,9 @@ pub struct Login {
     /// `fe2o3_saslprep` writes one.
     pub secret: u32,
     /// The lowest iteration count that is answered. RFC 7677 asks for 4096 at least.
-    pub least_iterations: u32,
+    pub min_iterations: u32,
     /// The highest iteration count that is answered.
-    pub most_iterations: u32,
+    pub max_iterations: u32,
     /// The plain name of the user.
     pub username: *const u8,
     pub username_len: usize,
@@ -393,7 +393,7 @@ pub struct ScramClient {
 pub struct SaslHost {
     /// Which mechanisms are offered: the sum of 1 for SCRAM of the version, 2 for PLAIN, 4 for ANONYMOUS, and 8 for
     /// EXTERNAL where there is a peer; and of 16 where SCRAM takes a client whose GS2 header is `y,,`, as
-    /// `fe2o3_scram_server_first_unbound` does. PLAIN shows the password to whoever reads the connection, and is for
+    /// `fe2o3_scram_server_first_with_cbind_flag_y` does. PLAIN shows the password to whoever reads the connection, and is for
     /// TLS alone.
     pub mechanisms: u32,
     /// 1, 256 or 512, for the hash of SCRAM and of the record.
@@ -418,7 +418,7 @@ pub struct SaslServer {
     /// The connection.
     pub connection: Connection,
     /// What SCRAM keeps. Once a client is logged in, it names the user of any mechanism
-    /// (`fe2o3_scram_server_logged_in`); ANONYMOUS names nobody.
+    /// (`fe2o3_scram_server_authenticated_user`); ANONYMOUS names nobody.
     pub scram: ScramServer,
 }
 
@@ -441,7 +441,7 @@ pub struct SaslLogin {
 pub struct SaslClient {
     /// The connection.
     pub connection: Connection,
-    /// What SCRAM keeps. Once the client is logged in, it hands out the keys (`fe2o3_scram_client_keys`).
+    /// What SCRAM keeps. Once the client is logged in, it hands out the keys (`fe2o3_scram_client_get_keys`).
     pub scram: ScramClient,
 }
 
@@ -453,10 +453,10 @@ extern "C" {
         client: *mut ScramClient,
         nonce: *const [u8; 32],
         out: *mut u8,
-        out_room: usize,
+        out_size: usize,
         len: *mut usize) -> u32;
 
-    /// Believes the server-final message, or refuses it. The login is done only where the number is 0.
+    /// Verifies the server-final message, or refuses it. The login is done only where the number is 0.
     pub fn fe2o3_scram_client_verify(
         login: *const Login,
         client: *mut ScramClient,
@@ -465,7 +465,7 @@ extern "C" {
 
     /// Hands out the keys of a login whose server was believed: with them the next login to a server that keeps its
     /// salt and its count takes no password, and two hashes of HMAC. Whoever has them can log in.
-    pub fn fe2o3_scram_client_keys(client: *const ScramClient, keys: *mut ClientKeys) -> u32;
+    pub fn fe2o3_scram_client_get_keys(client: *const ScramClient, keys: *mut ClientKeys) -> u32;
 
     /// Answers the server-first message with the client-final message. A room of 128 bytes more than the server-first
     /// message suffices, and is asked for before any hash is made.
@@ -475,12 +475,12 @@ extern "C" {
         server_first: *const u8,
         server_first_len: usize,
         out: *mut u8,
-        out_room: usize,
+        out_size: usize,
         len: *mut usize) -> u32;
 
     /// Takes the body of a frame that the server sent, behind the four bytes of the frame's size, and writes the body
     /// that is to be sent: the init to its mechanisms, the response to its challenge, and nothing (a length of 0) to
-    /// its outcome. Standing is 0 while the login goes on, 1 once the client is logged in, and the number of a refusal
+    /// its outcome. Progress is 0 while the login goes on, 1 once the client is logged in, and the number of a refusal
     /// (81 to 84) where the outcome is one; hand in no body after that. A room of 508 bytes suffices, and is asked for
     /// before any hash is made. The nonce is 32 random bytes, fresh for each call.
     ///
@@ -494,9 +494,9 @@ extern "C" {
         body: *const u8,
         body_len: usize,
         nonce: *const [u8; 32],
-        standing: *mut u32,
+        progress: *mut u32,
         out: *mut u8,
-        out_room: usize,
+        out_size: usize,
         len: *mut usize) -> u32;
 
     /// Reads the body of a frame, which begins with its data offset, behind the four bytes of its size. It takes no
@@ -548,7 +548,7 @@ extern "C" {
         username_len: usize,
         kept: *const ScramRecord,
         out: *mut u8,
-        out_room: usize,
+        out_size: usize,
         len: *mut usize) -> u32;
 
     /// Writes what SASLprep (RFC 4013) prepares a text to, as a password is before it is compared or hashed: printable
@@ -560,7 +560,7 @@ extern "C" {
         text_len: usize,
         unassigned: u32,
         out: *mut u8,
-        out_room: usize,
+        out_size: usize,
         len: *mut usize) -> u32;
 
     /// Makes the record of a password. Where the number is not 0, the struct stays as it was.
@@ -588,12 +588,12 @@ extern "C" {
     pub fn fe2o3_scram_record_parse(text: *const u8, text_len: usize, kept: *mut ScramRecord) -> u32;
 
     /// Writes the text of a record, as PostgreSQL reads it (RFC 5803, section 2): at most 384 bytes.
-    pub fn fe2o3_scram_record_text(kept: *const ScramRecord, out: *mut u8, out_room: usize, len: *mut usize) -> u32;
+    pub fn fe2o3_scram_record_text(kept: *const ScramRecord, out: *mut u8, out_size: usize, len: *mut usize) -> u32;
 
     /// Makes up a record for a name that a server does not know, so that it can answer as to one that it knows: the
     /// login is refused at its proof. The secret is 32 random bytes, the same for all names and kept as long as the
     /// records; `made_salt_len`, of at most 64, and the count are those of the server's other records.
-    pub fn fe2o3_scram_record_of_nobody(
+    pub fn fe2o3_scram_record_mock(
         version: u32,
         secret: *const u8,
         secret_len: usize,
@@ -614,7 +614,7 @@ extern "C" {
         password_len: usize) -> u32;
 
     /// Writes the header of SASL, with which a client begins a connection.
-    pub fn fe2o3_sasl_client_open(out: *mut u8, out_room: usize, len: *mut usize) -> u32;
+    pub fn fe2o3_sasl_client_open(out: *mut u8, out_size: usize, len: *mut usize) -> u32;
 
     /// Takes bytes of the connection as they came, to the end of the header or of the frame that is due, and writes
     /// what is to be sent, of at most 512 bytes, a room that is asked for before any hash is made. The number is 0 also
@@ -630,13 +630,13 @@ extern "C" {
         nonce: *const [u8; 32],
         taken: *mut usize,
         out: *mut u8,
-        out_room: usize,
+        out_size: usize,
         len: *mut usize) -> u32;
 
     /// Takes bytes of the connection as they came, to the end of the header or of the frame that is due, and writes
     /// what is to be sent, of at most 520 bytes, a room that is asked for before any hash is made. What is left of the
     /// bytes is to be handed in again while the connection stands at 0; behind a login it is AMQP's. Before it the
-    /// caller fetches the record of the user whom the bytes name (`fe2o3_sasl_server_user`), if they name one. The
+    /// caller fetches the record of the user whom the bytes name (`fe2o3_sasl_server_claimed_user`), if they name one. The
     /// nonce is 32 random bytes, fresh for each call. Where a name or a message has no room in the struct, the call is
     /// refused by `TOO_LONG`, and the connection is to be closed.
     pub fn fe2o3_sasl_server_receive(
@@ -647,12 +647,12 @@ extern "C" {
         nonce: *const [u8; 32],
         taken: *mut usize,
         out: *mut u8,
-        out_room: usize,
+        out_size: usize,
         len: *mut usize) -> u32;
 
     /// Answers a client-first message with the server-first message, which starts an exchange afresh at any time. The
     /// GS2 header of the message has to be `n,,`. The record is that of the user whom the message names
-    /// (`fe2o3_scram_server_user`), or one that is made up (`fe2o3_scram_record_of_nobody`). The nonce is 32 random
+    /// (`fe2o3_scram_server_claimed_user`), or one that is made up (`fe2o3_scram_record_mock`). The nonce is 32 random
     /// bytes, fresh for each.
     pub fn fe2o3_scram_server_first(
         kept: *const ScramRecord,
@@ -661,28 +661,28 @@ extern "C" {
         client_first: *const u8,
         client_first_len: usize,
         out: *mut u8,
-        out_room: usize,
+        out_size: usize,
         len: *mut usize) -> u32;
 
     /// As `fe2o3_scram_server_first`, and the GS2 header may be `y,,` too: that of a client which could bind a channel
     /// and believes that the server cannot, since it was offered no mechanism with `-PLUS` (RFC 5802, section 6). Only
     /// for a server that offers none.
-    pub fn fe2o3_scram_server_first_unbound(
+    pub fn fe2o3_scram_server_first_with_cbind_flag_y(
         kept: *const ScramRecord,
         server: *mut ScramServer,
         nonce: *const [u8; 32],
         client_first: *const u8,
         client_first_len: usize,
         out: *mut u8,
-        out_room: usize,
+        out_size: usize,
         len: *mut usize) -> u32;
 
     /// Writes the plain name of the user whom a client-first message names, and whose record is to be fetched.
-    pub fn fe2o3_scram_server_user(
+    pub fn fe2o3_scram_server_claimed_user(
         client_first: *const u8,
         client_first_len: usize,
         out: *mut u8,
-        out_room: usize,
+        out_size: usize,
         len: *mut usize) -> u32;
 
     /// Answers a client-final message with the server-final message, where its proof meets the record: the user is
@@ -694,25 +694,25 @@ extern "C" {
         client_final: *const u8,
         client_final_len: usize,
         out: *mut u8,
-        out_room: usize,
+        out_size: usize,
         len: *mut usize) -> u32;
 
     /// Writes the plain name of the user who has logged in: the one whose challenge was answered.
-    pub fn fe2o3_scram_server_logged_in(
+    pub fn fe2o3_scram_server_authenticated_user(
         server: *const ScramServer,
         out: *mut u8,
-        out_room: usize,
+        out_size: usize,
         len: *mut usize) -> u32;
 
     /// Writes the body of the frame with which a server offers its mechanisms, to whoever has sent the header of SASL.
-    pub fn fe2o3_sasl_server_offer(host: *const SaslHost, out: *mut u8, out_room: usize, len: *mut usize) -> u32;
+    pub fn fe2o3_sasl_server_offer(host: *const SaslHost, out: *mut u8, out_size: usize, len: *mut usize) -> u32;
 
     /// Takes the body of a frame that the client sent, behind the four bytes of the frame's size, and writes the body
-    /// that is to be sent: a challenge, or the outcome. Standing is 0 while the login goes on, 1 once the client is
+    /// that is to be sent: a challenge, or the outcome. Progress is 0 while the login goes on, 1 once the client is
     /// logged in, and the number of a refusal (81 to 84) where the outcome is one, which is to be sent too; hand in no
     /// body after that. A room of 508 bytes suffices, and is asked for before any hash is made. Before the call the
-    /// caller fetches the record of the user whom the body names (`fe2o3_sasl_server_step_user`), if it names one. Once
-    /// the client is logged in, the struct names the user of any mechanism (`fe2o3_scram_server_logged_in`); ANONYMOUS
+    /// caller fetches the record of the user whom the body names (`fe2o3_sasl_server_step_claimed_user`), if it names one. Once
+    /// the client is logged in, the struct names the user of any mechanism (`fe2o3_scram_server_authenticated_user`); ANONYMOUS
     /// names nobody. The nonce is 32 random bytes, fresh for each call.
     ///
     /// It is for who reads the frames, refuses those of more than 512 bytes, and knows whose turn it is: a login takes
@@ -726,32 +726,32 @@ extern "C" {
         body: *const u8,
         body_len: usize,
         nonce: *const [u8; 32],
-        standing: *mut u32,
+        progress: *mut u32,
         out: *mut u8,
-        out_room: usize,
+        out_size: usize,
         len: *mut usize) -> u32;
 
     /// Writes the plain name of the user whom the body of a frame names, and whose record is to be fetched before it is
     /// taken: that of an init of SCRAM or PLAIN, and for a response that of the open challenge. Where it names nobody,
     /// the number is that of `NAMES_NOBODY`, and no record is needed.
-    pub fn fe2o3_sasl_server_step_user(
+    pub fn fe2o3_sasl_server_step_claimed_user(
         server: *const ScramServer,
         body: *const u8,
         body_len: usize,
         out: *mut u8,
-        out_room: usize,
+        out_size: usize,
         len: *mut usize) -> u32;
 
     /// Writes the plain name of the user whom the frame names that these bytes complete, and whose record is to be
     /// fetched before they are taken: that of an init of SCRAM or PLAIN, and for a response that of the open challenge.
     /// Where they complete no frame, or one that names nobody, the number is that of `NAMES_NOBODY`, and no record is
     /// needed.
-    pub fn fe2o3_sasl_server_user(
+    pub fn fe2o3_sasl_server_claimed_user(
         server: *const SaslServer,
         bytes: *const u8,
         bytes_len: usize,
         out: *mut u8,
-        out_room: usize,
+        out_size: usize,
         len: *mut usize) -> u32;
 
     /// Lends the text of a status for ever, with a zero behind it.
@@ -760,9 +760,9 @@ extern "C" {
     /// The version of the library: its three numbers, each of two digits.
     pub fn fe2o3_version() -> u32;
 
-    /// How many bytes a struct has here: 0 `fe2o3_login`, 1 `fe2o3_scram_client`, 2 `fe2o3_client_keys`, 3
+    /// How many bytes a struct has here: 0 `fe2o3_login`, 1 `fe2o3_scram_client`, 2 `fe2o3_scram_keys`, 3
     /// `fe2o3_scram_server`, 4 `fe2o3_scram_record`, 5 `fe2o3_connection`, 6 `fe2o3_sasl_login`, 7 `fe2o3_sasl_client`,
-    /// 8 `fe2o3_sasl_frame_view`, 9 `fe2o3_sasl_host`, 10 `fe2o3_sasl_server`; of other numbers 0. A caller whose own
+    /// 8 `fe2o3_sasl_frame_view`, 9 `fe2o3_sasl_server_config`, 10 `fe2o3_sasl_server`; of other numbers 0. A caller whose own
     /// declarations have other sizes has another header.
     pub fn fe2o3_size(which: u32) -> usize;
 }

@@ -59,7 +59,7 @@ fn logins_by_password() {
     for version in VERSIONS {
         let mut server = server(version, &SALT);
         assert_eq!(server.user(), None);
-        let mut client = ScramClient::new("user", "pencil", version).with_least_iterations(4096);
+        let mut client = ScramClient::new("user", "pencil", version).with_min_iterations(4096);
         assert_eq!(log_in(&mut client, &mut server), Ok(()));
         assert_eq!(server.user().as_deref(), Some("user"));
     }
@@ -81,14 +81,14 @@ fn logins_by_keys() {
         assert!(first.keys().is_none());
         assert_eq!(log_in(&mut first, &mut server(version, &SALT)), Ok(()));
         let keys = first.keys().unwrap();
-        let made = ScramClientKeys::from_password(version, "pencil", &SALT, 4096).unwrap();
+        let made = CachedKeys::from_password(version, "pencil", &SALT, 4096).unwrap();
         assert!(keys.client_key() == made.client_key() && keys.server_key() == made.server_key());
         assert!(keys.salt() == SALT && keys.iterations() == 4096 && keys.version() == version);
 
         let mut by_keys = ScramClient::with_keys("user", keys.clone());
         assert_eq!(log_in(&mut by_keys, &mut server(version, &SALT)), Ok(()));
-        let other_keys = Err(Refused::ByClient(ScramErrorKind::OtherKeys));
-        assert_eq!(log_in(&mut by_keys, &mut server(version, &OTHER_SALT)), other_keys);
+        let stale_keys = Err(Refused::ByClient(ScramErrorKind::StaleKeys));
+        assert_eq!(log_in(&mut by_keys, &mut server(version, &OTHER_SALT)), stale_keys);
 
         let mut by_both = ScramClient::with_password_and_keys("user", "pencil", keys);
         assert_eq!(log_in(&mut by_both, &mut server(version, &SALT)), Ok(()));
@@ -126,7 +126,7 @@ fn an_unknown_user() {
         assert_eq!(log_in(&mut stranger, &mut hiding), refused);
         assert_eq!(log_in(&mut ScramClient::new("user", "pencil", version), &mut hiding), Ok(()));
 
-        let made_up = || ScramRecord::of_nobody(version, &SECRET, "nobody", SALT.len(), 4096).unwrap().to_text();
+        let made_up = || ScramRecord::mock(version, &SECRET, "nobody", SALT.len(), 4096).unwrap().to_text();
         assert_eq!(made_up(), made_up());
     }
 }
@@ -177,7 +177,7 @@ fn prepared_passwords() {
         let mut client = ScramClient::with_prepared_password("user", PREPARED, version);
         assert_eq!(log_in(&mut client, &mut server()), Ok(()));
         let keys = client.keys().unwrap();
-        let made = ScramClientKeys::from_prepared_password(version, PREPARED, &RFC_SALT, 4096).unwrap();
+        let made = CachedKeys::from_prepared_password(version, PREPARED, &RFC_SALT, 4096).unwrap();
         assert!(keys.client_key() == made.client_key() && keys.server_key() == made.server_key());
         let mut by_both = ScramClient::with_prepared_password_and_keys("user", PREPARED, keys);
         assert_eq!(log_in(&mut by_both, &mut server()), Ok(()));
@@ -230,7 +230,7 @@ fn a_client_that_could_bind_a_channel() {
     }
     assert_eq!(server.compute_server_first_message(b"y,,\xff"), Err(Utf8Error));
 
-    let mut server = server.accepts_unbound();
+    let mut server = server.accept_cbind_flag_y();
     let server_first = server.compute_server_first_message_with(client_first.as_bytes(), &second).unwrap().unwrap();
     assert_eq!(text(&server_first), format!("r={},s=W22ZaJ0SNY7soEsUEjb6gQ==,i=4096", nonces));
     assert_eq!(server.compute_server_final_message(other_final.as_bytes()), Err(InvalidChannelBinding));
@@ -253,9 +253,9 @@ fn what_is_no_record() {
     assert_eq!(made("pencil", &[0; 129], 1), Some(RecordError::TooLong));
     let stored = StoredPassword { salt: &SALT, iterations: 4096, stored_key: &[0; 20], server_key: &[0; 32] };
     assert_eq!(ScramRecord::from_parts(version, &stored).err(), Some(RecordError::KeyLengthMismatch));
-    let keys = |key: &[u8]| ScramClientKeys::from_parts(version, &SALT, 4096, key, key).err();
+    let keys = |key: &[u8]| CachedKeys::from_parts(version, &SALT, 4096, key, key).err();
     assert_eq!(keys(&[0; 64]), Some(RecordError::KeyLengthMismatch));
-    assert_eq!(ScramRecord::of_nobody(version, &SECRET, "nobody", 65, 1).err(), Some(RecordError::TooLong));
+    assert_eq!(ScramRecord::mock(version, &SECRET, "nobody", 65, 1).err(), Some(RecordError::TooLong));
     let new = SingleScramCredential::new("user", "\u{e9}", version);
     assert_eq!(new.err(), Some(ServerScramErrorKind::NormalizeError));
 
@@ -277,7 +277,7 @@ fn challenged(client: &mut ScramClient) -> String {
 fn what_a_client_refuses() {
     use ScramErrorKind::*;
     let mut client =
-        ScramClient::new("user", "pencil", ScramVersion::Sha256).with_least_iterations(2).with_iteration_limit(4096);
+        ScramClient::new("user", "pencil", ScramVersion::Sha256).with_min_iterations(2).with_iteration_limit(4096);
     assert_eq!(client.compute_client_final_message("r=x,s=YQ==,i=2"), Err(IllegalClientState));
     assert_eq!(client.validate_server_final(b"v=YQ=="), Err(IllegalClientState));
     let nonce = challenged(&mut client);
@@ -424,7 +424,7 @@ fn errors_have_the_texts_of_the_library() {
 fn all_of_it_may_go_to_another_thread() {
     fn may<T: Send + Sync>() {}
     may::<ScramClient>();
-    may::<ScramClientKeys>();
+    may::<CachedKeys>();
     may::<ScramRecord>();
     may::<Server>();
 }

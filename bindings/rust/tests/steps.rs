@@ -25,7 +25,7 @@ const SIGNATURE: &str = "50uHbJV+ANf1NSOfnBbK910b8IC4PmQ5G06TO7VnXz8=";
 const UNBOUND_PROOF: &str = "SJ1/Pm0x+vAkhmfEkR72IPuVMVkUt0BF477aSDSc3vM=";
 const UNBOUND_SIGNATURE: &str = "mZx4E2gu+jcdDC0u/pNy5NPrR0Zh6PMH8UcHTIgvIxU=";
 
-const REFUSED: Standing = Standing::Closed(ConnectionError::RefusedAuth);
+const REFUSED: Progress = Progress::Closed(ConnectionError::RefusedAuth);
 
 fn nonce(first: u8) -> [u8; 32] {
     let mut nonce = [0; 32];
@@ -102,13 +102,13 @@ fn joined(client: &mut ClientSteps, server: &mut ServerSteps<Store>) -> Result<(
     let mut to_client = server.sasl_mechanisms().unwrap();
     loop {
         let answered = client.on_frame(&to_client)?;
-        assert_eq!(answered.standing, client.standing());
-        if answered.standing != Standing::Wanting {
+        assert_eq!(answered.progress, client.progress());
+        if answered.progress != Progress::InProgress {
             assert!(answered.body.is_empty());
             return Ok(());
         }
         let reply = server.on_frame(&answered.body).unwrap();
-        assert_eq!(reply.standing, server.standing());
+        assert_eq!(reply.progress, server.progress());
         to_client = reply.body;
     }
 }
@@ -129,11 +129,11 @@ fn each_body_of_a_login() {
     assert_eq!(challenge.body, body(CHALLENGE, &[&binary(&format!("{both},s={SALT_TEXT},i=4096"))]));
     let response = client.on_frame_with(&challenge.body, &nonce(3)).unwrap();
     assert_eq!(response.body, body(RESPONSE, &[&binary(&format!("c=biws,{both},p={PROOF}"))]));
-    assert_eq!((client.standing(), server.standing()), (Standing::Wanting, Standing::Wanting));
+    assert_eq!((client.progress(), server.progress()), (Progress::InProgress, Progress::InProgress));
     let last = server.on_frame_with(&response.body, &nonce(4)).unwrap();
     assert_eq!(last.body, body(OUTCOME, &[&[0x50, 0], &binary(&format!("v={SIGNATURE}"))]));
-    assert_eq!(client.on_frame(&last.body), Ok(Answered { body: Vec::new(), standing: Standing::LoggedIn }));
-    assert_eq!((server.standing(), server.user().as_deref()), (Standing::LoggedIn, Some("user")));
+    assert_eq!(client.on_frame(&last.body), Ok(Answered { body: Vec::new(), progress: Progress::LoggedIn }));
+    assert_eq!((server.progress(), server.user().as_deref()), (Progress::LoggedIn, Some("user")));
 }
 
 #[test]
@@ -144,15 +144,15 @@ fn a_client_that_could_bind_a_channel() {
     let response = body(RESPONSE, &[&binary(&format!("c=eSws,{both},p={UNBOUND_PROOF}"))]);
 
     let mut plain = server(ScramVersion::Sha256, Offers::scram());
-    assert_eq!(plain.on_frame(&init), Ok(Answered { body: outcome(1), standing: REFUSED }));
+    assert_eq!(plain.on_frame(&init), Ok(Answered { body: outcome(1), progress: REFUSED }));
 
     let credential = SingleScramCredential::with_record("user", record(ScramVersion::Sha256));
-    let mut server = ServerSteps::new(ScramAuthenticator::new(credential).accepts_unbound(), Offers::scram());
+    let mut server = ServerSteps::new(ScramAuthenticator::new(credential).accept_cbind_flag_y(), Offers::scram());
     let challenge = server.on_frame_with(&init, &nonce(2)).unwrap();
     assert_eq!(challenge.body, body(CHALLENGE, &[&binary(&format!("{both},s={SALT_TEXT},i=4096"))]));
     let last = server.on_frame(&response).unwrap();
     assert_eq!(last.body, body(OUTCOME, &[&[0x50, 0], &binary(&format!("v={UNBOUND_SIGNATURE}"))]));
-    assert_eq!((server.standing(), server.user().as_deref()), (Standing::LoggedIn, Some("user")));
+    assert_eq!((server.progress(), server.user().as_deref()), (Progress::LoggedIn, Some("user")));
 }
 
 #[test]
@@ -164,7 +164,7 @@ fn prepared_passwords() {
     let client = ScramClient::with_prepared_password("user", password, ScramVersion::Sha256);
     let (mut side, mut other) = (ClientSteps::new(client, None), server());
     assert_eq!(joined(&mut side, &mut other), Ok(()));
-    assert_eq!((side.standing(), other.user().as_deref()), (Standing::LoggedIn, Some("user")));
+    assert_eq!((side.progress(), other.user().as_deref()), (Progress::LoggedIn, Some("user")));
 }
 
 #[test]
@@ -174,19 +174,19 @@ fn logins_by_scram() {
         assert_eq!(side.sasl_mechanisms().unwrap(), list_of(&[version.mechanism()]));
         let mut client = ClientSteps::new(ScramClient::new("user", "pencil", version), None);
         assert_eq!((joined(&mut client, &mut side), side.user().as_deref()), (Ok(()), Some("user")));
-        assert_eq!((client.standing(), side.standing()), (Standing::LoggedIn, Standing::LoggedIn));
+        assert_eq!((client.progress(), side.progress()), (Progress::LoggedIn, Progress::LoggedIn));
 
         let keys = client.keys().unwrap();
         let mut by_keys = ClientSteps::new(ScramClient::with_keys("user", keys), None);
         assert_eq!(joined(&mut by_keys, &mut server(version, Offers::scram())), Ok(()));
-        assert_eq!(by_keys.standing(), Standing::LoggedIn);
+        assert_eq!(by_keys.progress(), Progress::LoggedIn);
 
         let sides = || [server(version, Offers::scram()), hiding(version)];
         let strangers = [("user", "pencils"), ("nobody", "pencil")];
         for ((user, password), mut side) in strangers.into_iter().flat_map(|who| sides().map(|side| (who, side))) {
             let mut client = ClientSteps::new(ScramClient::new(user, password, version), None);
             assert_eq!(joined(&mut client, &mut side), Ok(()));
-            assert_eq!((client.standing(), side.standing(), side.user()), (REFUSED, REFUSED, None));
+            assert_eq!((client.progress(), side.progress(), side.user()), (REFUSED, REFUSED, None));
             assert!(client.keys().is_none());
         }
     }
@@ -195,20 +195,20 @@ fn logins_by_scram() {
 #[test]
 fn other_mechanisms() {
     let asked = |name: &str, response: &[u8]| body(INIT, &[&symbol(name), response, &short(0xa1, b"host")]);
-    for (profile, init, standing, user) in [
-        (plain("pencil"), asked("PLAIN", &binary("\0user\0pencil")), Standing::LoggedIn, Some("user")),
+    for (profile, init, progress, user) in [
+        (plain("pencil"), asked("PLAIN", &binary("\0user\0pencil")), Progress::LoggedIn, Some("user")),
         (plain("pencils"), asked("PLAIN", &binary("\0user\0pencils")), REFUSED, None),
-        (SaslProfile::Anonymous, asked("ANONYMOUS", NULL), Standing::LoggedIn, None),
-        (SaslProfile::External, asked("EXTERNAL", NULL), Standing::LoggedIn, Some("peer")),
+        (SaslProfile::Anonymous, asked("ANONYMOUS", NULL), Progress::LoggedIn, None),
+        (SaslProfile::External, asked("EXTERNAL", NULL), Progress::LoggedIn, Some("peer")),
     ] {
         let mut side = server(ScramVersion::Sha256, all());
         let mut client = ClientSteps::new(profile, Some("host"));
         let sent = client.on_frame(&side.sasl_mechanisms().unwrap()).unwrap();
         assert_eq!(sent.body, init);
         let reply = side.on_frame(&sent.body).unwrap();
-        assert_eq!(reply.body, outcome(u8::from(standing == REFUSED)));
-        assert_eq!(client.on_frame(&reply.body), Ok(Answered { body: Vec::new(), standing }));
-        assert_eq!((side.standing(), side.user().as_deref()), (standing, user));
+        assert_eq!(reply.body, outcome(u8::from(progress == REFUSED)));
+        assert_eq!(client.on_frame(&reply.body), Ok(Answered { body: Vec::new(), progress }));
+        assert_eq!((side.progress(), side.user().as_deref()), (progress, user));
     }
 }
 
@@ -224,7 +224,7 @@ fn external_without_a_peer() {
         let mut side = named(steps(all()));
         assert_eq!(side.sasl_mechanisms().unwrap(), list_of(&["SCRAM-SHA-256", "PLAIN", "ANONYMOUS"]));
         assert_eq!(side.on_frame(&init).unwrap().body, outcome(1));
-        assert_eq!((side.standing(), side.user()), (REFUSED, None));
+        assert_eq!((side.progress(), side.user()), (REFUSED, None));
         let alone = named(steps(Offers { external: true, ..Offers::default() }));
         assert_eq!(alone.sasl_mechanisms(), Err(ConnectionError::NoSuchMechanism));
     }
@@ -241,7 +241,7 @@ fn a_server_without_the_verifier_is_not_believed() {
     let mut client = ClientSteps::new(ScramClient::new("user", "pencil", ScramVersion::Sha256), None);
     let why = joined(&mut client, &mut side).unwrap_err();
     assert_eq!(why.scram(), Some(ScramErrorKind::ServerSignatureMismatch));
-    assert_eq!(client.standing(), Standing::Wanting);
+    assert_eq!(client.progress(), Progress::InProgress);
     assert!(client.keys().is_none());
 }
 
@@ -252,7 +252,7 @@ fn refusals_of_a_client() {
     let signed = body(OUTCOME, &[&[0x50, 0], &binary(&format!("v={SIGNATURE}"))]);
     assert_eq!(kind(scram().on_frame(&signed)), Some(ScramErrorKind::IllegalClientState));
     assert_eq!(kind(scram().on_frame(&outcome(0))), Some(ScramErrorKind::ServerSignatureMismatch));
-    assert_eq!(scram().on_frame(&outcome(4)).unwrap().standing, Standing::Closed(ConnectionError::RefusedSysTemp));
+    assert_eq!(scram().on_frame(&outcome(4)).unwrap().progress, Progress::Closed(ConnectionError::RefusedSysTemp));
     let challenge = body(CHALLENGE, &[&binary("r=x,s=AAAA,i=4096")]);
     assert_eq!(kind(scram().on_frame(&challenge)), Some(ScramErrorKind::IllegalClientState));
     let mut begun = scram();
@@ -270,7 +270,7 @@ fn refusals_of_a_client() {
         assert_eq!(other().on_frame(&came), Err(why), "{:?}", came);
     }
     // (without SCRAM a client takes the server at its word, whenever that comes)
-    assert_eq!(other().on_frame(&outcome(0)).unwrap().standing, Standing::LoggedIn);
+    assert_eq!(other().on_frame(&outcome(0)).unwrap().progress, Progress::LoggedIn);
 
     let long = ScramClient::new("u".repeat(500), "pencil", ScramVersion::Sha256);
     let offer = list_of(&["SCRAM-SHA-256"]);
@@ -288,11 +288,11 @@ fn refusals_of_a_server() {
     assert_eq!(hiding(ScramVersion::Sha256).on_frame(&name), Err(ConnectionError::TooLong));
     // None of them has changed the server: it still answers, and a response without a challenge by an outcome.
     let reply = side.on_frame(&body(RESPONSE, &[&binary("c=biws")])).unwrap();
-    assert_eq!(reply, Answered { body: outcome(1), standing: REFUSED });
+    assert_eq!(reply, Answered { body: outcome(1), progress: REFUSED });
 
     let nobody = body(INIT, &[&symbol("ANONYMOUS")]);
     let reply = server(ScramVersion::Sha256, Offers::scram()).on_frame(&nobody).unwrap();
-    assert_eq!(reply, Answered { body: outcome(1), standing: REFUSED });
+    assert_eq!(reply, Answered { body: outcome(1), progress: REFUSED });
     let nothing = server(ScramVersion::Sha256, Offers::default());
     assert_eq!(nothing.sasl_mechanisms(), Err(ConnectionError::NoSuchMechanism));
 }
@@ -304,9 +304,9 @@ fn what_has_ended_stays() {
     joined(&mut client, &mut side).unwrap();
     let init = body(INIT, &[&symbol("ANONYMOUS")]);
     assert_eq!(side.on_frame(&init), Err(ConnectionError::Ended));
-    assert_eq!((side.standing(), side.user().as_deref()), (Standing::LoggedIn, Some("user")));
+    assert_eq!((side.progress(), side.user().as_deref()), (Progress::LoggedIn, Some("user")));
     assert_eq!(client.on_frame(&outcome(1)), Err(ConnectionError::Ended));
-    assert_eq!(client.standing(), Standing::LoggedIn);
+    assert_eq!(client.progress(), Progress::LoggedIn);
 }
 
 #[test]

@@ -2,11 +2,11 @@
 -- contract of a clause in `cuts`.
 use Rattle.std.specs.Prelude.{◌≡◌, ◌≢◌, ◌⊎◌, ℕ, ◌+◌, ◌<◌, ◌^◌, Option, List, [], ◌∷◌, ◌++◌, length, take, drop, flat_map}
 use Rattle.fe2o3_sasl_wire.specs.SaslFrames.{SaslFrame, IsBytes}
-use Rattle.fe2o3_sasl_runs.specs.OneOfLaws.{Machine}
-use Rattle.fe2o3_sasl_runs.specs.Profiles.{Profile}
-use Rattle.fe2o3_sasl_runs.specs.Runs.{ProfileSteps}
-use Rattle.fe2o3_sasl_negotiation.specs.declared.standing.Due.{Due}
-use Rattle.fe2o3_sasl_negotiation.specs.declared.standing.Standing.TheVariants.{Wanting}
+use Rattle.fe2o3_sasl_core.specs.AnyMechanismLaws.{Machine}
+use Rattle.fe2o3_sasl_core.specs.Profiles.{Profile}
+use Rattle.fe2o3_sasl_core.specs.Runs.{ProfileSteps}
+use Rattle.fe2o3_sasl_negotiation.specs.declared.progress.Expected.{Expected}
+use Rattle.fe2o3_sasl_negotiation.specs.declared.progress.Progress.TheVariants.{InProgress}
 use Rattle.fe2o3_sasl_negotiation.specs.ClientNegotiation.{ClientSideAnswers}
 use Rattle.fe2o3_sasl_negotiation.specs.Connections.{Piece, PieceNonceAt, ServerNegotiated, ClientNegotiated, ServerConnection, ClientConnection, fresh}
 use Rattle.fe2o3_sasl_negotiation.specs.Framing.{sasl_header, framed}
@@ -31,13 +31,13 @@ abbrev pub HaveOneNonceEach : List Piece → List Piece → List ℕ → Type 0
 HaveOneNonceEach pieces others stream = (n : ℕ) (nonce other : List ℕ) → EndsFrame stream n → PieceNonceAt pieces n nonce
     → PieceNonceAt others n other → nonce ≡ other
 
--- two sides have sent the same bytes and have one standing: both wait, both have logged in, or both have closed for one
+-- two sides have sent the same bytes and have one progress: both wait, both have logged in, or both have closed for one
 -- reason. Their machines have one state. While they wait, the sides are equal, also in the part of a frame that they hold
 pub record EndEqually {S : Type 0} (sent out : List ℕ) (last end : Side S) : Type 0 where
   pub sends : sent ≡ out
-  pub standing : last.standing ≡ end.standing
+  pub progress : last.progress ≡ end.progress
   pub state : last.state ≡ end.state
-  pub waits : last.standing ≡ Wanting → last ≡ end
+  pub waits : last.progress ≡ InProgress → last ≡ end
 
 -- ---- after the other side's header
 
@@ -88,7 +88,7 @@ ClientsEndEqually = (hostname : Option (List ℕ)) (limit : ℕ) (profile : Prof
 -- ---- of calls
 
 -- calls over a stream, from this side on: what they send, how the side ends, and the bytes that they leave
-pub record CallsOver {S : Type 0} (Answers : Due → S → List ℕ → List ℕ → SideOutput → S → Type 0) (side : Side S)
+pub record CallsOver {S : Type 0} (Answers : Expected → S → List ℕ → List ℕ → SideOutput → S → Type 0) (side : Side S)
     (stream : List ℕ) : Type 0 where
   pub calls : List Call
   pub sent : List ℕ
@@ -97,7 +97,7 @@ pub record CallsOver {S : Type 0} (Answers : Due → S → List ℕ → List ℕ
   pub made : Calls (Receives Answers) side calls stream sent last rest
 
 -- the bytes that each call took, with its nonce
-abbrev pub taken_pieces : {S : Type 0} (Answers : Due → S → List ℕ → List ℕ → SideOutput → S → Type 0) (side : Side S)
+abbrev pub taken_pieces : {S : Type 0} (Answers : Expected → S → List ℕ → List ℕ → SideOutput → S → Type 0) (side : Side S)
     (calls : List Call) (stream sent : List ℕ) (last : Side S) (rest : List ℕ)
     → Calls (Receives Answers) side calls stream sent last rest → List Piece
 taken_pieces Answers side [] stream sent last rest made = []
@@ -106,19 +106,19 @@ taken_pieces Answers side (call ∷ calls) stream sent last rest (taken, first, 
     ∷ taken_pieces Answers next calls (drop taken stream) later last rest made
 
 -- likewise of such calls
-abbrev pub pieces_of : {S : Type 0} (Answers : Due → S → List ℕ → List ℕ → SideOutput → S → Type 0) (side : Side S)
+abbrev pub pieces_of : {S : Type 0} (Answers : Expected → S → List ℕ → List ℕ → SideOutput → S → Type 0) (side : Side S)
     (stream : List ℕ) → CallsOver Answers side stream → List Piece
 pieces_of Answers side stream over =
     taken_pieces Answers side over.calls stream over.sent over.last over.rest over.made
 
 -- calls that were made until the side ended or the stream did
-abbrev pub HaveFinished : {S : Type 0} {Answers : Due → S → List ℕ → List ℕ → SideOutput → S → Type 0} {side : Side S}
+abbrev pub HaveFinished : {S : Type 0} {Answers : Expected → S → List ℕ → List ℕ → SideOutput → S → Type 0} {side : Side S}
     {stream : List ℕ} → CallsOver Answers side stream → Type 0
-HaveFinished over = (over.last.standing ≢ Wanting) ⊎ (over.rest ≡ [])
+HaveFinished over = (over.last.progress ≢ InProgress) ⊎ (over.rest ≡ [])
 
 -- what two lists of calls over one stream of bytes have in common, where the calls in which the last byte of a frame
 -- arrives have one nonce
-pub record HaveOneResult {S : Type 0} {Answers : Due → S → List ℕ → List ℕ → SideOutput → S → Type 0} {side : Side S}
+pub record HaveOneResult {S : Type 0} {Answers : Expected → S → List ℕ → List ℕ → SideOutput → S → Type 0} {side : Side S}
     {stream : List ℕ} (first second : CallsOver Answers side stream) : Type 0 where
   -- where both have finished, they leave the same rest of the stream and end equally
   pub finished : HaveFinished first → HaveFinished second
@@ -126,10 +126,10 @@ pub record HaveOneResult {S : Type 0} {Answers : Due → S → List ℕ → List
   -- where they leave the same rest, they end equally, also while both wait for more
   pub same_rest : first.rest ≡ second.rest → EndEqually first.sent second.sent first.last second.last
   -- where one list leaves more than the other, its side waits for more
-  pub waits : length second.rest < length first.rest → first.last.standing ≡ Wanting
+  pub waits : length second.rest < length first.rest → first.last.progress ≡ InProgress
 
 -- any two lists of calls over one stream of bytes, in any two divisions
-abbrev pub CallsEndEqually : {S : Type 0} → (Due → S → List ℕ → List ℕ → SideOutput → S → Type 0) → S → Type 0
+abbrev pub CallsEndEqually : {S : Type 0} → (Expected → S → List ℕ → List ℕ → SideOutput → S → Type 0) → S → Type 0
 CallsEndEqually {S} Answers state = (limit : ℕ) (stream : List ℕ) → limit < 2 ^ 32 → IsBytes stream
     → (first second : CallsOver Answers (fresh limit state) stream)
     → HaveOneNonceEach (pieces_of Answers (fresh limit state) stream first)

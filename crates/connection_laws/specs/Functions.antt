@@ -1,15 +1,15 @@
 -- Which machines of acceptors are functions: they have one reply at most to each frame, and one state after it, so that
 -- the laws of `Cuts` hold of their servers. Each is the contract of a clause of `cuts::functions`.
 use Rattle.std.specs.Prelude.{ℕ, List}
-use Rattle.fe2o3_sasl_runs.specs.OffersOnly.{offering_machine}
-use Rattle.fe2o3_sasl_runs.specs.OneOf.{one_of_machine}
-use Rattle.fe2o3_sasl_runs.specs.OneOfLaws.{Machine}
+use Rattle.fe2o3_sasl_core.specs.RestrictMechanisms.{offering_machine}
+use Rattle.fe2o3_sasl_core.specs.AnyMechanism.{any_mechanism_machine}
+use Rattle.fe2o3_sasl_core.specs.AnyMechanismLaws.{Machine}
 use Rattle.connection_laws.specs.Cuts.{IsFunction}
 
 -- the machine of a server of two acceptors is one where the machines of both are
-abbrev pub OneOfIsFunction : {S T : Type 0} → (S → List (List ℕ)) → (T → List (List ℕ)) → Machine S → Machine T → Type 0
-OneOfIsFunction names others machine other =
-    IsFunction machine → IsFunction other → IsFunction (one_of_machine names others machine other)
+abbrev pub AnyMechanismIsFunction : {S T : Type 0} → (S → List (List ℕ)) → (T → List (List ℕ)) → Machine S → Machine T → Type 0
+AnyMechanismIsFunction names others machine other =
+    IsFunction machine → IsFunction other → IsFunction (any_mechanism_machine names others machine other)
 
 -- the machine of a server that offers only some of its mechanisms is one where that of its acceptor is
 abbrev pub OfferingIsFunction : {S : Type 0} → (S → List (List ℕ)) → Machine S → Type 0

@@ -3,13 +3,13 @@
 use Rattle.std.specs.Prelude.{◌≡◌, ◌≢◌, ℕ, ◌+◌, ◌<◌, ◌≤◌, ◌^◌, true, Option, Some, None, List, [], ◌∷◌, ◌++◌, length, flat_map, slice_get, Ok}
 use Rattle.std.specs.List.{AllByRecursion}
 use Rattle.fe2o3_sasl_wire.specs.SaslFrames as frames
-use Rattle.fe2o3_sasl_runs.specs.declared.one_of.Part.{Part}
-use Rattle.fe2o3_sasl_runs.specs.Bodies.{SpellsBody}
-use Rattle.fe2o3_sasl_runs.specs.Events.{Given, ServerSays, Challenged, Concluded, Failed}
-use Rattle.fe2o3_sasl_runs.specs.OneOf.{BothStates, both_names, has_name}
-use Rattle.fe2o3_sasl_runs.specs.OneOfLaws.{Machine, Splits}
-use Rattle.fe2o3_sasl_negotiation.specs.declared.standing.Turn.{Turn}
-use Rattle.fe2o3_sasl_negotiation.specs.declared.standing.Turn.TheVariants as turns
+use Rattle.fe2o3_sasl_core.specs.declared.any_mechanism.Selected.{Selected}
+use Rattle.fe2o3_sasl_core.specs.Bodies.{SpellsBody}
+use Rattle.fe2o3_sasl_core.specs.Events.{Given, ServerSays, Challenged, Concluded, Failed}
+use Rattle.fe2o3_sasl_core.specs.AnyMechanism.{BothStates, both_names, has_name}
+use Rattle.fe2o3_sasl_core.specs.AnyMechanismLaws.{Machine, Splits}
+use Rattle.fe2o3_sasl_negotiation.specs.declared.progress.FrameKind.{FrameKind}
+use Rattle.fe2o3_sasl_negotiation.specs.declared.progress.FrameKind.TheVariants as turns
 use Rattle.fe2o3_sasl_negotiation.specs.Connections.{Piece, PieceNonceAt, SpellsTurn, AreFrames, ServerNegotiated, ServerConnection}
 use Rattle.fe2o3_sasl_negotiation.specs.Framing.{sasl_header, framed, Fits}
 use Rattle.fe2o3_sasl_negotiation.specs.Negotiations.{Side}
@@ -52,8 +52,8 @@ AnswersHeader machine = (served : ServedOver machine []) × (served.negotiated.e
 
 -- an answered frame has a body of less than 4 bytes: a reading in which an empty body is a frame
 abbrev pub HasShortFrame : Type 0
-HasShortFrame = (pieces : List Piece) × (limit : ℕ) × (at : ℕ) × (due : List Turn) × (event : Given)
-    × (events : List Given) × AreFrames pieces limit at due (event ∷ events) × (length event.body < 4)
+HasShortFrame = (pieces : List Piece) × (limit : ℕ) × (at : ℕ) × (expected : List FrameKind) × (event : Given)
+    × (events : List Given) × AreFrames pieces limit at expected (event ∷ events) × (length event.body < 4)
 
 -- ---- where frames go
 
@@ -61,7 +61,7 @@ HasShortFrame = (pieces : List Piece) × (limit : ℕ) × (at : ℕ) × (due : L
 -- reading in which the server rejects everything
 abbrev pub MarksNothing : {S T : Type 0} → (S → List (List ℕ)) → (T → List (List ℕ)) → Machine S → Machine T → Type 0
 MarksNothing {S} {T} names others machine other = (parts : BothStates S T) × (last : BothStates S T) × (event : Given)
-    × (events : List Given) × (replies : List ServerSays) × (marks : List (Option Part)) × (mechanism : List ℕ)
+    × (events : List Given) × (replies : List ServerSays) × (marks : List (Option Selected)) × (mechanism : List ℕ)
     × (response : Option (List ℕ)) × (hostname : Option (List ℕ))
     × Splits names others machine other parts (event ∷ events) replies last marks
     × SpellsBody event.body (Ok (frames.Init mechanism response hostname))

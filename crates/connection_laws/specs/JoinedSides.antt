@@ -4,12 +4,12 @@ use Rattle.std.specs.Prelude.{◌≡◌, ◌⊎◌, ◌≤◌, ℕ, Some, List, 
 use Rattle.std.specs.List.{AllByRecursion}
 use Rattle.fe2o3_scram.specs.Credentials.{Provider}
 use Rattle.fe2o3_sasl.specs.examples.Examples.{login as user_login, provider as user_provider, salt as user_salt, client_bytes, server_bytes}
-use Rattle.fe2o3_sasl_runs.specs.Events.{Login, IsLogin}
-use Rattle.fe2o3_sasl_runs.specs.Profiles.{Profile}
-use Rattle.fe2o3_sasl_runs.specs.SaslAcceptor.{Acceptor, acceptor_user}
-use Rattle.fe2o3_sasl_runs.specs.TwoSides.{sides_of}
-use Rattle.fe2o3_sasl_runs.specs.UnalteredRuns.{HoldsLogin}
-use Rattle.fe2o3_sasl_negotiation.specs.declared.standing.Standing.TheVariants.{LoggedIn}
+use Rattle.fe2o3_sasl_core.specs.Events.{Login, IsLogin}
+use Rattle.fe2o3_sasl_core.specs.Profiles.{Profile}
+use Rattle.fe2o3_sasl_core.specs.SaslAcceptor.{Acceptor, acceptor_user}
+use Rattle.fe2o3_sasl_core.specs.TwoSides.{sides_of}
+use Rattle.fe2o3_sasl_core.specs.UnalteredRuns.{HoldsLogin}
+use Rattle.fe2o3_sasl_negotiation.specs.declared.progress.Progress.TheVariants.{Authenticated}
 use Rattle.fe2o3_sasl_negotiation.specs.Laws.{Call}
 use Rattle.fe2o3_sasl_negotiation.specs.Negotiations.{Side}
 use Rattle.connection_laws.specs.Unaltered.{HasNonce, FitsFrames, Joined, TakesFrames}
@@ -33,8 +33,8 @@ pub record JoinedSides (login : Login) (provider : Provider) (client_limit serve
   pub client_called : joined.client_calls ≡ client_calls
   pub server_called : joined.server_calls ≡ server_calls
   pub takes : TakesFrames joined
-  pub client_standing : client.standing ≡ LoggedIn
-  pub server_standing : server.standing ≡ LoggedIn
+  pub client_progress : client.progress ≡ Authenticated
+  pub server_progress : server.progress ≡ Authenticated
   pub user : acceptor_user server.state ≡ Some login.user
 
 -- for each login, provider, limits and calls that meet the premises of `UnalteredSidesLogIn` on them, two sides are

@@ -8,20 +8,20 @@ use Rattle.fe2o3_sasl_wire.specs.SaslFrames.{IsBytes}
 use Rattle.fe2o3_scram.specs.Credentials.{Provider}
 use Rattle.fe2o3_scram.specs.ScramServer.{Initial}
 use Rattle.fe2o3_scram.specs.Texts.{Part}
-use Rattle.fe2o3_sasl_runs.specs.Bodies.{SpellsBody}
-use Rattle.fe2o3_sasl_runs.specs.ClientHistory.{Answering, OpenAnswer}
-use Rattle.fe2o3_sasl_runs.specs.Events.{Given, Login, IsLogin, IsSecret, Concluded, Reported}
-use Rattle.fe2o3_sasl_runs.specs.Headline.{VerifierAgrees}
-use Rattle.fe2o3_sasl_runs.specs.Laws.{HoldsRecords}
-use Rattle.fe2o3_sasl_runs.specs.Positions.{IsLastOpen}
-use Rattle.fe2o3_sasl_runs.specs.Profiles.{Profile, scram_profile}
-use Rattle.fe2o3_sasl_runs.specs.Runs.{ProfileSteps}
-use Rattle.fe2o3_sasl_runs.specs.SaslAcceptor.{ScramAcceptor, acceptor_names, acceptor_machine, acceptor_user}
-use Rattle.fe2o3_sasl_runs.specs.ServerHistory.{Accepted, AcceptsAt, final_message, is_challenge, is_ok}
-use Rattle.fe2o3_sasl_runs.specs.TwoSides.{Sides, sides_of, OkAt, Takes, Shows, Agree, client_message, server_message}
-use Rattle.fe2o3_sasl_runs.specs.UnalteredRuns.{HoldsLogin}
-use Rattle.fe2o3_sasl_runs.specs.Verdicts.{Verdict, JudgesProof}
-use Rattle.fe2o3_sasl_negotiation.specs.declared.standing.Standing.TheVariants.{LoggedIn}
+use Rattle.fe2o3_sasl_core.specs.Bodies.{SpellsBody}
+use Rattle.fe2o3_sasl_core.specs.ClientHistory.{Answering, OpenAnswer}
+use Rattle.fe2o3_sasl_core.specs.Events.{Given, Login, IsLogin, IsSecret, Concluded, Reported}
+use Rattle.fe2o3_sasl_core.specs.Headline.{VerifierAgrees}
+use Rattle.fe2o3_sasl_core.specs.Laws.{HoldsRecords}
+use Rattle.fe2o3_sasl_core.specs.Positions.{IsLastOpen}
+use Rattle.fe2o3_sasl_core.specs.Profiles.{Profile, scram_profile}
+use Rattle.fe2o3_sasl_core.specs.Runs.{ProfileSteps}
+use Rattle.fe2o3_sasl_core.specs.SaslAcceptor.{ScramAcceptor, acceptor_names, acceptor_machine, acceptor_user}
+use Rattle.fe2o3_sasl_core.specs.ServerHistory.{Accepted, AcceptsAt, final_message, is_challenge, is_ok}
+use Rattle.fe2o3_sasl_core.specs.TwoSides.{Sides, sides_of, OkAt, Takes, Shows, Agree, client_message, server_message}
+use Rattle.fe2o3_sasl_core.specs.UnalteredRuns.{HoldsLogin}
+use Rattle.fe2o3_sasl_core.specs.Verdicts.{Verdict, JudgesProof}
+use Rattle.fe2o3_sasl_negotiation.specs.declared.progress.Progress.TheVariants.{Authenticated}
 use Rattle.fe2o3_sasl_negotiation.specs.Connections.{Piece, ClientNegotiated}
 use Rattle.fe2o3_sasl_negotiation.specs.Framing.{sasl_header, framed}
 use Rattle.fe2o3_sasl_negotiation.specs.Negotiations.{Side}
@@ -58,7 +58,7 @@ pub record ReportsLast {login : Login} (client : ClientOf login) (m : ℕ) (text
 -- AuthMessages share one HMAC value. Unaltered connections meet the premises: `TakesEqually`
 abbrev pub LoggedInClientsAgree : Type 0
 LoggedInClientsAgree = (login : Login) (provider : Provider) (client : ClientOf login) (server : ServerOf provider)
-    → HoldsRecords provider → client.last.standing ≡ LoggedIn
+    → HoldsRecords provider → client.last.progress ≡ Authenticated
     → (m : ℕ) × (text : List ℕ) × ReportsLast client m text
     × ((n : ℕ) (accepted : Accepted) → OkAt (sides client server) n accepted
     → Part text 0 (final_message provider accepted) → VerifierAgrees (sides client server) m accepted)
@@ -80,7 +80,7 @@ pub record AcceptsLast {provider : Provider} (server : ServerOf provider) (n : �
 
 -- a server that has logged a client in did so on one response
 abbrev pub LoggedInServersAccept : Type 0
-LoggedInServersAccept = (provider : Provider) (server : ServerOf provider) → server.last.standing ≡ LoggedIn
+LoggedInServersAccept = (provider : Provider) (server : ServerOf provider) → server.last.progress ≡ Authenticated
     → (n : ℕ) × (text : List ℕ) × (accepted : Accepted) × AcceptsLast server n text accepted
 
 -- if the client's connection showed the proof of that response, the proof has a verdict: both agree; or the client's
@@ -171,5 +171,5 @@ ShowsEqually login provider sides = (k : ℕ) × (n : ℕ) × (answer : Answerin
 abbrev pub UnalteredConnectionsAgree : Type 0
 UnalteredConnectionsAgree = (login : Login) (provider : Provider) (client : ClientOf login) (server : ServerOf provider)
     (password salt : List ℕ) (count : ℕ) → IsLogin login → HoldsLogin (sides client server) password salt count
-    → Unaltered client server → client.last.standing ≡ LoggedIn → server.last.standing ≡ LoggedIn
+    → Unaltered client server → client.last.progress ≡ Authenticated → server.last.progress ≡ Authenticated
     → TakesEqually login provider (sides client server) × ShowsEqually login provider (sides client server)

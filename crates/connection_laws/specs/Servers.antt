@@ -5,20 +5,20 @@ use Rattle.std.specs.List.{AllByRecursion}
 use Rattle.fe2o3_sasl_wire.specs.SaslFrames as frames
 use Rattle.fe2o3_sasl_wire.specs.SaslFrames.{SaslFrame}
 use Rattle.fe2o3_scram.specs.Credentials.{Provider, Store}
-use Rattle.fe2o3_scram.specs.Nobody.{Nobody, with_nobody}
-use Rattle.fe2o3_sasl_runs.specs.Bodies.{SpellsBody}
-use Rattle.fe2o3_sasl_runs.specs.Events.{Given, ServerSays}
-use Rattle.fe2o3_sasl_runs.specs.ExternalAcceptor.{External, IsInitOf, external_machine, external_user}
-use Rattle.fe2o3_sasl_runs.specs.HidingLaws.{HoldsName}
-use Rattle.fe2o3_sasl_runs.specs.OffersOnly.{Offering, offering_machine}
-use Rattle.fe2o3_sasl_runs.specs.OneOf.{BothStates, both_names, one_of_machine, part_names}
-use Rattle.fe2o3_sasl_runs.specs.OneOfLaws.{Machine, Splits, PassesOn}
-use Rattle.fe2o3_sasl_runs.specs.OneOfUsers.{SomeEvent, AsksOffered}
-use Rattle.fe2o3_sasl_runs.specs.PlainAuthenticator.{PlainServer, PlainLogsIn, plain_machine}
-use Rattle.fe2o3_sasl_runs.specs.Runs.{Runs, AcceptorSteps}
-use Rattle.fe2o3_sasl_runs.specs.declared.one_of.Part.{Part}
-use Rattle.fe2o3_sasl_runs.specs.declared.one_of.Part.TheVariants.{First, Second}
-use Rattle.fe2o3_sasl_negotiation.specs.declared.standing.Standing.TheVariants.{LoggedIn}
+use Rattle.fe2o3_scram.specs.MockSettings.{MockSettings, with_mock}
+use Rattle.fe2o3_sasl_core.specs.Bodies.{SpellsBody}
+use Rattle.fe2o3_sasl_core.specs.Events.{Given, ServerSays}
+use Rattle.fe2o3_sasl_core.specs.ExternalServer.{External, IsInitOf, external_machine, external_user}
+use Rattle.fe2o3_sasl_core.specs.HidingLaws.{HoldsName}
+use Rattle.fe2o3_sasl_core.specs.RestrictMechanisms.{Offering, offering_machine}
+use Rattle.fe2o3_sasl_core.specs.AnyMechanism.{BothStates, both_names, any_mechanism_machine, part_names}
+use Rattle.fe2o3_sasl_core.specs.AnyMechanismLaws.{Machine, Splits, PassesOn}
+use Rattle.fe2o3_sasl_core.specs.AnyMechanismUsers.{SomeEvent, AsksOffered}
+use Rattle.fe2o3_sasl_core.specs.PlainServer.{PlainState, PlainLogsIn, plain_machine}
+use Rattle.fe2o3_sasl_core.specs.Runs.{Runs, AcceptorSteps}
+use Rattle.fe2o3_sasl_core.specs.declared.any_mechanism.Selected.{Selected}
+use Rattle.fe2o3_sasl_core.specs.declared.any_mechanism.Selected.TheVariants.{First, Second}
+use Rattle.fe2o3_sasl_negotiation.specs.declared.progress.Progress.TheVariants.{Authenticated}
 use Rattle.fe2o3_sasl_negotiation.specs.Connections.{Piece, ServerNegotiated}
 use Rattle.fe2o3_sasl_negotiation.specs.Negotiations.{Side}
 use Rattle.fe2o3_sasl_negotiation.specs.ScramConnections.{ScramServes}
@@ -36,27 +36,27 @@ pub record ServerBy {S : Type 0} (machine : Machine S) (state : S) : Type 0 wher
 
 -- every server of this machine that nobody has used: over its provider with the mock records of all names that hold those
 -- of its inits after its own, it serves as a SCRAM server
-abbrev pub MockServersServe : {S : Type 0} → Machine S → (Provider → Nobody → S) → (S → Option (List ℕ)) → Type 0
-MockServersServe {S} machine start named = (provider : Provider) (nobody : Nobody) (names : List (List ℕ))
-    (server : ServerBy machine (start provider nobody))
-    → AllByRecursion (HoldsName provider.unbound names) server.connection.events
-    → ScramServes (with_nobody provider nobody names) server.connection.events server.connection.replies
+abbrev pub MockServersServe : {S : Type 0} → Machine S → (Provider → MockSettings → S) → (S → Option (List ℕ)) → Type 0
+MockServersServe {S} machine start named = (provider : Provider) (mock : MockSettings) (names : List (List ℕ))
+    (server : ServerBy machine (start provider mock))
+    → AllByRecursion (HoldsName provider.cbind_flag_y names) server.connection.events
+    → ScramServes (with_mock provider mock names) server.connection.events server.connection.replies
     (named server.last.state)
 
 -- there are such names: each negotiation of a server has a list with the names of its inits
 abbrev pub NegotiationsHaveNames : {S : Type 0} → Machine S → Type 0
-NegotiationsHaveNames {S} machine = (unbound : Bool) (state : S) (server : ServerBy machine state)
-    → (names : List (List ℕ)) × AllByRecursion (HoldsName unbound names) server.connection.events
+NegotiationsHaveNames {S} machine = (cbind_flag_y : Bool) (state : S) (server : ServerBy machine state)
+    → (names : List (List ℕ)) × AllByRecursion (HoldsName cbind_flag_y names) server.connection.events
 
 -- ---- several mechanisms
 
 -- a server of two acceptors: each event went where `part_for` sends it in the state before it, and what went to one
 -- acceptor is a run of that acceptor by itself
-abbrev pub OneOfServersSplit : {S T : Type 0} → (S → List (List ℕ)) → (T → List (List ℕ)) → Machine S → Machine T
+abbrev pub AnyMechanismServersSplit : {S T : Type 0} → (S → List (List ℕ)) → (T → List (List ℕ)) → Machine S → Machine T
     → Type 0
-OneOfServersSplit {S} {T} names others machine other = (state : BothStates S T)
-    (server : ServerBy (one_of_machine names others machine other) state)
-    → (marks : List (Option Part))
+AnyMechanismServersSplit {S} {T} names others machine other = (state : BothStates S T)
+    (server : ServerBy (any_mechanism_machine names others machine other) state)
+    → (marks : List (Option Selected))
     × Splits names others machine other state server.connection.events server.connection.replies server.last.state marks
 
 -- every run of this machine from its first state serves as a SCRAM server. What went to a SCRAM acceptor is one, by
@@ -68,12 +68,12 @@ ScramRunsServe {S} machine start named = (provider : Provider) (events : List Gi
 
 -- and of a machine with mock authentication, over its provider with the mock records of all names that hold those of its
 -- inits after its own
-abbrev pub MockRunsServe : {S : Type 0} → Machine S → (Provider → Nobody → S) → (S → Option (List ℕ)) → Type 0
-MockRunsServe {S} machine start named = (provider : Provider) (nobody : Nobody) (names : List (List ℕ))
+abbrev pub MockRunsServe : {S : Type 0} → Machine S → (Provider → MockSettings → S) → (S → Option (List ℕ)) → Type 0
+MockRunsServe {S} machine start named = (provider : Provider) (mock : MockSettings) (names : List (List ℕ))
     (events : List Given) (replies : List ServerSays) (last : S)
-    → AllByRecursion (HoldsName provider.unbound names) events
-    → Runs (AcceptorSteps machine) (start provider nobody) events replies last
-    → ScramServes (with_nobody provider nobody names) events replies (named last)
+    → AllByRecursion (HoldsName provider.cbind_flag_y names) events
+    → Runs (AcceptorSteps machine) (start provider mock) events replies last
+    → ScramServes (with_mock provider mock names) events replies (named last)
 
 -- ---- only some of the names
 
@@ -89,7 +89,7 @@ abbrev pub offering_both : {S T : Type 0} → (S → List (List ℕ)) → (T →
     → Machine (Offering (BothStates S T))
 offering_both {S} {T} names others machine other =
     offering_machine (λ (parts : BothStates S T). both_names (names parts.first) (others parts.second))
-    (one_of_machine names others machine other)
+    (any_mechanism_machine names others machine other)
 
 -- where such a server, which nobody had asked, names a user by these names of its acceptors, that is the name by the
 -- acceptor asked last, and an init of the negotiation asked it, by a mechanism of that acceptor that was offered
@@ -99,9 +99,9 @@ OfferingServersNameUsers {S} {T} names others machine other = (user : S → Opti
     (other_user : T → Option (List ℕ)) (state : Offering (BothStates S T))
     (server : ServerBy (offering_both names others machine other) state) (name : List ℕ)
     → let parts : BothStates S T = server.last.state.inner in
-    state.inner.asked ≡ None → part_names parts.asked (user parts.first) (other_user parts.second) ≡ Some name
-    → (part : Part) × (part_names (Some part) (user parts.first) (other_user parts.second) ≡ Some name)
-    × (parts.asked ≡ Some part)
+    state.inner.selected ≡ None → part_names parts.selected (user parts.first) (other_user parts.second) ≡ Some name
+    → (part : Selected) × (part_names (Some part) (user parts.first) (other_user parts.second) ≡ Some name)
+    × (parts.selected ≡ Some part)
     × SomeEvent (AcceptorSteps (offering_both names others machine other)) state server.connection.events
     server.connection.replies (AsksOffered names others part)
 
@@ -110,8 +110,8 @@ OfferingServersNameUsers {S} {T} names others machine other = (user : S → Opti
 -- a side with this state of another machine
 abbrev pub side_with : {S T : Type 0} → T → Side S → Side T
 side_with state side = record {
-  standing = side.standing;
-  due = side.due;
+  progress = side.progress;
+  expected = side.expected;
   limit = side.limit;
   held = side.held;
   state = state;
@@ -126,31 +126,31 @@ NegotiatesAs whole state server machine begin end =
 
 -- and one of this part of a server of two acceptors
 abbrev pub PartNegotiates : {S T : Type 0} (whole : Machine (BothStates S T)) (state : BothStates S T)
-    → ServerBy whole state → Machine S → Machine T → Part → Type 0
+    → ServerBy whole state → Machine S → Machine T → Selected → Type 0
 PartNegotiates whole state server machine other First =
     NegotiatesAs whole state server machine state.first server.last.state.first
 PartNegotiates whole state server machine other Second =
     NegotiatesAs whole state server other state.second server.last.state.second
 
 -- a server of two acceptors that has logged its client in is, byte for byte, a server of the acceptor asked last
-abbrev pub OneOfServersActAsPart : {S T : Type 0} → (S → List (List ℕ)) → (T → List (List ℕ)) → Machine S → Machine T
+abbrev pub AnyMechanismServersActAsPart : {S T : Type 0} → (S → List (List ℕ)) → (T → List (List ℕ)) → Machine S → Machine T
     → Type 0
-OneOfServersActAsPart {S} {T} names others machine other = (state : BothStates S T)
-    (server : ServerBy (one_of_machine names others machine other) state) → server.last.standing ≡ LoggedIn
-    → (part : Part) × (server.last.state.asked ≡ Some part)
-    × PartNegotiates (one_of_machine names others machine other) state server machine other part
+AnyMechanismServersActAsPart {S} {T} names others machine other = (state : BothStates S T)
+    (server : ServerBy (any_mechanism_machine names others machine other) state) → server.last.progress ≡ Authenticated
+    → (part : Selected) × (server.last.state.selected ≡ Some part)
+    × PartNegotiates (any_mechanism_machine names others machine other) state server machine other part
 
 -- and one that offers only some of its names is a server of its acceptor
 abbrev pub OfferingServersActAsInner : {S : Type 0} → (S → List (List ℕ)) → Machine S → Type 0
 OfferingServersActAsInner {S} names machine = (state : Offering S)
-    (server : ServerBy (offering_machine names machine) state) → server.last.standing ≡ LoggedIn
+    (server : ServerBy (offering_machine names machine) state) → server.last.progress ≡ Authenticated
     → NegotiatesAs (offering_machine names machine) state server machine state.inner server.last.state.inner
 
 -- ---- who has not logged in
 
 -- the acceptor of a server that has not logged its client in is as it was, so that it names nobody new
 abbrev pub ServersStay : {S : Type 0} → Machine S → Type 0
-ServersStay {S} machine = (state : S) (server : ServerBy machine state) → server.last.standing ≢ LoggedIn
+ServersStay {S} machine = (state : S) (server : ServerBy machine state) → server.last.progress ≢ Authenticated
     → server.last.state ≡ state
 
 -- ---- EXTERNAL
@@ -169,14 +169,14 @@ pub record ExternalLogsIn (user : List ℕ) (events : List Given) (last : Extern
 
 -- every server of EXTERNAL
 abbrev pub ExternalServersLogIn : Type 0
-ExternalServersLogIn = (state : External) (server : ServerBy external_machine state) → server.last.standing ≡ LoggedIn
+ExternalServersLogIn = (state : External) (server : ServerBy external_machine state) → server.last.progress ≡ Authenticated
     → ExternalLogsIn state.user server.connection.events server.last.state
 
 -- ---- PLAIN
 
 -- a server of PLAIN over records (RFC 4616) has logged its client in: the only event is an init whose message has the
 -- password of its user's record, and the server names that user
-pub record PlainServes (provider : Store) (events : List Given) (last : PlainServer) : Type 0 where
+pub record PlainServes (provider : Store) (events : List Given) (last : PlainState) : Type 0 where
   pub event : Given
   pub frame : SaslFrame
   pub user : List ℕ
@@ -187,5 +187,5 @@ pub record PlainServes (provider : Store) (events : List Given) (last : PlainSer
 
 -- every server of PLAIN over records
 abbrev pub PlainServersLogIn : Type 0
-PlainServersLogIn = (state : PlainServer) (server : ServerBy plain_machine state) → server.last.standing ≡ LoggedIn
+PlainServersLogIn = (state : PlainState) (server : ServerBy plain_machine state) → server.last.progress ≡ Authenticated
     → PlainServes state.provider server.connection.events server.last.state

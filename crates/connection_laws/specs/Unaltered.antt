@@ -5,15 +5,15 @@ use Rattle.std.specs.List.{AllByRecursion}
 use Rattle.fe2o3_scram.specs.Credentials.{Provider}
 use Rattle.fe2o3_scram.specs.Escape.{escaped}
 use Rattle.fe2o3_scram.specs.ScramServer.{Initial}
-use Rattle.fe2o3_sasl_runs.specs.ClientHistory.{Answering, OpenAnswer}
-use Rattle.fe2o3_sasl_runs.specs.Events.{Given, Login, IsLogin, ServerSays, ClientSays}
-use Rattle.fe2o3_sasl_runs.specs.Profiles.{Profile, scram_profile}
-use Rattle.fe2o3_sasl_runs.specs.Runs.{Runs, AcceptorSteps, ProfileSteps}
-use Rattle.fe2o3_sasl_runs.specs.SaslAcceptor.{Acceptor, ScramAcceptor, acceptor_machine, acceptor_names, acceptor_user}
-use Rattle.fe2o3_sasl_runs.specs.ServerHistory.{Accepted, AcceptsAt}
-use Rattle.fe2o3_sasl_runs.specs.TwoSides.{Sides, sides_of, client_message, server_message}
-use Rattle.fe2o3_sasl_runs.specs.UnalteredRuns.{HoldsLogin, UnalteredRun, LogsIn}
-use Rattle.fe2o3_sasl_negotiation.specs.declared.standing.Standing.TheVariants.{LoggedIn}
+use Rattle.fe2o3_sasl_core.specs.ClientHistory.{Answering, OpenAnswer}
+use Rattle.fe2o3_sasl_core.specs.Events.{Given, Login, IsLogin, ServerSays, ClientSays}
+use Rattle.fe2o3_sasl_core.specs.Profiles.{Profile, scram_profile}
+use Rattle.fe2o3_sasl_core.specs.Runs.{Runs, AcceptorSteps, ProfileSteps}
+use Rattle.fe2o3_sasl_core.specs.SaslAcceptor.{Acceptor, ScramAcceptor, acceptor_machine, acceptor_names, acceptor_user}
+use Rattle.fe2o3_sasl_core.specs.ServerHistory.{Accepted, AcceptsAt}
+use Rattle.fe2o3_sasl_core.specs.TwoSides.{Sides, sides_of, client_message, server_message}
+use Rattle.fe2o3_sasl_core.specs.UnalteredRuns.{HoldsLogin, UnalteredRun, LogsIn}
+use Rattle.fe2o3_sasl_negotiation.specs.declared.progress.Progress.TheVariants.{Authenticated}
 use Rattle.fe2o3_sasl_negotiation.specs.ClientNegotiation.{ClientReceives}
 use Rattle.fe2o3_sasl_negotiation.specs.Connections.{Piece, frames_of, ClientNegotiated, ServerNegotiated, fresh}
 use Rattle.fe2o3_sasl_negotiation.specs.FrameSizes.{length_of}
@@ -74,8 +74,8 @@ pub record BothLogIn {login : Login} {provider : Provider} {client : Side Profil
   pub client_replies : List ClientSays
   pub server_events : List Given
   pub server_replies : List ServerSays
-  pub client_standing : client.standing ≡ LoggedIn
-  pub server_standing : server.standing ≡ LoggedIn
+  pub client_progress : client.progress ≡ Authenticated
+  pub server_progress : server.progress ≡ Authenticated
   pub user : acceptor_user server.state ≡ Some login.user
   pub client_received : joined.server_sent ≡ sasl_header ++ frames_of client_events
   pub server_received : joined.client_sent ≡ frames_of server_events

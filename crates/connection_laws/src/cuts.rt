@@ -1,16 +1,16 @@
 //! What two divisions of one stream of bytes into calls have in common.
 
-ghost use Rattle.fe2o3_sasl_runs.specs.ExternalAcceptor.{external_machine};
-ghost use Rattle.fe2o3_sasl_runs.specs.HidingAcceptor.{hiding_names, hiding_machine};
-ghost use Rattle.fe2o3_sasl_runs.specs.PlainAuthenticator.{plain_machine};
-ghost use Rattle.fe2o3_sasl_runs.specs.SaslAcceptor.{acceptor_names, acceptor_machine};
+ghost use Rattle.fe2o3_sasl_core.specs.ExternalServer.{external_machine};
+ghost use Rattle.fe2o3_sasl_core.specs.HidingAcceptor.{hiding_names, hiding_machine};
+ghost use Rattle.fe2o3_sasl_core.specs.PlainServer.{plain_machine};
+ghost use Rattle.fe2o3_sasl_core.specs.SaslAcceptor.{acceptor_names, acceptor_machine};
 ghost use Rattle.connection_laws.specs.Cuts.{IsFunction};
-ghost use Rattle.connection_laws.specs.Functions.{OneOfIsFunction, OfferingIsFunction};
+ghost use Rattle.connection_laws.specs.Functions.{AnyMechanismIsFunction, OfferingIsFunction};
 ghost use Rattle.connection_laws.specs.Cuts.{FunctionCallsEndEqually, ServerCallsEndEqually, ClientCallsEndEqually};
 ghost use Rattle.connection_laws.specs.Cuts.{FunctionsEndEqually, ServersEndEqually, ClientsEndEqually};
 ghost use Rattle.connection_laws.specs.Cuts.{FunctionsNegotiateEqually, ServersNegotiateEqually, ClientsNegotiateEqually};
 
-use fe2o3_sasl_runs::one_of::HasMechanism;
+use fe2o3_sasl_core::any_mechanism::HasMechanism;
 
 /// States that the division of a stream into calls does not change the result. Two lists of calls pass one stream of
 /// bytes to one fresh side, in any two divisions. The calls that complete a frame have one nonce in both. Then:
@@ -53,6 +53,6 @@ pub fn functions<A: HasMechanism, B: HasMechanism>()
     ensures mock { IsFunction hiding_machine }
     ensures external { IsFunction external_machine }
     ensures plain { IsFunction plain_machine }
-    ensures one_of { OneOfIsFunction A.names B.names A.machine B.machine }
-    ensures offers_only { OfferingIsFunction A.names A.machine }
+    ensures any_mechanism { AnyMechanismIsFunction A.names B.names A.machine B.machine }
+    ensures restrict_mechanisms { OfferingIsFunction A.names A.machine }
 {}

@@ -2,7 +2,7 @@
 
 ghost use Rattle.connection_laws.specs.Hostile.{IgnoresInit, IgnoresResponse, AnswersOther, AnswersHeader, HasShortFrame, MarksNothing, HasTwoNonces, ReusesNonce, HidesOffer, SendsBeyondOffer, SendsOther};
 
-use fe2o3_sasl_runs::one_of::HasMechanism;
+use fe2o3_sasl_core::any_mechanism::HasMechanism;
 
 /// States what no connection of a server does, whatever its acceptor is:
 /// - it ignores a whole init in turn, or a whole response to its challenge, answers another body than the one that

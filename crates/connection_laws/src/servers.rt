@@ -2,15 +2,15 @@
 
 ghost use Rattle.fe2o3_scram.specs.HidingServer.{HidingServer};
 ghost use Rattle.fe2o3_scram.specs.ScramServer.{Initial, logged_in as named_in};
-ghost use Rattle.fe2o3_sasl_runs.specs.ExternalAcceptor.{external_machine};
-ghost use Rattle.fe2o3_sasl_runs.specs.HidingAcceptor.{hiding_machine};
-ghost use Rattle.fe2o3_sasl_runs.specs.HidingLaws.{hiding};
-ghost use Rattle.fe2o3_sasl_runs.specs.PlainAuthenticator.{plain_machine};
-ghost use Rattle.fe2o3_sasl_runs.specs.SaslAcceptor.{ScramAcceptor, acceptor_machine, acceptor_user};
+ghost use Rattle.fe2o3_sasl_core.specs.ExternalServer.{external_machine};
+ghost use Rattle.fe2o3_sasl_core.specs.HidingAcceptor.{hiding_machine};
+ghost use Rattle.fe2o3_sasl_core.specs.HidingLaws.{hiding};
+ghost use Rattle.fe2o3_sasl_core.specs.PlainServer.{plain_machine};
+ghost use Rattle.fe2o3_sasl_core.specs.SaslAcceptor.{ScramAcceptor, acceptor_machine, acceptor_user};
 ghost use Rattle.fe2o3_sasl_negotiation.specs.Connections.{ServerConnectionsLogIn};
-ghost use Rattle.connection_laws.specs.Servers.{MockServersServe, NegotiationsHaveNames, OneOfServersSplit, ScramRunsServe, MockRunsServe, OneOfServersActAsPart, OfferingServersPassOn, OfferingServersActAsInner, OfferingServersNameUsers, ServersStay, ExternalServersLogIn, PlainServersLogIn};
+ghost use Rattle.connection_laws.specs.Servers.{MockServersServe, NegotiationsHaveNames, AnyMechanismServersSplit, ScramRunsServe, MockRunsServe, AnyMechanismServersActAsPart, OfferingServersPassOn, OfferingServersActAsInner, OfferingServersNameUsers, ServersStay, ExternalServersLogIn, PlainServersLogIn};
 
-use fe2o3_sasl_runs::one_of::HasMechanism;
+use fe2o3_sasl_core::any_mechanism::HasMechanism;
 
 /// Mock authentication over the bytes of a connection. Each negotiation of a server with mock authentication is a history
 /// of a SCRAM server over its provider with mock records after its own, for any list with the names of its inits; there
@@ -18,7 +18,7 @@ use fe2o3_sasl_runs::one_of::HasMechanism;
 /// stored key, and names exactly the user of the challenge that this Ok closed. It has logged a client in exactly where
 /// its last reply is an Ok that was sent.
 pub fn mock()
-    ensures serves { MockServersServe hiding_machine (λ provider nobody. hiding provider nobody Initial)
+    ensures serves { MockServersServe hiding_machine (λ provider mock. hiding provider mock Initial)
         (λ (server : HidingServer). named_in server.state) }
     ensures names { NegotiationsHaveNames hiding_machine }
     ensures logged_in { ServerConnectionsLogIn hiding_machine }
@@ -31,12 +31,12 @@ pub fn mock()
 /// authentication it does so over its provider with mock records after its own, for any list with the names of the inits
 /// that went to it. A server that has logged a client in is, byte for byte, a server of the acceptor asked last, so that
 /// all laws of that acceptor hold of it.
-pub fn one_of<A: HasMechanism, B: HasMechanism>()
-    ensures split { OneOfServersSplit A.names B.names A.machine B.machine }
+pub fn any_mechanism<A: HasMechanism, B: HasMechanism>()
+    ensures split { AnyMechanismServersSplit A.names B.names A.machine B.machine }
     ensures scram { ScramRunsServe acceptor_machine (λ provider. ScramAcceptor provider Initial) acceptor_user }
-    ensures mock { MockRunsServe hiding_machine (λ provider nobody. hiding provider nobody Initial)
+    ensures mock { MockRunsServe hiding_machine (λ provider mock. hiding provider mock Initial)
         (λ (server : HidingServer). named_in server.state) }
-    ensures logged_in { OneOfServersActAsPart A.names B.names A.machine B.machine }
+    ensures logged_in { AnyMechanismServersActAsPart A.names B.names A.machine B.machine }
 {}
 
 /// A server that offers only some of its mechanisms, over the bytes of a connection. Each event of a negotiation was
@@ -44,7 +44,7 @@ pub fn one_of<A: HasMechanism, B: HasMechanism>()
 /// the rest was rejected. A server that has logged a client in is, byte for byte, a server of its acceptor, so that all
 /// laws of that acceptor hold of it. Where a server of two acceptors names a user, an init of the negotiation asked that
 /// user's acceptor, by a mechanism that was offered.
-pub fn offers_only<A: HasMechanism, B: HasMechanism>()
+pub fn restrict_mechanisms<A: HasMechanism, B: HasMechanism>()
     ensures passes_on { OfferingServersPassOn A.names A.machine }
     ensures logged_in { OfferingServersActAsInner A.names A.machine }
     ensures named { OfferingServersNameUsers A.names B.names A.machine B.machine }

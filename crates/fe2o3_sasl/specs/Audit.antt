@@ -1,4 +1,4 @@
--- Which finding (`Verdicts` of `fe2o3_sasl_runs`, the project's own words) a value of the code is.
+-- Which finding (`Verdicts` of `fe2o3_sasl_core`, the project's own words) a value of the code is.
 use Rattle.std.specs.Prelude.{option_map, string_bytes}
 use Rattle.fe2o3_sasl.specs.declared.audit.Finding as code_finding
 use Rattle.fe2o3_sasl.specs.declared.audit.FindingKind as code_kind
@@ -6,7 +6,7 @@ use Rattle.fe2o3_sasl.specs.declared.audit.FindingKind.TheVariants as kinds
 use Rattle.fe2o3_sasl.specs.declared.audit.Parameters as code_parameters
 use Rattle.fe2o3_sasl.specs.declared.audit.Verdict as code_verdict
 use Rattle.fe2o3_sasl.specs.declared.audit.Verdict.TheVariants as verdicts
-use Rattle.fe2o3_sasl_runs.specs.Verdicts.{Parameters, Verdict, Agreed, SameMac, SameHash, OtherKey, FindingKind, OfVerifier, OfProof, Finding}
+use Rattle.fe2o3_sasl_core.specs.Verdicts.{Parameters, Verdict, Agreed, SameMac, SameHash, OtherKey, FindingKind, OfVerifier, OfProof, Finding}
 
 -- the parameters that the code's value holds
 abbrev pub parameters_of : code_parameters.Parameters → Parameters

@@ -9,9 +9,9 @@
 ghost use Rattle.std.specs.Prelude.{◌≡◌, IfOk, map, false};
 ghost use Rattle.fe2o3_scram.specs.Credentials.{serving};
 ghost use Rattle.fe2o3_scram.specs.ClientSecret.{no_limit};
-ghost use Rattle.fe2o3_sasl_runs.specs.Verdicts.{AuditsEvents};
+ghost use Rattle.fe2o3_sasl_core.specs.Verdicts.{AuditsEvents};
 ghost use Rattle.fe2o3_sasl.specs.Audit.{finding_of};
-ghost use Rattle.fe2o3_sasl_runs.specs.Runs.{given, login_of};
+ghost use Rattle.fe2o3_sasl_core.specs.Runs.{given, login_of};
 ghost use Rattle.fe2o3_sasl.specs.declared.audit.AuditError.TheVariants.{OutOfMemory as NoMemory};
 
 mod client_receipts;
@@ -22,8 +22,8 @@ mod server_receipts;
 use crate::audit::client_receipts::{client_is_complete, client_receipts};
 use crate::audit::matching::{match_proofs, match_verifiers};
 use crate::audit::server_receipts::{server_is_complete, server_receipts};
-use fe2o3_sasl_runs::events::Event;
-use fe2o3_sasl_runs::whole_runs::{scram_client_run_limited, scram_server_run_unbound};
+use fe2o3_sasl_core::events::Event;
+use fe2o3_sasl_core::whole_runs::{scram_client_run_limited, scram_server_run_with_cbind_flag_y};
 use fe2o3_scram::credentials::ScramCredentialProvider;
 use fe2o3_scram::hmac::ScramVersion;
 use std::alloc::{AllocError, Global};
@@ -208,7 +208,7 @@ pub fn audit_limited<C: ScramCredentialProvider>(
         (map given client_events.now) (serving false (C.meaning credentials.now)) (map given server_events.now)
         (map finding_of findings.items)) }
 {
-    audit_unbound(
+    audit_with_cbind_flag_y(
         alloc,
         user,
         password,
@@ -222,20 +222,20 @@ pub fn audit_limited<C: ScramCredentialProvider>(
 }
 
 /// As `audit_limited`, of a server that takes a client whose GS2 header is `y,,` too where
-/// `accepts_unbound` says so (`ScramAuthenticator::accepts_unbound`).
-pub fn audit_unbound<C: ScramCredentialProvider>(
+/// `accept_cbind_flag_y` says so (`ScramAuthenticator::accept_cbind_flag_y`).
+pub fn audit_with_cbind_flag_y<C: ScramCredentialProvider>(
     alloc: Global,
     user: &str,
     password: &str,
     version: ScramVersion,
     limit: u32,
     client_events: &[Event],
-    accepts_unbound: bool,
+    accept_cbind_flag_y: bool,
     credentials: &C,
     server_events: &[Event],
 ) -> Result<Vec<Finding>, AuditError>
     ensures { IfOk result (λ findings. AuditsEvents (login_of version user.now password.now limit)
-        (map given client_events.now) (serving accepts_unbound (C.meaning credentials.now))
+        (map given client_events.now) (serving accept_cbind_flag_y (C.meaning credentials.now))
         (map given server_events.now) (map finding_of findings.items)) }
 {
     let client_replies = scram_client_run_limited(
@@ -246,9 +246,9 @@ pub fn audit_unbound<C: ScramCredentialProvider>(
         limit,
         client_events,
     )?;
-    let server_replies = scram_server_run_unbound(
+    let server_replies = scram_server_run_with_cbind_flag_y(
         alloc,
-        accepts_unbound,
+        accept_cbind_flag_y,
         credentials,
         server_events,
     )?;
@@ -269,7 +269,7 @@ pub fn audit_unbound<C: ScramCredentialProvider>(
     )?;
     let oks = server_receipts(
         alloc,
-        accepts_unbound,
+        accept_cbind_flag_y,
         credentials,
         server_events,
         &server_replies,

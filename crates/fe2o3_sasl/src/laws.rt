@@ -1,22 +1,22 @@
 //! Laws of the definitions. A function with an empty body says nothing but its contract: a
 //! statement about every list of bytes, which the check has proved.
 
-ghost use Rattle.fe2o3_sasl_runs.specs.Hex.{OneBytesOfHex, HexIsReadAgain};
-ghost use Rattle.fe2o3_sasl_runs.specs.MechanismLaws.{OneAcceptorReply, OneProfileReply, SomeAcceptorReply, SomeProfileReply, PlainRunsNameUsers, OffersAgree, PlainLetsIn, PlainRefuses, AnonymousLetsIn, SomethingIsOffered, NamesDiffer};
-ghost use Rattle.fe2o3_sasl.specs.examples.ClientExamples.{FloorsRefuse, HostnamesAreSent, KeysLogIn, OtherKeysLogInLater};
+ghost use Rattle.fe2o3_sasl_core.specs.Hex.{OneBytesOfHex, HexIsReadAgain};
+ghost use Rattle.fe2o3_sasl_core.specs.MechanismLaws.{OneAcceptorReply, OneProfileReply, SomeAcceptorReply, SomeProfileReply, PlainRunsNameUsers, OffersAgree, PlainLetsIn, PlainRefuses, AnonymousLetsIn, SomethingIsOffered, NamesDiffer};
+ghost use Rattle.fe2o3_sasl.specs.examples.ClientExamples.{FloorsRefuse, HostnamesAreSent, KeysLogIn, StaleKeysLogInLater};
 ghost use Rattle.fe2o3_sasl.specs.examples.Examples.{PremisesCanBeMet, RefusalsAreUnaltered, ShiftedTextsPass};
 ghost use Rattle.fe2o3_sasl.specs.examples.MemoryExamples.{AcceptorsAskForNone, AskForNone, OwnedAskForNone, ServersWantNone, ClientsWantNone};
-ghost use Rattle.fe2o3_sasl_runs.specs.Profiles.{StepAllocates, ViewAllocates};
-ghost use Rattle.fe2o3_sasl_runs.specs.Headline.{AnswersOkExactly, ReportsOkExactly, TakenVerifiersAgree};
-ghost use Rattle.fe2o3_sasl_runs.specs.CostLaws.{ServerRunsCost, ClientRunsCost};
-ghost use Rattle.fe2o3_sasl_runs.specs.OneOfLaws.{OneOfRunsAreSplit, ScramFirstAnswersOkExactly, ScramSecondAnswersOkExactly, OfferingRunsPassOn};
-ghost use Rattle.fe2o3_sasl_runs.specs.OneOfUsers.{OneOfNamesUsers, OfferedNamesUsers};
-ghost use Rattle.fe2o3_sasl_runs.specs.HidingLaws.{HiddenRunsAreRuns, HiddenRunsAreHistories, NobodyIsMet, HiddenOksLogIn};
-ghost use Rattle.fe2o3_sasl_runs.specs.UnknownUsers.{SaltTextsDiffer, UnknownCostsAsMock, UnknownIsMock, UnknownIsMockInBoth};
-ghost use Rattle.fe2o3_sasl_runs.specs.StepLaws.{OksLogIn, PlainOksLogIn, ReportedOksAreSigned};
-ghost use Rattle.fe2o3_sasl_runs.specs.Laws.{EveryServer, EveryClient, OneServerHistory, OneClientHistory, SomeServerHistory, SomeClientHistory, AcceptorRunsAreHistories, AcceptorRunsNameUsers, AgreedUsersAreNamed, ProfileRunsAreHistories, KeyedRunsAreRuns, KeyedRunsAreHistories, OksWithinChallenges, RepeatedResponsesAreRefused, OneResponseOneNonce, RefusalsLeaveOpen, PositionsAreUsedOnce, EqualMessagesAgree, NoShortExtensions, TakenVerifiersAreJudged, ShownProofsAreJudged, OneVerdictEach, OneAuditEach, RepeatedClientPositions, RepeatedServerPositions, RepeatedClientFindings, RepeatedServerFindings, ClientsLogIn, ServersLogIn, ServersWantMemory, ClientsWantMemory, ProfilesWantMemory};
+ghost use Rattle.fe2o3_sasl_core.specs.Profiles.{StepAllocates, ViewAllocates};
+ghost use Rattle.fe2o3_sasl_core.specs.Headline.{AnswersOkExactly, ReportsOkExactly, TakenVerifiersAgree};
+ghost use Rattle.fe2o3_sasl_core.specs.CostLaws.{ServerRunsCost, ClientRunsCost};
+ghost use Rattle.fe2o3_sasl_core.specs.AnyMechanismLaws.{AnyMechanismRunsAreSplit, ScramFirstAnswersOkExactly, ScramSecondAnswersOkExactly, OfferingRunsPassOn};
+ghost use Rattle.fe2o3_sasl_core.specs.AnyMechanismUsers.{AnyMechanismNamesUsers, OfferedNamesUsers};
+ghost use Rattle.fe2o3_sasl_core.specs.HidingLaws.{HiddenRunsAreRuns, HiddenRunsAreHistories, MockRecordIsMet, HiddenOksLogIn};
+ghost use Rattle.fe2o3_sasl_core.specs.UnknownUsers.{SaltTextsDiffer, UnknownCostsAsMock, UnknownIsMock, UnknownIsMockInBoth};
+ghost use Rattle.fe2o3_sasl_core.specs.StepLaws.{OksLogIn, PlainOksLogIn, ReportedOksAreSigned};
+ghost use Rattle.fe2o3_sasl_core.specs.Laws.{EveryServer, EveryClient, OneServerHistory, OneClientHistory, SomeServerHistory, SomeClientHistory, AcceptorRunsAreHistories, AcceptorRunsNameUsers, AgreedUsersAreNamed, ProfileRunsAreHistories, KeyedRunsAreRuns, KeyedRunsAreHistories, OksWithinChallenges, RepeatedResponsesAreRefused, OneResponseOneNonce, RefusalsLeaveOpen, PositionsAreUsedOnce, EqualMessagesAgree, NoShortExtensions, TakenVerifiersAreJudged, ShownProofsAreJudged, OneVerdictEach, OneAuditEach, RepeatedClientPositions, RepeatedServerPositions, RepeatedClientFindings, RepeatedServerFindings, ClientsLogIn, ServersLogIn, ServersWantMemory, ClientsWantMemory, ProfilesWantMemory};
 
-use fe2o3_sasl_runs::one_of::HasMechanism;
+use fe2o3_sasl_core::any_mechanism::HasMechanism;
 pub use fe2o3_scram::laws::{
     accepted_messages, base64_texts, clone_of_version, digests, each_text_is_read, escaped_names,
     kept_keys, mechanism_names, mixed_texts, one_answer_each, parts, record_texts,
@@ -81,30 +81,30 @@ pub fn users()
 
 /// A server of several mechanisms, over any list of bodies: each body goes where `part_for` sends it in the state
 /// before it, to one of the two acceptors or to neither. What goes to one is a run of that one by itself. What
-/// goes to neither is rejected. A proof of your own cites `one_of_runs` of `OneOfLemmas.antt` in
-/// `fe2o3_sasl_runs`.
-pub fn one_of<A: HasMechanism, B: HasMechanism>()
-    ensures { OneOfRunsAreSplit A.names B.names A.machine B.machine }
+/// goes to neither is rejected. A proof of your own cites `any_mechanism_runs` of `AnyMechanismLemmas.antt` in
+/// `fe2o3_sasl_core`.
+pub fn any_mechanism<A: HasMechanism, B: HasMechanism>()
+    ensures { AnyMechanismRunsAreSplit A.names B.names A.machine B.machine }
 {}
 
 /// A SCRAM acceptor in a server of several mechanisms, over the bodies that go to it: it answers Ok exactly as the
 /// headline says and names exactly who has logged in, whatever the other acceptor is.
-pub fn scram_in_one_of<A: HasMechanism>()
+pub fn scram_in_any_mechanism<A: HasMechanism>()
     ensures first { ScramFirstAnswersOkExactly A.names A.machine }
     ensures second { ScramSecondAnswersOkExactly A.names A.machine }
 {}
 
 /// A server that offers only some of its mechanisms, over any list of bodies: it passes a body on as `is_passed_on`
 /// says in the state before it. What it passes on is a run of its acceptor by itself, and the rest is rejected.
-pub fn offers_only<A: HasMechanism>()
+pub fn restrict_mechanisms<A: HasMechanism>()
     ensures { OfferingRunsPassOn A.names A.machine }
 {}
 
 /// Who has logged in at a server of several mechanisms. Where it names a user after a run, that is the name by the
 /// acceptor that was asked last, and an init of the run asked it, by a mechanism of that acceptor. Where the server
-/// offers only some of its names, that mechanism was offered. The run of that acceptor is in `one_of`.
-pub fn one_of_users<A: HasMechanism, B: HasMechanism>()
-    ensures named { OneOfNamesUsers A.names B.names A.machine B.machine }
+/// offers only some of its names, that mechanism was offered. The run of that acceptor is in `any_mechanism`.
+pub fn any_mechanism_users<A: HasMechanism, B: HasMechanism>()
+    ensures named { AnyMechanismNamesUsers A.names B.names A.machine B.machine }
     ensures offered { OfferedNamesUsers A.names B.names A.machine B.machine }
 {}
 
@@ -117,7 +117,7 @@ pub fn one_of_users<A: HasMechanism, B: HasMechanism>()
 pub fn hidden_users()
     ensures runs { HiddenRunsAreRuns }
     ensures histories { HiddenRunsAreHistories }
-    ensures met { NobodyIsMet }
+    ensures met { MockRecordIsMet }
     ensures steps { HiddenOksLogIn }
 {}
 
@@ -222,7 +222,7 @@ pub fn worked_examples()
 pub fn worked_clients()
     ensures hostname { HostnamesAreSent }
     ensures keys { KeysLogIn }
-    ensures other_keys { OtherKeysLogInLater }
+    ensures stale_keys { StaleKeysLogInLater }
     ensures floor { FloorsRefuse }
 {}
 

@@ -1,14 +1,14 @@
 //! Events, steps, whole runs, and the audit of two of them, under one name.
 
 pub use crate::audit::{
-    AuditError, Finding, FindingKind, Parameters, Verdict, audit, audit_limited, audit_unbound,
+    AuditError, Finding, FindingKind, Parameters, Verdict, audit, audit_limited, audit_with_cbind_flag_y,
 };
-pub use fe2o3_sasl_runs::events::{ClientReply, Event, EventError, ServerReply};
-pub use fe2o3_sasl_runs::steps::{
+pub use fe2o3_sasl_core::events::{ClientReply, Event, EventError, ServerReply};
+pub use fe2o3_sasl_core::steps::{
     acceptor_body_step, acceptor_step, acceptor_step_metered, profile_body_step, profile_step,
     profile_step_metered,
 };
-pub use fe2o3_sasl_runs::whole_runs::{
+pub use fe2o3_sasl_core::whole_runs::{
     run_acceptor, run_profile, scram_client_run, scram_client_run_limited, scram_server_run,
-    scram_server_run_unbound,
+    scram_server_run_with_cbind_flag_y,
 };

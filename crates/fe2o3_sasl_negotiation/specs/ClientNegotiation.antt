@@ -3,53 +3,53 @@ use Rattle.std.specs.Prelude.{◌≡◌, ◌≢◌, ◌⊎◌, ℕ, Option, List
 use Rattle.fe2o3_sasl_wire.specs.declared.amqp_types.SaslCode.TheVariants as outcomes
 use Rattle.fe2o3_sasl_wire.specs.declared.sasl_frames.error.Error.{Error}
 use Rattle.fe2o3_sasl_wire.specs.SaslFrames.{SaslFrame}
-use Rattle.fe2o3_sasl_runs.specs.Bodies.{SpellsBody}
-use Rattle.fe2o3_sasl_runs.specs.Costs.{ProfileStepCosts}
-use Rattle.fe2o3_sasl_runs.specs.Events.{Given, ClientSays, Started, Answered, Reported, Refused as ClientRefused}
-use Rattle.fe2o3_sasl_runs.specs.Profiles.{Profile}
-use Rattle.fe2o3_sasl_runs.specs.Runs.{ProfileSteps}
-use Rattle.fe2o3_sasl_runs.specs.declared.events.ClientReply.{ClientReply}
-use Rattle.fe2o3_sasl_runs.specs.declared.sasl_profile.error.ProfileError.{ProfileError}
-use Rattle.fe2o3_sasl_negotiation.specs.declared.standing.ClosedBecause.TheVariants.{OtherHeader, OutOfTurn, Refused, Profile as ProfileRefused}
-use Rattle.fe2o3_sasl_negotiation.specs.declared.standing.Due.{Due}
-use Rattle.fe2o3_sasl_negotiation.specs.declared.standing.Due.TheVariants.{Header, Frame}
-use Rattle.fe2o3_sasl_negotiation.specs.declared.standing.Turn.{Turn}
-use Rattle.fe2o3_sasl_negotiation.specs.declared.standing.Turn.TheVariants as turns
-use Rattle.fe2o3_sasl_negotiation.specs.declared.standing.Standing.TheVariants.{Wanting, LoggedIn}
+use Rattle.fe2o3_sasl_core.specs.Bodies.{SpellsBody}
+use Rattle.fe2o3_sasl_core.specs.Costs.{ProfileStepCosts}
+use Rattle.fe2o3_sasl_core.specs.Events.{Given, ClientSays, Started, Answered, Reported, Refused as ClientRefused}
+use Rattle.fe2o3_sasl_core.specs.Profiles.{Profile}
+use Rattle.fe2o3_sasl_core.specs.Runs.{ProfileSteps}
+use Rattle.fe2o3_sasl_core.specs.declared.events.ClientReply.{ClientReply}
+use Rattle.fe2o3_sasl_core.specs.declared.sasl_profile.error.ProfileError.{ProfileError}
+use Rattle.fe2o3_sasl_negotiation.specs.declared.progress.CloseReason.TheVariants.{ProtocolHeaderMismatch, UnexpectedFrame, Refused, Mechanism as ProfileRefused}
+use Rattle.fe2o3_sasl_negotiation.specs.declared.progress.Expected.{Expected}
+use Rattle.fe2o3_sasl_negotiation.specs.declared.progress.Expected.TheVariants.{Header, Frame}
+use Rattle.fe2o3_sasl_negotiation.specs.declared.progress.FrameKind.{FrameKind}
+use Rattle.fe2o3_sasl_negotiation.specs.declared.progress.FrameKind.TheVariants as turns
+use Rattle.fe2o3_sasl_negotiation.specs.declared.progress.Progress.TheVariants.{InProgress, Authenticated}
 use Rattle.fe2o3_sasl_negotiation.specs.Framing.{sasl_header}
 use Rattle.fe2o3_sasl_negotiation.specs.Negotiations.{Side, SideOutput, closes, Sends, IsInTurn, AnswersTo, Receiving, Receives, Completes}
-use Rattle.fe2o3_sasl_runs.specs.declared.sasl_profile.error.ProfileError.TheVariants.{OutOfMemory}
+use Rattle.fe2o3_sasl_core.specs.declared.sasl_profile.error.ProfileError.TheVariants.{OutOfMemory}
 
 -- what it answers to a header: the one of SASL it waits for, another closes
 abbrev pub ClientOpens : List ℕ → SideOutput → Type 0
 ClientOpens header answer =
-    ((header ≢ sasl_header) × (answer ≡ closes OtherHeader Header))
-    ⊎ ((header ≡ sasl_header) × (answer ≡ record { sent = []; standing = Wanting; due = Frame turns.Mechanisms }))
+    ((header ≢ sasl_header) × (answer ≡ closes ProtocolHeaderMismatch Header))
+    ⊎ ((header ≡ sasl_header) × (answer ≡ record { sent = []; progress = InProgress; expected = Frame turns.Mechanisms }))
 
 -- what it sends of what its profile says: an init to a list of mechanisms, a response to a challenge, and nothing
 -- behind an outcome or a refusal, which end the negotiation
-abbrev pub ClientOutputs : ClientSays → Turn → SideOutput → Type 0
-ClientOutputs (Started body) turns.Mechanisms answer = Sends body Wanting (Frame turns.Challenge) answer
-ClientOutputs (Started body) turn answer = answer ≡ closes OutOfTurn (Frame turn)
-ClientOutputs (Answered body) turns.Challenge answer = Sends body Wanting (Frame turns.Outcome) answer
-ClientOutputs (Answered body) turn answer = answer ≡ closes OutOfTurn (Frame turn)
-ClientOutputs (Reported outcomes.Ok more) turn answer = answer ≡ record { sent = []; standing = LoggedIn; due = Frame turn }
+abbrev pub ClientOutputs : ClientSays → FrameKind → SideOutput → Type 0
+ClientOutputs (Started body) turns.Mechanisms answer = Sends body InProgress (Frame turns.Challenge) answer
+ClientOutputs (Started body) turn answer = answer ≡ closes UnexpectedFrame (Frame turn)
+ClientOutputs (Answered body) turns.Challenge answer = Sends body InProgress (Frame turns.Outcome) answer
+ClientOutputs (Answered body) turn answer = answer ≡ closes UnexpectedFrame (Frame turn)
+ClientOutputs (Reported outcomes.Ok more) turn answer = answer ≡ record { sent = []; progress = Authenticated; expected = Frame turn }
 ClientOutputs (Reported code more) turn answer = answer ≡ closes (Refused code) (Frame turn)
 ClientOutputs (ClientRefused OutOfMemory) turn answer = ⊥
 ClientOutputs (ClientRefused fault) turn answer = answer ≡ closes (ProfileRefused fault) (Frame turn)
 
 -- it asks its profile, by a step over the body
-abbrev pub AsksProfile : Option (List ℕ) → Turn → Profile → Given → SideOutput → Profile → Type 0
+abbrev pub AsksProfile : Option (List ℕ) → FrameKind → Profile → Given → SideOutput → Profile → Type 0
 AsksProfile hostname turn profile event answer next =
     (says : ClientSays) × ProfileSteps hostname profile event says next × ClientOutputs says turn answer
 
 -- what it answers to the body of a frame
-abbrev pub ClientReplies : Option (List ℕ) → Turn → Profile → Given → SideOutput → Profile → Type 0
+abbrev pub ClientReplies : Option (List ℕ) → FrameKind → Profile → Given → SideOutput → Profile → Type 0
 ClientReplies hostname turn profile event answer next = (spelled : Result SaslFrame Error) × SpellsBody event.body spelled
     × AnswersTo (AsksProfile hostname turn profile event) turn profile spelled answer next
 
 -- what a client answers to a unit
-abbrev pub ClientSideAnswers : Option (List ℕ) → Due → Profile → List ℕ → List ℕ → SideOutput → Profile → Type 0
+abbrev pub ClientSideAnswers : Option (List ℕ) → Expected → Profile → List ℕ → List ℕ → SideOutput → Profile → Type 0
 ClientSideAnswers hostname Header profile nonce unit answer next = ClientOpens unit answer × (next ≡ profile)
 ClientSideAnswers hostname (Frame turn) profile nonce unit answer next =
     ClientReplies hostname turn profile (record { body = drop 4 unit; nonce = nonce }) answer next
@@ -59,13 +59,13 @@ abbrev pub ClientReceives : Option (List ℕ) → Receiving Profile
 ClientReceives hostname = Receives (ClientSideAnswers hostname)
 
 -- the HMAC values of an answer to a body: none, or those of the profile's step over a body in turn
-abbrev pub ClientReplyCosts : Turn → Profile → Given → ℕ → ℕ → Type 0
+abbrev pub ClientReplyCosts : FrameKind → Profile → Given → ℕ → ℕ → Type 0
 ClientReplyCosts turn profile event before after = (after ≡ before)
     ⊎ ((frame : SaslFrame) × (reply : Result ClientReply ProfileError) × SpellsBody event.body (Ok frame)
     × IsInTurn turn frame × ProfileStepCosts profile event reply before after)
 
 -- of an answer to a unit: a header takes none
-abbrev pub ClientUnitCosts : Due → Profile → List ℕ → List ℕ → ℕ → ℕ → Type 0
+abbrev pub ClientUnitCosts : Expected → Profile → List ℕ → List ℕ → ℕ → ℕ → Type 0
 ClientUnitCosts Header profile nonce unit before after = after ≡ before
 ClientUnitCosts (Frame turn) profile nonce unit before after =
     ClientReplyCosts turn profile (record { body = drop 4 unit; nonce = nonce }) before after
@@ -73,5 +73,5 @@ ClientUnitCosts (Frame turn) profile nonce unit before after =
 -- and of a call: none, or those of the answer to a body that it completes
 abbrev pub ClientCosts : Side Profile → List ℕ → List ℕ → ℕ → ℕ → Type 0
 ClientCosts side bytes nonce before after = (after ≡ before)
-    ⊎ ((turn : Turn) × (body : List ℕ) × Completes side bytes turn body
+    ⊎ ((turn : FrameKind) × (body : List ℕ) × Completes side bytes turn body
     × ClientReplyCosts turn side.state (record { body = body; nonce = nonce }) before after)

@@ -4,16 +4,16 @@ use Rattle.std.specs.Prelude.{◌≡◌, ◌≢◌, ◌⊎◌, ◌↔◌, ℕ, �
 use Rattle.fe2o3_sasl_wire.specs.declared.amqp_types.SaslCode.TheVariants as outcomes
 use Rattle.fe2o3_sasl_wire.specs.declared.sasl_frames.error.Error.{Error}
 use Rattle.fe2o3_sasl_wire.specs.SaslFrames.{SaslFrame, IsBytes}
-use Rattle.fe2o3_sasl_runs.specs.Bodies.{SpellsBody}
-use Rattle.fe2o3_sasl_runs.specs.Events.{Given, ServerSays, Concluded, ClientSays, Reported}
-use Rattle.fe2o3_sasl_runs.specs.Runs.{Runs, AcceptorSteps}
-use Rattle.fe2o3_sasl_negotiation.specs.declared.standing.ClosedBecause.{ClosedBecause}
-use Rattle.fe2o3_sasl_negotiation.specs.declared.standing.ClosedBecause.TheVariants.{FrameSize, OtherHeader, OutOfTurn, ReplyTooLarge, Unread}
-use Rattle.fe2o3_sasl_negotiation.specs.declared.standing.Due.TheVariants.{Header, Frame}
-use Rattle.fe2o3_sasl_negotiation.specs.declared.standing.Standing.{Standing}
-use Rattle.fe2o3_sasl_negotiation.specs.declared.standing.Standing.TheVariants.{Wanting, LoggedIn, Closed}
-use Rattle.fe2o3_sasl_negotiation.specs.declared.standing.Turn.{Turn}
-use Rattle.fe2o3_sasl_negotiation.specs.declared.standing.Turn.TheVariants as turns
+use Rattle.fe2o3_sasl_core.specs.Bodies.{SpellsBody}
+use Rattle.fe2o3_sasl_core.specs.Events.{Given, ServerSays, Concluded, ClientSays, Reported}
+use Rattle.fe2o3_sasl_core.specs.Runs.{Runs, AcceptorSteps}
+use Rattle.fe2o3_sasl_negotiation.specs.declared.progress.CloseReason.{CloseReason}
+use Rattle.fe2o3_sasl_negotiation.specs.declared.progress.CloseReason.TheVariants.{FrameSize, ProtocolHeaderMismatch, UnexpectedFrame, ReplyTooLarge, MalformedFrame}
+use Rattle.fe2o3_sasl_negotiation.specs.declared.progress.Expected.TheVariants.{Header, Frame}
+use Rattle.fe2o3_sasl_negotiation.specs.declared.progress.Progress.{Progress}
+use Rattle.fe2o3_sasl_negotiation.specs.declared.progress.Progress.TheVariants.{InProgress, Authenticated, Failed}
+use Rattle.fe2o3_sasl_negotiation.specs.declared.progress.FrameKind.{FrameKind}
+use Rattle.fe2o3_sasl_negotiation.specs.declared.progress.FrameKind.TheVariants as turns
 use Rattle.fe2o3_sasl_negotiation.specs.ClientNegotiation as of_client
 use Rattle.fe2o3_sasl_negotiation.specs.Framing.{sasl_header, framed, size_of, Fits, IsPart}
 use Rattle.fe2o3_sasl_negotiation.specs.Laws.{Call, Calls}
@@ -42,49 +42,49 @@ abbrev pub frames_of : List Given → List ℕ
 frames_of events = flat_map (λ (event : Given). framed event.body) events
 
 -- the body spells a frame of this turn
-abbrev pub SpellsTurn : Turn → List ℕ → Type 0
+abbrev pub SpellsTurn : FrameKind → List ℕ → Type 0
 SpellsTurn turn body = (frame : SaslFrame) × SpellsBody body (Ok frame) × IsInTurn turn frame
 
 -- one body for each of the first turns, in order, the first after `at` bytes of the stream: each frame has an allowed
 -- size and is of its turn, and its nonce is that of the piece in which its last byte arrives
-abbrev pub AreFrames : List Piece → ℕ → ℕ → List Turn → List Given → Type 0
+abbrev pub AreFrames : List Piece → ℕ → ℕ → List FrameKind → List Given → Type 0
 AreFrames pieces limit at turns [] = Unit {0}
 AreFrames pieces limit at [] (event ∷ events) = ⊥
 AreFrames pieces limit at (turn ∷ turns) (event ∷ events) = let size = length event.body + 4 in
     Fits limit size × SpellsTurn turn event.body × PieceNonceAt pieces (at + (length event.body + 3)) event.nonce
     × AreFrames pieces limit (at + size) turns events
 
--- why a body is not answered where a frame of this turn is due: it is not read, or it is a frame out of turn
-abbrev pub Unanswered : Turn → Result SaslFrame Error → ClosedBecause → Type 0
-Unanswered turn (Err fault) why = why ≡ Unread fault
-Unanswered turn (Ok frame) why = ¬ IsInTurn turn frame × (why ≡ OutOfTurn)
+-- why a body is not answered where a frame of this turn is expected: it is not read, or it is a frame out of turn
+abbrev pub Unanswered : FrameKind → Result SaslFrame Error → CloseReason → Type 0
+Unanswered turn (Err fault) why = why ≡ MalformedFrame fault
+Unanswered turn (Ok frame) why = ¬ IsInTurn turn frame × (why ≡ UnexpectedFrame)
 
--- bytes after the last answered frame, where one of this turn is due: the side waits while they are a part of a frame,
+-- bytes after the last answered frame, where one of this turn is expected: the side waits while they are a part of a frame,
 -- and closes at a size that no frame may have, and at a whole frame that is not answered
-abbrev pub LeftOver : Turn → ℕ → List ℕ → Standing → Type 0
-LeftOver turn limit tail standing =
-    (IsPart (Frame turn) limit tail × (standing ≡ Wanting))
-    ⊎ ((length tail ≡ 4) × ¬ Fits limit (size_of tail) × (standing ≡ Closed FrameSize))
-    ⊎ ((body : List ℕ) × (spelled : Result SaslFrame Error) × (why : ClosedBecause) × (tail ≡ framed body)
-    × Fits limit (length body + 4) × SpellsBody body spelled × Unanswered turn spelled why × (standing ≡ Closed why))
+abbrev pub LeftOver : FrameKind → ℕ → List ℕ → Progress → Type 0
+LeftOver turn limit tail progress =
+    (IsPart (Frame turn) limit tail × (progress ≡ InProgress))
+    ⊎ ((length tail ≡ 4) × ¬ Fits limit (size_of tail) × (progress ≡ Failed FrameSize))
+    ⊎ ((body : List ℕ) × (spelled : Result SaslFrame Error) × (why : CloseReason) × (tail ≡ framed body)
+    × Fits limit (length body + 4) × SpellsBody body spelled × Unanswered turn spelled why × (progress ≡ Failed why))
 
 -- ---- what is sent
 
 -- what a side sends with these replies, one for each of the first turns, and how the last reply leaves it. `Says` gives
 -- that for one reply. Before the first reply the side waits for a frame of the first turn, and every reply but the last
 -- is sent and leaves it waiting
-abbrev pub Replied : {A : Type 0} → (A → Turn → SideOutput → Type 0) → List Turn → List A → SideOutput → Type 0
+abbrev pub Replied : {A : Type 0} → (A → FrameKind → SideOutput → Type 0) → List FrameKind → List A → SideOutput → Type 0
 Replied Says [] replies answer = ⊥
-Replied Says (turn ∷ turns) [] answer = answer ≡ record { sent = []; standing = Wanting; due = Frame turn }
+Replied Says (turn ∷ turns) [] answer = answer ≡ record { sent = []; progress = InProgress; expected = Frame turn }
 Replied Says (turn ∷ turns) (says ∷ []) answer = Says says turn answer
 Replied Says (turn ∷ turns) (says ∷ next ∷ replies) answer =
-    (first : SideOutput) × (rest : SideOutput) × Says says turn first × (first.standing ≡ Wanting)
+    (first : SideOutput) × (rest : SideOutput) × Says says turn first × (first.progress ≡ InProgress)
     × Replied Says turns (next ∷ replies) rest × (answer ≡ record rest { sent = first.sent ++ rest.sent })
 
 -- a side after the header of the other side, over all bytes that it has taken: every frame up to the one that ended the
 -- negotiation is answered, in a run over the bodies
-pub record Negotiated {S A : Type 0} (Steps : S → Given → A → S → Type 0) (Says : A → Turn → SideOutput → Type 0)
-    (turns : List Turn) (limit : ℕ) (state : S) (pieces : List Piece) (taken sent : List ℕ) (last : Side S) : Type 0
+pub record Negotiated {S A : Type 0} (Steps : S → Given → A → S → Type 0) (Says : A → FrameKind → SideOutput → Type 0)
+    (turns : List FrameKind) (limit : ℕ) (state : S) (pieces : List Piece) (taken sent : List ℕ) (last : Side S) : Type 0
   where
     pub events : List Given
     pub replies : List A
@@ -96,20 +96,20 @@ pub record Negotiated {S A : Type 0} (Steps : S → Given → A → S → Type 0
     pub replied : Replied Says turns replies answer
     pub sends : sent ≡ answer.sent
     -- the last reply leaves it waiting for a frame, or has ended it, and then nothing after that frame is taken
-    pub ends : ((turn : Turn) × (answer.standing ≡ Wanting) × (answer.due ≡ Frame turn)
-        × LeftOver turn limit tail last.standing)
-        ⊎ ((answer.standing ≢ Wanting) × (last.standing ≡ answer.standing) × (tail ≡ []))
+    pub ends : ((turn : FrameKind) × (answer.progress ≡ InProgress) × (answer.expected ≡ Frame turn)
+        × LeftOver turn limit tail last.progress)
+        ⊎ ((answer.progress ≢ InProgress) × (last.progress ≡ answer.progress) × (tail ≡ []))
     -- while it waits it holds the part of a frame that has come
-    pub waits : last.standing ≡ Wanting → last
-        ≡ record { standing = Wanting; due = answer.due; limit = limit; held = tail; state = last.state }
+    pub waits : last.progress ≡ InProgress → last
+        ≡ record { progress = InProgress; expected = answer.expected; limit = limit; held = tail; state = last.state }
 
--- one of a server: an init is due, and after one challenge a response
+-- one of a server: an init is expected, and after one challenge a response
 abbrev pub ServerNegotiated : {S : Type 0} → (S → List ℕ → SaslFrame → SaslFrame → S → Type 0) → ℕ → S → List Piece
     → List ℕ → List ℕ → Side S → Type 0
 ServerNegotiated machine limit state pieces taken sent last =
     Negotiated (AcceptorSteps machine) of_server.ServerOutputs (turns.Init ∷ turns.Response ∷ []) limit state pieces taken sent last
 
--- and of a client: a list of mechanisms is due, then a challenge or at once an outcome, and after a challenge an outcome
+-- and of a client: a list of mechanisms is expected, then a challenge or at once an outcome, and after a challenge an outcome
 abbrev pub ClientNegotiated : {S : Type 0} → (S → Given → ClientSays → S → Type 0) → ℕ → S → List Piece → List ℕ
     → List ℕ → Side S → Type 0
 ClientNegotiated Steps limit state pieces taken sent last =
@@ -120,7 +120,7 @@ ClientNegotiated Steps limit state pieces taken sent last =
 
 -- a side before its first byte
 abbrev pub fresh : {S : Type 0} → ℕ → S → Side S
-fresh limit state = record { standing = Wanting; due = Header; limit = limit; held = []; state = state }
+fresh limit state = record { progress = InProgress; expected = Header; limit = limit; held = []; state = state }
 
 -- less than a header has come, and is held (part 2, section 2.2)
 abbrev pub IsHeaderPart : {S : Type 0} → ℕ → S → List ℕ → List ℕ → Side S → Type 0
@@ -128,7 +128,7 @@ IsHeaderPart limit state taken sent last = (length taken < 8) × (sent ≡ []) �
 
 -- it has closed at a header of another protocol or version
 abbrev pub IsOtherHeader : {S : Type 0} → S → List ℕ → Side S → Type 0
-IsOtherHeader state taken last = (length taken ≡ 8) × (taken ≢ sasl_header) × (last.standing ≡ Closed OtherHeader)
+IsOtherHeader state taken last = (length taken ≡ 8) × (taken ≢ sasl_header) × (last.progress ≡ Failed ProtocolHeaderMismatch)
     × (last.state ≡ state)
 
 -- the list of mechanisms is in no frame of 512 bytes
@@ -144,7 +144,7 @@ ServerConnection names machine limit state pieces taken sent last =
     IsHeaderPart limit state taken sent last
     ⊎ (IsOtherHeader state taken last × (sent ≡ sasl_header))
     ⊎ ((taken ≡ sasl_header) × OffersNone (names state) × (sent ≡ sasl_header)
-    × (last.standing ≡ Closed ReplyTooLarge) × (last.state ≡ state))
+    × (last.progress ≡ Failed ReplyTooLarge) × (last.state ≡ state))
     ⊎ ((offer : List ℕ) × (out : List ℕ) × (offer_body (names state) ≡ Some offer) × (length offer + 4 ≤ 512)
     × (sent ≡ sasl_header ++ (framed offer ++ out)) × ServerNegotiated machine limit state pieces taken out last)
 
@@ -204,11 +204,11 @@ IsOkReported says = (more : Option (List ℕ)) × (says ≡ Reported outcomes.Ok
 abbrev pub ServerConnectionsLogIn : {S : Type 0} → (S → List ℕ → SaslFrame → SaslFrame → S → Type 0) → Type 0
 ServerConnectionsLogIn {S} machine = (limit : ℕ) (state : S) (pieces : List Piece) (taken sent : List ℕ) (last : Side S)
     (negotiated : ServerNegotiated machine limit state pieces taken sent last)
-    → (last.standing ≡ LoggedIn) ↔ LastReply IsOkSent negotiated.replies
+    → (last.progress ≡ Authenticated) ↔ LastReply IsOkSent negotiated.replies
 
 -- and a client has logged in exactly where its last reply reports an Ok
 abbrev pub ClientConnectionsLogIn : {S : Type 0} → (Option (List ℕ) → S → Given → ClientSays → S → Type 0) → Type 0
 ClientConnectionsLogIn {S} Steps = (hostname : Option (List ℕ)) (limit : ℕ) (state : S) (pieces : List Piece)
     (taken sent : List ℕ) (last : Side S)
     (negotiated : ClientNegotiated (Steps hostname) limit state pieces taken sent last)
-    → (last.standing ≡ LoggedIn) ↔ LastReply IsOkReported negotiated.replies
+    → (last.progress ≡ Authenticated) ↔ LastReply IsOkReported negotiated.replies

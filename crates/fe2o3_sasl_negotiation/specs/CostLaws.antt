@@ -4,10 +4,10 @@ use Rattle.std.specs.Prelude.{◌≡◌, ◌⊎◌, ◌<◌, ◌≤◌, ◌+◌,
 use Rattle.fe2o3_scram.specs.Credentials.{Provider}
 use Rattle.fe2o3_scram.specs.ScramClient.{ClientSide}
 use Rattle.fe2o3_scram.specs.ScramServer.{ServerState}
-use Rattle.fe2o3_sasl_runs.specs.Costs.{acceptor_hmacs}
-use Rattle.fe2o3_sasl_runs.specs.Profiles.{Profile, ScramProfile}
-use Rattle.fe2o3_sasl_runs.specs.SaslAcceptor.{Acceptor, ScramAcceptor, acceptor_names, acceptor_machine}
-use Rattle.fe2o3_sasl_negotiation.specs.declared.standing.Due.{Due}
+use Rattle.fe2o3_sasl_core.specs.Costs.{acceptor_hmacs}
+use Rattle.fe2o3_sasl_core.specs.Profiles.{Profile, ScramProfile}
+use Rattle.fe2o3_sasl_core.specs.SaslAcceptor.{Acceptor, ScramAcceptor, acceptor_names, acceptor_machine}
+use Rattle.fe2o3_sasl_negotiation.specs.declared.progress.Expected.{Expected}
 use Rattle.fe2o3_sasl_negotiation.specs.ClientNegotiation.{ClientSideAnswers, ClientReceives, ClientCosts}
 use Rattle.fe2o3_sasl_negotiation.specs.Connections.{fresh}
 use Rattle.fe2o3_sasl_negotiation.specs.Laws.{Call, Calls}
@@ -16,7 +16,7 @@ use Rattle.fe2o3_sasl_negotiation.specs.ServerNegotiation.{ServerSideAnswers, Se
 
 -- calls over a stream, each handed any number of the bytes that the calls before it left, with what one meter shows
 -- before and behind them
-abbrev pub MeteredCalls : {S : Type 0} → (Due → S → List ℕ → List ℕ → SideOutput → S → Type 0)
+abbrev pub MeteredCalls : {S : Type 0} → (Expected → S → List ℕ → List ℕ → SideOutput → S → Type 0)
     → (Side S → List ℕ → List ℕ → ℕ → ℕ → Type 0) → Side S → List Call → List ℕ → ℕ → ℕ → Type 0
 MeteredCalls Answers Costs side [] stream before after = after ≡ before
 MeteredCalls {S} Answers Costs side (call ∷ calls) stream before after =
@@ -37,7 +37,7 @@ abbrev pub ClientsCost : Type 0
 ClientsCost = (hostname : Option (List ℕ)) (client : ClientSide) (limit : ℕ) (calls : List Call) (stream : List ℕ)
     (before after : ℕ) → MeteredCalls (ClientSideAnswers hostname) ClientCosts (fresh limit (ScramProfile client)) calls
     stream before after
-    → (before ≤ after) × (after ≤ before + (client.limits.most + 4))
+    → (before ≤ after) × (after ≤ before + (client.limits.max_iterations + 4))
 
 -- a side has sent no more bytes than these, and holds less than a header, or less than its limit lets a frame have
 abbrev pub Bounded : {S : Type 0} → ℕ → ℕ → List ℕ → Side S → Type 0

@@ -4,8 +4,8 @@ use Rattle.std.specs.Coded.{le_prop}
 use Rattle.std.specs.Int.{w32, to_be_bytes, from_be_bytes}
 use Rattle.fe2o3_sasl_wire.specs.ProtocolHeader.{header_bytes, first_version}
 use Rattle.fe2o3_sasl_wire.specs.declared.protocol_header.ProtocolId.TheVariants.{Sasl}
-use Rattle.fe2o3_sasl_negotiation.specs.declared.standing.Due.{Due}
-use Rattle.fe2o3_sasl_negotiation.specs.declared.standing.Due.TheVariants.{Header, Frame}
+use Rattle.fe2o3_sasl_negotiation.specs.declared.progress.Expected.{Expected}
+use Rattle.fe2o3_sasl_negotiation.specs.declared.progress.Expected.TheVariants.{Header, Frame}
 
 -- the header of SASL 1.0.0, with which each side begins (part 5, section 5.3.2)
 abbrev pub sasl_header : List ℕ
@@ -24,27 +24,27 @@ size_of bytes = from_be_bytes w32 (take 4 bytes)
 abbrev pub Fits : ℕ → ℕ → Type 0
 Fits limit size = (8 ≤ size) × (size ≤ limit)
 
--- how many bytes the unit has that is due: a header eight (part 2, section 2.2), a frame as many as it says
-abbrev pub unit_size : Due → List ℕ → ℕ
+-- how many bytes the unit has that is expected: a header eight (part 2, section 2.2), a frame as many as it says
+abbrev pub unit_size : Expected → List ℕ → ℕ
 unit_size Header come = 8
 unit_size (Frame turn) come = size_of come
 
 -- less of it has come than the whole, and nothing that is refused
-abbrev pub IsPart : Due → ℕ → List ℕ → Type 0
+abbrev pub IsPart : Expected → ℕ → List ℕ → Type 0
 IsPart Header limit come = length come < 8
 IsPart (Frame turn) limit come = 4 ≤ length come → Fits limit (size_of come) × (length come < size_of come)
 
 -- a size has come that no frame may have
-abbrev pub IsRefused : Due → ℕ → List ℕ → Type 0
+abbrev pub IsRefused : Expected → ℕ → List ℕ → Type 0
 IsRefused Header limit come = ⊥
 IsRefused (Frame turn) limit come = (4 ≤ length come) × ¬ Fits limit (size_of come)
 
 -- all of it has come
-abbrev pub IsWhole : Due → ℕ → List ℕ → Type 0
+abbrev pub IsWhole : Expected → ℕ → List ℕ → Type 0
 IsWhole Header limit come = 8 ≤ length come
 IsWhole (Frame turn) limit come = Fits limit (size_of come) × (size_of come ≤ length come)
 
 -- "less than the whole" has one proof at most
-pub IsPart-prop : (due : Due) (limit : ℕ) (come : List ℕ) → IsProp (IsPart due limit come)
+pub IsPart-prop : (expected : Expected) (limit : ℕ) (come : List ℕ) → IsProp (IsPart expected limit come)
 IsPart-prop Header limit come = le_prop
 IsPart-prop (Frame turn) limit come = Prim.hlevel le_prop

@@ -1,7 +1,7 @@
 -- What holds however the bytes of a connection are cut into calls.
 use Rattle.std.specs.Prelude.{◌≡◌, ◌≢◌, ◌⊎◌, ℕ, Option, List, [], ◌∷◌, ◌++◌, take, drop}
-use Rattle.fe2o3_sasl_negotiation.specs.declared.standing.Due.{Due}
-use Rattle.fe2o3_sasl_negotiation.specs.declared.standing.Standing.TheVariants.{Wanting}
+use Rattle.fe2o3_sasl_negotiation.specs.declared.progress.Expected.{Expected}
+use Rattle.fe2o3_sasl_negotiation.specs.declared.progress.Progress.TheVariants.{InProgress}
 use Rattle.fe2o3_sasl_negotiation.specs.ClientNegotiation.{ClientSideAnswers}
 use Rattle.fe2o3_sasl_negotiation.specs.Framing.{IsPart}
 use Rattle.fe2o3_sasl_negotiation.specs.Negotiations.{Side, SideOutput, Receiving, Receives}
@@ -23,17 +23,17 @@ Calls {S} OneCall side (call ∷ calls) stream sent last rest =
 -- less than a unit has come, and is kept; or the side is at its end, and nothing has come
 abbrev pub Stops : {S : Type 0} → Side S → List ℕ → List ℕ → Side S → Type 0
 Stops side bytes sent last = (sent ≡ [])
-    × (((side.standing ≡ Wanting) × IsPart side.due side.limit (side.held ++ bytes)
+    × (((side.progress ≡ InProgress) × IsPart side.expected side.limit (side.held ++ bytes)
     × (last ≡ record side { held = side.held ++ bytes }))
-    ⊎ ((side.standing ≢ Wanting) × (bytes ≡ []) × (last ≡ side)))
+    ⊎ ((side.progress ≢ InProgress) × (bytes ≡ []) × (last ≡ side)))
 
 -- the same of the bytes as a whole, unit by unit, each with its nonce
-abbrev pub Negotiates : {S : Type 0} → (Due → S → List ℕ → List ℕ → SideOutput → S → Type 0) → Side S → List (List ℕ)
+abbrev pub Negotiates : {S : Type 0} → (Expected → S → List ℕ → List ℕ → SideOutput → S → Type 0) → Side S → List (List ℕ)
     → List ℕ → List ℕ → Side S → Type 0
 Negotiates Answers side [] bytes sent last = Stops side bytes sent last
 Negotiates {S} Answers side (nonce ∷ nonces) bytes sent last =
-    (taken : ℕ) × (first : List ℕ) × (next : Side S) × (behind : List ℕ) × (side.standing ≡ Wanting)
-    × ¬ IsPart side.due side.limit (side.held ++ bytes) × Receives Answers side bytes nonce taken first next
+    (taken : ℕ) × (first : List ℕ) × (next : Side S) × (behind : List ℕ) × (side.progress ≡ InProgress)
+    × ¬ IsPart side.expected side.limit (side.held ++ bytes) × Receives Answers side bytes nonce taken first next
     × Negotiates Answers next nonces (drop taken bytes) behind last × (sent ≡ first ++ behind)
 
 -- the nonces of some of these calls, in order
@@ -44,9 +44,9 @@ NoncesOf (call ∷ calls) nonces = NoncesOf calls nonces
 
 -- however a stream is cut into calls, the calls do with the bytes that they take what is done with them as a whole, each
 -- unit with the nonce of a call, in order: the cut does not matter. `Connections` says which call that is
-abbrev pub CutsDoNotMatter : {S : Type 0} → (Due → S → List ℕ → List ℕ → SideOutput → S → Type 0) → Type 0
+abbrev pub CutsDoNotMatter : {S : Type 0} → (Expected → S → List ℕ → List ℕ → SideOutput → S → Type 0) → Type 0
 CutsDoNotMatter {S} Answers = (side last : Side S) (calls : List Call) (stream sent rest : List ℕ)
-    → IsPart side.due side.limit side.held → Calls (Receives Answers) side calls stream sent last rest
+    → IsPart side.expected side.limit side.held → Calls (Receives Answers) side calls stream sent last rest
     → (taken : List ℕ) × (nonces : List (List ℕ)) × (stream ≡ taken ++ rest)
     × Negotiates Answers side nonces taken sent last × NoncesOf calls nonces
 

@@ -1,5 +1,5 @@
 pub mod Framing
-pub mod SetDown
+pub mod Snapshot
 pub mod Negotiations
 pub mod ServerNegotiation
 pub mod ClientNegotiation

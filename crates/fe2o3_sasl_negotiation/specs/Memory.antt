@@ -1,12 +1,12 @@
 -- Where a call may run out of memory: only where it asks for some.
 use Rattle.std.specs.Prelude.{◌≡◌, ◌⊎◌, ◌<◌, ◌≤◌, ℕ, max, List, ◌++◌, Ok, vec_capacity}
 use Rattle.fe2o3_sasl_wire.specs.SaslFrames.{SaslFrame}
-use Rattle.fe2o3_sasl_runs.specs.Bodies.{SpellsBody}
+use Rattle.fe2o3_sasl_core.specs.Bodies.{SpellsBody}
 use Rattle.fe2o3_sasl_negotiation.specs.declared.client.ClientNegotiation.{ClientNegotiation}
 use Rattle.fe2o3_sasl_negotiation.specs.declared.server.ServerNegotiation.{ServerNegotiation}
-use Rattle.fe2o3_sasl_negotiation.specs.declared.standing.Due.TheVariants.{Header}
-use Rattle.fe2o3_sasl_negotiation.specs.declared.standing.Turn.{Turn}
-use Rattle.fe2o3_sasl_negotiation.specs.declared.standing.Standing.TheVariants.{Wanting}
+use Rattle.fe2o3_sasl_negotiation.specs.declared.progress.Expected.TheVariants.{Header}
+use Rattle.fe2o3_sasl_negotiation.specs.declared.progress.FrameKind.{FrameKind}
+use Rattle.fe2o3_sasl_negotiation.specs.declared.progress.Progress.TheVariants.{InProgress}
 use Rattle.fe2o3_sasl_negotiation.specs.Framing.{IsWhole}
 use Rattle.fe2o3_sasl_negotiation.specs.Negotiations.{Side, Completes, IsInTurn}
 
@@ -27,20 +27,20 @@ HasRoom room side = longest_unit side.limit ≤ room
 
 -- these bytes complete the header
 abbrev pub CompletesHeader : {S : Type 0} → Side S → List ℕ → Type 0
-CompletesHeader side bytes = (side.due ≡ Header) × IsWhole Header side.limit (side.held ++ bytes)
+CompletesHeader side bytes = (side.expected ≡ Header) × IsWhole Header side.limit (side.held ++ bytes)
 
 -- these bytes complete a frame that is read and in turn
 abbrev pub CompletesInTurn : {S : Type 0} → Side S → List ℕ → Type 0
-CompletesInTurn side bytes = (turn : Turn) × (body : List ℕ) × (frame : SaslFrame)
+CompletesInTurn side bytes = (turn : FrameKind) × (body : List ℕ) × (frame : SaslFrame)
     × Completes side bytes turn body × SpellsBody body (Ok frame) × IsInTurn turn frame
 
 -- a server asks for memory: for the longest unit, while it has no room for it, and for its answer to a header or to a
 -- frame in turn; one that has ended asks for none
 abbrev pub ServerAsks : {S : Type 0} → ℕ → Side S → List ℕ → Type 0
-ServerAsks room side bytes = (side.standing ≡ Wanting)
+ServerAsks room side bytes = (side.progress ≡ InProgress)
     × ((room < longest_unit side.limit) ⊎ (CompletesHeader side bytes ⊎ CompletesInTurn side bytes))
 
 -- and so does a client, which answers no header
 abbrev pub ClientAsks : {S : Type 0} → ℕ → Side S → List ℕ → Type 0
 ClientAsks room side bytes =
-    (side.standing ≡ Wanting) × ((room < longest_unit side.limit) ⊎ CompletesInTurn side bytes)
+    (side.progress ≡ InProgress) × ((room < longest_unit side.limit) ⊎ CompletesInTurn side bytes)

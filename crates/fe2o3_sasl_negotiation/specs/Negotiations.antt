@@ -3,21 +3,21 @@ use Rattle.std.specs.Prelude.{◌≡◌, ◌⊎◌, ℕ, ◌+◌, ◌-◌, ◌<�
 use Rattle.fe2o3_sasl_wire.specs.declared.sasl_frames.error.Error.{Error}
 use Rattle.fe2o3_sasl_wire.specs.SaslFrames.{SaslFrame}
 use Rattle.fe2o3_sasl_wire.specs.SaslFrames as frames
-use Rattle.fe2o3_sasl_negotiation.specs.declared.standing.ClosedBecause.{ClosedBecause}
-use Rattle.fe2o3_sasl_negotiation.specs.declared.standing.ClosedBecause.TheVariants.{FrameSize, OutOfTurn, ReplyTooLarge, Unread}
-use Rattle.fe2o3_sasl_negotiation.specs.declared.standing.Due.{Due}
-use Rattle.fe2o3_sasl_negotiation.specs.declared.standing.Due.TheVariants.{Frame}
-use Rattle.fe2o3_sasl_negotiation.specs.declared.standing.Turn.{Turn}
-use Rattle.fe2o3_sasl_negotiation.specs.declared.standing.Turn.TheVariants as turns
-use Rattle.fe2o3_sasl_negotiation.specs.declared.standing.Standing.{Standing}
-use Rattle.fe2o3_sasl_negotiation.specs.declared.standing.Standing.TheVariants.{Wanting, LoggedIn, Closed}
+use Rattle.fe2o3_sasl_negotiation.specs.declared.progress.CloseReason.{CloseReason}
+use Rattle.fe2o3_sasl_negotiation.specs.declared.progress.CloseReason.TheVariants.{FrameSize, UnexpectedFrame, ReplyTooLarge, MalformedFrame}
+use Rattle.fe2o3_sasl_negotiation.specs.declared.progress.Expected.{Expected}
+use Rattle.fe2o3_sasl_negotiation.specs.declared.progress.Expected.TheVariants.{Frame}
+use Rattle.fe2o3_sasl_negotiation.specs.declared.progress.FrameKind.{FrameKind}
+use Rattle.fe2o3_sasl_negotiation.specs.declared.progress.FrameKind.TheVariants as turns
+use Rattle.fe2o3_sasl_negotiation.specs.declared.progress.Progress.{Progress}
+use Rattle.fe2o3_sasl_negotiation.specs.declared.progress.Progress.TheVariants.{InProgress, Authenticated, Failed}
 use Rattle.fe2o3_sasl_negotiation.specs.Framing.{framed, size_of, unit_size, IsPart, IsRefused, IsWhole}
 
--- a side of a connection: how it stands, which unit is due, the most bytes of a frame, what has come of that unit, and
+-- a side of a connection: how it stands, which unit is expected, the most bytes of a frame, what has come of that unit, and
 -- the state of its machine
 pub record Side (S : Type 0) : Type 0 where
-  pub standing : Standing
-  pub due : Due
+  pub progress : Progress
+  pub expected : Expected
   pub limit : ℕ
   pub held : List ℕ
   pub state : S
@@ -27,24 +27,24 @@ pub record Side (S : Type 0) : Type 0 where
 abbrev pub Receiving : Type 0 → Type 1
 Receiving S = Side S → List ℕ → List ℕ → ℕ → List ℕ → Side S → Type 0
 
--- what it answers to a unit: the bytes that it sends, how it stands then, and what is due then
+-- what it answers to a unit: the bytes that it sends, how it stands then, and what is expected then
 pub record SideOutput : Type 0 where
   pub sent : List ℕ
-  pub standing : Standing
-  pub due : Due
+  pub progress : Progress
+  pub expected : Expected
 
 -- it sends nothing and closes
-abbrev pub closes : ClosedBecause → Due → SideOutput
-closes why due = record { sent = []; standing = Closed why; due = due }
+abbrev pub closes : CloseReason → Expected → SideOutput
+closes why expected = record { sent = []; progress = Failed why; expected = expected }
 
 -- it sends a body as a frame of at most 512 bytes (part 5, section 5.3.1), or closes where that has more
-abbrev pub Sends : List ℕ → Standing → Due → SideOutput → Type 0
-Sends body standing due answer =
-    ((length body + 4 ≤ 512) × (answer ≡ record { sent = framed body; standing = standing; due = due }))
-    ⊎ ((512 < length body + 4) × (answer ≡ closes ReplyTooLarge due))
+abbrev pub Sends : List ℕ → Progress → Expected → SideOutput → Type 0
+Sends body progress expected answer =
+    ((length body + 4 ≤ 512) × (answer ≡ record { sent = framed body; progress = progress; expected = expected }))
+    ⊎ ((512 < length body + 4) × (answer ≡ closes ReplyTooLarge expected))
 
--- the frame is the one that is due: to an init a server may answer by a challenge, or at once by an outcome
-abbrev pub IsInTurn : Turn → SaslFrame → Type 0
+-- the frame is the one that is expected: to an init a server may answer by a challenge, or at once by an outcome
+abbrev pub IsInTurn : FrameKind → SaslFrame → Type 0
 IsInTurn turns.Mechanisms (frames.Mechanisms names) = Unit {0}
 IsInTurn turns.Init (frames.Init mechanism response hostname) = Unit {0}
 IsInTurn turns.Challenge (frames.Challenge text) = Unit {0}
@@ -55,10 +55,10 @@ IsInTurn turn frame = ⊥
 
 -- what it answers to a body that spells this: what spells no frame and what is out of turn closes, before the machine
 -- is asked
-abbrev pub AnswersTo : {S : Type 0} → (SideOutput → S → Type 0) → Turn → S → Result SaslFrame Error → SideOutput → S → Type 0
-AnswersTo Asks turn state (Err fault) answer next = (answer ≡ closes (Unread fault) (Frame turn)) × (next ≡ state)
+abbrev pub AnswersTo : {S : Type 0} → (SideOutput → S → Type 0) → FrameKind → S → Result SaslFrame Error → SideOutput → S → Type 0
+AnswersTo Asks turn state (Err fault) answer next = (answer ≡ closes (MalformedFrame fault) (Frame turn)) × (next ≡ state)
 AnswersTo Asks turn state (Ok frame) answer next =
-    (¬ IsInTurn turn frame × (answer ≡ closes OutOfTurn (Frame turn)) × (next ≡ state))
+    (¬ IsInTurn turn frame × (answer ≡ closes UnexpectedFrame (Frame turn)) × (next ≡ state))
     ⊎ (IsInTurn turn frame × Asks answer next)
 
 -- a call keeps every byte and wants more
@@ -70,7 +70,7 @@ Waits side bytes taken sent next =
 abbrev pub Ends : {S : Type 0} → Side S → ℕ → SideOutput → S → ℕ → List ℕ → Side S → Type 0
 Ends side n answer state taken sent next =
     (taken ≡ n - length side.held) × (sent ≡ answer.sent)
-    × (next ≡ record { standing = answer.standing; due = answer.due; limit = side.limit; held = []; state = state })
+    × (next ≡ record { progress = answer.progress; expected = answer.expected; limit = side.limit; held = []; state = state })
 
 -- a call takes nothing and changes nothing
 abbrev pub Rests : {S : Type 0} → Side S → ℕ → List ℕ → Side S → Type 0
@@ -78,24 +78,24 @@ Rests side taken sent next = (taken ≡ 0) × (sent ≡ []) × (next ≡ side)
 
 -- what a call makes of the bytes that it is handed, by how the side stands: they count as one with those that have
 -- come of the unit
-abbrev pub ReceivesAt : {S : Type 0} → Standing → (Due → S → List ℕ → List ℕ → SideOutput → S → Type 0) → Side S → List ℕ
+abbrev pub ReceivesAt : {S : Type 0} → Progress → (Expected → S → List ℕ → List ℕ → SideOutput → S → Type 0) → Side S → List ℕ
     → List ℕ → ℕ → List ℕ → Side S → Type 0
-ReceivesAt {S} Wanting Answers side bytes nonce taken sent next = let come = side.held ++ bytes in
-    (IsPart side.due side.limit come × Waits side bytes taken sent next)
-    ⊎ (IsRefused side.due side.limit come × Ends side 4 (closes FrameSize side.due) side.state taken sent next)
-    ⊎ ((answer : SideOutput) × (state : S) × IsWhole side.due side.limit come
-    × Answers side.due side.state nonce (take (unit_size side.due come) come) answer state
-    × Ends side (unit_size side.due come) answer state taken sent next)
-ReceivesAt LoggedIn Answers side bytes nonce taken sent next = Rests side taken sent next
-ReceivesAt (Closed why) Answers side bytes nonce taken sent next = Rests side taken sent next
+ReceivesAt {S} InProgress Answers side bytes nonce taken sent next = let come = side.held ++ bytes in
+    (IsPart side.expected side.limit come × Waits side bytes taken sent next)
+    ⊎ (IsRefused side.expected side.limit come × Ends side 4 (closes FrameSize side.expected) side.state taken sent next)
+    ⊎ ((answer : SideOutput) × (state : S) × IsWhole side.expected side.limit come
+    × Answers side.expected side.state nonce (take (unit_size side.expected come) come) answer state
+    × Ends side (unit_size side.expected come) answer state taken sent next)
+ReceivesAt Authenticated Answers side bytes nonce taken sent next = Rests side taken sent next
+ReceivesAt (Failed why) Answers side bytes nonce taken sent next = Rests side taken sent next
 
 -- what a call makes of them
-abbrev pub Receives : {S : Type 0} → (Due → S → List ℕ → List ℕ → SideOutput → S → Type 0) → Side S → List ℕ → List ℕ → ℕ
+abbrev pub Receives : {S : Type 0} → (Expected → S → List ℕ → List ℕ → SideOutput → S → Type 0) → Side S → List ℕ → List ℕ → ℕ
     → List ℕ → Side S → Type 0
-Receives Answers side bytes nonce taken sent next = ReceivesAt side.standing Answers side bytes nonce taken sent next
+Receives Answers side bytes nonce taken sent next = ReceivesAt side.progress Answers side bytes nonce taken sent next
 
 -- these bytes complete a frame of this body
-abbrev pub Completes : {S : Type 0} → Side S → List ℕ → Turn → List ℕ → Type 0
+abbrev pub Completes : {S : Type 0} → Side S → List ℕ → FrameKind → List ℕ → Type 0
 Completes side bytes turn body = let come = side.held ++ bytes in
-    (side.standing ≡ Wanting) × (side.due ≡ Frame turn) × IsWhole (Frame turn) side.limit come
+    (side.progress ≡ InProgress) × (side.expected ≡ Frame turn) × IsWhole (Frame turn) side.limit come
     × (body ≡ drop 4 (take (size_of come) come))

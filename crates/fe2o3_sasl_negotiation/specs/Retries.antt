@@ -4,10 +4,10 @@ use Rattle.std.specs.Prelude.{◌≡◌, ◌⊎◌, ◌≤◌, ◌+◌, ◌*◌,
 use Rattle.fe2o3_scram.specs.Credentials.{Provider}
 use Rattle.fe2o3_scram.specs.ScramClient.{ClientSide}
 use Rattle.fe2o3_scram.specs.ScramServer.{ServerState}
-use Rattle.fe2o3_sasl_runs.specs.Costs.{acceptor_hmacs}
-use Rattle.fe2o3_sasl_runs.specs.Profiles.{ScramProfile}
-use Rattle.fe2o3_sasl_runs.specs.SaslAcceptor.{ScramAcceptor, acceptor_names, acceptor_machine}
-use Rattle.fe2o3_sasl_negotiation.specs.declared.standing.Due.{Due}
+use Rattle.fe2o3_sasl_core.specs.Costs.{acceptor_hmacs}
+use Rattle.fe2o3_sasl_core.specs.Profiles.{ScramProfile}
+use Rattle.fe2o3_sasl_core.specs.SaslAcceptor.{ScramAcceptor, acceptor_names, acceptor_machine}
+use Rattle.fe2o3_sasl_negotiation.specs.declared.progress.Expected.{Expected}
 use Rattle.fe2o3_sasl_negotiation.specs.ClientNegotiation.{ClientSideAnswers, ClientCosts}
 use Rattle.fe2o3_sasl_negotiation.specs.Connections.{fresh}
 use Rattle.fe2o3_sasl_negotiation.specs.Laws.{Call}
@@ -16,7 +16,7 @@ use Rattle.fe2o3_sasl_negotiation.specs.ServerNegotiation.{ServerSideAnswers, Se
 
 -- calls over a stream, of which this many run out of memory, with what one meter shows before and after them: such a
 -- call leaves the side and the stream as they are, and what it costs stays on the meter
-abbrev pub RetriedCalls : {S : Type 0} → (Due → S → List ℕ → List ℕ → SideOutput → S → Type 0)
+abbrev pub RetriedCalls : {S : Type 0} → (Expected → S → List ℕ → List ℕ → SideOutput → S → Type 0)
     → (Side S → List ℕ → List ℕ → ℕ → ℕ → Type 0) → Side S → List Call → List ℕ → ℕ → ℕ → ℕ → Type 0
 RetriedCalls Answers Costs side [] stream failed before after = (failed ≡ 0) × (after ≡ before)
 RetriedCalls {S} Answers Costs side (call ∷ calls) stream failed before after = (between : ℕ)
@@ -38,4 +38,4 @@ abbrev pub ClientsRetry : Type 0
 ClientsRetry = (hostname : Option (List ℕ)) (client : ClientSide) (limit : ℕ) (calls : List Call) (stream : List ℕ)
     (failed before after : ℕ) → RetriedCalls (ClientSideAnswers hostname) ClientCosts (fresh limit (ScramProfile client))
     calls stream failed before after
-    → (before ≤ after) × (after ≤ before + (failed * (client.limits.most + 4) + (client.limits.most + 4)))
+    → (before ≤ after) × (after ≤ before + (failed * (client.limits.max_iterations + 4) + (client.limits.max_iterations + 4)))

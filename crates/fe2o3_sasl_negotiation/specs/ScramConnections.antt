@@ -4,10 +4,10 @@
 use Rattle.std.specs.Prelude.{◌≡◌, ◌↔◌, ℕ, Option, Some, List, length}
 use Rattle.fe2o3_sasl_wire.specs.SaslFrames.{SaslFrame}
 use Rattle.fe2o3_scram.specs.Credentials.{Provider}
-use Rattle.fe2o3_sasl_runs.specs.ClientHistory.{ClientHistory}
-use Rattle.fe2o3_sasl_runs.specs.Events.{Given, Login, ServerSays, ClientSays}
-use Rattle.fe2o3_sasl_runs.specs.Headline.{AnswersOkExactly, ReportsOkExactly, TakenVerifiersAgree}
-use Rattle.fe2o3_sasl_runs.specs.ServerHistory.{ServerHistory, LoggedIn}
+use Rattle.fe2o3_sasl_core.specs.ClientHistory.{ClientHistory}
+use Rattle.fe2o3_sasl_core.specs.Events.{Given, Login, ServerSays, ClientSays}
+use Rattle.fe2o3_sasl_core.specs.Headline.{AnswersOkExactly, ReportsOkExactly, TakenVerifiersAgree}
+use Rattle.fe2o3_sasl_core.specs.ServerHistory.{ServerHistory, LoggedIn}
 use Rattle.fe2o3_sasl_negotiation.specs.Connections.{Piece, ServerNegotiated, ClientNegotiated}
 use Rattle.fe2o3_sasl_negotiation.specs.Negotiations.{Side}
 

@@ -5,17 +5,17 @@ use Rattle.fe2o3_sasl_wire.specs.declared.sasl_frames.error.Error.{Error}
 use Rattle.fe2o3_sasl_wire.specs.declared.sasl_frames.error.Error.TheVariants as faults
 use Rattle.fe2o3_sasl_wire.specs.SaslFrames.{SaslFrame, canonical}
 use Rattle.fe2o3_sasl_wire.specs.SaslFrames as frames
-use Rattle.fe2o3_sasl_runs.specs.Bodies.{SpellsBody}
-use Rattle.fe2o3_sasl_runs.specs.Costs.{AcceptorStepCosts}
-use Rattle.fe2o3_sasl_runs.specs.Events.{Given, ServerSays, Challenged, Concluded, Failed}
-use Rattle.fe2o3_sasl_runs.specs.Runs.{AcceptorSteps}
-use Rattle.fe2o3_sasl_runs.specs.SaslAcceptor.{offered}
-use Rattle.fe2o3_sasl_negotiation.specs.declared.standing.ClosedBecause.TheVariants.{OtherHeader, OutOfTurn, ReplyTooLarge, Refused, Unread}
-use Rattle.fe2o3_sasl_negotiation.specs.declared.standing.Due.{Due}
-use Rattle.fe2o3_sasl_negotiation.specs.declared.standing.Due.TheVariants.{Header, Frame}
-use Rattle.fe2o3_sasl_negotiation.specs.declared.standing.Turn.{Turn}
-use Rattle.fe2o3_sasl_negotiation.specs.declared.standing.Turn.TheVariants as turns
-use Rattle.fe2o3_sasl_negotiation.specs.declared.standing.Standing.TheVariants.{Wanting, LoggedIn, Closed}
+use Rattle.fe2o3_sasl_core.specs.Bodies.{SpellsBody}
+use Rattle.fe2o3_sasl_core.specs.Costs.{AcceptorStepCosts}
+use Rattle.fe2o3_sasl_core.specs.Events.{Given, ServerSays, Challenged, Concluded, Failed}
+use Rattle.fe2o3_sasl_core.specs.Runs.{AcceptorSteps}
+use Rattle.fe2o3_sasl_core.specs.SaslAcceptor.{offered}
+use Rattle.fe2o3_sasl_negotiation.specs.declared.progress.CloseReason.TheVariants.{ProtocolHeaderMismatch, UnexpectedFrame, ReplyTooLarge, Refused, MalformedFrame}
+use Rattle.fe2o3_sasl_negotiation.specs.declared.progress.Expected.{Expected}
+use Rattle.fe2o3_sasl_negotiation.specs.declared.progress.Expected.TheVariants.{Header, Frame}
+use Rattle.fe2o3_sasl_negotiation.specs.declared.progress.FrameKind.{FrameKind}
+use Rattle.fe2o3_sasl_negotiation.specs.declared.progress.FrameKind.TheVariants as turns
+use Rattle.fe2o3_sasl_negotiation.specs.declared.progress.Progress.TheVariants.{InProgress, Authenticated, Failed as HasFailed}
 use Rattle.fe2o3_sasl_negotiation.specs.Framing.{sasl_header}
 use Rattle.fe2o3_sasl_negotiation.specs.Negotiations.{Side, SideOutput, closes, Sends, IsInTurn, AnswersTo, Receiving, Receives, Completes}
 
@@ -25,7 +25,7 @@ offer_body names = canonical (frames.Mechanisms (offered names))
 
 -- a server offers its mechanisms in a frame, or closes where they fit in none
 abbrev pub Offers : Option (List ℕ) → SideOutput → Type 0
-Offers (Some body) answer = Sends body Wanting (Frame turns.Init) answer
+Offers (Some body) answer = Sends body InProgress (Frame turns.Init) answer
 Offers None answer = answer ≡ closes ReplyTooLarge Header
 
 -- before its first frame it sends its header
@@ -35,32 +35,32 @@ behind_header answer = record answer { sent = sasl_header ++ answer.sent }
 -- what it answers to a header: to that of SASL its own and its mechanisms, to another the one that it wants
 abbrev pub ServerOpens : List (List ℕ) → List ℕ → SideOutput → Type 0
 ServerOpens names header answer =
-    ((header ≢ sasl_header) × (answer ≡ behind_header (closes OtherHeader Header)))
+    ((header ≢ sasl_header) × (answer ≡ behind_header (closes ProtocolHeaderMismatch Header)))
     ⊎ ((header ≡ sasl_header) × ((first : SideOutput) × Offers (offer_body names) first × (answer ≡ behind_header first)))
 
 -- what it sends of what its acceptor says: one challenge, and one outcome, which ends the negotiation
-abbrev pub ServerOutputs : ServerSays → Turn → SideOutput → Type 0
-ServerOutputs (Challenged body) turns.Init answer = Sends body Wanting (Frame turns.Response) answer
-ServerOutputs (Challenged body) turn answer = answer ≡ closes OutOfTurn (Frame turn)
-ServerOutputs (Concluded outcomes.Ok body) turn answer = Sends body LoggedIn (Frame turn) answer
-ServerOutputs (Concluded code body) turn answer = Sends body (Closed (Refused code)) (Frame turn) answer
+abbrev pub ServerOutputs : ServerSays → FrameKind → SideOutput → Type 0
+ServerOutputs (Challenged body) turns.Init answer = Sends body InProgress (Frame turns.Response) answer
+ServerOutputs (Challenged body) turn answer = answer ≡ closes UnexpectedFrame (Frame turn)
+ServerOutputs (Concluded outcomes.Ok body) turn answer = Sends body Authenticated (Frame turn) answer
+ServerOutputs (Concluded code body) turn answer = Sends body (HasFailed (Refused code)) (Frame turn) answer
 ServerOutputs (Failed faults.OutOfMemory) turn answer = ⊥
-ServerOutputs (Failed fault) turn answer = answer ≡ closes (Unread fault) (Frame turn)
+ServerOutputs (Failed fault) turn answer = answer ≡ closes (MalformedFrame fault) (Frame turn)
 
 -- it asks its acceptor, by a step over the body
-abbrev pub AsksAcceptor : {S : Type 0} → (S → List ℕ → SaslFrame → SaslFrame → S → Type 0) → Turn → S → Given
+abbrev pub AsksAcceptor : {S : Type 0} → (S → List ℕ → SaslFrame → SaslFrame → S → Type 0) → FrameKind → S → Given
     → SideOutput → S → Type 0
 AsksAcceptor machine turn state event answer next =
     (says : ServerSays) × AcceptorSteps machine state event says next × ServerOutputs says turn answer
 
 -- what it answers to the body of a frame
-abbrev pub ServerReplies : {S : Type 0} → (S → List ℕ → SaslFrame → SaslFrame → S → Type 0) → Turn → S → Given → SideOutput → S
+abbrev pub ServerReplies : {S : Type 0} → (S → List ℕ → SaslFrame → SaslFrame → S → Type 0) → FrameKind → S → Given → SideOutput → S
     → Type 0
 ServerReplies machine turn state event answer next = (spelled : Result SaslFrame Error) × SpellsBody event.body spelled
     × AnswersTo (AsksAcceptor machine turn state event) turn state spelled answer next
 
 -- what a server with these names and this machine answers to a unit
-abbrev pub ServerSideAnswers : {S : Type 0} → (S → List (List ℕ)) → (S → List ℕ → SaslFrame → SaslFrame → S → Type 0) → Due
+abbrev pub ServerSideAnswers : {S : Type 0} → (S → List (List ℕ)) → (S → List ℕ → SaslFrame → SaslFrame → S → Type 0) → Expected
     → S → List ℕ → List ℕ → SideOutput → S → Type 0
 ServerSideAnswers names machine Header state nonce unit answer next = ServerOpens (names state) unit answer × (next ≡ state)
 ServerSideAnswers names machine (Frame turn) state nonce unit answer next =
@@ -72,13 +72,13 @@ abbrev pub ServerReceives : {S : Type 0} → (S → List (List ℕ)) → (S → 
 ServerReceives names machine = Receives (ServerSideAnswers names machine)
 
 -- the HMAC values of an answer to a body: none, or those of the acceptor's step over a body in turn
-abbrev pub ServerReplyCosts : {S : Type 0} → (S → SaslFrame → ℕ → Type 0) → Turn → S → Given → ℕ → ℕ → Type 0
+abbrev pub ServerReplyCosts : {S : Type 0} → (S → SaslFrame → ℕ → Type 0) → FrameKind → S → Given → ℕ → ℕ → Type 0
 ServerReplyCosts hmacs turn state event before after = (after ≡ before)
     ⊎ ((frame : SaslFrame) × SpellsBody event.body (Ok frame) × IsInTurn turn frame
     × AcceptorStepCosts hmacs state event before after)
 
 -- of an answer to a unit: a header takes none
-abbrev pub ServerUnitCosts : {S : Type 0} → (S → SaslFrame → ℕ → Type 0) → Due → S → List ℕ → List ℕ → ℕ → ℕ → Type 0
+abbrev pub ServerUnitCosts : {S : Type 0} → (S → SaslFrame → ℕ → Type 0) → Expected → S → List ℕ → List ℕ → ℕ → ℕ → Type 0
 ServerUnitCosts hmacs Header state nonce unit before after = after ≡ before
 ServerUnitCosts hmacs (Frame turn) state nonce unit before after =
     ServerReplyCosts hmacs turn state (record { body = drop 4 unit; nonce = nonce }) before after
@@ -86,5 +86,5 @@ ServerUnitCosts hmacs (Frame turn) state nonce unit before after =
 -- and of a call: none, or those of the answer to a body that it completes
 abbrev pub ServerCosts : {S : Type 0} → (S → SaslFrame → ℕ → Type 0) → Side S → List ℕ → List ℕ → ℕ → ℕ → Type 0
 ServerCosts hmacs side bytes nonce before after = (after ≡ before)
-    ⊎ ((turn : Turn) × (body : List ℕ) × Completes side bytes turn body
+    ⊎ ((turn : FrameKind) × (body : List ℕ) × Completes side bytes turn body
     × ServerReplyCosts hmacs turn side.state (record { body = body; nonce = nonce }) before after)

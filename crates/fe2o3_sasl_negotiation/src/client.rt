@@ -1,24 +1,24 @@
 //! The client's side of a connection (AMQP 1.0, part 5, section 5.3.2).
 
 ghost use Rattle.std.specs.Prelude.{◌≡◌, ◌≢◌, ◌<◌, ◌≤◌, ◌^◌, ◌++◌, ℕ, List, Option, [], None, IsTrue, IfOk, IfErr, OnOk, OnErr, option_map, string_bytes, length, drop, min};
-ghost use Rattle.fe2o3_sasl_runs.specs.Runs.{ProfileSteps, client_answer, client_reply};
-ghost use Rattle.fe2o3_sasl_runs.specs.SaslProfile.{profile_of};
-ghost use Rattle.fe2o3_sasl_runs.specs.Costs.{ProfileStepCosts};
+ghost use Rattle.fe2o3_sasl_core.specs.Runs.{ProfileSteps, client_answer, client_reply};
+ghost use Rattle.fe2o3_sasl_core.specs.SaslProfile.{profile_of};
+ghost use Rattle.fe2o3_sasl_core.specs.Costs.{ProfileStepCosts};
 ghost use Rattle.fe2o3_sasl_negotiation.specs.Framing.{IsPart, IsPart-prop, sasl_header};
 ghost use Rattle.fe2o3_sasl_negotiation.specs.ClientNegotiation.{ClientOpens, ClientOutputs, ClientReplies, ClientSideAnswers, ClientReceives, ClientReplyCosts, ClientUnitCosts, ClientCosts};
-ghost use Rattle.fe2o3_sasl_negotiation.specs.SetDown.{IsClientKept, client_fits, side_of};
+ghost use Rattle.fe2o3_sasl_negotiation.specs.Snapshot.{IsClientKept, client_fits, side_of};
 ghost use Rattle.fe2o3_sasl_negotiation.specs.private.Units.{Appends, Screens, ClientUnitAsks};
-ghost use Rattle.fe2o3_sasl_runs.specs.Events.{Reported, Refused};
-ghost use Rattle.fe2o3_sasl_runs.specs.declared.sasl_profile.error.ProfileError.TheVariants.{OutOfMemory as ProfileWantsMemory};
+ghost use Rattle.fe2o3_sasl_core.specs.Events.{Reported, Refused};
+ghost use Rattle.fe2o3_sasl_core.specs.declared.sasl_profile.error.ProfileError.TheVariants.{OutOfMemory as ProfileWantsMemory};
 ghost use Rattle.fe2o3_sasl_wire.specs.FrameView.{shown};
-ghost use Rattle.fe2o3_sasl_negotiation.specs.declared.standing.Due.TheVariants.{Header};
-ghost use Rattle.fe2o3_sasl_negotiation.specs.declared.standing.Standing.TheVariants.{Wanting};
+ghost use Rattle.fe2o3_sasl_negotiation.specs.declared.progress.Expected.TheVariants.{Header};
+ghost use Rattle.fe2o3_sasl_negotiation.specs.declared.progress.Progress.TheVariants.{InProgress};
 
 use crate::framing::{Arrived, MAX_FRAME, Step, end_unit, is_sasl, screen, send, take_unit};
-use crate::set_down::{SetDown, TakeUpError};
-use crate::standing::{ClosedBecause, Due, Received, Standing, Turn};
+use crate::snapshot::{Snapshot, RestoreError};
+use crate::progress::{CloseReason, Expected, Received, Progress, FrameKind};
 use bytes::BytesMut;
-use fe2o3_sasl_runs::{ClientReply, OutOfMemory, ProfileError, SaslProfile, profile_body_step};
+use fe2o3_sasl_core::{ClientReply, OutOfMemory, ProfileError, SaslProfile, profile_body_step};
 use fe2o3_sasl_wire::{ProtocolHeader, SaslCode};
 use fe2o3_scram::Meter;
 use std::alloc::Global;
@@ -28,14 +28,14 @@ use std::alloc::Global;
 pub struct ClientNegotiation {
     profile: SaslProfile,
     hostname: Option<String>,
-    standing: Standing,
-    due: Due,
+    progress: Progress,
+    expected: Expected,
     limit: usize,
     held: Vec<u8>,
-    ghost part: { IsPart due limit held.items } by { IsPart-prop due limit held.items },
+    ghost part: { IsPart expected limit held.items } by { IsPart-prop expected limit held.items },
     ghost most: { limit ≤ 512 },
-    ghost at: { IsTrue (client_fits standing due) },
-    ghost empty: { standing ≢ Wanting → held.items ≡ [] },
+    ghost at: { IsTrue (client_fits progress expected) },
+    ghost empty: { progress ≢ InProgress → held.items ≡ [] },
 }
 
 /// What a client makes of the server's header: it waits for that of SASL.
@@ -44,48 +44,48 @@ fn open(header: &[u8]) -> Step
 {
     if is_sasl(header) {
         Step {
-            standing: Standing::Wanting,
-            due: Due::Frame(Turn::Mechanisms),
+            progress: Progress::InProgress,
+            expected: Expected::Frame(FrameKind::Mechanisms),
         }
     } else {
-        Step::closed(ClosedBecause::OtherHeader, Due::Header)
+        Step::closed(CloseReason::ProtocolHeaderMismatch, Expected::Header)
     }
 }
 
 /// Sends what the profile replies.
-fn send_reply(out: &mut BytesMut, turn: Turn, reply: ClientReply) -> Step
+fn send_reply(out: &mut BytesMut, turn: FrameKind, reply: ClientReply) -> Step
     requires { 512 ≤ out.old.spare }
     ensures { Appends (ClientOutputs (client_reply reply) turn) out.old.items out.new.items result }
 {
-    let due = Due::Frame(turn);
+    let expected = Expected::Frame(turn);
     match reply {
         ClientReply::Init { body } => match turn {
-            Turn::Mechanisms => send(out, &body, Standing::Wanting, Due::Frame(Turn::Challenge)),
-            _ => Step::closed(ClosedBecause::OutOfTurn, due),
+            FrameKind::Mechanisms => send(out, &body, Progress::InProgress, Expected::Frame(FrameKind::Challenge)),
+            _ => Step::closed(CloseReason::UnexpectedFrame, expected),
         },
         ClientReply::Response { body } => match turn {
-            Turn::Challenge => send(out, &body, Standing::Wanting, Due::Frame(Turn::Outcome)),
-            _ => Step::closed(ClosedBecause::OutOfTurn, due),
+            FrameKind::Challenge => send(out, &body, Progress::InProgress, Expected::Frame(FrameKind::Outcome)),
+            _ => Step::closed(CloseReason::UnexpectedFrame, expected),
         },
         ClientReply::Outcome(outcome) => concluded(turn, outcome.code),
     }
 }
 
 /// How a client stands behind an outcome that its profile reports.
-fn concluded(turn: Turn, code: SaslCode) -> Step
+fn concluded(turn: FrameKind, code: SaslCode) -> Step
     ensures { (out : List ℕ) (more : Option (List ℕ)) → Appends (ClientOutputs (Reported code more) turn) out out result }
 {
     match code {
         SaslCode::Ok => Step {
-            standing: Standing::LoggedIn,
-            due: Due::Frame(turn),
+            progress: Progress::Authenticated,
+            expected: Expected::Frame(turn),
         },
-        code => Step::closed(ClosedBecause::Refused(code), Due::Frame(turn)),
+        code => Step::closed(CloseReason::Refused(code), Expected::Frame(turn)),
     }
 }
 
 /// What the profile refuses closes, but for want of memory.
-fn refuse(turn: Turn, fault: ProfileError) -> Result<Step, OutOfMemory>
+fn refuse(turn: FrameKind, fault: ProfileError) -> Result<Step, OutOfMemory>
     ensures ok { IfOk result (λ step. (out : List ℕ)
         → Appends (ClientOutputs (Refused fault) turn) out out step) }
     ensures err { OnErr result (fault ≡ ProfileWantsMemory) }
@@ -94,9 +94,9 @@ fn refuse(turn: Turn, fault: ProfileError) -> Result<Step, OutOfMemory>
         ProfileError::OutOfMemory => Err(OutOfMemory),
         ProfileError::NotImplemented
         | ProfileError::Scram(_)
-        | ProfileError::OtherKeys
+        | ProfileError::StaleKeys
         | ProfileError::Frame(_) => {
-            Ok(Step::closed(ClosedBecause::Profile(fault), Due::Frame(turn)))
+            Ok(Step::closed(CloseReason::Mechanism(fault), Expected::Frame(turn)))
         }
     }
 }
@@ -106,7 +106,7 @@ fn reply(
     alloc: Global,
     profile: &mut SaslProfile,
     hostname: Option<&str>,
-    turn: Turn,
+    turn: FrameKind,
     body: &[u8],
     nonce: &[u8; 32],
     meter: &mut Meter,
@@ -123,7 +123,7 @@ fn reply(
         meter.old meter.new }
 {
     if let Some(why) = screen(turn, body) {
-        return Ok(Step::closed(why, Due::Frame(turn)));
+        return Ok(Step::closed(why, Expected::Frame(turn)));
     }
     out.reserve(MAX_FRAME)?;
     match profile_body_step(alloc, profile, body, nonce, hostname, meter) {
@@ -137,7 +137,7 @@ fn answer(
     alloc: Global,
     profile: &mut SaslProfile,
     hostname: Option<&str>,
-    due: Due,
+    expected: Expected,
     unit: &[u8],
     nonce: &[u8; 32],
     meter: &mut Meter,
@@ -145,16 +145,16 @@ fn answer(
 ) -> Result<Step, OutOfMemory>
     requires four { 4 ≤ length unit.now }
     requires meter { meter.old ≤ 2 ^ 63 }
-    ensures ok { IfOk result (λ step. Appends (λ answer. ClientSideAnswers (shown hostname.entry) due
+    ensures ok { IfOk result (λ step. Appends (λ answer. ClientSideAnswers (shown hostname.entry) expected
         (profile_of profile.old) nonce.now unit.now answer (profile_of profile.new)) out.old.items out.new.items step) }
     ensures unsent { OnErr result (out.new.items ≡ out.old.items) }
     ensures unchanged { OnErr result (profile_of profile.new ≡ profile_of profile.old) }
-    ensures memory { OnErr result (ClientUnitAsks due unit.now) }
-    ensures cost { ClientUnitCosts due (profile_of profile.old) nonce.now unit.now meter.old meter.new }
+    ensures memory { OnErr result (ClientUnitAsks expected unit.now) }
+    ensures cost { ClientUnitCosts expected (profile_of profile.old) nonce.now unit.now meter.old meter.new }
 {
-    match due {
-        Due::Header => Ok(open(unit)),
-        Due::Frame(turn) => reply(
+    match expected {
+        Expected::Header => Ok(open(unit)),
+        Expected::Frame(turn) => reply(
             alloc,
             profile,
             hostname,
@@ -185,7 +185,7 @@ impl ClientNegotiation {
     /// its init names, if any. The client speaks first: send its header (`open`).
     pub fn new(alloc: Global, profile: SaslProfile, hostname: Option<String>) -> Self
         ensures side { client_side result
-            ≡ record { standing = Wanting; due = Header; limit = 512; held = []; state = profile_of profile } }
+            ≡ record { progress = InProgress; expected = Header; limit = 512; held = []; state = profile_of profile } }
         ensures hostname { hostname_in result ≡ option_map string_bytes hostname }
     {
         Self::with_frame_limit(alloc, profile, hostname, MAX_FRAME)
@@ -199,8 +199,8 @@ impl ClientNegotiation {
         limit: usize,
     ) -> Self
         ensures side { client_side result ≡ record {
-          standing = Wanting;
-          due = Header;
+          progress = InProgress;
+          expected = Header;
           limit = min limit 512;
           held = [];
           state = profile_of profile;
@@ -210,18 +210,18 @@ impl ClientNegotiation {
         Self {
             profile,
             hostname,
-            standing: Standing::Wanting,
-            due: Due::Header,
+            progress: Progress::InProgress,
+            expected: Expected::Header,
             limit: limit.min(MAX_FRAME),
             held: Vec::new(alloc),
         }
     }
 
     /// How the negotiation stands.
-    pub fn standing(&self) -> Standing
-        ensures { result ≡ (client_side self.now).standing }
+    pub fn progress(&self) -> Progress
+        ensures { result ≡ (client_side self.now).progress }
     {
-        self.standing
+        self.progress
     }
 
     /// The profile.
@@ -231,46 +231,46 @@ impl ClientNegotiation {
         &self.profile
     }
 
-    /// Saves what the side has beside its profile and its hostname, for `take_up`. It holds no password, key or user.
-    pub fn set_down(&self) -> SetDown<'_>
+    /// Saves what the side has beside its profile and its hostname, for `restore`. It holds no password, key or user.
+    pub fn snapshot(&self) -> Snapshot<'_>
         ensures side { side_of result (client_side self.now).state ≡ client_side self.now }
         ensures kept { IsClientKept result }
     {
-        SetDown {
-            standing: self.standing,
-            due: self.due,
+        Snapshot {
+            progress: self.progress,
+            expected: self.expected,
             limit: self.limit,
             held: &self.held,
             user: None,
         }
     }
 
-    /// Restores the client's side that `set_down` saved, over a profile in the state in which that side's was (the
+    /// Restores the client's side that `snapshot` saved, over a profile in the state in which that side's was (the
     /// profile's `waiting_for`), with its hostname.
     ///
-    /// Errors, in this order: `NotKept` where no client can have such values, and `OutOfMemory`.
-    pub fn take_up(
+    /// Errors, in this order: `InvalidSnapshot` where no client can have such values, and `OutOfMemory`.
+    pub fn restore(
         alloc: Global,
         profile: SaslProfile,
         hostname: Option<String>,
-        kept: &SetDown<'_>,
-    ) -> Result<Self, TakeUpError>
+        kept: &Snapshot<'_>,
+    ) -> Result<Self, RestoreError>
         ensures ok { IfOk result (λ side. IsClientKept kept.now
             × (client_side side ≡ side_of kept.now (profile_of profile))
             × (hostname_in side ≡ option_map string_bytes hostname)) }
-        ensures refused { IfErr result (λ error. error ≡ TakeUpError.NotKept → ¬ IsClientKept kept.now) }
-        ensures other_user { IfErr result (λ error. error ≢ TakeUpError.OtherUser) }
-        ensures memory { IfErr result (λ error. error ≡ TakeUpError.OutOfMemory → IsClientKept kept.now) }
+        ensures refused { IfErr result (λ error. error ≡ RestoreError.InvalidSnapshot → ¬ IsClientKept kept.now) }
+        ensures other_user { IfErr result (λ error. error ≢ RestoreError.OtherUser) }
+        ensures memory { IfErr result (λ error. error ≡ RestoreError.OutOfMemory → IsClientKept kept.now) }
     {
         if !kept.is_client() {
-            return Err(TakeUpError::NotKept);
+            return Err(RestoreError::InvalidSnapshot);
         }
         let held = kept.held.to_vec(alloc)?;
         Ok(Self {
             profile,
             hostname,
-            standing: kept.standing,
-            due: kept.due,
+            progress: kept.progress,
+            expected: kept.expected,
             limit: kept.limit,
             held,
         })
@@ -287,7 +287,7 @@ impl ClientNegotiation {
         Ok(())
     }
 
-    /// Takes the received bytes up to the end of the header or frame that is due, and appends what is to be sent to
+    /// Takes the received bytes up to the end of the header or frame that is expected, and appends what is to be sent to
     /// `out`. While more bytes are wanted, a call takes one at least. The nonce belongs to the frame that these bytes
     /// complete: pass fresh random bytes with each call. The meter, of at most 2^63, counts the HMAC values.
     ///
@@ -308,14 +308,14 @@ impl ClientNegotiation {
             × ClientReceives (hostname_in self.old) (client_side self.old) bytes.now nonce.now received.taken sent
             (client_side self.new)) }
         ensures within { IfOk result (λ received. received.taken ≤ length bytes.now) }
-        ensures moves { IfOk result (λ received. (client_side self.old).standing ≡ Wanting
+        ensures moves { IfOk result (λ received. (client_side self.old).progress ≡ InProgress
             → 0 < length bytes.now → 0 < received.taken) }
-        ensures standing { IfOk result (λ received. received.standing ≡ (client_side self.new).standing) }
+        ensures progress { IfOk result (λ received. received.progress ≡ (client_side self.new).progress) }
         ensures unsent { OnErr result (out.new.items ≡ out.old.items) }
         ensures unchanged { OnErr result (client_side self.new ≡ client_side self.old) }
         ensures hostname { hostname_in self.new ≡ hostname_in self.old }
         ensures memory { OnErr result (ClientAsks (client_room self.old) (client_side self.old) bytes.now) }
-        ensures room { OnOk result ((client_side self.old).standing ≡ Wanting
+        ensures room { OnOk result ((client_side self.old).progress ≡ InProgress
             → HasRoom (client_room self.new) (client_side self.old)) }
         ensures room_stays { client_room self.old ≤ client_room self.new }
         ensures cost { ClientCosts (client_side self.old) bytes.now nonce.now meter.old meter.new }
@@ -336,41 +336,41 @@ impl ClientNegotiation {
         ensures ok { IfOk result (λ received. (sent : List ℕ) × (out.new.items ≡ out.old.items ++ sent)
             × ClientReceives (hostname_in self.old) (client_side self.old) bytes.now nonce.now received.taken sent
             (client_side self.new)) }
-        ensures standing { IfOk result (λ received. received.standing ≡ (client_side self.new).standing) }
+        ensures progress { IfOk result (λ received. received.progress ≡ (client_side self.new).progress) }
         ensures unsent { OnErr result (out.new.items ≡ out.old.items) }
         ensures unchanged { OnErr result (client_side self.new ≡ client_side self.old) }
         ensures hostname { hostname_in self.new ≡ hostname_in self.old }
         ensures memory { OnErr result (ClientAsks (client_room self.old) (client_side self.old) bytes.now) }
-        ensures room { OnOk result ((client_side self.old).standing ≡ Wanting
+        ensures room { OnOk result ((client_side self.old).progress ≡ InProgress
             → HasRoom (client_room self.new) (client_side self.old)) }
         ensures room_stays { client_room self.old ≤ client_room self.new }
         ensures cost { ClientCosts (client_side self.old) bytes.now nonce.now meter.old meter.new }
     {
-        let Standing::Wanting = self.standing else {
+        let Progress::InProgress = self.progress else {
             return Ok(Received {
                 taken: 0,
-                standing: self.standing,
+                progress: self.progress,
             });
         };
         let had = self.held.len();
-        match take_unit(&mut self.held, self.due, self.limit, bytes)? {
+        match take_unit(&mut self.held, self.expected, self.limit, bytes)? {
             Arrived::Part => Ok(Received {
                 taken: bytes.len(),
-                standing: Standing::Wanting,
+                progress: Progress::InProgress,
             }),
             Arrived::Refused => {
                 let taken = end_unit(&mut self.held, had);
-                self.standing = Standing::Closed(ClosedBecause::FrameSize);
+                self.progress = Progress::Failed(CloseReason::FrameSize);
                 Ok(Received {
                     taken,
-                    standing: self.standing,
+                    progress: self.progress,
                 })
             }
             Arrived::Whole => match answer(
                 alloc,
                 &mut self.profile,
                 shown_name(&self.hostname),
-                self.due,
+                self.expected,
                 &self.held,
                 nonce,
                 meter,
@@ -378,11 +378,11 @@ impl ClientNegotiation {
             ) {
                 Ok(step) => {
                     let taken = end_unit(&mut self.held, had);
-                    self.standing = step.standing;
-                    self.due = step.due;
+                    self.progress = step.progress;
+                    self.expected = step.expected;
                     Ok(Received {
                         taken,
-                        standing: step.standing,
+                        progress: step.progress,
                     })
                 }
                 Err(fault) => {

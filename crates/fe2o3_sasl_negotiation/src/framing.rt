@@ -6,18 +6,18 @@ ghost use Rattle.fe2o3_sasl_wire.specs.FrameView.{viewed_frame};
 ghost use Rattle.fe2o3_sasl_negotiation.specs.Framing.{sasl_header, size_of, Fits, IsPart};
 ghost use Rattle.fe2o3_sasl_negotiation.specs.Negotiations.{IsInTurn, Sends, closes};
 ghost use Rattle.fe2o3_sasl_negotiation.specs.private.Units.{TakesUnit, Appends, Screens};
-ghost use Rattle.fe2o3_sasl_negotiation.specs.declared.standing.Due.TheVariants.{Header, Frame};
-ghost use Rattle.fe2o3_sasl_negotiation.specs.declared.standing.Standing.TheVariants.{Closed};
+ghost use Rattle.fe2o3_sasl_negotiation.specs.declared.progress.Expected.TheVariants.{Header, Frame};
+ghost use Rattle.fe2o3_sasl_negotiation.specs.declared.progress.Progress.TheVariants.{Failed};
 
-use crate::standing::{ClosedBecause, Due, Standing, Turn};
+use crate::progress::{CloseReason, Expected, Progress, FrameKind};
 use bytes::BytesMut;
-use fe2o3_sasl_runs::OutOfMemory;
+use fe2o3_sasl_core::OutOfMemory;
 use fe2o3_sasl_wire::{FrameView, ProtocolHeader, view_frame};
 
 /// The most bytes of a SASL frame (AMQP 1.0, part 5, section 5.3.1).
 pub const MAX_FRAME: usize = 512;
 
-/// What has come of the unit that is due.
+/// What has come of the unit that is expected.
 #[derive(Clone, Copy)]
 pub enum Arrived {
     /// Less than the whole: more bytes are wanted.
@@ -30,24 +30,24 @@ pub enum Arrived {
     Whole,
 }
 
-/// How a side stands behind a unit, and what is due then.
+/// How a side stands behind a unit, and what is expected then.
 #[derive(Clone, Copy)]
 pub struct Step {
     /// How it stands.
-    pub standing: Standing,
+    pub progress: Progress,
 
-    /// What is due.
-    pub due: Due,
+    /// What is expected.
+    pub expected: Expected,
 }
 
 impl Step {
     /// The side closes.
-    pub fn closed(why: ClosedBecause, due: Due) -> Step
-        ensures { result ≡ record { standing = Closed why; due = due } }
+    pub fn closed(why: CloseReason, expected: Expected) -> Step
+        ensures { result ≡ record { progress = Failed why; expected = expected } }
     {
         Step {
-            standing: Standing::Closed(why),
-            due,
+            progress: Progress::Failed(why),
+            expected,
         }
     }
 }
@@ -114,7 +114,7 @@ fn take_size(held: &mut Vec<u8>, bytes: &[u8]) -> Result<usize, OutOfMemory>
 /// Takes what is missing of a frame: first of its size, and then, where a frame may have that, of its body.
 fn take_frame(
     held: &mut Vec<u8>,
-    turn: Turn,
+    turn: FrameKind,
     limit: usize,
     bytes: &[u8],
 ) -> Result<Arrived, OutOfMemory>
@@ -144,25 +144,25 @@ fn take_frame(
     }
 }
 
-/// Takes what is missing of the unit that is due, and nothing behind it. Room for the longest unit is asked for
+/// Takes what is missing of the unit that is expected, and nothing behind it. Room for the longest unit is asked for
 /// once, so that a connection makes one request for what it holds.
 pub fn take_unit(
     held: &mut Vec<u8>,
-    due: Due,
+    expected: Expected,
     limit: usize,
     bytes: &[u8],
 ) -> Result<Arrived, OutOfMemory>
-    requires { IsPart due limit held.old.items }
-    ensures ok { IfOk result (λ arrived. TakesUnit due limit (held.old.items ++ bytes.now) arrived held.new.items) }
+    requires { IsPart expected limit held.old.items }
+    ensures ok { IfOk result (λ arrived. TakesUnit expected limit (held.old.items ++ bytes.now) arrived held.new.items) }
     ensures err { OnErr result (held.new.items ≡ held.old.items) }
     ensures memory { OnErr result (vec_capacity held.old < max limit 8) }
     ensures room { OnOk result (max limit 8 ≤ vec_capacity held.new) }
     ensures capacity { vec_capacity held.old ≤ vec_capacity held.new }
 {
     held.reserve(limit.max(8).saturating_sub(held.len()))?;
-    match due {
-        Due::Header => take_header(held, bytes),
-        Due::Frame(turn) => take_frame(held, turn, limit, bytes),
+    match expected {
+        Expected::Header => take_header(held, bytes),
+        Expected::Frame(turn) => take_frame(held, turn, limit, bytes),
     }
 }
 
@@ -184,42 +184,42 @@ pub fn is_sasl(header: &[u8]) -> bool
     header == <[u8; 8]>::from(ProtocolHeader::sasl()).as_slice()
 }
 
-/// Whether the frame is the one that is due.
-fn is_in_turn(turn: Turn, view: &FrameView<'_>) -> bool
+/// Whether the frame is the one that is expected.
+fn is_in_turn(turn: FrameKind, view: &FrameView<'_>) -> bool
     ensures { result ≡ true ↔ IsInTurn turn (viewed_frame view.now) }
 {
     match (turn, view) {
-        (Turn::Mechanisms, FrameView::Mechanisms(_)) => true,
-        (Turn::Init, FrameView::Init { .. }) => true,
-        (Turn::Challenge, FrameView::Challenge(_)) => true,
-        (Turn::Challenge, FrameView::Outcome { .. }) => true,
-        (Turn::Response, FrameView::Response(_)) => true,
-        (Turn::Outcome, FrameView::Outcome { .. }) => true,
+        (FrameKind::Mechanisms, FrameView::Mechanisms(_)) => true,
+        (FrameKind::Init, FrameView::Init { .. }) => true,
+        (FrameKind::Challenge, FrameView::Challenge(_)) => true,
+        (FrameKind::Challenge, FrameView::Outcome { .. }) => true,
+        (FrameKind::Response, FrameView::Response(_)) => true,
+        (FrameKind::Outcome, FrameView::Outcome { .. }) => true,
         _ => false,
     }
 }
 
 /// Why a body closes the negotiation before the machine is asked, or `None`.
-pub fn screen(turn: Turn, body: &[u8]) -> Option<ClosedBecause>
+pub fn screen(turn: FrameKind, body: &[u8]) -> Option<CloseReason>
     ensures { Screens turn body.now result }
 {
     match view_frame(body) {
         Ok((view, _)) if is_in_turn(turn, &view) => None,
-        Ok(_) => Some(ClosedBecause::OutOfTurn),
-        Err(fault) => Some(ClosedBecause::Unread(fault)),
+        Ok(_) => Some(CloseReason::UnexpectedFrame),
+        Err(fault) => Some(CloseReason::MalformedFrame(fault)),
     }
 }
 
 /// Appends a body as a frame, for which there is room, or closes where it is too long for one.
-pub fn send(out: &mut BytesMut, body: &[u8], standing: Standing, due: Due) -> Step
+pub fn send(out: &mut BytesMut, body: &[u8], progress: Progress, expected: Expected) -> Step
     requires { 512 ≤ out.old.spare }
-    ensures { Appends (Sends body.now standing due) out.old.items out.new.items result }
+    ensures { Appends (Sends body.now progress expected) out.old.items out.new.items result }
 {
     if body.len() > MAX_FRAME - 4 {
-        return Step::closed(ClosedBecause::ReplyTooLarge, due);
+        return Step::closed(CloseReason::ReplyTooLarge, expected);
     }
     let size = body.len() as u32 + 4;
     out.extend_reserved(&size.to_be_bytes());
     out.extend_reserved(body);
-    Step { standing, due }
+    Step { progress, expected }
 }

@@ -2,23 +2,23 @@
 //! every list of bytes, which the check has proved.
 
 ghost use Rattle.fe2o3_scram.specs.ScramServer.{Initial};
-ghost use Rattle.fe2o3_sasl_runs.specs.Profiles.{scram_profile};
-ghost use Rattle.fe2o3_sasl_runs.specs.Runs.{ProfileSteps};
-ghost use Rattle.fe2o3_sasl_runs.specs.SaslAcceptor.{ScramAcceptor, acceptor_machine, acceptor_user};
+ghost use Rattle.fe2o3_sasl_core.specs.Profiles.{scram_profile};
+ghost use Rattle.fe2o3_sasl_core.specs.Runs.{ProfileSteps};
+ghost use Rattle.fe2o3_sasl_core.specs.SaslAcceptor.{ScramAcceptor, acceptor_machine, acceptor_user};
 ghost use Rattle.fe2o3_sasl_negotiation.specs.ClientNegotiation.{ClientReceives};
 ghost use Rattle.fe2o3_sasl_negotiation.specs.Connections.{ServersConnect, ClientsConnect, ServerConnectionsLogIn, ClientConnectionsLogIn};
 ghost use Rattle.fe2o3_sasl_negotiation.specs.CostLaws.{ServersCost, ClientsCost, ServersAreBounded, ClientsAreBounded};
 ghost use Rattle.fe2o3_sasl_negotiation.specs.Laws.{CutsDoNotMatter, ClientCutsDoNotMatter};
-ghost use Rattle.fe2o3_sasl_negotiation.specs.NamedUsers.{OneOfServersLogIn, OneOfStepsLogIn};
+ghost use Rattle.fe2o3_sasl_negotiation.specs.NamedUsers.{AnyMechanismServersLogIn, AnyMechanismStepsLogIn};
 ghost use Rattle.fe2o3_sasl_negotiation.specs.ScramConnections.{ScramServersServe, ScramClientsReport};
 ghost use Rattle.fe2o3_sasl_negotiation.specs.ServerNegotiation.{ServerSideAnswers, ServerReceives};
 
-use fe2o3_sasl_runs::{HasMechanism, NamesUser};
+use fe2o3_sasl_core::{HasMechanism, AuthenticatedUser};
 
 /// However a stream of bytes is cut into calls, what they take of it is answered as it would be as a whole, unit by unit,
 /// each with the nonce of a call, in order. Which call that is for a frame, [`server_connections`] and
 /// [`client_connections`] say.
-pub fn cuts<A: NamesUser>()
+pub fn cuts<A: AuthenticatedUser>()
     ensures server { CutsDoNotMatter (ServerSideAnswers A.names A.machine) }
     ensures client { ClientCutsDoNotMatter }
 {}
@@ -33,7 +33,7 @@ pub fn cuts<A: NamesUser>()
 /// The last argument of `connects` is what one call does, by the contract of
 /// [`ServerNegotiation::receive`](crate::ServerNegotiation::receive). The arguments of `scram` are the machine of a SCRAM
 /// server, its state before its first frame, and the user that a state names.
-pub fn server_connections<A: NamesUser>()
+pub fn server_connections<A: AuthenticatedUser>()
     ensures connects { ServersConnect A.names A.machine (ServerReceives A.names A.machine) }
     ensures logged_in { ServerConnectionsLogIn A.machine }
     ensures scram { ScramServersServe acceptor_machine (λ provider. ScramAcceptor provider Initial) acceptor_user }
@@ -57,9 +57,9 @@ pub fn client_connections()
 
 /// Who a server of several mechanisms has logged in, whatever its bytes are: the init asks for a mechanism that it offers,
 /// the acceptor that has this mechanism answers Ok to the last frame, and the server names that acceptor's user.
-pub fn users_of_one_of<A: HasMechanism, B: HasMechanism>()
-    ensures connections { OneOfServersLogIn A.names B.names A.machine B.machine }
-    ensures steps { OneOfStepsLogIn A.names B.names A.machine B.machine }
+pub fn users_of_any_mechanism<A: HasMechanism, B: HasMechanism>()
+    ensures connections { AnyMechanismServersLogIn A.names B.names A.machine B.machine }
+    ensures steps { AnyMechanismStepsLogIn A.names B.names A.machine B.machine }
 {}
 
 /// What a connection costs, whatever its bytes are and in whatever calls they are handed in: a SCRAM server makes

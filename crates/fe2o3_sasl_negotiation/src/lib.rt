@@ -13,8 +13,8 @@ mod pieces;
 mod restored;
 pub mod retries;
 mod server;
-mod set_down;
-mod standing;
+mod snapshot;
+mod progress;
 
 pub use client::ClientNegotiation;
 pub use pieces::{
@@ -22,5 +22,5 @@ pub use pieces::{
 };
 pub use restored::{restored_client, restored_server};
 pub use server::ServerNegotiation;
-pub use set_down::{SetDown, TakeUpError};
-pub use standing::{ClosedBecause, Due, Received, Standing, Turn};
+pub use snapshot::{Snapshot, RestoreError};
+pub use progress::{CloseReason, Expected, Received, Progress, FrameKind};

@@ -2,13 +2,13 @@
 
 ghost use Rattle.std.specs.Prelude.{◌≡◌, ◌≢◌, ◌↔◌, ◌<◌, ◌≤◌, ◌++◌, List, ℕ, IfOk, length, map, false, option_map, string_bytes};
 ghost use Rattle.fe2o3_sasl_wire.specs.SaslFrames.{IsBytes};
-ghost use Rattle.fe2o3_sasl_negotiation.specs.declared.standing.Standing.TheVariants.{Wanting, LoggedIn};
+ghost use Rattle.fe2o3_sasl_negotiation.specs.declared.progress.Progress.TheVariants.{InProgress, Authenticated};
 ghost use Rattle.fe2o3_scram.specs.Credentials.{serving};
 ghost use Rattle.fe2o3_scram.specs.ScramServer.{Initial, served_by, state_in};
-ghost use Rattle.fe2o3_sasl_runs.specs.Profiles.{Profile};
-ghost use Rattle.fe2o3_sasl_runs.specs.Runs.{ProfileSteps};
-ghost use Rattle.fe2o3_sasl_runs.specs.SaslProfile.{profile_of};
-ghost use Rattle.fe2o3_sasl_runs.specs.SaslAcceptor.{ScramAcceptor, acceptor_machine, acceptor_names, acceptor_user};
+ghost use Rattle.fe2o3_sasl_core.specs.Profiles.{Profile};
+ghost use Rattle.fe2o3_sasl_core.specs.Runs.{ProfileSteps};
+ghost use Rattle.fe2o3_sasl_core.specs.SaslProfile.{profile_of};
+ghost use Rattle.fe2o3_sasl_core.specs.SaslAcceptor.{ScramAcceptor, acceptor_machine, acceptor_names, acceptor_user};
 ghost use Rattle.fe2o3_sasl_negotiation.specs.Connections.{ServerConnection, ServerNegotiated, ClientConnection, LastReply, IsOkSent, bytes_of};
 ghost use Rattle.fe2o3_sasl_negotiation.specs.ScramConnections.{ScramServes};
 ghost use Rattle.fe2o3_sasl_negotiation.specs.Pieces.{piece_of, first_bytes};
@@ -17,9 +17,9 @@ ghost use Rattle.fe2o3_sasl_negotiation.specs.private.Pieces.{Continues};
 
 use crate::client::ClientNegotiation;
 use crate::server::ServerNegotiation;
-use crate::standing::Standing;
+use crate::progress::Progress;
 use bytes::BytesMut;
-use fe2o3_sasl_runs::{NamesUser, OutOfMemory, SaslProfile};
+use fe2o3_sasl_core::{AuthenticatedUser, OutOfMemory, SaslProfile};
 use fe2o3_scram::Meter;
 use fe2o3_scram::credentials::ScramCredentialProvider;
 use fe2o3_scram::scram_server::ScramAuthenticator;
@@ -52,7 +52,7 @@ pub struct Negotiated<S> {
 }
 
 /// Passes the bytes of a piece to the side, up to those that it does not take.
-fn serve_piece<A: NamesUser>(
+fn serve_piece<A: AuthenticatedUser>(
     alloc: Global,
     side: &mut ServerNegotiation<A>,
     piece: &Piece<'_>,
@@ -60,14 +60,14 @@ fn serve_piece<A: NamesUser>(
 ) -> Result<usize, OutOfMemory>
     ensures within { IfOk result (λ taken. taken ≤ length piece.now.bytes.now) }
     ensures all { IfOk result (λ taken. taken < length piece.now.bytes.now
-        → (server_side A.state side.new).standing ≢ Wanting) }
+        → (server_side A.state side.new).progress ≢ InProgress) }
     ensures ok { IfOk result (λ taken. (more : List ℕ) × (sent.new.items ≡ sent.old.items ++ more)
         × ((limit : ℕ) (state : A.State)
         → Continues (ServerConnection A.names A.machine limit state) (server_side A.state side.old)
         piece.now.bytes.now piece.now.nonce taken more (server_side A.state side.new))) }
 {
     let mut taken = 0;
-    while taken < piece.bytes.len() && side.standing() == Standing::Wanting {
+    while taken < piece.bytes.len() && side.progress() == Progress::InProgress {
         let mut meter = Meter::new();
         let received = side.receive(alloc, &piece.bytes[taken..], &piece.nonce, &mut meter, sent)?;
         taken += received.taken;
@@ -78,7 +78,7 @@ fn serve_piece<A: NamesUser>(
 /// What a server's side of a new connection makes of bytes that arrive in these pieces, by an acceptor that no
 /// connection has used: the whole connection up to where the side takes no more. While it waits it takes them all.
 /// Where memory runs out nothing is returned.
-pub fn server_connection<A: NamesUser + Drop>(
+pub fn server_connection<A: AuthenticatedUser + Drop>(
     alloc: Global,
     acceptor: A,
     pieces: &[Piece<'_>],
@@ -87,7 +87,7 @@ pub fn server_connection<A: NamesUser + Drop>(
         → ServerConnection A.names A.machine 512 (A.state acceptor) (map piece_of pieces.now)
         (first_bytes (map piece_of pieces.now) served.pieces served.bytes) served.sent.items
         (server_side A.state served.side)) }
-    ensures all { IfOk result (λ served. (server_side A.state served.side).standing ≡ Wanting
+    ensures all { IfOk result (λ served. (server_side A.state served.side).progress ≡ InProgress
         → served.pieces ≡ length pieces.now) }
 {
     let mut side = ServerNegotiation::new(alloc, acceptor);
@@ -137,10 +137,10 @@ pub fn scram_server_connection<C: ScramCredentialProvider>(
         (negotiated : ServerNegotiated acceptor_machine 512
         (ScramAcceptor (serving false (C.meaning credentials.now)) Initial) (map piece_of pieces.now) taken out
         (server_side (λ server. ScramAcceptor (served_by C.meaning server) (state_in server)) served.side))
-        → ((server_side (λ server. ScramAcceptor (served_by C.meaning server) (state_in server)) served.side).standing
-        ≡ LoggedIn) ↔ LastReply IsOkSent negotiated.replies) }
+        → ((server_side (λ server. ScramAcceptor (served_by C.meaning server) (state_in server)) served.side).progress
+        ≡ Authenticated) ↔ LastReply IsOkSent negotiated.replies) }
     ensures all { IfOk result (λ served.
-        (server_side (λ server. ScramAcceptor (served_by C.meaning server) (state_in server)) served.side).standing ≡ Wanting
+        (server_side (λ server. ScramAcceptor (served_by C.meaning server) (state_in server)) served.side).progress ≡ InProgress
         → served.pieces ≡ length pieces.now) }
 {
     let credentials = credentials.clone()?;
@@ -156,7 +156,7 @@ fn answer_piece(
 ) -> Result<usize, OutOfMemory>
     ensures within { IfOk result (λ taken. taken ≤ length piece.now.bytes.now) }
     ensures all { IfOk result (λ taken. taken < length piece.now.bytes.now
-        → (client_side side.new).standing ≢ Wanting) }
+        → (client_side side.new).progress ≢ InProgress) }
     ensures hostname { IfOk result (λ _. hostname_in side.new ≡ hostname_in side.old) }
     ensures ok { IfOk result (λ taken. (more : List ℕ) × (sent.new.items ≡ sent.old.items ++ more)
         × ((limit : ℕ) (profile : Profile)
@@ -164,7 +164,7 @@ fn answer_piece(
         piece.now.nonce taken more (client_side side.new))) }
 {
     let mut taken = 0;
-    while taken < piece.bytes.len() && side.standing() == Standing::Wanting {
+    while taken < piece.bytes.len() && side.progress() == Progress::InProgress {
         let mut meter = Meter::new();
         let received = side.receive(alloc, &piece.bytes[taken..], &piece.nonce, &mut meter, sent)?;
         taken += received.taken;
@@ -185,7 +185,7 @@ pub fn client_connection(
         → ClientConnection (ProfileSteps (option_map string_bytes hostname)) 512 (profile_of profile) (map piece_of pieces.now)
         (first_bytes (map piece_of pieces.now) answered.pieces answered.bytes) answered.sent.items
         (client_side answered.side)) }
-    ensures all { IfOk result (λ answered. (client_side answered.side).standing ≡ Wanting
+    ensures all { IfOk result (λ answered. (client_side answered.side).progress ≡ InProgress
         → answered.pieces ≡ length pieces.now) }
 {
     let mut side = ClientNegotiation::new(alloc, profile, hostname);

@@ -2,29 +2,29 @@
 
 ghost use Rattle.std.specs.Prelude.{◌≡◌, IfErr, IfOk, option_map, string_bytes};
 ghost use Rattle.fe2o3_sasl_negotiation.specs.Sides.{acceptor_in, client_side, hostname_in, server_side};
-ghost use Rattle.fe2o3_sasl_runs.specs.SaslProfile.{profile_of};
+ghost use Rattle.fe2o3_sasl_core.specs.SaslProfile.{profile_of};
 
 use crate::client::ClientNegotiation;
 use crate::server::ServerNegotiation;
-use crate::set_down::TakeUpError;
-use fe2o3_sasl_runs::{NamesUser, SaslProfile};
+use crate::snapshot::RestoreError;
+use fe2o3_sasl_core::{AuthenticatedUser, SaslProfile};
 use std::alloc::Global;
 
 /// Saves a server's side, after whatever call, and restores it over an acceptor in the state of that side's. The
 /// result is the same side, and its acceptor names the same user.
 ///
 /// `OutOfMemory` is the only error.
-pub fn restored_server<A: NamesUser + Drop>(
+pub fn restored_server<A: AuthenticatedUser + Drop>(
     alloc: Global,
     side: &ServerNegotiation<A>,
     acceptor: A,
-) -> Result<ServerNegotiation<A>, TakeUpError>
+) -> Result<ServerNegotiation<A>, RestoreError>
     requires { A.state acceptor ≡ A.state (acceptor_in side.now) }
     ensures side { IfOk result (λ restored. server_side A.state restored ≡ server_side A.state side.now) }
     ensures user { IfOk result (λ restored. A.named (acceptor_in restored) ≡ A.named (acceptor_in side.now)) }
-    ensures memory { IfErr result (λ error. error ≡ TakeUpError.OutOfMemory) }
+    ensures memory { IfErr result (λ error. error ≡ RestoreError.OutOfMemory) }
 {
-    ServerNegotiation::take_up(alloc, acceptor, &side.set_down())
+    ServerNegotiation::restore(alloc, acceptor, &side.snapshot())
 }
 
 /// Saves a client's side, after whatever call, and restores it over a profile in the state of that side's. The
@@ -36,11 +36,11 @@ pub fn restored_client(
     side: &ClientNegotiation,
     profile: SaslProfile,
     hostname: Option<String>,
-) -> Result<ClientNegotiation, TakeUpError>
+) -> Result<ClientNegotiation, RestoreError>
     requires { profile_of profile ≡ (client_side side.now).state }
     ensures side { IfOk result (λ restored. client_side restored ≡ client_side side.now) }
     ensures hostname { IfOk result (λ restored. hostname_in restored ≡ option_map string_bytes hostname) }
-    ensures memory { IfErr result (λ error. error ≡ TakeUpError.OutOfMemory) }
+    ensures memory { IfErr result (λ error. error ≡ RestoreError.OutOfMemory) }
 {
-    ClientNegotiation::take_up(alloc, profile, hostname, &side.set_down())
+    ClientNegotiation::restore(alloc, profile, hostname, &side.snapshot())
 }

@@ -1,25 +1,25 @@
 //! The server's side of a connection (AMQP 1.0, part 5, section 5.3.2).
 
 ghost use Rattle.std.specs.Prelude.{◌≡◌, ◌≢◌, ◌<◌, ◌≤◌, ◌^◌, ◌++◌, ℕ, List, Option, Some, None, [], IsTrue, IfOk, IfErr, OnOk, OnErr, option_map, length, drop, min};
-ghost use Rattle.fe2o3_sasl_runs.specs.Runs.{AcceptorSteps, server_reply, server_answer};
-ghost use Rattle.fe2o3_sasl_runs.specs.Events.{Failed};
-ghost use Rattle.fe2o3_sasl_runs.specs.Costs.{AcceptorStepCosts};
+ghost use Rattle.fe2o3_sasl_core.specs.Runs.{AcceptorSteps, server_reply, server_answer};
+ghost use Rattle.fe2o3_sasl_core.specs.Events.{Failed};
+ghost use Rattle.fe2o3_sasl_core.specs.Costs.{AcceptorStepCosts};
 ghost use Rattle.fe2o3_sasl_negotiation.specs.Framing.{IsPart, IsPart-prop};
 ghost use Rattle.fe2o3_sasl_negotiation.specs.Negotiations.{Completes, SideOutput, Receives};
 ghost use Rattle.fe2o3_sasl_negotiation.specs.ServerNegotiation.{offer_body as offer_of, ServerOpens, ServerOutputs, ServerReplies, ServerReplyCosts, ServerUnitCosts, ServerSideAnswers, ServerReceives, ServerCosts};
-ghost use Rattle.fe2o3_sasl_negotiation.specs.SetDown.{IsServerKept, NamesKeptUser, server_fits, side_of};
+ghost use Rattle.fe2o3_sasl_negotiation.specs.Snapshot.{IsServerKept, NamesKeptUser, server_fits, side_of};
 ghost use Rattle.fe2o3_sasl_negotiation.specs.private.Units.{Appends, Screens, ServerUnitAsks};
 ghost use Rattle.fe2o3_sasl_wire.specs.FrameView.{shown};
 ghost use Rattle.fe2o3_sasl_wire.specs.declared.sasl_frames.error.Error.TheVariants.{OutOfMemory as WireOutOfMemory};
-ghost use Rattle.fe2o3_sasl_negotiation.specs.declared.standing.Due.TheVariants.{Header, Frame as FrameDue};
-ghost use Rattle.fe2o3_sasl_negotiation.specs.declared.standing.Standing.TheVariants.{Wanting, LoggedIn};
+ghost use Rattle.fe2o3_sasl_negotiation.specs.declared.progress.Expected.TheVariants.{Header, Frame as FrameDue};
+ghost use Rattle.fe2o3_sasl_negotiation.specs.declared.progress.Progress.TheVariants.{InProgress, Authenticated};
 
 use crate::framing::{Arrived, MAX_FRAME, Step, end_unit, is_sasl, screen, send, take_unit};
-use crate::set_down::{SetDown, TakeUpError, is_user};
-use crate::standing::{ClosedBecause, Due, Received, Standing, Turn};
+use crate::snapshot::{Snapshot, RestoreError, is_user};
+use crate::progress::{CloseReason, Expected, Received, Progress, FrameKind};
 use bytes::BytesMut;
-use fe2o3_sasl_runs::{
-    NamesUser, OutOfMemory, SaslAcceptor, SaslAcceptorExt, ServerReply, acceptor_body_step,
+use fe2o3_sasl_core::{
+    AuthenticatedUser, OutOfMemory, SaslAcceptor, SaslAcceptorExt, ServerReply, acceptor_body_step,
 };
 use fe2o3_sasl_wire::{Error, Frame, FrameCodec, ProtocolHeader, SaslCode};
 use fe2o3_scram::Meter;
@@ -29,14 +29,14 @@ use std::alloc::Global;
 #[derive(Drop)]
 pub struct ServerNegotiation<A> {
     acceptor: A,
-    standing: Standing,
-    due: Due,
+    progress: Progress,
+    expected: Expected,
     limit: usize,
     held: Vec<u8>,
-    ghost part: { IsPart due limit held.items } by { IsPart-prop due limit held.items },
+    ghost part: { IsPart expected limit held.items } by { IsPart-prop expected limit held.items },
     ghost most: { limit ≤ 512 },
-    ghost at: { IsTrue (server_fits standing due) },
-    ghost empty: { standing ≢ Wanting → held.items ≡ [] },
+    ghost at: { IsTrue (server_fits progress expected) },
+    ghost empty: { progress ≢ InProgress → held.items ≡ [] },
 }
 
 /// The body of the list of mechanisms, or `None` where it has none.
@@ -66,7 +66,7 @@ fn open<A: SaslAcceptor>(
     let sasl = <[u8; 8]>::from(ProtocolHeader::sasl());
     if !is_sasl(header) {
         out.extend_from_slice(&sasl)?;
-        return Ok(Step::closed(ClosedBecause::OtherHeader, Due::Header));
+        return Ok(Step::closed(CloseReason::ProtocolHeaderMismatch, Expected::Header));
     }
     let offer = offer_body(alloc, acceptor)?;
     out.reserve(8 + MAX_FRAME)?;
@@ -75,48 +75,48 @@ fn open<A: SaslAcceptor>(
         Some(body) => Ok(send(
             out,
             body.as_slice(),
-            Standing::Wanting,
-            Due::Frame(Turn::Init),
+            Progress::InProgress,
+            Expected::Frame(FrameKind::Init),
         )),
-        None => Ok(Step::closed(ClosedBecause::ReplyTooLarge, Due::Header)),
+        None => Ok(Step::closed(CloseReason::ReplyTooLarge, Expected::Header)),
     }
 }
 
 /// Sends what the acceptor replies.
-fn send_reply(out: &mut BytesMut, turn: Turn, reply: ServerReply) -> Step
+fn send_reply(out: &mut BytesMut, turn: FrameKind, reply: ServerReply) -> Step
     requires { 512 ≤ out.old.spare }
     ensures { Appends (ServerOutputs (server_reply reply) turn) out.old.items out.new.items result }
 {
-    let due = Due::Frame(turn);
+    let expected = Expected::Frame(turn);
     match reply {
         ServerReply::Challenge { body } => match turn {
-            Turn::Init => send(out, &body, Standing::Wanting, Due::Frame(Turn::Response)),
-            _ => Step::closed(ClosedBecause::OutOfTurn, due),
+            FrameKind::Init => send(out, &body, Progress::InProgress, Expected::Frame(FrameKind::Response)),
+            _ => Step::closed(CloseReason::UnexpectedFrame, expected),
         },
         ServerReply::Outcome {
             code: SaslCode::Ok,
             body,
-        } => send(out, &body, Standing::LoggedIn, due),
+        } => send(out, &body, Progress::Authenticated, expected),
         ServerReply::Outcome { code, body } => {
             send(
                 out,
                 &body,
-                Standing::Closed(ClosedBecause::Refused(code)),
-                due,
+                Progress::Failed(CloseReason::Refused(code)),
+                expected,
             )
         }
     }
 }
 
 /// A fault of the acceptor's step closes, but for want of memory.
-fn refuse(turn: Turn, fault: Error) -> Result<Step, OutOfMemory>
+fn refuse(turn: FrameKind, fault: Error) -> Result<Step, OutOfMemory>
     ensures ok { IfOk result (λ step. (out : List ℕ) → Appends (ServerOutputs (Failed fault) turn) out out step) }
     ensures err { OnErr result (fault ≡ WireOutOfMemory) }
 {
     match fault {
         Error::OutOfMemory => Err(OutOfMemory),
         Error::DecodeError | Error::NotImplemented | Error::TooLarge => {
-            Ok(Step::closed(ClosedBecause::Unread(fault), Due::Frame(turn)))
+            Ok(Step::closed(CloseReason::MalformedFrame(fault), Expected::Frame(turn)))
         }
     }
 }
@@ -125,7 +125,7 @@ fn refuse(turn: Turn, fault: Error) -> Result<Step, OutOfMemory>
 fn reply<A: SaslAcceptor>(
     alloc: Global,
     acceptor: &mut A,
-    turn: Turn,
+    turn: FrameKind,
     unit: &[u8],
     nonce: &[u8; 32],
     meter: &mut Meter,
@@ -144,7 +144,7 @@ fn reply<A: SaslAcceptor>(
 {
     let body = &unit[4..];
     if let Some(why) = screen(turn, body) {
-        return Ok(Step::closed(why, Due::Frame(turn)));
+        return Ok(Step::closed(why, Expected::Frame(turn)));
     }
     out.reserve(MAX_FRAME)?;
     match acceptor_body_step(alloc, acceptor, body, nonce, meter) {
@@ -157,7 +157,7 @@ fn reply<A: SaslAcceptor>(
 fn answer<A: SaslAcceptor>(
     alloc: Global,
     acceptor: &mut A,
-    due: Due,
+    expected: Expected,
     unit: &[u8],
     nonce: &[u8; 32],
     meter: &mut Meter,
@@ -165,20 +165,20 @@ fn answer<A: SaslAcceptor>(
 ) -> Result<Step, OutOfMemory>
     requires four { 4 ≤ length unit.now }
     requires meter { meter.old ≤ 2 ^ 63 }
-    ensures ok { IfOk result (λ step. Appends (λ answer. ServerSideAnswers A.names A.machine due (A.state acceptor.old)
+    ensures ok { IfOk result (λ step. Appends (λ answer. ServerSideAnswers A.names A.machine expected (A.state acceptor.old)
         nonce.now unit.now answer (A.state acceptor.new)) out.old.items out.new.items step) }
     ensures unsent { OnErr result (out.new.items ≡ out.old.items) }
     ensures unchanged { OnErr result (A.state acceptor.new ≡ A.state acceptor.old) }
-    ensures memory { OnErr result (ServerUnitAsks due unit.now) }
-    ensures cost { ServerUnitCosts A.hmacs due (A.state acceptor.old) nonce.now unit.now meter.old meter.new }
+    ensures memory { OnErr result (ServerUnitAsks expected unit.now) }
+    ensures cost { ServerUnitCosts A.hmacs expected (A.state acceptor.old) nonce.now unit.now meter.old meter.new }
 {
-    match due {
-        Due::Header => open(alloc, acceptor, unit, out),
-        Due::Frame(turn) => reply(alloc, acceptor, turn, unit, nonce, meter, out),
+    match expected {
+        Expected::Header => open(alloc, acceptor, unit, out),
+        Expected::Frame(turn) => reply(alloc, acceptor, turn, unit, nonce, meter, out),
     }
 }
 
-impl<A: NamesUser> ServerNegotiation<A> {
+impl<A: AuthenticatedUser> ServerNegotiation<A> {
     ghost use Rattle.fe2o3_sasl_negotiation.specs.Memory.{server_room, HasRoom, ServerAsks};
     ghost use Rattle.fe2o3_sasl_negotiation.specs.Sides.{acceptor_in, server_side};
 
@@ -186,7 +186,7 @@ impl<A: NamesUser> ServerNegotiation<A> {
     /// client's header.
     pub fn new(alloc: Global, acceptor: A) -> Self
         ensures { server_side A.state result
-            ≡ record { standing = Wanting; due = Header; limit = 512; held = []; state = A.state acceptor } }
+            ≡ record { progress = InProgress; expected = Header; limit = 512; held = []; state = A.state acceptor } }
     {
         Self::with_frame_limit(alloc, acceptor, MAX_FRAME)
     }
@@ -194,8 +194,8 @@ impl<A: NamesUser> ServerNegotiation<A> {
     /// The same, which refuses a frame of more bytes than the limit, if that is below 512.
     pub fn with_frame_limit(alloc: Global, acceptor: A, limit: usize) -> Self
         ensures { server_side A.state result ≡ record {
-          standing = Wanting;
-          due = Header;
+          progress = InProgress;
+          expected = Header;
           limit = min limit 512;
           held = [];
           state = A.state acceptor;
@@ -203,8 +203,8 @@ impl<A: NamesUser> ServerNegotiation<A> {
     {
         Self {
             acceptor,
-            standing: Standing::Wanting,
-            due: Due::Header,
+            progress: Progress::InProgress,
+            expected: Expected::Header,
             limit: limit.min(MAX_FRAME),
             held: Vec::new(alloc),
         }
@@ -218,74 +218,74 @@ impl<A: NamesUser> ServerNegotiation<A> {
     }
 
     /// How the negotiation stands.
-    pub fn standing(&self) -> Standing
-        ensures { result ≡ (server_side A.state self.now).standing }
+    pub fn progress(&self) -> Progress
+        ensures { result ≡ (server_side A.state self.now).progress }
     {
-        self.standing
+        self.progress
     }
 
     /// The name of the user who has logged in, and `None` while nobody has and where the mechanism names
     /// nobody.
-    pub fn user(&self) -> Option<&str>
-        ensures logged_in { (server_side A.state self.now).standing ≡ LoggedIn
+    pub fn authenticated_user(&self) -> Option<&str>
+        ensures logged_in { (server_side A.state self.now).progress ≡ Authenticated
             → option_map (λ user. user.now) result ≡ A.named (acceptor_in self.now) }
-        ensures before { (server_side A.state self.now).standing ≢ LoggedIn → result ≡ None }
+        ensures before { (server_side A.state self.now).progress ≢ Authenticated → result ≡ None }
     {
-        match self.standing {
-            Standing::LoggedIn => self.acceptor.user(),
-            Standing::Wanting | Standing::Closed(_) => None,
+        match self.progress {
+            Progress::Authenticated => self.acceptor.authenticated_user(),
+            Progress::InProgress | Progress::Failed(_) => None,
         }
     }
 
-    /// Saves what the side has beside its acceptor, for `take_up`. It holds no password, key or record. The user is
+    /// Saves what the side has beside its acceptor, for `restore`. It holds no password, key or record. The user is
     /// the one of `user`.
-    pub fn set_down(&self) -> SetDown<'_>
+    pub fn snapshot(&self) -> Snapshot<'_>
         ensures side { side_of result (A.state (acceptor_in self.now)) ≡ server_side A.state self.now }
         ensures kept { IsServerKept result }
         ensures user { NamesKeptUser result (A.named (acceptor_in self.now)) }
     {
-        SetDown {
-            standing: self.standing,
-            due: self.due,
+        Snapshot {
+            progress: self.progress,
+            expected: self.expected,
             limit: self.limit,
             held: &self.held,
-            user: self.user(),
+            user: self.authenticated_user(),
         }
     }
 
-    /// Restores the server's side that `set_down` saved, over an acceptor in the state in which that side's was. After
-    /// a login that is an acceptor that names the saved user, such as `restore_logged_in` returns.
+    /// Restores the server's side that `snapshot` saved, over an acceptor in the state in which that side's was. After
+    /// a login that is an acceptor that names the saved user, such as `restore_authenticated` returns.
     ///
-    /// Errors, in this order: `NotKept` where no server can have such values, `OtherUser` where a server that has
+    /// Errors, in this order: `InvalidSnapshot` where no server can have such values, `OtherUser` where a server that has
     /// logged in has another user than the acceptor, and `OutOfMemory`.
-    pub fn take_up(alloc: Global, acceptor: A, kept: &SetDown<'_>) -> Result<Self, TakeUpError>
+    pub fn restore(alloc: Global, acceptor: A, kept: &Snapshot<'_>) -> Result<Self, RestoreError>
     where
         A: Drop,
         ensures ok { IfOk result (λ side. IsServerKept kept.now × NamesKeptUser kept.now (A.named acceptor)
             × (server_side A.state side ≡ side_of kept.now (A.state acceptor)) × (acceptor_in side ≡ acceptor)) }
-        ensures refused { IfErr result (λ error. error ≡ TakeUpError.NotKept → ¬ IsServerKept kept.now) }
-        ensures other_user { IfErr result (λ error. error ≡ TakeUpError.OtherUser
-            → IsServerKept kept.now × (kept.now.standing ≡ LoggedIn) × (A.named acceptor ≢ shown kept.now.user)) }
-        ensures memory { IfErr result (λ error. error ≡ TakeUpError.OutOfMemory
+        ensures refused { IfErr result (λ error. error ≡ RestoreError.InvalidSnapshot → ¬ IsServerKept kept.now) }
+        ensures other_user { IfErr result (λ error. error ≡ RestoreError.OtherUser
+            → IsServerKept kept.now × (kept.now.progress ≡ Authenticated) × (A.named acceptor ≢ shown kept.now.user)) }
+        ensures memory { IfErr result (λ error. error ≡ RestoreError.OutOfMemory
             → IsServerKept kept.now × NamesKeptUser kept.now (A.named acceptor)) }
     {
         if !kept.is_server() {
-            return Err(TakeUpError::NotKept);
+            return Err(RestoreError::InvalidSnapshot);
         }
-        if matches!(kept.standing, Standing::LoggedIn) && !is_user(acceptor.user(), kept.user) {
-            return Err(TakeUpError::OtherUser);
+        if matches!(kept.progress, Progress::Authenticated) && !is_user(acceptor.authenticated_user(), kept.user) {
+            return Err(RestoreError::OtherUser);
         }
         let held = kept.held.to_vec(alloc)?;
         Ok(Self {
             acceptor,
-            standing: kept.standing,
-            due: kept.due,
+            progress: kept.progress,
+            expected: kept.expected,
             limit: kept.limit,
             held,
         })
     }
 
-    /// Takes the received bytes up to the end of the header or frame that is due, and appends what is to be sent to
+    /// Takes the received bytes up to the end of the header or frame that is expected, and appends what is to be sent to
     /// `out`. While more bytes are wanted, a call takes one at least. The nonce belongs to the frame that these bytes
     /// complete: pass fresh random bytes with each call. The meter, of at most 2^63, counts the HMAC values.
     ///
@@ -306,13 +306,13 @@ impl<A: NamesUser> ServerNegotiation<A> {
             × ServerReceives A.names A.machine (server_side A.state self.old) bytes.now nonce.now received.taken sent
             (server_side A.state self.new)) }
         ensures within { IfOk result (λ received. received.taken ≤ length bytes.now) }
-        ensures moves { IfOk result (λ received. (server_side A.state self.old).standing ≡ Wanting
+        ensures moves { IfOk result (λ received. (server_side A.state self.old).progress ≡ InProgress
             → 0 < length bytes.now → 0 < received.taken) }
-        ensures standing { IfOk result (λ received. received.standing ≡ (server_side A.state self.new).standing) }
+        ensures progress { IfOk result (λ received. received.progress ≡ (server_side A.state self.new).progress) }
         ensures unsent { OnErr result (out.new.items ≡ out.old.items) }
         ensures unchanged { OnErr result (server_side A.state self.new ≡ server_side A.state self.old) }
         ensures memory { OnErr result (ServerAsks (server_room self.old) (server_side A.state self.old) bytes.now) }
-        ensures room { OnOk result ((server_side A.state self.old).standing ≡ Wanting
+        ensures room { OnOk result ((server_side A.state self.old).progress ≡ InProgress
             → HasRoom (server_room self.new) (server_side A.state self.old)) }
         ensures room_stays { server_room self.old ≤ server_room self.new }
         ensures cost { ServerCosts A.hmacs (server_side A.state self.old) bytes.now nonce.now meter.old meter.new }
@@ -333,39 +333,39 @@ impl<A: NamesUser> ServerNegotiation<A> {
         ensures ok { IfOk result (λ received. (sent : List ℕ) × (out.new.items ≡ out.old.items ++ sent)
             × ServerReceives A.names A.machine (server_side A.state self.old) bytes.now nonce.now received.taken sent
             (server_side A.state self.new)) }
-        ensures standing { IfOk result (λ received. received.standing ≡ (server_side A.state self.new).standing) }
+        ensures progress { IfOk result (λ received. received.progress ≡ (server_side A.state self.new).progress) }
         ensures unsent { OnErr result (out.new.items ≡ out.old.items) }
         ensures unchanged { OnErr result (server_side A.state self.new ≡ server_side A.state self.old) }
         ensures memory { OnErr result (ServerAsks (server_room self.old) (server_side A.state self.old) bytes.now) }
-        ensures room { OnOk result ((server_side A.state self.old).standing ≡ Wanting
+        ensures room { OnOk result ((server_side A.state self.old).progress ≡ InProgress
             → HasRoom (server_room self.new) (server_side A.state self.old)) }
         ensures room_stays { server_room self.old ≤ server_room self.new }
         ensures cost { ServerCosts A.hmacs (server_side A.state self.old) bytes.now nonce.now meter.old meter.new }
     {
-        let Standing::Wanting = self.standing else {
+        let Progress::InProgress = self.progress else {
             return Ok(Received {
                 taken: 0,
-                standing: self.standing,
+                progress: self.progress,
             });
         };
         let had = self.held.len();
-        match take_unit(&mut self.held, self.due, self.limit, bytes)? {
+        match take_unit(&mut self.held, self.expected, self.limit, bytes)? {
             Arrived::Part => Ok(Received {
                 taken: bytes.len(),
-                standing: Standing::Wanting,
+                progress: Progress::InProgress,
             }),
             Arrived::Refused => {
                 let taken = end_unit(&mut self.held, had);
-                self.standing = Standing::Closed(ClosedBecause::FrameSize);
+                self.progress = Progress::Failed(CloseReason::FrameSize);
                 Ok(Received {
                     taken,
-                    standing: self.standing,
+                    progress: self.progress,
                 })
             }
             Arrived::Whole => match answer(
                 alloc,
                 &mut self.acceptor,
-                self.due,
+                self.expected,
                 &self.held,
                 nonce,
                 meter,
@@ -373,11 +373,11 @@ impl<A: NamesUser> ServerNegotiation<A> {
             ) {
                 Ok(step) => {
                     let taken = end_unit(&mut self.held, had);
-                    self.standing = step.standing;
-                    self.due = step.due;
+                    self.progress = step.progress;
+                    self.expected = step.expected;
                     Ok(Received {
                         taken,
-                        standing: step.standing,
+                        progress: step.progress,
                     })
                 }
                 Err(fault) => {

@@ -1,4 +1,4 @@
--- What only private contracts and the laws of impls cite. Nobody has to believe these to believe a public contract.
+-- What only private contracts and the laws of impls cite. MockSettings has to believe these to believe a public contract.
 pub mod Fields
 pub mod Kinds
 pub mod Reading

@@ -5,24 +5,24 @@ use Rattle.fe2o3_scram.specs.ClientFinal.{ClientFinal, ReadsClientFinal, keys_fo
 use Rattle.fe2o3_scram.specs.ClientFirst.{ClientFirst, ReadsClientFirst, client_first_bare}
 use Rattle.fe2o3_scram.specs.ClientKeys.{ClientKeys}
 use Rattle.fe2o3_scram.specs.Credentials.{Provider, Record, record_at}
-use Rattle.fe2o3_scram.specs.declared.scram_messages.gs2_header.Gs2Header.TheVariants.{Unsupported}
+use Rattle.fe2o3_scram.specs.declared.scram_messages.channel_binding_flag.ChannelBindingFlag.TheVariants.{NotSupported}
 use Rattle.fe2o3_scram.specs.Extensions.{NoneMisplaced}
 use Rattle.fe2o3_scram.specs.Hmac.{hmac_of}
 use Rattle.fe2o3_scram.specs.Keys.{auth_message}
 use Rattle.fe2o3_scram.specs.Laws.{HoldsBytes}
-use Rattle.fe2o3_scram.specs.ScramClient.{ClientSide, AnswersIn, BelievesIn, started}
+use Rattle.fe2o3_scram.specs.ScramClient.{ClientSide, AnswersIn, VerifiesIn, started}
 use Rattle.fe2o3_scram.specs.ScramServer.{ServerState, ChallengesFrom, ConcludesFrom, server_against}
 use Rattle.fe2o3_scram.specs.ServerFirst.{ServerChallenge, ServerFirst, ReadsServerFirst, challenge_of}
 use Rattle.fe2o3_scram.specs.Texts.{Part, Parts, base64_text}
 
 -- a client's calls: it started with this nonce, answered this server-first message, and believed this server-final
 -- message
-pub record Believed (side : ClientSide) (nonce first last : List ℕ) : Type 0 where
+pub record Verified (side : ClientSide) (nonce first last : List ℕ) : Type 0 where
   pub message : List ℕ
   pub waiting : ClientSide
   pub done : ClientSide
   pub answers : AnswersIn (started side nonce).state (started side nonce) first (Ok message) waiting
-  pub believes : BelievesIn waiting.state waiting last (Ok tt) done
+  pub verifies : VerifiesIn waiting.state waiting last (Ok tt) done
 
 -- a server's calls: with this nonce it answered this client-first message by a challenge, and then this client-final
 -- message, which it accepted, by this server-final message
@@ -45,7 +45,7 @@ pub record ServerKnows (provider : Provider) (nonce init response : List ℕ) : 
   pub client : ClientFirst
   pub stored : Record
   pub final : ClientFinal
-  pub reads_init : ReadsClientFirst provider.unbound init (Ok client)
+  pub reads_init : ReadsClientFirst provider.cbind_flag_y init (Ok client)
   pub known : record_at provider.records client.user ≡ Some stored
   pub reads : let challenge = challenge_of client (base64_text nonce) stored in
       ReadsClientFinal (server_against provider challenge stored) response (Ok final)
@@ -88,7 +88,7 @@ NoneMisplacedInTexts {text} client server = NoneMisplaced text server.client.bar
 pub record TextsAgree {side : ClientSide} {provider : Provider} {own text its init response : List ℕ}
     (client : ClientKnows side own text) (server : ServerKnows provider its init response) : Type 0 where
   pub version : (keys_known client).version ≡ provider.version
-  pub header : NoneMisplacedInTexts client server → Unsupported ≡ server.client.header
+  pub header : NoneMisplacedInTexts client server → NotSupported ≡ server.client.header
   pub user : side.user ≡ server.client.user
   pub nonce : base64_text own ≡ server.client.nonce
   pub full_nonce : IsPlain server.client.bare ⊎ NoneMisplacedInTexts client server
@@ -105,9 +105,9 @@ pub record Collide {side : ClientSide} {provider : Provider} {own text its init 
 
 -- a client that believed the message by which a server accepted: both sides agree where their AuthMessages are equal,
 -- and where these differ they collide
-abbrev pub BelievedTextsAgree : Type 0
-BelievedTextsAgree = (side : ClientSide) (provider : Provider) (own text last its init response verifier : List ℕ)
-    → Believed side own text last → AcceptedTexts provider its init response verifier → Part last 0 verifier
+abbrev pub VerifiedTextsAgree : Type 0
+VerifiedTextsAgree = (side : ClientSide) (provider : Provider) (own text last its init response verifier : List ℕ)
+    → Verified side own text last → AcceptedTexts provider its init response verifier → Part last 0 verifier
     → (client : ClientKnows side own text) × (server : ServerKnows provider its init response)
     × (HoldsBytes (server.client.user, server.stored)
     → (client_auth_message client ≡ server_auth_message server → TextsAgree client server)

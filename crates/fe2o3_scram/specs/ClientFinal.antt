@@ -3,8 +3,8 @@ use Rattle.std.specs.Prelude.{ℕ, List, [], ◌∷◌, ◌++◌, ◌≡◌, cod
 use Rattle.std.specs.Cmp.Lexicographic.{pointwise}
 use Rattle.fe2o3_scram.specs.declared.scram_messages.client_final.ClientAnswer.{ClientAnswer}
 use Rattle.fe2o3_scram.specs.declared.hmac.ScramVersion.{ScramVersion}
-use Rattle.fe2o3_scram.specs.declared.scram_messages.gs2_header.Gs2Header.{Gs2Header}
-use Rattle.fe2o3_scram.specs.declared.scram_messages.gs2_header.Gs2Header.TheVariants.{Unsupported}
+use Rattle.fe2o3_scram.specs.declared.scram_messages.channel_binding_flag.ChannelBindingFlag.{ChannelBindingFlag}
+use Rattle.fe2o3_scram.specs.declared.scram_messages.channel_binding_flag.ChannelBindingFlag.TheVariants.{NotSupported}
 use Rattle.fe2o3_scram.specs.ClientFirst.{header_text}
 use Rattle.fe2o3_scram.specs.Texts.{base64_text, joined, Part, LastPart, HasBase64}
 use Rattle.fe2o3_scram.specs.Keys.{auth_message, client_proof, server_signature, recovered_client_key, MeetsStoredKey}
@@ -24,7 +24,7 @@ use Rattle.fe2o3_scram.specs.Readings.{IsFirst, NoneHolds, Reads}
 -- client-final-message-without-proof of a client that cannot bind a channel (RFC 5802, section 7): its GS2 header in
 -- base64 and the nonce of both sides
 abbrev pub without_proof : List ℕ → List ℕ
-without_proof nonce = joined ((codes "c=" ++ base64_text (header_text Unsupported)) ∷ (codes "r=" ++ nonce) ∷ [])
+without_proof nonce = joined ((codes "c=" ++ base64_text (header_text NotSupported)) ∷ (codes "r=" ++ nonce) ∷ [])
 
 -- client-final-message (RFC 5802, section 7): what stands before the proof, and the proof
 abbrev pub client_final_of : List ℕ → List ℕ → List ℕ
@@ -84,14 +84,14 @@ client_final_values final = record { without = final.without_proof.now; proof = 
 -- two messages before, the nonce of both sides, and the user's record
 pub record Server : Type 0 where
   pub version : ScramVersion
-  pub header : Gs2Header
+  pub header : ChannelBindingFlag
   pub bare : List ℕ
   pub first : List ℕ
   pub nonce : List ℕ
   pub stored : Record
 
 -- these values
-abbrev pub server_of : ScramVersion → Gs2Header → List ℕ → List ℕ → List ℕ → Record → Server
+abbrev pub server_of : ScramVersion → ChannelBindingFlag → List ℕ → List ℕ → List ℕ → Record → Server
 server_of version header bare first nonce stored = record {
   version = version;
   header = header;
@@ -117,14 +117,14 @@ Meets server final = MeetsStoredKey server.version server.stored.stored_key fina
 
 -- the message repeats the GS2 header in place of a channel binding, and names the nonce of both sides and these values
 -- (RFC 5802, section 5.1)
-pub record NamesClientFinal (header : Gs2Header) (both text : List ℕ) (final : ClientFinal) : Type 0 where
+pub record NamesClientFinal (header : ChannelBindingFlag) (both text : List ℕ) (final : ClientFinal) : Type 0 where
   pub binding : HasBase64 text 0 (codes "c=") (header_text header)
   pub nonce : Part text 1 (codes "r=" ++ both)
   pub proof : HasProof text final
 
 -- the server's tests of the text (RFC 5802, section 5.1; UTF-8: RFC 3629, section 3), in their order: of the channel
 -- binding, of the nonce, and of how the proof is spelled
-abbrev pub final_text_tests : Gs2Header → List ℕ → List ℕ → List (ServerScramErrorKind × Type 0)
+abbrev pub final_text_tests : ChannelBindingFlag → List ℕ → List ℕ → List (ServerScramErrorKind × Type 0)
 final_text_tests header nonce text =
     (Utf8Error, ¬ IsUtf8 text)
     ∷ (CannotParseClientFinalMessage, (rest : List ℕ) → ¬ Part text 0 (codes "c=" ++ rest))
@@ -137,23 +137,23 @@ final_text_tests header nonce text =
     ∷ []
 
 -- the server comes to a channel binding that is not its own, for which it asks for memory (RFC 5802, section 5.1)
-abbrev pub ReachesBinding : Gs2Header → List ℕ → Type 0
+abbrev pub ReachesBinding : ChannelBindingFlag → List ℕ → Type 0
 ReachesBinding header text =
     ((rest : List ℕ) × Part text 0 (codes "c=" ++ rest)) × ¬ HasBase64 text 0 (codes "c=") (header_text header)
 
 -- the server comes to the proof, for which it asks for memory: the tests up to that of the nonce have passed, and the
 -- last part is a proof (RFC 5802, section 5.1)
-abbrev pub ReachesProof : Gs2Header → List ℕ → List ℕ → Type 0
+abbrev pub ReachesProof : ChannelBindingFlag → List ℕ → List ℕ → Type 0
 ReachesProof header nonce text = NoneHolds (take 6 (final_text_tests header nonce text))
     × ((before : List ℕ) × (rest : List ℕ) × LastPart text before (codes "p=" ++ rest))
 
 -- the server comes to ask for memory (RFC 5802, section 5.1), with this header and this nonce of both sides
-abbrev pub ReachesBase64 : Gs2Header → List ℕ → List ℕ → Type 0
+abbrev pub ReachesBase64 : ChannelBindingFlag → List ℕ → List ℕ → Type 0
 ReachesBase64 header nonce text = IsUtf8 text × (ReachesBinding header text ⊎ ReachesProof header nonce text)
 
 -- what the server reads before it looks at its keys (RFC 5802, section 5.1): the first refusal that holds, or the
 -- values that are named; parts between the nonce and the proof stay in what stands before the proof
-unfoldable pub ReadsFinalText : Gs2Header → List ℕ → List ℕ → Result ClientFinal ServerScramErrorKind → Type 0
+unfoldable pub ReadsFinalText : ChannelBindingFlag → List ℕ → List ℕ → Result ClientFinal ServerScramErrorKind → Type 0
 ReadsFinalText header nonce text answer =
     Reads (final_text_tests header nonce text) (NamesClientFinal header nonce text) answer
 

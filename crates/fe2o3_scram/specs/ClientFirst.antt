@@ -5,8 +5,8 @@ use Rattle.std.specs.Str.{IsUtf8}
 use Rattle.fe2o3_scram.specs.declared.scram_messages.error.ServerScramErrorKind.{ServerScramErrorKind}
 use Rattle.fe2o3_scram.specs.declared.scram_messages.error.ServerScramErrorKind.TheVariants.{Utf8Error, CannotParseGs2Header, CannotParseUsername, CannotParseClientNonce}
 use Rattle.fe2o3_scram.specs.declared.scram_messages.client_first_reading.ClientFirst.{ClientFirst as CodeClientFirst}
-use Rattle.fe2o3_scram.specs.declared.scram_messages.gs2_header.Gs2Header.{Gs2Header}
-use Rattle.fe2o3_scram.specs.declared.scram_messages.gs2_header.Gs2Header.TheVariants.{Unsupported, Unoffered}
+use Rattle.fe2o3_scram.specs.declared.scram_messages.channel_binding_flag.ChannelBindingFlag.{ChannelBindingFlag}
+use Rattle.fe2o3_scram.specs.declared.scram_messages.channel_binding_flag.ChannelBindingFlag.TheVariants.{NotSupported, ClientSupports}
 use Rattle.fe2o3_scram.specs.Escape.{escaped, NoEquals}
 use Rattle.fe2o3_scram.specs.Readings.{Reads}
 use Rattle.fe2o3_scram.specs.Texts.{joined, Part, StartsWith}
@@ -17,23 +17,23 @@ client_first_bare username nonce = joined ((codes "n=" ++ escaped username) ∷ 
 
 -- the GS2 header of a client that binds no channel and acts for itself (RFC 5802, sections 6 and 7): it cannot bind
 -- one, or it could and believes that the server cannot
-abbrev pub header_text : Gs2Header → List ℕ
-header_text Unsupported = codes "n,,"
-header_text Unoffered = codes "y,,"
+abbrev pub header_text : ChannelBindingFlag → List ℕ
+header_text NotSupported = codes "n,,"
+header_text ClientSupports = codes "y,,"
 
 -- a server takes the header (RFC 5802, section 6): that of a client that could bind a channel only on wish
-abbrev pub TakesHeader : Bool → Gs2Header → Type 0
-TakesHeader unbound Unsupported = Unit {0}
-TakesHeader unbound Unoffered = T unbound
+abbrev pub TakesHeader : Bool → ChannelBindingFlag → Type 0
+TakesHeader cbind_flag_y NotSupported = Unit {0}
+TakesHeader cbind_flag_y ClientSupports = T cbind_flag_y
 
 -- client-first-message of a client that cannot bind a channel (RFC 5802, section 7)
 abbrev pub client_first : List ℕ → List ℕ → List ℕ
-client_first username nonce = header_text Unsupported ++ client_first_bare username nonce
+client_first username nonce = header_text NotSupported ++ client_first_bare username nonce
 
 -- what a client-first message names (RFC 5802, section 7): its GS2 header, the user, the client's nonce, and the
 -- message without its GS2 header
 pub record ClientFirst : Type 0 where
-  pub header : Gs2Header
+  pub header : ChannelBindingFlag
   pub user : List ℕ
   pub nonce : List ℕ
   pub bare : List ℕ
@@ -50,31 +50,31 @@ client_first_values first = record {
 
 -- behind a GS2 header that is taken the message has this part at place k (RFC 5802, section 7)
 abbrev pub BarePart : Bool → List ℕ → ℕ → List ℕ → Type 0
-BarePart unbound text k part = (header : Gs2Header) × (bare : List ℕ) × TakesHeader unbound header
+BarePart cbind_flag_y text k part = (header : ChannelBindingFlag) × (bare : List ℕ) × TakesHeader cbind_flag_y header
     × (text ≡ header_text header ++ bare) × Part bare k part
 
 -- the message names these values (RFC 5802, section 5.1)
-pub record NamesClientFirst (unbound : Bool) (text : List ℕ) (first : ClientFirst) : Type 0 where
-  pub header : TakesHeader unbound first.header
+pub record NamesClientFirst (cbind_flag_y : Bool) (text : List ℕ) (first : ClientFirst) : Type 0 where
+  pub header : TakesHeader cbind_flag_y first.header
   pub bare : text ≡ header_text first.header ++ first.bare
   pub user : Part first.bare 0 (codes "n=" ++ escaped first.user)
   pub nonce : Part first.bare 1 (codes "r=" ++ first.nonce)
 
 -- the server's tests (RFC 5802, section 5.1; UTF-8: RFC 3629, section 3), in their order
 abbrev pub client_first_tests : Bool → List ℕ → List (ServerScramErrorKind × Type 0)
-client_first_tests unbound text =
+client_first_tests cbind_flag_y text =
     (Utf8Error, ¬ IsUtf8 text)
-    ∷ (CannotParseGs2Header, (header : Gs2Header) → TakesHeader unbound header → ¬ StartsWith text (header_text header))
-    ∷ (CannotParseUsername, (user : List ℕ) → ¬ BarePart unbound text 0 (codes "n=" ++ escaped user))
-    ∷ (CannotParseClientNonce, (nonce : List ℕ) → ¬ BarePart unbound text 1 (codes "r=" ++ nonce))
+    ∷ (CannotParseGs2Header, (header : ChannelBindingFlag) → TakesHeader cbind_flag_y header → ¬ StartsWith text (header_text header))
+    ∷ (CannotParseUsername, (user : List ℕ) → ¬ BarePart cbind_flag_y text 0 (codes "n=" ++ escaped user))
+    ∷ (CannotParseClientNonce, (nonce : List ℕ) → ¬ BarePart cbind_flag_y text 1 (codes "r=" ++ nonce))
     ∷ []
 
 -- the server asks for memory for a name that is sent with escapes (RFC 5802, section 5.1)
 abbrev pub HasEscapes : Bool → List ℕ → Type 0
-HasEscapes unbound text = IsUtf8 text
-    × ((user : List ℕ) × BarePart unbound text 0 (codes "n=" ++ escaped user) × ¬ NoEquals (escaped user))
+HasEscapes cbind_flag_y text = IsUtf8 text
+    × ((user : List ℕ) × BarePart cbind_flag_y text 0 (codes "n=" ++ escaped user) × ¬ NoEquals (escaped user))
 
 -- what the server reads (RFC 5802, section 5.1): the first refusal that holds, or the values that are named; further
 -- parts say nothing
 unfoldable pub ReadsClientFirst : Bool → List ℕ → Result ClientFirst ServerScramErrorKind → Type 0
-ReadsClientFirst unbound text answer = Reads (client_first_tests unbound text) (NamesClientFirst unbound text) answer
+ReadsClientFirst cbind_flag_y text answer = Reads (client_first_tests cbind_flag_y text) (NamesClientFirst cbind_flag_y text) answer

@@ -44,7 +44,7 @@ kept_secret (kept.Both password keys) = Both (kept_password password) keys
 
 -- every count up to this one (RFC 5802, section 7: a count is at least 1)
 abbrev pub up_to : ℕ → IterationLimits
-up_to limit = record { least = 1; most = limit }
+up_to limit = record { min_iterations = 1; max_iterations = limit }
 
 -- the limit of a client that accepts every count: the highest that a message names
 abbrev pub no_limit : ℕ

@@ -96,11 +96,11 @@ pub record Store : Type 0 where
 pub record Provider : Type 0 where
   pub version : ScramVersion
   pub records : Records
-  pub unbound : Bool
+  pub cbind_flag_y : Bool
 
 -- a server over this store
 abbrev pub serving : Bool → Store → Provider
-serving unbound store = record { version = store.version; records = store.records; unbound = unbound }
+serving cbind_flag_y store = record { version = store.version; records = store.records; cbind_flag_y = cbind_flag_y }
 
 -- the record that a stored password is
 abbrev pub kept : StoredPassword → Record

@@ -5,7 +5,7 @@ use Rattle.base64.specs.GeneralPurpose.{IsBytes}
 use Rattle.fe2o3_scram.specs.declared.hmac.ScramVersion.{ScramVersion}
 use Rattle.fe2o3_scram.specs.ServerFirst.{server_first_of, ServerFirst, ReadsServerFirst}
 use Rattle.fe2o3_scram.specs.ClientFinal.{Answer, answer_by, keys_for, Server, server_of, ClientFinal, ReadsClientFinal}
-use Rattle.fe2o3_scram.specs.declared.scram_messages.gs2_header.Gs2Header.{Gs2Header}
+use Rattle.fe2o3_scram.specs.declared.scram_messages.channel_binding_flag.ChannelBindingFlag.{ChannelBindingFlag}
 use Rattle.fe2o3_scram.specs.ClientFirst.{TakesHeader, client_first_bare, header_text, ReadsClientFirst}
 use Rattle.fe2o3_scram.specs.ClientKeys.{keys_of}
 use Rattle.fe2o3_scram.specs.ClientSecret.{Secret, Password, Keys, Both}
@@ -31,8 +31,8 @@ OpensRecord version (Both own keys) password salt count =
 -- server takes a client that could bind a channel, the password, the salt and the count of the record, and the nonces
 pub record Exchange : Type 0 where
   pub version : ScramVersion
-  pub header : Gs2Header
-  pub unbound : Bool
+  pub header : ChannelBindingFlag
+  pub cbind_flag_y : Bool
   pub user : List ℕ
   pub secret : Secret
   pub limits : IterationLimits
@@ -45,12 +45,12 @@ pub record Exchange : Type 0 where
 -- the server takes the header, the secret opens the record, the client accepts the count, and names, nonces and salts
 -- are what the code holds
 pub record IsSound (x : Exchange) : Type 0 where
-  pub header : TakesHeader x.unbound x.header
+  pub header : TakesHeader x.cbind_flag_y x.header
   pub opens : OpensRecord x.version x.secret x.password x.salt x.count
   pub some : 1 ≤ x.count
-  pub least : x.limits.least ≤ x.count
-  pub within : x.count ≤ x.limits.most
-  pub limit : x.limits.most < 2 ^ 32
+  pub least : x.limits.min_iterations ≤ x.count
+  pub within : x.count ≤ x.limits.max_iterations
+  pub limit : x.limits.max_iterations < 2 ^ 32
   pub salt : IsBytes x.salt
   pub user : IsUtf8 x.user
   pub client_text : IsUtf8 x.client_nonce
@@ -59,12 +59,12 @@ pub record IsSound (x : Exchange) : Type 0 where
   pub server_plain : NoComma x.server_nonce
 
 -- client-first-message with a GS2 header (RFC 5802, section 7)
-abbrev pub client_first_with : Gs2Header → List ℕ → List ℕ → List ℕ
+abbrev pub client_first_with : ChannelBindingFlag → List ℕ → List ℕ → List ℕ
 client_first_with header username nonce = header_text header ++ client_first_bare username nonce
 
 -- client-final-message-without-proof with a GS2 header (RFC 5802, section 7): that in base64, and the nonce of both
 -- sides
-abbrev pub without_proof_with : Gs2Header → List ℕ → List ℕ
+abbrev pub without_proof_with : ChannelBindingFlag → List ℕ → List ℕ
 without_proof_with header nonce =
     joined ((codes "c=" ++ base64_text (header_text header)) ∷ (codes "r=" ++ nonce) ∷ [])
 
@@ -108,7 +108,7 @@ final_in x = record {
 
 -- each side accepts what the other wrote (RFC 5802, section 5)
 pub record Succeeds (x : Exchange) : Type 0 where
-  pub client_first : ReadsClientFirst x.unbound (client_first_with x.header x.user x.client_nonce)
+  pub client_first : ReadsClientFirst x.cbind_flag_y (client_first_with x.header x.user x.client_nonce)
       (Ok (record { header = x.header; user = x.user; nonce = x.client_nonce; bare = bare_in x }))
   pub server_first : ReadsServerFirst x.client_nonce x.secret x.limits (first_in x) (Ok (named_in x))
   pub client_final : ReadsClientFinal (server_in x) (answer_in x).message (Ok (final_in x))

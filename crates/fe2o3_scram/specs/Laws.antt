@@ -3,7 +3,7 @@ use Rattle.std.specs.Prelude.{ℕ, List, Bool, ◌≡◌, ◌≤◌, ◌<◌, �
 use Rattle.base64.specs.Engines.{standard}
 use Rattle.base64.specs.GeneralPurpose.{IsBytes, decode_of}
 use Rattle.fe2o3_scram.specs.declared.hmac.ScramVersion.{ScramVersion}
-use Rattle.fe2o3_scram.specs.declared.scram_messages.gs2_header.Gs2Header.{Gs2Header}
+use Rattle.fe2o3_scram.specs.declared.scram_messages.channel_binding_flag.ChannelBindingFlag.{ChannelBindingFlag}
 use Rattle.fe2o3_scram.specs.declared.scram_messages.error.ScramErrorKind.{ScramErrorKind}
 use Rattle.fe2o3_scram.specs.Texts.{base64_text, IsBase64, NoComma, Parts}
 use Rattle.fe2o3_scram.specs.declared.scram_messages.error.ServerScramErrorKind.{ServerScramErrorKind}
@@ -13,16 +13,16 @@ use Rattle.fe2o3_scram.specs.ClientSecret.{Password, Keys, Both}
 use Rattle.fe2o3_scram.specs.Passwords.{PasswordText, Typed, Prepared, IsNormal, password_bytes}
 use Rattle.fe2o3_scram.specs.SaslprepAscii.{IsPrintable}
 use Rattle.fe2o3_scram.specs.declared.client_secret.IterationLimits.{IterationLimits}
-use Rattle.fe2o3_scram.specs.declared.scram_messages.error.ScramErrorKind.TheVariants.{OtherKeys}
+use Rattle.fe2o3_scram.specs.declared.scram_messages.error.ScramErrorKind.TheVariants.{StaleKeys}
 use Rattle.fe2o3_scram.specs.Credentials.{MakesRecord, Record, Records, VersionedRecord, record_of}
 use Rattle.fe2o3_scram.specs.declared.keys.RecordError.{RecordError}
-use Rattle.fe2o3_scram.specs.Mixed.{MixedRecords, unversioned}
+use Rattle.fe2o3_scram.specs.Mixed.{MultiRecords, unversioned}
 use Rattle.fe2o3_scram.specs.Escape.{escaped}
 use Rattle.fe2o3_scram.specs.Exchanges.{Exchange, IsSound, Succeeds}
 use Rattle.fe2o3_scram.specs.Hmac.{mechanism_name, digest, digest_len, hmac_of}
 use Rattle.fe2o3_scram.specs.ServerFirstAnswers.{AnswersServerFirst}
 use Rattle.fe2o3_scram.specs.ClientFinal.{Answer, Server, ClientFinal, ReadsFinalText, ReadsClientFinal}
-use Rattle.fe2o3_scram.specs.MixedLines.{IsMixedWritable, MixedFault, ReadsMixed, SpellsMixed, mixed_text}
+use Rattle.fe2o3_scram.specs.MultiRecordLines.{IsMixedWritable, MixedFault, ReadsMixed, SpellsMixed, mixed_text}
 use Rattle.fe2o3_scram.specs.RecordText.{IsReadable, ReadsRecord, record_text}
 use Rattle.fe2o3_scram.specs.declared.credentials.record_text.RecordTextError.{RecordTextError}
 use Rattle.fe2o3_scram.specs.declared.credentials.record_lines.ReadLinesError.{ReadLinesError}
@@ -82,8 +82,8 @@ OneServerFirst = (client : Client) (text : List ℕ) (answer other : Result Serv
 
 -- a client-first message has at most one answer
 abbrev pub OneClientFirst : Type 0
-OneClientFirst = (unbound : Bool) (text : List ℕ) (answer other : Result ClientFirst ServerScramErrorKind)
-    → ReadsClientFirst unbound text answer → ReadsClientFirst unbound text other → answer ≡ other
+OneClientFirst = (cbind_flag_y : Bool) (text : List ℕ) (answer other : Result ClientFirst ServerScramErrorKind)
+    → ReadsClientFirst cbind_flag_y text answer → ReadsClientFirst cbind_flag_y text other → answer ≡ other
 
 -- a client-final message has at most one answer
 abbrev pub OneClientFinal : Type 0
@@ -92,7 +92,7 @@ OneClientFinal = (server : Server) (text : List ℕ) (answer other : Result Clie
 
 -- so has it before the server looks at its keys
 abbrev pub OneFinalText : Type 0
-OneFinalText = (header : Gs2Header) (nonce text : List ℕ) (answer other : Result ClientFinal ServerScramErrorKind)
+OneFinalText = (header : ChannelBindingFlag) (nonce text : List ℕ) (answer other : Result ClientFinal ServerScramErrorKind)
     → ReadsFinalText header nonce text answer → ReadsFinalText header nonce text other → answer ≡ other
 
 -- a server-final message has at most one answer
@@ -111,8 +111,8 @@ UnalteredExchangesSucceed = (x : Exchange) → IsSound x → Succeeds x
 
 -- a client-first message has an answer, whatever the text
 abbrev pub SomeClientFirst : Type 0
-SomeClientFirst = (unbound : Bool) (text : List ℕ)
-    → (answer : Result ClientFirst ServerScramErrorKind) × ReadsClientFirst unbound text answer
+SomeClientFirst = (cbind_flag_y : Bool) (text : List ℕ)
+    → (answer : Result ClientFirst ServerScramErrorKind) × ReadsClientFirst cbind_flag_y text answer
 
 -- a server-first message has an answer
 abbrev pub SomeServerFirst : Type 0
@@ -162,7 +162,7 @@ abbrev pub KeysStandForPassword : Type 0
 KeysStandForPassword = (keys : ClientKeys) (password : PasswordText) (nonce bare text : List ℕ)
     (limits : IterationLimits) (answer : Result Answer ScramErrorKind) → IsNormal password
     → AreKeysOf keys (password_bytes password)
-    → answer ≢ Err OtherKeys
+    → answer ≢ Err StaleKeys
     → AnswersServerFirst keys.version (client_of nonce (Keys keys) limits) bare text answer
     → AnswersServerFirst keys.version (client_of nonce (Password password) limits) bare text answer
 
@@ -173,7 +173,7 @@ KeysAnswerAsPassword = (keys : ClientKeys) (password : PasswordText) (nonce bare
     → AreKeysOf keys (password_bytes password)
     → AnswersServerFirst keys.version (client_of nonce (Password password) limits) bare text answer
     → AnswersServerFirst keys.version (client_of nonce (Keys keys) limits) bare text answer
-    ⊎ AnswersServerFirst keys.version (client_of nonce (Keys keys) limits) bare text (Err OtherKeys)
+    ⊎ AnswersServerFirst keys.version (client_of nonce (Keys keys) limits) bare text (Err StaleKeys)
 
 -- a client with both answers as the one with the password, where its keys are those of it
 abbrev pub BothAnswerAsPassword : Type 0
@@ -221,12 +221,12 @@ HoldsMixedBytes user = HoldsBytes (unversioned user)
 
 -- users of several versions who can be written are read again from their text
 abbrev pub MixedAreReadAgain : Type 0
-MixedAreReadAgain = (users : MixedRecords) → AllByRecursion IsMixedWritable users
+MixedAreReadAgain = (users : MultiRecords) → AllByRecursion IsMixedWritable users
     → AllByRecursion HoldsMixedBytes users → ReadsMixed (mixed_text users) (Ok users)
 
 -- and those who were read can be written, as the very text that was read
 abbrev pub MixedAreWrittenBack : Type 0
-MixedAreWrittenBack = (text : List ℕ) (users : MixedRecords) → SpellsMixed text users
+MixedAreWrittenBack = (text : List ℕ) (users : MultiRecords) → SpellsMixed text users
     → AllByRecursion IsMixedWritable users × (mixed_text users ≡ text)
 
 -- no line is refused for its version, since its record fits that
@@ -235,9 +235,9 @@ NoMismatch = (text : List ℕ) → ¬ MixedFault text VersionMismatch
 
 -- a text of lines has at most one answer for whatever version
 abbrev pub OneMixedAnswer : Type 0
-OneMixedAnswer = (text : List ℕ) (answer other : Result MixedRecords ReadLinesError) → ReadsMixed text answer
+OneMixedAnswer = (text : List ℕ) (answer other : Result MultiRecords ReadLinesError) → ReadsMixed text answer
     → ReadsMixed text other → answer ≡ other
 
 -- and it has one, whatever the text
 abbrev pub SomeMixedAnswer : Type 0
-SomeMixedAnswer = (text : List ℕ) → (answer : Result MixedRecords ReadLinesError) × ReadsMixed text answer
+SomeMixedAnswer = (text : List ℕ) → (answer : Result MultiRecords ReadLinesError) × ReadsMixed text answer

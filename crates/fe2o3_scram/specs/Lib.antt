@@ -8,12 +8,12 @@ pub mod Pbkdf2Hi
 pub mod Keys
 pub mod Credentials
 pub mod Stores
-pub mod Nobody
+pub mod MockSettings
 pub mod Readings
 pub mod RecordText
 pub mod RecordLines
 pub mod Mixed
-pub mod MixedLines
+pub mod MultiRecordLines
 pub mod Error
 pub mod ClientFirst
 pub mod ClientKeys

@@ -5,7 +5,7 @@ use Rattle.fe2o3_scram.specs.ClientFinal.{ClientFinal, ReadsClientFinal}
 use Rattle.fe2o3_scram.specs.ClientKeys.{ClientKeys}
 use Rattle.fe2o3_scram.specs.Credentials.{Provider, Record, record_at}
 use Rattle.fe2o3_scram.specs.HidingServer.{HidingServer, NamedBy, hiding_name}
-use Rattle.fe2o3_scram.specs.ScramClient.{ClientSide, ClientState, ClientFinalSent, BelievesIn}
+use Rattle.fe2o3_scram.specs.ScramClient.{ClientSide, ClientState, ClientFinalSent, VerifiesIn}
 use Rattle.fe2o3_scram.specs.ScramServer.{ServerState, ServerFirstSent, ServerFinalSent, ConcludesFrom, server_against}
 use Rattle.fe2o3_scram.specs.ServerFinal.{ReadsServerFinal}
 use Rattle.fe2o3_scram.specs.ServerFirst.{ServerChallenge}
@@ -49,6 +49,6 @@ pub record IsSigned (state : ClientState) (text : List ℕ) : Type 0 where
   pub reads : ReadsServerFinal signature text (Ok tt)
 
 -- a client believes only such a text
-abbrev pub BelievedTextsAreSigned : Type 0
-BelievedTextsAreSigned = (side next : ClientSide) (text : List ℕ) → BelievesIn side.state side text (Ok tt) next
+abbrev pub VerifiedTextsAreSigned : Type 0
+VerifiedTextsAreSigned = (side next : ClientSide) (text : List ℕ) → VerifiesIn side.state side text (Ok tt) next
     → IsSigned side.state text

@@ -2,7 +2,7 @@
 -- call comes to ask for any. The law is `laws::texts_without_memory`.
 use Rattle.std.specs.Prelude.{ℕ, List, [], ◌∷◌, ◌++◌, Bool, Option, codes}
 use Rattle.fe2o3_scram.specs.declared.hmac.ScramVersion.{ScramVersion}
-use Rattle.fe2o3_scram.specs.declared.scram_messages.gs2_header.Gs2Header.TheVariants.{Unsupported}
+use Rattle.fe2o3_scram.specs.declared.scram_messages.channel_binding_flag.ChannelBindingFlag.TheVariants.{NotSupported}
 use Rattle.fe2o3_scram.specs.ClientFinal.{client_final_of, without_proof}
 use Rattle.fe2o3_scram.specs.ClientKeys.{ClientKeys}
 use Rattle.fe2o3_scram.specs.Credentials.{Provider}
@@ -24,13 +24,13 @@ AnsweredClientsTakeNone = (signature text : List ℕ) (keys : Option ClientKeys)
 
 -- a client-first message without escapes, of a user whom the server does not know (RFC 5802, section 5.1)
 abbrev pub UnknownUsersTakeNone : Type 0
-UnknownUsersTakeNone = (version : ScramVersion) (unbound : Bool)
-    → ¬ ReachesChallenge (record { version = version; records = []; unbound = unbound }) (codes "n,,n=user,r=abc")
+UnknownUsersTakeNone = (version : ScramVersion) (cbind_flag_y : Bool)
+    → ¬ ReachesChallenge (record { version = version; records = []; cbind_flag_y = cbind_flag_y }) (codes "n,,n=user,r=abc")
 
 -- the challenge with the nonce abc, to whatever user
 abbrev pub challenge_abc : List ℕ → List ℕ → List ℕ → ServerChallenge
 challenge_abc user bare first =
-    record { user = user; header = Unsupported; bare = bare; first = first; nonce = codes "abc" }
+    record { user = user; header = NotSupported; bare = bare; first = first; nonce = codes "abc" }
 
 -- a client-final message with the nonce of another exchange (RFC 5802, section 5.1)
 abbrev pub OtherNoncesTakeNone : Type 0

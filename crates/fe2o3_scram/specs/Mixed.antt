@@ -6,8 +6,8 @@ use Rattle.fe2o3_scram.specs.declared.hmac.ScramVersion.TheVariants.{Sha1, Sha25
 use Rattle.fe2o3_scram.specs.Credentials.{Store, Record, VersionedRecord}
 
 -- user names and their records, each for the version that it names (RFC 5803, section 2), several for a name
-abbrev pub MixedRecords : Type 0
-MixedRecords = List (List ℕ × VersionedRecord)
+abbrev pub MultiRecords : Type 0
+MultiRecords = List (List ℕ × VersionedRecord)
 
 -- whether two versions are one
 abbrev pub is_version : ScramVersion → ScramVersion → Bool
@@ -21,7 +21,7 @@ abbrev pub unversioned : List ℕ × VersionedRecord → List ℕ × Record
 unversioned user = (user.0, user.1.stored)
 
 -- what a provider for one version means (RFC 5802, section 3): the records of that version, in their order
-abbrev pub provider_for : ScramVersion → MixedRecords → Store
+abbrev pub provider_for : ScramVersion → MultiRecords → Store
 provider_for version users = record {
   version = version;
   records =
@@ -29,7 +29,7 @@ provider_for version users = record {
 }
 
 -- the records of a name, for whatever version, in their order
-abbrev pub records_named : MixedRecords → List ℕ → List VersionedRecord
+abbrev pub records_named : MultiRecords → List ℕ → List VersionedRecord
 records_named users name =
     map (λ (user : List ℕ × VersionedRecord). user.1)
     (filter (λ (user : List ℕ × VersionedRecord). pointwise nat_eq user.0 name) users)

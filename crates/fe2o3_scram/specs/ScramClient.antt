@@ -88,13 +88,13 @@ AnswerCostsIn state side text result before after = after ≡ before
 
 -- whether a client in this state believes a server-final message (RFC 5802, section 5), and the client after it: one
 -- that has answered tests it, any other refuses it unread, and a refusal changes nothing
-abbrev pub BelievesIn : ClientState → ClientSide → List ℕ → Result (Unit {0}) ScramErrorKind → ClientSide → Type 0
-BelievesIn (ClientFinalSent signature keys) side text (Ok believed) next =
-    ReadsServerFinal signature text (Ok believed) × (next ≡ with_state side (Complete keys))
-BelievesIn (ClientFinalSent signature keys) side text (Err fault) next =
+abbrev pub VerifiesIn : ClientState → ClientSide → List ℕ → Result (Unit {0}) ScramErrorKind → ClientSide → Type 0
+VerifiesIn (ClientFinalSent signature keys) side text (Ok verified) next =
+    ReadsServerFinal signature text (Ok verified) × (next ≡ with_state side (Complete keys))
+VerifiesIn (ClientFinalSent signature keys) side text (Err fault) next =
     ReadsServerFinal signature text (Err fault) × (next ≡ side)
-BelievesIn state side text (Ok believed) next = ⊥
-BelievesIn state side text (Err fault) next = (fault ≡ IllegalClientState) × (next ≡ side)
+VerifiesIn state side text (Ok verified) next = ⊥
+VerifiesIn state side text (Err fault) next = (fault ≡ IllegalClientState) × (next ≡ side)
 
 -- a client in this state comes to ask for memory for that (RFC 5802, section 5): one that has answered does where it
 -- comes to the signature, any other never

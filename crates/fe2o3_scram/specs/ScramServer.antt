@@ -108,12 +108,12 @@ abbrev pub provider_in : {C : Type 0} → ScramAuthenticator C → C
 provider_in authenticator = authenticator.credentials
 
 -- whether it takes a client that could bind a channel
-abbrev pub unbound_in : {C : Type 0} → ScramAuthenticator C → Bool
-unbound_in authenticator = authenticator.accepts_unbound
+abbrev pub cbind_flag_y_in : {C : Type 0} → ScramAuthenticator C → Bool
+cbind_flag_y_in authenticator = authenticator.accept_cbind_flag_y
 
 -- what it answers by, where stores mean this
 abbrev pub served_by : {C : Type 0} → (C → Store) → ScramAuthenticator C → Provider
-served_by meaning authenticator = serving (unbound_in authenticator) (meaning (provider_in authenticator))
+served_by meaning authenticator = serving (cbind_flag_y_in authenticator) (meaning (provider_in authenticator))
 
 -- its state
 abbrev pub state_in : {C : Type 0} → ScramAuthenticator C → ServerState

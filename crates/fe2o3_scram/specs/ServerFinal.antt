@@ -52,6 +52,6 @@ ReadsSignature text answer = Reads (server_final_tests text) (HasBase64 text 0 (
 -- what the client reads (RFC 5802, section 5): the first refusal of the text, that its signature is another one, or
 -- that it is this one
 unfoldable pub ReadsServerFinal : List ℕ → List ℕ → Result (Unit {0}) ScramErrorKind → Type 0
-ReadsServerFinal signature text (Ok believed) = ReadsSignature text (Ok signature)
+ReadsServerFinal signature text (Ok verified) = ReadsSignature text (Ok signature)
 ReadsServerFinal signature text (Err fault) = ReadsSignature text (Err fault)
     ⊎ ((other : List ℕ) × ReadsSignature text (Ok other) × (other ≢ signature) × (fault ≡ ServerSignatureMismatch))

@@ -1,7 +1,7 @@
 -- The server-first message (RFC 5802, section 7), as the client reads it and as the server writes it.
 use Rattle.std.specs.Prelude.{ℕ, List, [], ◌∷◌, ◌++◌, ◌<◌, codes, Result, ◌≡◌, ◌⊎◌, Option, Some, None, Ok, Err}
 use Rattle.fe2o3_scram.specs.declared.scram_messages.error.ScramErrorKind.{ScramErrorKind}
-use Rattle.fe2o3_scram.specs.declared.scram_messages.error.ScramErrorKind.TheVariants.{InsufficientParts, ExtensionNotSupported, NonceNotFound, ClientNonceMismatch, SaltNotFound, Base64DecodeError, IterationCountNotFound, IterationCountParseError, IterationCountTooSmall, IterationCountTooLarge, NormalizeError, OtherKeys}
+use Rattle.fe2o3_scram.specs.declared.scram_messages.error.ScramErrorKind.TheVariants.{InsufficientParts, ExtensionNotSupported, NonceNotFound, ClientNonceMismatch, SaltNotFound, Base64DecodeError, IterationCountNotFound, IterationCountParseError, IterationCountTooSmall, IterationCountTooLarge, NormalizeError, StaleKeys}
 use Rattle.fe2o3_scram.specs.declared.scram_messages.server_first.ServerFirstMessage.{ServerFirstMessage}
 use Rattle.fe2o3_scram.specs.declared.scram_messages.server_first_reading.ServerFirst.{ServerFirst as CodeServerFirst}
 use Rattle.std.specs.Cow.{cow_str_bytes}
@@ -11,7 +11,7 @@ use Rattle.fe2o3_scram.specs.Passwords.{IsNormal}
 use Rattle.std.specs.Fmt.{decimal}
 use Rattle.fe2o3_scram.specs.declared.scram_messages.error.ServerScramErrorKind.{ServerScramErrorKind}
 use Rattle.fe2o3_scram.specs.ClientFirst.{ClientFirst, ReadsClientFirst, HasEscapes}
-use Rattle.fe2o3_scram.specs.declared.scram_messages.gs2_header.Gs2Header.{Gs2Header}
+use Rattle.fe2o3_scram.specs.declared.scram_messages.channel_binding_flag.ChannelBindingFlag.{ChannelBindingFlag}
 use Rattle.fe2o3_scram.specs.Credentials.{Record, Provider, record_at}
 use Rattle.fe2o3_scram.specs.declared.client_secret.IterationLimits.{IterationLimits}
 use Rattle.fe2o3_scram.specs.ClientKeys.{ClientKeys}
@@ -63,7 +63,7 @@ NamesOther keys text = ¬ (HasBase64 text 1 (codes "s=") keys.salt × HasCount t
 -- its test of its secret: a password that is needed (RFC 4013, section 2), and keys alone (RFC 5802, section 3)
 abbrev pub secret_tests : Secret → List ℕ → List (ScramErrorKind × Type 0)
 secret_tests (Password password) text = (NormalizeError, ¬ IsNormal password) ∷ []
-secret_tests (Keys keys) text = (OtherKeys, NamesOther keys text) ∷ []
+secret_tests (Keys keys) text = (StaleKeys, NamesOther keys text) ∷ []
 secret_tests (Both password keys) text = (NormalizeError, NamesOther keys text × ¬ IsNormal password) ∷ []
 
 -- all tests of the client, in their order: of the nonce, the salt and the iteration count (RFC 5802, section 5.1), and
@@ -74,8 +74,8 @@ server_first_tests client_nonce secret limits text = nonce_tests client_nonce te
     ∷ (Base64DecodeError, (salt : List ℕ) → ¬ HasBase64 text 1 (codes "s=") salt)
     ∷ (IterationCountNotFound, (rest : List ℕ) → ¬ Part text 2 (codes "i=" ++ rest))
     ∷ (IterationCountParseError, (count : ℕ) → ¬ HasCount text count)
-    ∷ (IterationCountTooSmall, (count : ℕ) × HasCount text count × (count < limits.least))
-    ∷ (IterationCountTooLarge, (count : ℕ) × HasCount text count × (limits.most < count))
+    ∷ (IterationCountTooSmall, (count : ℕ) × HasCount text count × (count < limits.min_iterations))
+    ∷ (IterationCountTooLarge, (count : ℕ) × HasCount text count × (limits.max_iterations < count))
     ∷ secret_tests secret text)
 
 -- the client comes to the salt, for which it asks for memory: the nonce has passed its tests, and the second part is a
@@ -101,7 +101,7 @@ server_first_of nonce stored =
 -- nonce of both sides
 pub record ServerChallenge : Type 0 where
   pub user : List ℕ
-  pub header : Gs2Header
+  pub header : ChannelBindingFlag
   pub bare : List ℕ
   pub first : List ℕ
   pub nonce : List ℕ
@@ -131,16 +131,16 @@ challenge_of client server_nonce stored =
 -- the server comes to ask for memory: for an escaped name, or for the challenge to a user whom it knows (RFC 5802,
 -- section 5.1)
 abbrev pub ReachesChallenge : Provider → List ℕ → Type 0
-ReachesChallenge provider text = HasEscapes provider.unbound text
-    ⊎ ((client : ClientFirst) × (stored : Record) × ReadsClientFirst provider.unbound text (Ok client)
+ReachesChallenge provider text = HasEscapes provider.cbind_flag_y text
+    ⊎ ((client : ClientFirst) × (stored : Record) × ReadsClientFirst provider.cbind_flag_y text (Ok client)
     × (record_at provider.records client.user ≡ Some stored))
 
 -- what the server answers to a client-first message (RFC 5802, section 5): the first refusal, nothing to a user whom
 -- it does not know, or the challenge
 abbrev pub AnswersClientFirst : Provider → List ℕ → List ℕ → Result (Option ServerChallenge) ServerScramErrorKind → Type 0
 AnswersClientFirst provider server_nonce text (Ok None) = (client : ClientFirst)
-    × ReadsClientFirst provider.unbound text (Ok client) × (record_at provider.records client.user ≡ None)
+    × ReadsClientFirst provider.cbind_flag_y text (Ok client) × (record_at provider.records client.user ≡ None)
 AnswersClientFirst provider server_nonce text (Ok (Some challenge)) =
-    (client : ClientFirst) × (stored : Record) × ReadsClientFirst provider.unbound text (Ok client)
+    (client : ClientFirst) × (stored : Record) × ReadsClientFirst provider.cbind_flag_y text (Ok client)
     × (record_at provider.records client.user ≡ Some stored) × (challenge ≡ challenge_of client server_nonce stored)
-AnswersClientFirst provider server_nonce text (Err fault) = ReadsClientFirst provider.unbound text (Err fault)
+AnswersClientFirst provider server_nonce text (Err fault) = ReadsClientFirst provider.cbind_flag_y text (Err fault)

@@ -46,5 +46,5 @@ pub record AnswerCosts {A F : Type 0} (client : Client) (text : List ℕ) (resul
       → OnOk result (after ≡ before + hmac_count client.secret first)
   pub at_most : (first : ServerFirst) → ReadsServerFirst client.nonce client.secret client.limits text (Ok first)
       → after ≤ before + hmac_count client.secret first
-  pub limited : after ≤ before + (client.limits.most + 4)
+  pub limited : after ≤ before + (client.limits.max_iterations + 4)
   pub never_falls : before ≤ after

@@ -5,7 +5,7 @@ ghost use Rattle.std.specs.String.{string_bytes};
 ghost use Rattle.fe2o3_scram.specs.ClientSecret.{Password, Both, kept_password, kept_secret, no_limit, secret_of, up_to};
 ghost use Rattle.fe2o3_scram.specs.Passwords.{Typed, Prepared};
 
-use crate::keys::ScramClientKeys;
+use crate::keys::CachedKeys;
 use std::alloc::AllocError;
 
 /// By what a client proves who it is (RFC 5802, section 3).
@@ -20,7 +20,7 @@ pub enum ClientSecret<'a> {
 
     /// The keys that an earlier login handed out. They serve where the server names the salt and the
     /// iteration count that they are of.
-    Keys(&'a ScramClientKeys),
+    Keys(&'a CachedKeys),
 
     /// Both: the keys where they serve, and else the password.
     Both {
@@ -28,7 +28,7 @@ pub enum ClientSecret<'a> {
         password: &'a str,
 
         /// The keys that an earlier login handed out.
-        keys: &'a ScramClientKeys,
+        keys: &'a CachedKeys,
     },
 
     /// The same of a prepared password.
@@ -37,7 +37,7 @@ pub enum ClientSecret<'a> {
         password: &'a str,
 
         /// The keys that an earlier login handed out.
-        keys: &'a ScramClientKeys,
+        keys: &'a CachedKeys,
     },
 }
 
@@ -45,11 +45,11 @@ pub enum ClientSecret<'a> {
 /// 4294967295, which are all that a message can name (RFC 5802, section 7).
 #[derive(Debug, Clone, Copy, PartialEq, Eq)]
 pub struct IterationLimits {
-    /// The least. RFC 7677, section 4, asks for 4096 at least.
-    pub least: u32,
+    /// The minimum. RFC 7677, section 4, asks for at least 4096.
+    pub min_iterations: u32,
 
-    /// The most.
-    pub most: u32,
+    /// The maximum.
+    pub max_iterations: u32,
 }
 
 impl IterationLimits {
@@ -61,10 +61,10 @@ impl IterationLimits {
     }
 
     /// The counts from 1 to this one.
-    pub fn up_to(most: u32) -> Self
-        ensures { result ≡ up_to most }
+    pub fn up_to(max_iterations: u32) -> Self
+        ensures { result ≡ up_to max_iterations }
     {
-        Self { least: 1, most }
+        Self { min_iterations: 1, max_iterations }
     }
 }
 
@@ -114,7 +114,7 @@ impl KeptPassword {
     }
 
     /// The secret that it is with keys.
-    fn lent_with<'a>(&'a self, keys: &'a ScramClientKeys) -> ClientSecret<'a>
+    fn lent_with<'a>(&'a self, keys: &'a CachedKeys) -> ClientSecret<'a>
         ensures { secret_of result ≡ Both (kept_password self.now) keys.now }
     {
         let password = &self.text;
@@ -139,10 +139,10 @@ impl KeptPassword {
 #[derive(Drop)]
 pub(crate) enum KeptSecret {
     Password(KeptPassword),
-    Keys(ScramClientKeys),
+    Keys(CachedKeys),
     Both {
         password: KeptPassword,
-        keys: ScramClientKeys,
+        keys: CachedKeys,
     },
 }
 

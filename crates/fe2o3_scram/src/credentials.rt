@@ -5,23 +5,23 @@ ghost use Rattle.std.specs.String.{string_bytes};
 ghost use Rattle.fe2o3_scram.specs.Credentials.{record_of};
 ghost use Rattle.fe2o3_scram.specs.SaslprepAscii.{IsPrintable};
 
-pub mod mixed_credentials;
-pub mod mixed_lines;
-pub mod nobody;
+pub mod multi_record_store;
+pub mod multi_record_lines;
+pub mod mock_record;
 pub mod password_check;
 pub mod record_lines;
 pub mod record_text;
-pub mod scram_credentials;
+pub mod record_store;
 pub mod scram_record;
-pub mod stored_credential;
+pub mod user_record;
 mod users;
 
-pub use crate::credentials::mixed_credentials::MixedCredentials;
+pub use crate::credentials::multi_record_store::MultiRecordStore;
 pub use crate::credentials::record_lines::{ReadLinesError, ReadLinesErrorKind, WriteLinesError};
 pub use crate::credentials::record_text::RecordTextError;
-pub use crate::credentials::scram_credentials::{AddRecordError, ScramCredentials};
+pub use crate::credentials::record_store::{AddRecordError, RecordStore};
 pub use crate::credentials::scram_record::ScramRecord;
-pub use crate::credentials::stored_credential::StoredScramCredential;
+pub use crate::credentials::user_record::UserRecord;
 use crate::hmac::ScramVersion;
 pub use crate::keys::RecordError;
 pub use crate::provider::{ScramCredentialProvider, StoredPassword};
@@ -36,7 +36,7 @@ pub const DEFAULT_SCRAM_ITERATIONS: u32 = 4096;
 /// The credential of one user, made of the user's password.
 #[derive(Drop)]
 pub struct SingleScramCredential {
-    stored: StoredScramCredential,
+    stored: UserRecord,
 }
 
 impl Model for SingleScramCredential {
@@ -80,7 +80,7 @@ impl SingleScramCredential {
         );
         match kept {
             Ok(kept) => Ok(Self {
-                stored: StoredScramCredential::new(username, kept),
+                stored: UserRecord::new(username, kept),
             }),
             Err(RecordError::NormalizeError) => Err(ServerScramErrorKind::NormalizeError),
             Err(RecordError::ZeroIterations) => unreachable!(),

@@ -13,13 +13,13 @@ ghost use Rattle.fe2o3_scram.specs.Keys.{CostsOne, MeetsStoredKey, OkWhereSized,
 ghost use Rattle.fe2o3_scram.specs.declared.keys.RecordError.TheVariants.{OutOfMemory as OutOfMemoryError};
 ghost use Rattle.fe2o3_scram.specs.private.Pieces.{whole};
 
-mod client_keys;
+mod cached_keys;
 
 use crate::OutOfMemory;
 use crate::hmac::hasher::digest_of;
 use crate::hmac::keyed::HmacKey;
 use crate::hmac::{DigestBytes, Meter, ScramVersion, XorLengthMismatch};
-pub use crate::keys::client_keys::ScramClientKeys;
+pub use crate::keys::cached_keys::CachedKeys;
 use crate::same_bytes::same_bytes;
 use std::alloc::{AllocError, Global};
 use thiserror::Error;

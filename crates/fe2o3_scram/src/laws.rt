@@ -2,8 +2,8 @@
 //! statement about every list of bytes, which the check has proved.
 
 ghost use Rattle.std.specs.Prelude.{◌≡◌};
-ghost use Rattle.fe2o3_scram.specs.Agreement.{BelievedTextsAgree};
-ghost use Rattle.fe2o3_scram.specs.Logins.{AcceptedTextsLogIn, HiddenTextsLogIn, BelievedTextsAreSigned};
+ghost use Rattle.fe2o3_scram.specs.Agreement.{VerifiedTextsAgree};
+ghost use Rattle.fe2o3_scram.specs.Logins.{AcceptedTextsLogIn, HiddenTextsLogIn, VerifiedTextsAreSigned};
 ghost use Rattle.fe2o3_scram.specs.Laws.{OneVersion, OneFinalText, OneSignature, DigestsAreSized, MacsAreSized, OneBytesOfBase64, Base64IsReadAgain, NoCommaInBase64, PartsExist, OneListOfParts, OneEscapedName, NoCommaInEscapedNames, OneClientFirst, OneServerFirst, OneClientFinal, OneServerFinal, SomeClientFirst, SomeServerFirst, SomeClientFinal, SomeServerFinal, UnalteredExchangesSucceed, MadeRecordsAreReadable, OneRecord, OneSpelling, RecordsAreReadAgain, SomeRecord, OneUsersAnswer, SomeUsersAnswer, UsersAreReadAgain, OneMixedAnswer, SomeMixedAnswer, MixedAreReadAgain, MixedAreWrittenBack, NoMismatch, KeysStandForPassword, KeysAnswerAsPassword, BothAnswerAsPassword, OneRecordOfPassword, OneAnswerOfPassword};
 ghost use Rattle.fe2o3_scram.specs.ScramServer.{StatesAreReported};
 ghost use Rattle.fe2o3_scram.specs.MemoryExamples.{AnsweredClientsTakeNone, CommasTakeNone, ErrorsTakeNone, OtherNoncesTakeNone, UnboundTextsTakeNone, UnknownMechanismsTakeNone, UnknownUsersTakeNone};
@@ -70,8 +70,8 @@ pub fn one_answer_each()
 pub fn accepted_messages()
     ensures server { AcceptedTextsLogIn }
     ensures hiding { HiddenTextsLogIn }
-    ensures client { BelievedTextsAreSigned }
-    ensures agreement { BelievedTextsAgree }
+    ensures client { VerifiedTextsAreSigned }
+    ensures agreement { VerifiedTextsAgree }
 {}
 
 /// A client and a server that hold the same password log in where nothing is altered on the way.
@@ -140,7 +140,7 @@ pub fn texts_without_memory()
     ensures answered { AnsweredClientsTakeNone }
     ensures unknown_users { UnknownUsersTakeNone }
     ensures other_nonces { OtherNoncesTakeNone }
-    ensures unbound { UnboundTextsTakeNone }
+    ensures cbind_flag_y { UnboundTextsTakeNone }
     ensures unknown_mechanisms { UnknownMechanismsTakeNone }
     ensures commas { CommasTakeNone }
 {}

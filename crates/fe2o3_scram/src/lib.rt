@@ -7,13 +7,13 @@
 //! [`ScramVersion::compute_server_final_message`], from the records of a
 //! [`ScramCredentialProvider`]. [`ScramClient`] and [`ScramAuthenticator`] keep the messages of
 //! one exchange between the calls; [`laws`] says what holds of a whole exchange. A client proves who it is
-//! by its password, by [`ScramClientKeys`] that an earlier login handed out, or by both ([`ClientSecret`]).
+//! by its password, by [`CachedKeys`] that an earlier login handed out, or by both ([`ClientSecret`]).
 //!
 //! [`ClientFirst`], [`ServerFirst`], [`ClientFinal`] and [`ServerFinal`] are what the four messages
 //! name, and each has a `parse`. The keys, the proof and the signature stand in [`keys`].
 #![tactic(auto)]
 
-pub mod client_keys;
+pub mod cached_keys;
 pub mod client_secret;
 pub mod credentials;
 pub mod hmac;
@@ -30,18 +30,18 @@ mod texts;
 
 pub use crate::client_secret::{ClientSecret, IterationLimits};
 pub use crate::credentials::{
-    AddRecordError, DEFAULT_SCRAM_ITERATIONS, MixedCredentials, ReadLinesError, ReadLinesErrorKind,
-    RecordTextError, ScramCredentials, ScramRecord, SingleScramCredential, StoredScramCredential,
+    AddRecordError, DEFAULT_SCRAM_ITERATIONS, MultiRecordStore, ReadLinesError, ReadLinesErrorKind,
+    RecordTextError, RecordStore, ScramRecord, SingleScramCredential, UserRecord,
     WriteLinesError,
 };
 pub use crate::hmac::{DigestBytes, Meter, ScramVersion, UnknownMechanism, XorLengthMismatch};
-pub use crate::keys::{RecordError, ScramClientKeys, auth_message};
+pub use crate::keys::{RecordError, CachedKeys, auth_message};
 pub use crate::pbkdf2_hi::KeyError;
 pub use crate::provider::{ScramCredentialProvider, StoredPassword};
 pub use crate::saslprep_ascii::{NormalizeError, saslprep};
 pub use crate::scram_client::ScramClient;
 pub use crate::scram_messages::{
-    ClientAnswer, ClientFinal, ClientFirst, Gs2Header, ScramErrorKind, ServerFinal, ServerFirst,
+    ClientAnswer, ClientFinal, ClientFirst, ChannelBindingFlag, ScramErrorKind, ServerFinal, ServerFirst,
     ServerFirstMessage, ServerScramErrorKind, UnescapeError, escape_username, unescape_username,
 };
 pub use crate::scram_server::ScramAuthenticator;

@@ -7,13 +7,13 @@ ghost use Rattle.fe2o3_scram.specs.ClientFirst.{client_first};
 ghost use Rattle.fe2o3_scram.specs.ClientKeys.{ClientKeys};
 ghost use Rattle.fe2o3_scram.specs.ClientSecret.{Password, Keys, Both, kept_password, kept_secret, no_limit, up_to};
 ghost use Rattle.fe2o3_scram.specs.Passwords.{Typed, Prepared};
-ghost use Rattle.fe2o3_scram.specs.ScramClient.{ClientInitial, ClientFirstSent, ClientFinalSent, AnswersIn, AnswerCostsIn, BelievesIn, ReachesSaltIn, ReachesVerifierIn, started, client_state_of, answer_keys, is_complete, login_keys, with_state, with_limits};
+ghost use Rattle.fe2o3_scram.specs.ScramClient.{ClientInitial, ClientFirstSent, ClientFinalSent, AnswersIn, AnswerCostsIn, VerifiesIn, ReachesSaltIn, ReachesVerifierIn, started, client_state_of, answer_keys, is_complete, login_keys, with_state, with_limits};
 ghost use Rattle.fe2o3_scram.specs.Readings.{Gives};
 
 use crate::OutOfMemory;
 use crate::client_secret::{IterationLimits, KeptPassword, KeptSecret};
 use crate::hmac::{Meter, ScramVersion};
-use crate::keys::ScramClientKeys;
+use crate::keys::CachedKeys;
 use crate::scram_messages::error::ScramErrorKind;
 use crate::texts::base64_of_nonce;
 use bytes::Bytes;
@@ -72,7 +72,7 @@ pub struct ScramClient {
     state: ScramClientState,
 
     /// Those of its answer, where that stands.
-    keys: Option<ScramClientKeys>,
+    keys: Option<CachedKeys>,
 }
 
 impl Model for ScramClient {
@@ -134,8 +134,8 @@ impl ScramClient {
 
     /// The same by the keys of an earlier login in place of the password (RFC 5802, section 3). Its
     /// version is theirs. It answers where the server names the salt and the iteration count that they
-    /// are of, and refuses another message by `OtherKeys`.
-    pub fn with_keys(username: String, keys: ScramClientKeys) -> Self
+    /// are of, and refuses another message by `StaleKeys`.
+    pub fn with_keys(username: String, keys: CachedKeys) -> Self
         ensures { result ≡ record {
           user = string_bytes username;
           secret = Keys keys;
@@ -150,7 +150,7 @@ impl ScramClient {
 
     /// The same by both: by the keys where the server names the salt and the iteration count that they
     /// are of, and by the password where it names others.
-    pub fn with_password_and_keys(username: String, password: String, keys: ScramClientKeys) -> Self
+    pub fn with_password_and_keys(username: String, password: String, keys: CachedKeys) -> Self
         ensures { result ≡ record {
           user = string_bytes username;
           secret = Both (Typed (string_bytes password)) keys;
@@ -167,7 +167,7 @@ impl ScramClient {
     pub fn with_prepared_password_and_keys(
         username: String,
         password: String,
-        keys: ScramClientKeys,
+        keys: CachedKeys,
     ) -> Self
         ensures { result ≡ record {
           user = string_bytes username;
@@ -182,7 +182,7 @@ impl ScramClient {
     }
 
     /// A client by this password and these keys.
-    fn by_both(username: String, password: KeptPassword, keys: ScramClientKeys) -> Self
+    fn by_both(username: String, password: KeptPassword, keys: CachedKeys) -> Self
         ensures { result ≡ record {
           user = string_bytes username;
           secret = Both (kept_password password) keys;
@@ -219,11 +219,11 @@ impl ScramClient {
     /// The same client in the same state, which refuses an iteration count above the limit. The limit is
     /// one for each challenge: how many challenges are answered it does not bound.
     pub fn with_iteration_limit(self, limit: u32) -> Self
-        ensures { result ≡ with_limits self (record { least = self.limits.least; most = limit }) }
+        ensures { result ≡ with_limits self (record { min_iterations = self.limits.min_iterations; max_iterations = limit }) }
     {
         let limits = IterationLimits {
-            least: self.limits.least,
-            most: limit,
+            min_iterations: self.limits.min_iterations,
+            max_iterations: limit,
         };
         self.with_limits(limits)
     }
@@ -231,12 +231,12 @@ impl ScramClient {
     /// The same client in the same state, which refuses an iteration count below this one. Without it
     /// whoever stands between the two sides can have the client show an answer that is made with the count
     /// 1, from which the password is soon guessed. RFC 7677, section 4, asks for 4096 at least.
-    pub fn with_least_iterations(self, least: u32) -> Self
-        ensures { result ≡ with_limits self (record { least = least; most = self.limits.most }) }
+    pub fn with_min_iterations(self, min_iterations: u32) -> Self
+        ensures { result ≡ with_limits self (record { min_iterations = min_iterations; max_iterations = self.limits.max_iterations }) }
     {
         let limits = IterationLimits {
-            least,
-            most: self.limits.most,
+            min_iterations,
+            max_iterations: self.limits.max_iterations,
         };
         self.with_limits(limits)
     }
@@ -348,7 +348,7 @@ impl ScramClient {
         }
     }
 
-    /// Believes the server-final message, or refuses it (RFC 5802, section 5).
+    /// Verifies the server-final message, or refuses it (RFC 5802, section 5).
     ///
     /// Refused are, in this order: `IllegalClientState` where the client-final message is not what
     /// the client sent last; `Utf8Error`; `ServerSignatureMismatch` where the first part does not
@@ -360,8 +360,8 @@ impl ScramClient {
         server_final: &[u8],
     ) -> Result<(), ScramErrorKind>
         ensures answer { Gives ScramErrorKind.OutOfMemory (ReachesVerifierIn self.old.state server_final.now)
-            (λ believed. believed) result
-            (λ answer. BelievesIn self.old.state self.old server_final.now answer self.new) }
+            (λ verified. verified) result
+            (λ answer. VerifiesIn self.old.state self.old server_final.now answer self.new) }
         ensures err { OnErr result (self.new ≡ self.old) }
     {
         match &self.state {
@@ -378,7 +378,7 @@ impl ScramClient {
     /// The keys of the login, once its server was believed, and `None` before: those that its answer was
     /// made by. The next login by them takes two HMAC values, as long as the server keeps its salt and its
     /// iteration count (RFC 5802, section 3).
-    pub fn keys(&self) -> Option<&ScramClientKeys>
+    pub fn keys(&self) -> Option<&CachedKeys>
         ensures { MatchOption result (login_keys self.now.state ≡ None)
             (λ keys. login_keys self.now.state ≡ Some keys.now) }
     {
@@ -429,7 +429,7 @@ impl ScramClient {
     /// The keys of the answer for which the client waits for a signature. They are for a client that is
     /// set down: until the server is believed anybody may have named their salt, so do not keep them for
     /// another login.
-    pub fn answer_keys(&self) -> Option<&ScramClientKeys>
+    pub fn answer_keys(&self) -> Option<&CachedKeys>
         ensures { MatchOption result (answer_keys self.now.state ≡ None)
             (λ keys. answer_keys self.now.state ≡ Some keys.now) }
     {
@@ -441,7 +441,7 @@ impl ScramClient {
 
     /// The same client, where its client-final message is what it sent last, and it waits for this
     /// signature. With the keys of that answer it hands them out once the server is believed.
-    pub fn waiting_for(self, server_signature: Vec<u8>, keys: Option<ScramClientKeys>) -> Self
+    pub fn waiting_for(self, server_signature: Vec<u8>, keys: Option<CachedKeys>) -> Self
         ensures { result ≡ with_state self (ClientFinalSent server_signature.items keys) }
     {
         Self {
@@ -461,7 +461,7 @@ impl fmt::Debug for ScramClient {
         write!(
             f,
             "ScramClient {{ username: {:?}, scram: {:?}, iteration_limit: {}, .. }}",
-            self.username, self.scram, self.limits.most
+            self.username, self.scram, self.limits.max_iterations
         )
     }
 }

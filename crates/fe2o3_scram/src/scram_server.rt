@@ -1,7 +1,7 @@
 //! The SCRAM server as a machine: one message after the other (RFC 5802, section 5).
 
 ghost use Rattle.std.specs.Prelude.{◌≡◌, ◌≤◌, ◌^◌, IfOk, OnErr, false, true, option_map};
-ghost use Rattle.fe2o3_scram.specs.ScramServer.{provider_in, served_by, state_in, unbound_in, Initial, ServerFirstSent, ServerFinalSent, logged_in, ChallengesFrom, ConcludesFrom, FinalCostsFrom, ReachesBase64In, server_state_of};
+ghost use Rattle.fe2o3_scram.specs.ScramServer.{provider_in, served_by, state_in, cbind_flag_y_in, Initial, ServerFirstSent, ServerFinalSent, logged_in, ChallengesFrom, ConcludesFrom, FinalCostsFrom, ReachesBase64In, server_state_of};
 ghost use Rattle.fe2o3_scram.specs.ServerFirst.{ServerChallenge, ReachesChallenge, challenge_values};
 ghost use Rattle.fe2o3_scram.specs.Readings.{Gives};
 
@@ -13,7 +13,7 @@ use crate::OutOfMemory;
 use crate::hmac::Meter;
 use crate::provider::ScramCredentialProvider;
 use crate::scram_messages::error::ServerScramErrorKind;
-use crate::scram_messages::{Gs2Header, ServerFirstMessage, challenge};
+use crate::scram_messages::{ChannelBindingFlag, ServerFirstMessage, challenge};
 use crate::texts::base64_of_nonce;
 use bytes::Bytes;
 use std::alloc::{AllocError, Global};
@@ -25,7 +25,7 @@ enum ScramAuthenticatorState {
     Initial,
     ServerFirstSent {
         username: String,
-        header: Gs2Header,
+        header: ChannelBindingFlag,
         client_first_message_bare: Bytes,
         client_server_nonce: Bytes,
         server_first_message: Bytes,
@@ -115,7 +115,7 @@ fn opened(
 #[derive(Drop)]
 pub struct ScramAuthenticator<C: ScramCredentialProvider> {
     credentials: C,
-    accepts_unbound: bool,
+    accept_cbind_flag_y: bool,
     state: ScramAuthenticatorState,
 }
 
@@ -123,12 +123,12 @@ impl<C: ScramCredentialProvider> ScramAuthenticator<C> {
     /// Returns a server without an open challenge. It accepts clients whose GS2 header is `n,,`.
     pub fn new(credentials: C) -> Self
         ensures provider { provider_in result ≡ credentials }
-        ensures unbound { unbound_in result ≡ false }
+        ensures cbind_flag_y { cbind_flag_y_in result ≡ false }
         ensures state { state_in result ≡ Initial }
     {
         Self {
             credentials,
-            accepts_unbound: false,
+            accept_cbind_flag_y: false,
             state: ScramAuthenticatorState::Initial,
         }
     }
@@ -137,14 +137,14 @@ impl<C: ScramCredentialProvider> ScramAuthenticator<C> {
     /// supports channel binding, and believes that the server does not, since it was offered no
     /// mechanism with `-PLUS` (RFC 5802, section 6). Its client-final message has to repeat the header.
     /// A server that offers such a mechanism must not accept that client.
-    pub fn accepts_unbound(self) -> Self
+    pub fn accept_cbind_flag_y(self) -> Self
         ensures provider { provider_in result ≡ provider_in self }
-        ensures unbound { unbound_in result ≡ true }
+        ensures cbind_flag_y { cbind_flag_y_in result ≡ true }
         ensures state { state_in result ≡ state_in self }
     {
         Self {
             credentials: self.credentials,
-            accepts_unbound: true,
+            accept_cbind_flag_y: true,
             state: self.state,
         }
     }
@@ -160,7 +160,7 @@ impl<C: ScramCredentialProvider> ScramAuthenticator<C> {
     /// challenge the last accepted client-final message answered. Returns `None` before that, and from
     /// the next challenge on. An error, and a client-first message of an unknown user, do not change
     /// it: read it where a client-final message was accepted.
-    pub fn user(&self) -> Option<&str>
+    pub fn authenticated_user(&self) -> Option<&str>
         ensures { option_map (λ user. user.now) result ≡ logged_in (state_in self.now) }
     {
         match &self.state {
@@ -188,7 +188,7 @@ impl<C: ScramCredentialProvider> ScramAuthenticator<C> {
             (λ answer. ChallengesFrom (state_in self.old) (served_by C.meaning self.old) nonce.now
             client_first_message.now answer (state_in self.new)) }
         ensures provider { provider_in self.new ≡ provider_in self.old }
-        ensures unbound { unbound_in self.new ≡ unbound_in self.old }
+        ensures cbind_flag_y { cbind_flag_y_in self.new ≡ cbind_flag_y_in self.old }
         ensures err { OnErr result (state_in self.new ≡ state_in self.old) }
     {
         let mut room = [0; 44];
@@ -197,7 +197,7 @@ impl<C: ScramCredentialProvider> ScramAuthenticator<C> {
             alloc,
             client_first_message,
             nonce,
-            self.accepts_unbound,
+            self.accept_cbind_flag_y,
             &self.credentials,
         )?
         else {
@@ -227,7 +227,7 @@ impl<C: ScramCredentialProvider> ScramAuthenticator<C> {
             (λ answer. ConcludesFrom (state_in self.old) (served_by C.meaning self.old)
             client_final_message.now answer (state_in self.new)) }
         ensures provider { provider_in self.new ≡ provider_in self.old }
-        ensures unbound { unbound_in self.new ≡ unbound_in self.old }
+        ensures cbind_flag_y { cbind_flag_y_in self.new ≡ cbind_flag_y_in self.old }
         ensures err { OnErr result (state_in self.new ≡ state_in self.old) }
     {
         self.compute_server_final_message_metered(alloc, client_final_message, &mut Meter::new())
@@ -248,7 +248,7 @@ impl<C: ScramCredentialProvider> ScramAuthenticator<C> {
             (λ answer. ConcludesFrom (state_in self.old) (served_by C.meaning self.old)
             client_final_message.now answer (state_in self.new)) }
         ensures provider { provider_in self.new ≡ provider_in self.old }
-        ensures unbound { unbound_in self.new ≡ unbound_in self.old }
+        ensures cbind_flag_y { cbind_flag_y_in self.new ≡ cbind_flag_y_in self.old }
         ensures err { OnErr result (state_in self.new ≡ state_in self.old) }
         ensures cost { FinalCostsFrom (state_in self.old) (served_by C.meaning self.old)
             client_final_message.now result meter.old meter.new }
@@ -267,7 +267,7 @@ impl<C: ScramCredentialProvider> ScramAuthenticator<C> {
                 let server_final_message = self
                     .credentials
                     .scram_version()
-                    .compute_server_final_message_behind(
+                    .compute_server_final_message_with_gs2_header(
                         alloc,
                         *header,
                         client_final_message,
@@ -296,12 +296,12 @@ impl<C: ScramCredentialProvider> fmt::Debug for ScramAuthenticator<C> {
 
 impl<C: ScramCredentialProvider> Clone for ScramAuthenticator<C> {
     ghost is_clone = { λ authenticator copy. C.is_clone (provider_in authenticator) (provider_in copy)
-        × (unbound_in copy ≡ unbound_in authenticator) × (state_in copy ≡ state_in authenticator) };
+        × (cbind_flag_y_in copy ≡ cbind_flag_y_in authenticator) × (state_in copy ≡ state_in authenticator) };
 
     fn clone(&self) -> Result<Self, AllocError> {
         Ok(Self {
             credentials: self.credentials.clone()?,
-            accepts_unbound: self.accepts_unbound,
+            accept_cbind_flag_y: self.accept_cbind_flag_y,
             state: self.state.copy()?,
         })
     }

@@ -35,7 +35,7 @@ pub enum SecretError {
 
     /// The file is not read.
     #[error("it cannot be read: {0}")]
-    Unread(ErrorKind),
+    MalformedFrame(ErrorKind),
 
     /// The file is not there, and is not made.
     #[error("it cannot be made: {0}")]
@@ -55,7 +55,7 @@ impl SecretError {
     fn of_reading(error: Error) -> SecretError {
         match error.kind() {
             ErrorKind::OutOfMemory => SecretError::OutOfMemory,
-            kind => SecretError::Unread(kind),
+            kind => SecretError::MalformedFrame(kind),
         }
     }
 
@@ -95,7 +95,7 @@ pub fn secret_of<R: Files + RandomSource + AllocGlobal>(
 {
     let file = file_of(rt.alloc(), records)?;
     match read(rt, &file) {
-        Err(SecretError::Unread(ErrorKind::NotFound)) => {
+        Err(SecretError::MalformedFrame(ErrorKind::NotFound)) => {
             make(rt, &file)?;
             read(rt, &file)
         }

@@ -16,7 +16,7 @@ use Rattle.fe2o3_scram.specs.ClientKeys.{ClientKeys}
 use Rattle.fe2o3_scram.specs.ClientSecret.{Secret}
 use Rattle.fe2o3_scram.specs.Hmac.{exclusive_or}
 use Rattle.fe2o3_scram.specs.Keys.{client_proof, client_signature, server_signature, stored_key, auth_message}
-use Rattle.fe2o3_scram.specs.ScramClient.{AnswersIn, BelievesIn, ClientSide, ClientState, ClientInitial, ClientFirstSent, ClientFinalSent, Complete, with_state}
+use Rattle.fe2o3_scram.specs.ScramClient.{AnswersIn, VerifiesIn, ClientSide, ClientState, ClientInitial, ClientFirstSent, ClientFinalSent, Complete, with_state}
 use Rattle.fe2o3_scram.specs.ServerFirst.{Client, NamesServerFirst, ReadsServerFirst, ServerFirst, client_of}
 use Rattle.fe2o3_scram.specs.ServerFinal.{ReadsServerFinal}
 use Rattle.fe2o3_scram.specs.ServerFirstAnswers.{AnswersServerFirst}
@@ -29,7 +29,7 @@ use Rattle.sasl_c.specs.declared.status.Status.{Status}
 use Rattle.sasl_c.specs.declared.status.Status.TheVariants as statuses
 use Rattle.sasl_c.specs.declared.client.Login.{Login}
 use Rattle.sasl_c.specs.declared.client.ScramClient.{ScramClient as Struct}
-use Rattle.sasl_c.specs.Client.{AnswersByMessage, AwaitsSignature, Believes, HasSecret, Holds, IsAnswer, IsClientOf, IsTestedLogin, IsNoLogin, IsNoSecret, IsReached, IsSecretOf, IsSide, IsState, NotAnswered, Responds, WritesClient, complete_struct, name_tests}
+use Rattle.sasl_c.specs.Client.{AnswersByMessage, AwaitsSignature, Verifies, HasSecret, Holds, IsAnswer, IsClientOf, IsTestedLogin, IsNoLogin, IsNoSecret, IsReached, IsSecretOf, IsSide, IsState, NotAnswered, Responds, WritesClient, complete_struct, name_tests}
 use Rattle.sasl_c.specs.declared.keys.ClientKeys.{ClientKeys as KeysStruct}
 use Rattle.sasl_c.specs.Keys.{shown_keys}
 use Rattle.sasl_c.specs.Records.{IsVersion}
@@ -140,7 +140,7 @@ answering_login login (Complete keys) side next text message held is = absurd he
 
 -- a client of a login that has sent its client-first message, as its struct shows it
 abbrev limits_of : Login → IterationLimits
-limits_of login = record { least = login.least_iterations; most = login.most_iterations }
+limits_of login = record { min_iterations = login.min_iterations; max_iterations = login.max_iterations }
 
 abbrev first_side : Login → Struct → ScramVersion → Secret → ClientSide
 first_side login before version secret = record {
@@ -188,7 +188,7 @@ pub answered_by : (login : Login) (before : Struct) (version : ScramVersion) (se
     (answer : Answer) → IsVersion login.version version → IsSecretOf login secret → before.sent ≡ 1
     → nonce ≡ base64_text before.nonce → bare ≡ client_first_bare login.username.now nonce
     → AnswersServerFirst version
-    (client_of nonce secret (record { least = login.least_iterations; most = login.most_iterations })) bare text
+    (client_of nonce secret (record { min_iterations = login.min_iterations; max_iterations = login.max_iterations })) bare text
     (Ok answer)
     → IsAnswer login before text answer
 unfolding AnswersByMessage
@@ -207,7 +207,7 @@ pub refused_by : (login : Login) (before : Struct) (version : ScramVersion) (sec
     (why : ScramErrorKind) (status : Status) → IsVersion login.version version → IsSecretOf login secret
     → before.sent ≡ 1 → nonce ≡ base64_text before.nonce → bare ≡ client_first_bare login.username.now nonce
     → (why ≢ NoMemory → AnswersServerFirst version
-    (client_of nonce secret (record { least = login.least_iterations; most = login.most_iterations })) bare text
+    (client_of nonce secret (record { min_iterations = login.min_iterations; max_iterations = login.max_iterations })) bare text
     (Err why)) → status ≡ client_status why → status ≢ statuses.OutOfMemory
     → NotAnswered login before text status
 unfolding NotAnswered
@@ -370,16 +370,16 @@ always_waits login before text message signature keys held long =
 
 -- ---- whether the server is believed
 
-pub believing_login : (login : Login) (state : ClientState) (side next : ClientSide) (text : List ℕ)
-    → BelievesIn state side text (Ok tt) next → IsClientOf login side → IsClientOf login next
-believing_login login (ClientFinalSent signature keys) side next text held is =
+pub verifying_login : (login : Login) (state : ClientState) (side next : ClientSide) (text : List ℕ)
+    → VerifiesIn state side text (Ok tt) next → IsClientOf login side → IsClientOf login next
+verifying_login login (ClientFinalSent signature keys) side next text held is =
     rw held.1 (moved_login login side _ is)
-believing_login login ClientInitial side next text held is = absurd held
-believing_login login (ClientFirstSent nonce bare) side next text held is = absurd held
-believing_login login (Complete keys) side next text held is = absurd held
+verifying_login login ClientInitial side next text held is = absurd held
+verifying_login login (ClientFirstSent nonce bare) side next text held is = absurd held
+verifying_login login (Complete keys) side next text held is = absurd held
 
 done_state : (user other : List ℕ) (before after : Struct) (state : ClientState) (side next : ClientSide)
-    (text : List ℕ) → IsState user before state → BelievesIn state side text (Ok tt) next → after.sent ≡ 3
+    (text : List ℕ) → IsState user before state → VerifiesIn state side text (Ok tt) next → after.sent ≡ 3
     → after.keys ≡ before.keys → IsState other after next.state
 done_state user other before after (ClientFinalSent signature keys) side next text is held done same =
     let moved : next.state ≡ Complete keys = ap (λ (last : ClientSide). last.state) held.1 in
@@ -389,17 +389,17 @@ done_state user other before after ClientInitial side next text is held done sam
 done_state user other before after (ClientFirstSent nonce bare) side next text is held done same = absurd held
 done_state user other before after (Complete keys) side next text is held done same = absurd held
 
-pub believes : (login : Login) (before after : Struct) (side next : ClientSide) (text : List ℕ) (believed : Unit {0})
-    → IsSide login before side → BelievesIn side.state side text (Ok believed) next
-    → after ≡ complete_struct before.keys → Believes login text before after (Ok tt)
-unfolding Believes
-believes login before after side next text believed is held written = (
+pub verifies : (login : Login) (before after : Struct) (side next : ClientSide) (text : List ℕ) (verified : Unit {0})
+    → IsSide login before side → VerifiesIn side.state side text (Ok verified) next
+    → after ≡ complete_struct before.keys → Verifies login text before after (Ok tt)
+unfolding Verifies
+verifies login before after side next text verified is held written = (
   side,
   next,
   is,
   held,
   (
-    believing_login login side.state side next text held is.0,
+    verifying_login login side.state side next text held is.0,
     done_state side.user next.user before after side.state side next text is.1 held
         (ap (λ (client : Struct). client.sent) written) (ap (λ (client : Struct). client.keys) written),
   ),
@@ -407,14 +407,14 @@ believes login before after side next text believed is held written = (
 )
 
 pub verified : (login : Login) (before after : Struct) (text signature : List ℕ) (version : ScramVersion)
-    (believed : Unit {0}) → IsVersion login.version version → IsTestedLogin login → AwaitsSignature before
-    → signature ≡ take before.signature_len before.signature → ReadsServerFinal signature text (Ok believed)
-    → after ≡ complete_struct before.keys → Believes login text before after (Ok tt)
-verified login before after text signature version believed known is waits same reads written =
+    (verified : Unit {0}) → IsVersion login.version version → IsTestedLogin login → AwaitsSignature before
+    → signature ≡ take before.signature_len before.signature → ReadsServerFinal signature text (Ok verified)
+    → after ≡ complete_struct before.keys → Verifies login text before after (Ok tt)
+verified login before after text signature version verified known is waits same reads written =
     let secret = secret_of_login login is.1 in
     let keys = holds before.keys in
     let side = side_with login version secret.0 (ClientFinalSent signature keys.0) in
-    believes login before after side (with_state side (Complete keys.0)) text believed
+    verifies login before after side (with_state side (Complete keys.0)) text verified
     (is_side_with login before version secret.0 (ClientFinalSent signature keys.0) known secret.1
     (waits.0, waits.1, same, keys.1))
     (reads, refl)
@@ -424,8 +424,8 @@ pub unverified : (login : Login) (before : Struct) (text signature : List ℕ) (
     (why : ScramErrorKind) (status : Status) → IsVersion login.version version → IsTestedLogin login
     → AwaitsSignature before → signature ≡ take before.signature_len before.signature
     → (why ≢ NoMemory → ReadsServerFinal signature text (Err why)) → status ≡ client_status why
-    → Believes login text before before (Err status)
-unfolding Believes
+    → Verifies login text before before (Err status)
+unfolding Verifies
 unverified login before text signature version why status known is waits same held gives = (
   refl,
   λ other.
@@ -447,7 +447,7 @@ unverified login before text signature version why status known is waits same he
 
 -- a client that waits for no signature
 not_waiting_in : (user : List ℕ) (before : Struct) (state : ClientState) (side : ClientSide) (text : List ℕ)
-    → IsState user before state → ¬ AwaitsSignature before → BelievesIn state side text (Err IllegalClientState) side
+    → IsState user before state → ¬ AwaitsSignature before → VerifiesIn state side text (Err IllegalClientState) side
 not_waiting_in user before ClientInitial side text is other = (refl, refl)
 not_waiting_in user before (ClientFirstSent nonce bare) side text is other = (refl, refl)
 not_waiting_in user before (ClientFinalSent signature keys) side text is other = absurd (other (is.0, is.1))
@@ -462,8 +462,8 @@ any_state user before (inr other) =
 
 pub not_waiting : (login : Login) (before : Struct) (text : List ℕ) (version : ScramVersion)
     → IsVersion login.version version → IsTestedLogin login → ¬ AwaitsSignature before
-    → Believes login text before before (Err (statuses.Client IllegalClientState))
-unfolding Believes
+    → Verifies login text before before (Err (statuses.Client IllegalClientState))
+unfolding Verifies
 not_waiting login before text version known is other = (
   refl,
   λ memory.
@@ -481,12 +481,12 @@ not_waiting login before text version known is other = (
       ),
 )
 
-pub no_believer : (login : Login) (before : Struct) (text : List ℕ) (status : Status) → IsNoLogin login status
-    → Believes login text before before (Err status)
-unfolding Believes
-no_believer login before text status wrong = (refl, λ other. inl wrong)
+pub no_verification : (login : Login) (before : Struct) (text : List ℕ) (status : Status) → IsNoLogin login status
+    → Verifies login text before before (Err status)
+unfolding Verifies
+no_verification login before text status wrong = (refl, λ other. inl wrong)
 
-pub ruleset verifies = (verified, unverified, not_waiting, no_believer)
+pub ruleset verifies = (verified, unverified, not_waiting, no_verification)
 
 -- what the client's answer takes
 -- why a client whose login has a version and a user has no secret

@@ -9,8 +9,8 @@ use Rattle.fe2o3_scram.specs.declared.credentials.record_lines.ReadLinesErrorKin
 use Rattle.fe2o3_scram.specs.declared.credentials.record_text.RecordTextError.TheVariants as texts
 use Rattle.fe2o3_scram.specs.declared.hmac.ScramVersion.{ScramVersion}
 use Rattle.fe2o3_scram.specs.declared.hmac.ScramVersion.TheVariants.{Sha1}
-use Rattle.fe2o3_scram.specs.Mixed.{MixedRecords}
-use Rattle.fe2o3_scram.specs.MixedLines.{MixedFault, ReadsMixed, SpellsMixed, UpToMixed}
+use Rattle.fe2o3_scram.specs.Mixed.{MultiRecords}
+use Rattle.fe2o3_scram.specs.MultiRecordLines.{MixedFault, ReadsMixed, SpellsMixed, UpToMixed}
 use Rattle.fe2o3_scram.specs.RecordLines.{ReachesUser}
 use Rattle.fe2o3_scram.specs.RecordText.{ReadsRecord}
 use Rattle.sasl_c.specs.declared.records.ScramRecord.{ScramRecord as Struct}
@@ -19,7 +19,7 @@ use Rattle.sasl_c.specs.declared.status.Status.TheVariants as statuses
 use Rattle.sasl_c.specs.Lines.{Chosen, FindAsks, FindsRecord, NotChosen, line_status}
 use Rattle.sasl_c.specs.Records.{IsVersion}
 
-pub found : (lines name : List ℕ) (version : ℕ) (made : Struct) (known : ScramVersion) (users : MixedRecords)
+pub found : (lines name : List ℕ) (version : ℕ) (made : Struct) (known : ScramVersion) (users : MultiRecords)
     → IsVersion version known → SpellsMixed lines users → Chosen users name known made
     → FindsRecord lines name version 0 (Ok made)
 unfolding FindsRecord
@@ -48,7 +48,7 @@ pub no_lines : (lines name : List ℕ) (version line : ℕ) (status : Status) �
 unfolding FindsRecord
 no_lines lines name version line status at is wrong = inr (at, inr (inl (is, inr wrong)))
 
-pub not_found : (lines name : List ℕ) (version line : ℕ) (known : ScramVersion) (users : MixedRecords)
+pub not_found : (lines name : List ℕ) (version line : ℕ) (known : ScramVersion) (users : MultiRecords)
     (status : Status) → line ≡ 0 → IsVersion version known → SpellsMixed lines users
     → NotChosen users name known status → FindsRecord lines name version line (Err status)
 unfolding FindsRecord

@@ -10,22 +10,22 @@ use Rattle.fe2o3_sasl_wire.specs.SaslFrames.{SaslFrame, canonical}
 use Rattle.fe2o3_scram.specs.declared.scram_messages.error.ScramErrorKind.{ScramErrorKind}
 use Rattle.fe2o3_scram.specs.Readings.{IsFirst, NoneHolds}
 use Rattle.fe2o3_scram.specs.ScramClient as states
-use Rattle.fe2o3_scram.specs.ScramClient.{AnswersIn, BelievesIn, ClientSide, ClientState, started}
-use Rattle.fe2o3_sasl_runs.specs.Bodies.{carried as sent_or_not}
-use Rattle.fe2o3_sasl_runs.specs.Events.{Given, ClientSays, Started, Answered, Reported, Refused}
-use Rattle.fe2o3_sasl_runs.specs.Profiles.{Profile, ScramProfile, PlainProfile, AnonymousProfile, ExternalProfile, is_scram, profile_machine}
-use Rattle.fe2o3_sasl_runs.specs.Runs.{ProfileGives, Replies}
-use Rattle.fe2o3_sasl_negotiation.specs.declared.set_down.SetDown.{SetDown}
-use Rattle.fe2o3_sasl_negotiation.specs.declared.standing.Due.{Due}
-use Rattle.fe2o3_sasl_negotiation.specs.declared.standing.Due.TheVariants.{Header, Frame}
-use Rattle.fe2o3_sasl_negotiation.specs.declared.standing.Standing.{Standing}
-use Rattle.fe2o3_sasl_negotiation.specs.declared.standing.Standing.TheVariants.{Wanting}
-use Rattle.fe2o3_sasl_negotiation.specs.declared.standing.Turn.{Turn}
-use Rattle.fe2o3_sasl_negotiation.specs.declared.standing.Turn.TheVariants as turns
+use Rattle.fe2o3_scram.specs.ScramClient.{AnswersIn, VerifiesIn, ClientSide, ClientState, started}
+use Rattle.fe2o3_sasl_core.specs.Bodies.{carried as sent_or_not}
+use Rattle.fe2o3_sasl_core.specs.Events.{Given, ClientSays, Started, Answered, Reported, Refused}
+use Rattle.fe2o3_sasl_core.specs.Profiles.{Profile, ScramProfile, PlainProfile, AnonymousProfile, ExternalProfile, is_scram, profile_machine}
+use Rattle.fe2o3_sasl_core.specs.Runs.{ProfileGives, Replies}
+use Rattle.fe2o3_sasl_negotiation.specs.declared.snapshot.Snapshot.{Snapshot}
+use Rattle.fe2o3_sasl_negotiation.specs.declared.progress.Expected.{Expected}
+use Rattle.fe2o3_sasl_negotiation.specs.declared.progress.Expected.TheVariants.{Header, Frame}
+use Rattle.fe2o3_sasl_negotiation.specs.declared.progress.Progress.{Progress}
+use Rattle.fe2o3_sasl_negotiation.specs.declared.progress.Progress.TheVariants.{InProgress}
+use Rattle.fe2o3_sasl_negotiation.specs.declared.progress.FrameKind.{FrameKind}
+use Rattle.fe2o3_sasl_negotiation.specs.declared.progress.FrameKind.TheVariants as turns
 use Rattle.fe2o3_sasl_negotiation.specs.ClientNegotiation.{ClientSideAnswers, ClientReceives, ClientOutputs}
 use Rattle.fe2o3_sasl_negotiation.specs.Framing.{IsPart}
 use Rattle.fe2o3_sasl_negotiation.specs.Negotiations.{Side, SideOutput, Sends, ReceivesAt}
-use Rattle.fe2o3_sasl_negotiation.specs.SetDown.{client_fits, client_due, IsClientKept, side_of}
+use Rattle.fe2o3_sasl_negotiation.specs.Snapshot.{client_fits, client_due, IsClientKept, side_of}
 use Rattle.fe2o3_sasl_negotiation.proofs.lemmas.UnitLemmas.{length-framed}
 use Rattle.sasl_c.specs.declared.client.Login.{Login as Words}
 use Rattle.sasl_c.specs.declared.client.ScramClient.{ScramClient as ScramStruct}
@@ -37,11 +37,11 @@ use Rattle.sasl_c.specs.declared.status.Status.TheVariants as statuses
 use Rattle.sasl_c.specs.Client.{IsNoLogin, IsReached, IsState, WritesClient, fresh_client_struct}
 use Rattle.sasl_c.specs.Connection.{Keeps, KeepsNoPartOf, due_number, side_tests, connection_struct}
 use Rattle.sasl_c.specs.SaslClient.{ProfileIsReached, HasNoHostname, HasNoClientWords, IsClient, IsHostname, IsNoClient, IsNoProfile, IsProfile, ReadsClient, ReceivesAsClient, ClientIsReached, WritesProfile, WritesSide}
-use Rattle.sasl_c.proofs.ClientLemmas.{answer_fits, answering_login, believing_login, moved_login}
+use Rattle.sasl_c.proofs.ClientLemmas.{answer_fits, answering_login, verifying_login, moved_login}
 use Rattle.sasl_c.proofs.StateLemmas.{reached}
 use Rattle.sasl_c.proofs.StatusLemmas.{carried}
-use Rattle.fe2o3_sasl_runs.specs.declared.sasl_profile.error.ProfileError.{ProfileError}
-use Rattle.fe2o3_sasl_runs.specs.declared.sasl_profile.error.ProfileError.TheVariants.{NotImplemented, Scram, OtherKeys, Frame as FrameFault, OutOfMemory}
+use Rattle.fe2o3_sasl_core.specs.declared.sasl_profile.error.ProfileError.{ProfileError}
+use Rattle.fe2o3_sasl_core.specs.declared.sasl_profile.error.ProfileError.TheVariants.{NotImplemented, Scram, StaleKeys, Frame as FrameFault, OutOfMemory}
 
 -- ---- a profile that a login comes to stays one
 
@@ -65,24 +65,24 @@ answered_stands words (states.ClientFinalSent signature keys) client after text 
 answered_stands words (states.Complete keys) client after text (Err fault) is stands =
     same_stands words client after is.1 stands
 
-believed_stands : (words : Words) (state : ClientState) (client after : ClientSide) (text : List ℕ)
-    (answer : Result (Unit {0}) ScramErrorKind) → BelievesIn state client text answer after → ClientIsReached words client
+verified_stands : (words : Words) (state : ClientState) (client after : ClientSide) (text : List ℕ)
+    (answer : Result (Unit {0}) ScramErrorKind) → VerifiesIn state client text answer after → ClientIsReached words client
     → ClientIsReached words after
-believed_stands words (states.ClientFinalSent signature keys) client after text (Ok believed) is stands = (
-  believing_login words (states.ClientFinalSent signature keys) client after text is stands.0,
+verified_stands words (states.ClientFinalSent signature keys) client after text (Ok verified) is stands = (
+  verifying_login words (states.ClientFinalSent signature keys) client after text is stands.0,
   carried (IsReached after.user) (states.Complete keys) after.state
       (sym (ap (λ (side : ClientSide). side.state) is.1)) tt,
 )
-believed_stands words states.ClientInitial client after text (Ok believed) is stands = absurd is
-believed_stands words (states.ClientFirstSent nonce bare) client after text (Ok believed) is stands = absurd is
-believed_stands words (states.Complete keys) client after text (Ok believed) is stands = absurd is
-believed_stands words states.ClientInitial client after text (Err fault) is stands =
+verified_stands words states.ClientInitial client after text (Ok verified) is stands = absurd is
+verified_stands words (states.ClientFirstSent nonce bare) client after text (Ok verified) is stands = absurd is
+verified_stands words (states.Complete keys) client after text (Ok verified) is stands = absurd is
+verified_stands words states.ClientInitial client after text (Err fault) is stands =
     same_stands words client after is.1 stands
-believed_stands words (states.ClientFirstSent nonce bare) client after text (Err fault) is stands =
+verified_stands words (states.ClientFirstSent nonce bare) client after text (Err fault) is stands =
     same_stands words client after is.1 stands
-believed_stands words (states.ClientFinalSent signature keys) client after text (Err fault) is stands =
+verified_stands words (states.ClientFinalSent signature keys) client after text (Err fault) is stands =
     same_stands words client after is.1 stands
-believed_stands words (states.Complete keys) client after text (Err fault) is stands =
+verified_stands words (states.Complete keys) client after text (Err fault) is stands =
     same_stands words client after is.1 stands
 
 -- a profile of SCRAM whose client is of these words
@@ -102,7 +102,7 @@ scram_moves words client hostname nonce (frames.Challenge text) reply moved (inr
 scram_moves words client hostname nonce (frames.Outcome outcomes.Ok None) reply moved is stands =
     (client, is.1, stands)
 scram_moves words client hostname nonce (frames.Outcome outcomes.Ok (Some text)) reply moved is stands =
-    (is.1, is.4, believed_stands words client.state client is.1 text is.0 is.2 stands)
+    (is.1, is.4, verified_stands words client.state client is.1 text is.0 is.2 stands)
 scram_moves words client hostname nonce (frames.Outcome code more) reply moved is stands = (client, is.1, stands)
 scram_moves words client hostname nonce (frames.Init mechanism response host) reply moved is stands =
     (client, is.1, stands)
@@ -187,8 +187,8 @@ gives_comes login hostname profile event (Ok frame) says next (inr is) comes =
     replied_comes login profile is.1 next is.0 says comes
     (machine_comes login profile hostname event.nonce frame is.0 is.1 is.2 comes) is.3
 
-answers_comes : (login : Login) (hostname : Option (List ℕ)) (due : Due) (profile next : Profile)
-    (nonce unit : List ℕ) (answer : SideOutput) → ClientSideAnswers hostname due profile nonce unit answer next
+answers_comes : (login : Login) (hostname : Option (List ℕ)) (expected : Expected) (profile next : Profile)
+    (nonce unit : List ℕ) (answer : SideOutput) → ClientSideAnswers hostname expected profile nonce unit answer next
     → ProfileIsReached login profile → ProfileIsReached login next
 answers_comes login hostname Header profile next nonce unit answer is comes =
     same_comes login profile next is.1 comes
@@ -210,14 +210,14 @@ silent_short answer other same nothing =
     let sent : length answer.sent ≡ 0 = ap (λ (a : SideOutput). length a.sent) same ∙ ap length nothing in
     omega (arith, sent)
 
-sends_short : (body : List ℕ) (standing : Standing) (due : Due) (answer : SideOutput) → Sends body standing due answer
+sends_short : (body : List ℕ) (progress : Progress) (expected : Expected) (answer : SideOutput) → Sends body progress expected answer
     → Short answer
-sends_short body standing due answer (inr (long, same)) = silent_short answer _ same refl
-sends_short body standing due answer (inl (fits, same)) =
+sends_short body progress expected answer (inr (long, same)) = silent_short answer _ same refl
+sends_short body progress expected answer (inl (fits, same)) =
     let sent : length answer.sent ≡ length body + 4 = ap (λ (a : SideOutput). length a.sent) same ∙ length-framed body in
     omega (arith, sent, fits)
 
-says_short : (says : ClientSays) (turn : Turn) (answer : SideOutput) → ClientOutputs says turn answer → Short answer
+says_short : (says : ClientSays) (turn : FrameKind) (answer : SideOutput) → ClientOutputs says turn answer → Short answer
 says_short (Started body) turns.Mechanisms answer sends = sends_short body _ _ answer sends
 says_short (Started body) turns.Init answer same = silent_short answer _ same refl
 says_short (Started body) turns.Challenge answer same = silent_short answer _ same refl
@@ -236,11 +236,11 @@ says_short (Reported outcomes.SysTemp more) turn answer same = silent_short answ
 says_short (Refused OutOfMemory) turn answer never = absurd never
 says_short (Refused NotImplemented) turn answer refused = silent_short answer _ refused refl
 says_short (Refused (Scram kind)) turn answer refused = silent_short answer _ refused refl
-says_short (Refused OtherKeys) turn answer refused = silent_short answer _ refused refl
+says_short (Refused StaleKeys) turn answer refused = silent_short answer _ refused refl
 says_short (Refused (FrameFault fault)) turn answer refused = silent_short answer _ refused refl
 
-answers_short : (hostname : Option (List ℕ)) (due : Due) (profile next : Profile) (nonce unit : List ℕ)
-    (answer : SideOutput) → ClientSideAnswers hostname due profile nonce unit answer next → Short answer
+answers_short : (hostname : Option (List ℕ)) (expected : Expected) (profile next : Profile) (nonce unit : List ℕ)
+    (answer : SideOutput) → ClientSideAnswers hostname expected profile nonce unit answer next → Short answer
 answers_short hostname Header profile next nonce unit answer (inl other, kept) = silent_short answer _ other.1 refl
 answers_short hostname Header profile next nonce unit answer (inr is, kept) = silent_short answer _ is.1 refl
 answers_short hostname (Frame turn) profile next nonce unit answer (Err fault, spells, unread) =
@@ -253,7 +253,7 @@ answers_short hostname (Frame turn) profile next nonce unit answer
 -- ---- a call
 
 -- what has come of a unit
-pub part_short : (due : Due) (come : List ℕ) → IsPart due 512 come → length come ≤ 512
+pub part_short : (expected : Expected) (come : List ℕ) → IsPart expected 512 come → length come ≤ 512
 part_short Header come part = omega (arith, part)
 part_short (Frame turn) come part = go (cases_lt (length come) 4)
   where
@@ -280,27 +280,27 @@ behind login next other sent more same is comes limit held short =
     })
 
 wanting_behind : (login : Login) (hostname : Option (List ℕ)) (side next : Side Profile) (bytes nonce : List ℕ)
-    (taken : ℕ) (sent : List ℕ) → ReceivesAt Wanting (ClientSideAnswers hostname) side bytes nonce taken sent next
+    (taken : ℕ) (sent : List ℕ) → ReceivesAt InProgress (ClientSideAnswers hostname) side bytes nonce taken sent next
     → side.limit ≡ 512 → ProfileIsReached login side.state → Behind login next sent
 wanting_behind login hostname side next bytes nonce taken sent (inl (part, waits)) limit comes =
     behind login next _ sent [] waits.2 waits.1 comes limit
-    (part_short side.due (side.held ++ bytes)
-    (carried (λ n. IsPart side.due n (side.held ++ bytes)) side.limit 512 limit part)) (omega arith)
+    (part_short side.expected (side.held ++ bytes)
+    (carried (λ n. IsPart side.expected n (side.held ++ bytes)) side.limit 512 limit part)) (omega arith)
 wanting_behind login hostname side next bytes nonce taken sent (inr (inl (refused, ends))) limit comes =
     behind login next _ sent [] ends.2 ends.1 comes limit (omega arith) (omega arith)
 wanting_behind login hostname side next bytes nonce taken sent (inr (inr (answer, state, whole, answers, ends))) limit
     comes =
     behind login next _ sent answer.sent ends.2 ends.1
-    (answers_comes login hostname side.due side.state state nonce _ answer answers comes) limit (omega arith)
-    (answers_short hostname side.due side.state state nonce _ answer answers)
+    (answers_comes login hostname side.expected side.state state nonce _ answer answers comes) limit (omega arith)
+    (answers_short hostname side.expected side.state state nonce _ answer answers)
 
 receives_behind : (login : Login) (hostname : Option (List ℕ)) (side next : Side Profile) (bytes nonce : List ℕ)
-    (taken : ℕ) (sent : List ℕ) → side.standing ≡ Wanting
+    (taken : ℕ) (sent : List ℕ) → side.progress ≡ InProgress
     → ClientReceives hostname side bytes nonce taken sent next → side.limit ≡ 512 → ProfileIsReached login side.state
     → Behind login next sent
 receives_behind login hostname side next bytes nonce taken sent wanting is limit comes =
     wanting_behind login hostname side next bytes nonce taken sent
-    (carried (λ s. ReceivesAt s (ClientSideAnswers hostname) side bytes nonce taken sent next) side.standing Wanting
+    (carried (λ s. ReceivesAt s (ClientSideAnswers hostname) side bytes nonce taken sent next) side.progress InProgress
     wanting is) limit comes
 
 -- ---- structs
@@ -349,46 +349,46 @@ writes_other AnonymousProfile scram other same = same
 writes_other ExternalProfile scram other same = same
 
 -- and those that are written for a side
-pub writes_side : (connection : Kept) (scram : ScramStruct) (side : Side Profile) (kept : SetDown)
-    → side_of kept side.state ≡ side → connection ≡ connection_struct kept.standing kept.due kept.held.now
+pub writes_side : (connection : Kept) (scram : ScramStruct) (side : Side Profile) (kept : Snapshot)
+    → side_of kept side.state ≡ side → connection ≡ connection_struct kept.progress kept.expected kept.held.now
     → WritesProfile scram side.state → WritesSide (record { connection = connection; scram = scram }) side
 writes_side connection scram side kept same is written = (
-  carried (λ (s : Side Profile). connection ≡ connection_struct s.standing s.due s.held) (side_of kept side.state) side same is,
+  carried (λ (s : Side Profile). connection ≡ connection_struct s.progress s.expected s.held) (side_of kept side.state) side same is,
   written,
 )
 
 -- the structs of a side, of its values
-pub shows_side : (login : Login) (connection : Kept) (scram : ScramStruct) (side : Side Profile) (kept : SetDown)
-    → side_of kept side.state ≡ side → side.limit ≡ 512 → Keeps connection kept.standing kept.due kept.held.now
+pub shows_side : (login : Login) (connection : Kept) (scram : ScramStruct) (side : Side Profile) (kept : Snapshot)
+    → side_of kept side.state ≡ side → side.limit ≡ 512 → Keeps connection kept.progress kept.expected kept.held.now
     → IsProfile login scram side.state
     → IsClient login (record { connection = connection; scram = scram }) side
 shows_side login connection scram side kept same limit keeps is = (
   (
-    carried (λ (s : Side Profile). Keeps connection s.standing s.due s.held) (side_of kept side.state) side same keeps,
+    carried (λ (s : Side Profile). Keeps connection s.progress s.expected s.held) (side_of kept side.state) side same keeps,
     limit,
   ),
   is,
 )
 
-pub never_more : (side : Side Profile) (kept : SetDown) → side_of kept side.state ≡ side → length side.held ≤ 512
+pub never_more : (side : Side Profile) (kept : Snapshot) → side_of kept side.state ≡ side → length side.held ≤ 512
     → 512 < length kept.held.now → ⊥
 never_more side kept same few more =
     let held : length kept.held.now ≡ length side.held = ap (λ (s : Side Profile). length s.held) same in
     absurd (omega (arith, held, few, more))
 
 -- the side that was taken up is that of the struct
-pub is_taken_up : (login : Login) (client : Struct) (kept : SetDown) (profile : Profile) (side : Side Profile)
-    → Keeps client.connection kept.standing kept.due kept.held.now → kept.limit ≡ 512
+pub is_taken_up : (login : Login) (client : Struct) (kept : Snapshot) (profile : Profile) (side : Side Profile)
+    → Keeps client.connection kept.progress kept.expected kept.held.now → kept.limit ≡ 512
     → IsProfile login client.scram profile → side ≡ side_of kept profile → IsClient login client side
 is_taken_up login client kept profile side keeps limit is same =
     carried (IsClient login client) (side_of kept profile) side (sym same) ((keeps, limit), is)
 
-due_named : ℕ → Due
+due_named : ℕ → Expected
 due_named number = if nat_eq number 0 then Header else if nat_eq number 1 then Frame turns.Mechanisms
     else if nat_eq number 2 then Frame turns.Init else if nat_eq number 3 then Frame turns.Challenge
     else if nat_eq number 4 then Frame turns.Response else Frame turns.Outcome
 
-named_back : (due : Due) → due_named (due_number due) ≡ due
+named_back : (expected : Expected) → due_named (due_number expected) ≡ expected
 unfolding due_named
 named_back Header = refl
 named_back (Frame turns.Mechanisms) = refl
@@ -397,32 +397,32 @@ named_back (Frame turns.Challenge) = refl
 named_back (Frame turns.Response) = refl
 named_back (Frame turns.Outcome) = refl
 
-pub one_due : (due other : Due) → due_number due ≡ due_number other → due ≡ other
-one_due due other same = sym (named_back due) ∙ (ap due_named same ∙ named_back other)
+pub one_due : (expected other : Expected) → due_number expected ≡ due_number other → expected ≡ other
+one_due expected other same = sym (named_back expected) ∙ (ap due_named same ∙ named_back other)
 
-keeps_no_part : (client : Struct) (kept : SetDown)
-    → Keeps client.connection kept.standing kept.due kept.held.now → kept.standing ≡ Wanting → kept.limit ≡ 512
+keeps_no_part : (client : Struct) (kept : Snapshot)
+    → Keeps client.connection kept.progress kept.expected kept.held.now → kept.progress ≡ InProgress → kept.limit ≡ 512
     → shown kept.user ≡ None → ¬ IsClientKept kept → KeepsNoPartOf client_due client.connection
-keeps_no_part client kept keeps wanting limit nobody wrong = λ due held other unit part.
-    let one = one_due due kept.due (other.due ∙ sym keeps.due) in
+keeps_no_part client kept keeps wanting limit mock wrong = λ expected held other unit part.
+    let one = one_due expected kept.expected (other.expected ∙ sym keeps.expected) in
     let same : held ≡ kept.held.now = other.held ∙ sym keeps.held in
-    let less : IsPart kept.due 512 held = carried (λ d. IsPart d 512 held) due kept.due one part in
-    let come : IsPart kept.due 512 kept.held.now = carried (λ h. IsPart kept.due 512 h) held kept.held.now same less
+    let less : IsPart kept.expected 512 held = carried (λ d. IsPart d 512 held) expected kept.expected one part in
+    let come : IsPart kept.expected 512 kept.held.now = carried (λ h. IsPart kept.expected 512 h) held kept.held.now same less
     in
     wrong (
-      (omega (arith, limit), carried (λ n. IsPart kept.due n kept.held.now) 512 kept.limit (sym limit) come),
-      carried (λ (s : Standing). IsTrue (client_fits s kept.due)) Wanting kept.standing (sym wanting)
-          (carried (λ (d : Due). IsTrue (client_due d)) due kept.due one unit),
+      (omega (arith, limit), carried (λ n. IsPart kept.expected n kept.held.now) 512 kept.limit (sym limit) come),
+      carried (λ (s : Progress). IsTrue (client_fits s kept.expected)) InProgress kept.progress (sym wanting)
+          (carried (λ (d : Expected). IsTrue (client_due d)) expected kept.expected one unit),
       (λ ended. absurd (ended wanting)),
-      nobody,
+      mock,
     )
 
 -- none of the tests of the struct holds
-none_holds : (client : Struct) (kept : SetDown) → Keeps client.connection kept.standing kept.due kept.held.now
-    → kept.standing ≡ Wanting → NoneHolds (side_tests client.connection)
+none_holds : (client : Struct) (kept : Snapshot) → Keeps client.connection kept.progress kept.expected kept.held.now
+    → kept.progress ≡ InProgress → NoneHolds (side_tests client.connection)
 none_holds client kept keeps wanting =
-    let stands = carried (λ s. Keeps client.connection s kept.due kept.held.now) kept.standing Wanting wanting keeps in
-    ((λ ended. ended stands.standing), ((λ nothing. nothing kept.due kept.held.now stands), tt))
+    let stands = carried (λ s. Keeps client.connection s kept.expected kept.held.now) kept.progress InProgress wanting keeps in
+    ((λ ended. ended stands.progress), ((λ nothing. nothing kept.expected kept.held.now stands), tt))
 
 -- no test of the struct is told as out of memory
 pub tests_without_memory : (connection : Kept) (status : Status) → IsFirst (side_tests connection) status
@@ -432,8 +432,8 @@ tests_without_memory connection status (inr (goes, inl (none, is))) same = absur
 tests_without_memory connection status (inr (goes, inr (kept, none))) same = absurd none
 
 -- a struct that was read, of a login whose hostname can be sent
-pub reads_client : (login : Login) (client : Struct) (kept : SetDown)
-    → Keeps client.connection kept.standing kept.due kept.held.now → kept.standing ≡ Wanting → ¬ HasNoHostname login
+pub reads_client : (login : Login) (client : Struct) (kept : Snapshot)
+    → Keeps client.connection kept.progress kept.expected kept.held.now → kept.progress ≡ InProgress → ¬ HasNoHostname login
     → ReadsClient login client
 reads_client login client kept keeps wanting named = (none_holds client kept keeps wanting, named)
 
@@ -442,25 +442,25 @@ pub no_connection : (login : Login) (client : Struct) (status : Status)
     → IsFirst (side_tests client.connection) status → IsNoClient login client status
 no_connection login client status first = inl first
 
-pub no_hostname : (login : Login) (client : Struct) (kept : SetDown) (status : Status)
-    → Keeps client.connection kept.standing kept.due kept.held.now → kept.standing ≡ Wanting
+pub no_hostname : (login : Login) (client : Struct) (kept : Snapshot) (status : Status)
+    → Keeps client.connection kept.progress kept.expected kept.held.now → kept.progress ≡ InProgress
     → status ≡ statuses.NotUtf8 → HasNoHostname login → IsNoClient login client status
 no_hostname login client kept status keeps wanting is wrong =
     inr (none_holds client kept keeps wanting, inl (is, wrong))
 
-pub no_profile : (login : Login) (client : Struct) (kept : SetDown) (status : Status)
-    → Keeps client.connection kept.standing kept.due kept.held.now → kept.standing ≡ Wanting → ¬ HasNoHostname login
+pub no_profile : (login : Login) (client : Struct) (kept : Snapshot) (status : Status)
+    → Keeps client.connection kept.progress kept.expected kept.held.now → kept.progress ≡ InProgress → ¬ HasNoHostname login
     → IsNoProfile login status → IsNoClient login client status
 no_profile login client kept status keeps wanting named wrong =
     inr (none_holds client kept keeps wanting, inr (named, inl wrong))
 
-pub is_not_kept : (login : Login) (client : Struct) (kept : SetDown) (profile : Profile)
-    → Keeps client.connection kept.standing kept.due kept.held.now → kept.standing ≡ Wanting → kept.limit ≡ 512
+pub is_not_kept : (login : Login) (client : Struct) (kept : Snapshot) (profile : Profile)
+    → Keeps client.connection kept.progress kept.expected kept.held.now → kept.progress ≡ InProgress → kept.limit ≡ 512
     → shown kept.user ≡ None → ¬ HasNoHostname login → IsProfile login client.scram profile → ¬ IsClientKept kept
-    → IsNoClient login client statuses.NotKept
-is_not_kept login client kept profile keeps wanting limit nobody named is wrong = inr (
+    → IsNoClient login client statuses.InvalidSnapshot
+is_not_kept login client kept profile keeps wanting limit mock named is wrong = inr (
   none_holds client kept keeps wanting,
-  inr (named, inr (refl, keeps_no_part client kept keeps wanting limit nobody wrong, (profile, is))),
+  inr (named, inr (refl, keeps_no_part client kept keeps wanting limit mock wrong, (profile, is))),
 )
 
 -- why a login has no profile
@@ -483,7 +483,7 @@ pub ruleset no_profiles = (no_scram, no_plain, no_mechanism)
 -- what a call makes of bytes
 pub received : (login : Login) (bytes nonce : List ℕ) (before after : Struct) (hostname : Option (List ℕ))
     (side next : Side Profile) (taken : ℕ) (sent : List ℕ) → IsHostname login hostname → IsClient login before side
-    → side.standing ≡ Wanting → ClientReceives hostname side bytes nonce taken sent next
+    → side.progress ≡ InProgress → ClientReceives hostname side bytes nonce taken sent next
     → IsClient login after next → WritesSide after next → ReceivesAsClient login bytes nonce before after taken (Ok sent)
 unfolding ReceivesAsClient
 received login bytes nonce before after hostname side next taken sent named is wanting held last written =
@@ -496,7 +496,7 @@ not_received login bytes nonce before after taken status wrong = wrong
 
 -- what the side behind a call is, and what is sent
 pub behind_all : (login : Login) (before : Struct) (hostname : Option (List ℕ)) (side next : Side Profile)
-    (bytes nonce old items : List ℕ) (taken : ℕ) → IsClient login before side → side.standing ≡ Wanting → old ≡ []
+    (bytes nonce old items : List ℕ) (taken : ℕ) → IsClient login before side → side.progress ≡ InProgress → old ≡ []
     → (sent : List ℕ) × (items ≡ old ++ sent) × ClientReceives hostname side bytes nonce taken sent next
     → ClientReceives hostname side bytes nonce taken items next × ProfileIsReached login next.state × (next.limit ≡ 512)
     × (length next.held ≤ 512) × (length items ≤ 512)

@@ -5,17 +5,17 @@ use Rattle.std.specs.Str.{IsUtf8}
 use Rattle.std.proofs.lemmas.List.{length-take}
 use Rattle.fe2o3_scram.specs.declared.hmac.ScramVersion.{ScramVersion}
 use Rattle.fe2o3_scram.specs.declared.hmac.ScramVersion.TheVariants as versions
-use Rattle.fe2o3_scram.specs.declared.scram_messages.gs2_header.Gs2Header.{Gs2Header}
-use Rattle.fe2o3_scram.specs.declared.scram_messages.gs2_header.Gs2Header.TheVariants.{Unsupported, Unoffered}
+use Rattle.fe2o3_scram.specs.declared.scram_messages.channel_binding_flag.ChannelBindingFlag.{ChannelBindingFlag}
+use Rattle.fe2o3_scram.specs.declared.scram_messages.channel_binding_flag.ChannelBindingFlag.TheVariants.{NotSupported, ClientSupports}
 use Rattle.fe2o3_scram.specs.Credentials.{Records, VersionedRecord, versioned}
 use Rattle.fe2o3_scram.specs.Readings.{NoneHolds}
 use Rattle.fe2o3_scram.specs.ScramServer.{ServerState, open_challenge}
 use Rattle.fe2o3_scram.specs.ServerFirst.{ServerChallenge}
-use Rattle.fe2o3_sasl_runs.specs.declared.one_of.Part.{Part}
+use Rattle.fe2o3_sasl_core.specs.declared.any_mechanism.Selected.{Selected}
 use Rattle.fe2o3_sasl_negotiation.specs.declared.server.ServerNegotiation.{ServerNegotiation}
-use Rattle.fe2o3_sasl_negotiation.specs.declared.standing.ClosedBecause.{ClosedBecause}
-use Rattle.fe2o3_sasl_negotiation.specs.declared.standing.Standing.{Standing}
-use Rattle.fe2o3_sasl_negotiation.specs.declared.standing.Standing.TheVariants.{Wanting, LoggedIn, Closed}
+use Rattle.fe2o3_sasl_negotiation.specs.declared.progress.CloseReason.{CloseReason}
+use Rattle.fe2o3_sasl_negotiation.specs.declared.progress.Progress.{Progress}
+use Rattle.fe2o3_sasl_negotiation.specs.declared.progress.Progress.TheVariants.{InProgress, Authenticated, Failed}
 use Rattle.fe2o3_sasl_negotiation.specs.Negotiations.{Side}
 use Rattle.sasl_c.specs.declared.records.ScramRecord.{ScramRecord as Kept}
 use Rattle.sasl_c.specs.declared.sasl_server.Choice.{Choice}
@@ -25,7 +25,7 @@ use Rattle.sasl_c.specs.declared.server.ScramServer.{ScramServer as ScramStruct}
 use Rattle.sasl_c.specs.declared.status.Status.{Status}
 use Rattle.sasl_c.specs.declared.status.Status.TheVariants as statuses
 use Rattle.sasl_c.specs.Records.{IsVersion, ShowsRecord, SpellsStruct}
-use Rattle.sasl_c.specs.SaslServer.{All, Code, ServerIsReached, HasNoServerWords, HasNoStruct, HasRecords, IsAll, IsNoHost, IsOf, IsServer, HasNone, host_tests, ShowsBy, ShowsOpen, ShowsSide, ShowsStanding, ShowsState, ShowsExchange, State, allowed_of, one_where, open_in, struct_server, side_in, side_struct, state_names, value_state, state_struct, struct_by, sum_of, user_in}
+use Rattle.sasl_c.specs.SaslServer.{All, Code, ServerIsReached, HasNoServerWords, HasNoStruct, HasRecords, IsAll, IsNoHost, IsOf, IsServer, HasNone, host_tests, ShowsBy, ShowsOpen, ShowsSide, ShowsProgress, ShowsState, ShowsExchange, State, allowed_of, one_where, open_in, struct_server, side_in, side_struct, state_names, value_state, state_struct, struct_by, sum_of, user_in}
 use Rattle.sasl_c.specs.Server.{HasLoggedIn, ChallengeHasRoom, IsOpen, open_number}
 use Rattle.sasl_c.specs.Status.{version_number}
 use Rattle.sasl_c.proofs.StatusLemmas.{carried}
@@ -44,7 +44,7 @@ sum_small choice = omega (
   within choice.plain 2,
   within choice.anonymous 4,
   within choice.external 8,
-  within choice.unbound 16,
+  within choice.cbind_flag_y 16,
 )
 
 -- ---- the record of a host's user
@@ -65,8 +65,8 @@ shows_none kept statuses.OtherVersion shown wrong is = absurd wrong
 shows_none kept statuses.OtherPassword shown wrong is = absurd wrong
 shows_none kept statuses.NoSuchMechanism shown wrong is = absurd wrong
 shows_none kept statuses.Ended shown wrong is = absurd wrong
-shows_none kept statuses.NotKept shown wrong is = absurd wrong
-shows_none kept statuses.NamesNobody shown wrong is = absurd wrong
+shows_none kept statuses.InvalidSnapshot shown wrong is = absurd wrong
+shows_none kept statuses.NamesNoUser shown wrong is = absurd wrong
 shows_none kept (statuses.Client why) shown wrong is = absurd wrong
 shows_none kept (statuses.Server why) shown wrong is = absurd wrong
 shows_none kept (statuses.NoRecord why) shown wrong is = absurd wrong
@@ -75,9 +75,9 @@ shows_none kept statuses.SpaceMissing shown wrong is = absurd wrong
 shows_none kept statuses.InvalidName shown wrong is = absurd wrong
 shows_none kept statuses.NoSuchUser shown wrong is = absurd wrong
 shows_none kept statuses.NotWritable shown wrong is = absurd wrong
-shows_none kept statuses.OtherHeader shown wrong is = absurd wrong
+shows_none kept statuses.ProtocolHeaderMismatch shown wrong is = absurd wrong
 shows_none kept statuses.FrameSize shown wrong is = absurd wrong
-shows_none kept statuses.OutOfTurn shown wrong is = absurd wrong
+shows_none kept statuses.UnexpectedFrame shown wrong is = absurd wrong
 shows_none kept statuses.ReplyTooLarge shown wrong is = absurd wrong
 shows_none kept statuses.FrameUnread shown wrong is = absurd wrong
 shows_none kept statuses.NoSaslFrame shown wrong is = absurd wrong
@@ -138,7 +138,7 @@ whole host version choice all other names server named is same = is
     offering inner allowed = record { inner = inner; allowed = allowed }
 
 is_of : (host : Host) (version : ScramVersion) (choice : Choice) (records : Records) (state other : ServerState)
-    (asked last : Option Part) (server : State) → IsVersion host.version version → sum_of choice ≡ host.mechanisms
+    (asked last : Option Selected) (server : State) → IsVersion host.version version → sum_of choice ≡ host.mechanisms
     → HasRecords host version records → server ≡ struct_server host version choice records state asked → state ≡ other
     → asked ≡ last → IsOf host other last server
 unfolding IsOf
@@ -151,7 +151,7 @@ is_of host version choice records state other asked last server known sum has is
   has,
   is
       ∙ (ap (λ (s : ServerState). struct_server host version choice records s asked) same
-      ∙ ap (λ (a : Option Part). struct_server host version choice records other a) too),
+      ∙ ap (λ (a : Option Selected). struct_server host version choice records other a) too),
 )
 
 shows_it : (scram : ScramStruct) (server : State) (challenge : Option ServerChallenge) → open_in server ≡ challenge
@@ -163,14 +163,14 @@ shows_it scram server challenge same shows =
 pub made : (host : Host) (version : ScramVersion) (choice : Choice) (scram : ScramStruct) (all : All)
     (names : List (List ℕ)) (server : State) → IsVersion host.version version → sum_of choice ≡ host.mechanisms
     → names ≡ allowed_of version choice host.peer.now → server ≡ record { inner = all; allowed = names }
-    → IsAll host version choice.unbound scram all → ServerIsReached host Wanting server × ShowsState scram Wanting server
+    → IsAll host version choice.cbind_flag_y scram all → ServerIsReached host InProgress server × ShowsState scram InProgress server
 made host version choice scram all names server known sum named is (records, state, asked, has, stands, same) =
     go stands
   where
     all_is : server ≡ struct_server host version choice records state asked
     all_is = whole host version choice all _ names server named is same
 
-    go : ShowsExchange scram state asked → ServerIsReached host Wanting server × ShowsState scram Wanting server
+    go : ShowsExchange scram state asked → ServerIsReached host InProgress server × ShowsState scram InProgress server
     go (inl (challenge, opened, stood, last)) = (
       inr (challenge, is_of host version choice records state _ asked _ server known sum has all_is stood last),
       shows_it scram server (Some challenge) (ap open_in all_is ∙ ap open_challenge stood) opened,
@@ -205,7 +205,7 @@ no_words host version choice status known sum (is, inr (name, wrong)) = inl (inr
 pub no_offer : (host : Host) (version : ScramVersion) (choice : Choice) (scram : ScramStruct) (all : All)
     (names : List (List ℕ)) (server : State) → IsVersion host.version version → sum_of choice ≡ host.mechanisms
     → names ≡ allowed_of version choice host.peer.now → server ≡ record { inner = all; allowed = names }
-    → IsAll host version choice.unbound scram all → IsUtf8 host.username.now → IsUtf8 host.peer.now
+    → IsAll host version choice.cbind_flag_y scram all → IsUtf8 host.username.now → IsUtf8 host.peer.now
     → state_names server ≡ []
     → IsNoHost host statuses.NoSuchMechanism
 unfolding IsNoHost
@@ -259,98 +259,98 @@ user_room scram user is =
     omega (arith, ap length is.2, long, is.1)
 
 -- what is shown of a login that stands so
-stands_so : (scram : ScramStruct) (standing other : Standing) (opened last : Option ServerChallenge)
-    (user name : Option (List ℕ)) → standing ≡ other → opened ≡ last → user ≡ name
-    → ShowsStanding scram other last name → ShowsStanding scram standing opened user
-stands_so scram standing other opened last user name same is named shows =
-    carried (λ s. ShowsStanding scram s opened user) other standing (sym same)
-    (carried (λ o. ShowsStanding scram other o user) last opened (sym is)
-    (carried (λ (u : Option (List ℕ)). ShowsStanding scram other last u) name user (sym named) shows))
+stands_so : (scram : ScramStruct) (progress other : Progress) (opened last : Option ServerChallenge)
+    (user name : Option (List ℕ)) → progress ≡ other → opened ≡ last → user ≡ name
+    → ShowsProgress scram other last name → ShowsProgress scram progress opened user
+stands_so scram progress other opened last user name same is named shows =
+    carried (λ s. ShowsProgress scram s opened user) other progress (sym same)
+    (carried (λ o. ShowsProgress scram other o user) last opened (sym is)
+    (carried (λ (u : Option (List ℕ)). ShowsProgress scram other last u) name user (sym named) shows))
 
-pub shows_challenge : (scram : ScramStruct) (standing : Standing) (opened : Option ServerChallenge)
-    (user : Option (List ℕ)) (challenge : ServerChallenge) → standing ≡ Wanting → opened ≡ Some challenge
-    → IsOpen scram challenge → ShowsStanding scram standing opened user
-shows_challenge scram standing opened user challenge wants some is =
-    stands_so scram standing Wanting opened (Some challenge) user user wants some refl is
+pub shows_challenge : (scram : ScramStruct) (progress : Progress) (opened : Option ServerChallenge)
+    (user : Option (List ℕ)) (challenge : ServerChallenge) → progress ≡ InProgress → opened ≡ Some challenge
+    → IsOpen scram challenge → ShowsProgress scram progress opened user
+shows_challenge scram progress opened user challenge wants some is =
+    stands_so scram progress InProgress opened (Some challenge) user user wants some refl is
 
 -- no number of an open challenge is 0
-never_zero : (header : Gs2Header) → 0 ≡ open_number header → ⊥
-never_zero Unsupported same = omega (arith, same)
-never_zero Unoffered same = omega (arith, same)
+never_zero : (header : ChannelBindingFlag) → 0 ≡ open_number header → ⊥
+never_zero NotSupported same = omega (arith, same)
+never_zero ClientSupports same = omega (arith, same)
 
-pub shows_no_challenge : (scram : ScramStruct) (standing : Standing) (opened : Option ServerChallenge)
-    (user : Option (List ℕ)) → standing ≡ Wanting → opened ≡ None → scram.stands ≡ 0
-    → ShowsStanding scram standing opened user
-shows_no_challenge scram standing opened user wants none fresh =
-    stands_so scram standing Wanting opened None user user wants none refl
+pub shows_no_challenge : (scram : ScramStruct) (progress : Progress) (opened : Option ServerChallenge)
+    (user : Option (List ℕ)) → progress ≡ InProgress → opened ≡ None → scram.stands ≡ 0
+    → ShowsProgress scram progress opened user
+shows_no_challenge scram progress opened user wants none fresh =
+    stands_so scram progress InProgress opened None user user wants none refl
     (λ challenge is. never_zero challenge.header (sym fresh ∙ is.0))
 
-pub no_challenge_room : (standing : Standing) (opened : Option ServerChallenge) (user : Option (List ℕ))
-    (challenge : ServerChallenge) → standing ≡ Wanting → opened ≡ Some challenge → ¬ ChallengeHasRoom challenge
-    → (scram : ScramStruct) → ¬ ShowsStanding scram standing opened user
-no_challenge_room standing opened user challenge wants some wide scram shows =
-    let is = stands_so scram Wanting standing (Some challenge) opened user user (sym wants) (sym some) refl shows in
+pub no_challenge_room : (progress : Progress) (opened : Option ServerChallenge) (user : Option (List ℕ))
+    (challenge : ServerChallenge) → progress ≡ InProgress → opened ≡ Some challenge → ¬ ChallengeHasRoom challenge
+    → (scram : ScramStruct) → ¬ ShowsProgress scram progress opened user
+no_challenge_room progress opened user challenge wants some wide scram shows =
+    let is = stands_so scram InProgress progress (Some challenge) opened user user (sym wants) (sym some) refl shows in
     wide (open_room scram challenge is)
 
-pub shows_user : (scram : ScramStruct) (standing : Standing) (opened : Option ServerChallenge) (user : Option (List ℕ))
-    (name : List ℕ) → standing ≡ LoggedIn → user ≡ Some name → HasLoggedIn scram name
-    → ShowsStanding scram standing opened user
-shows_user scram standing opened user name in_is some is =
-    stands_so scram standing LoggedIn opened opened user (Some name) in_is refl some is
+pub shows_user : (scram : ScramStruct) (progress : Progress) (opened : Option ServerChallenge) (user : Option (List ℕ))
+    (name : List ℕ) → progress ≡ Authenticated → user ≡ Some name → HasLoggedIn scram name
+    → ShowsProgress scram progress opened user
+shows_user scram progress opened user name in_is some is =
+    stands_so scram progress Authenticated opened opened user (Some name) in_is refl some is
 
-pub shows_nobody : (scram : ScramStruct) (standing : Standing) (opened : Option ServerChallenge)
-    (user : Option (List ℕ)) → standing ≡ LoggedIn → user ≡ None → scram.stands ≡ 0
-    → ShowsStanding scram standing opened user
-shows_nobody scram standing opened user in_is none fresh =
-    stands_so scram standing LoggedIn opened opened user None in_is refl none fresh
+pub shows_no_user : (scram : ScramStruct) (progress : Progress) (opened : Option ServerChallenge)
+    (user : Option (List ℕ)) → progress ≡ Authenticated → user ≡ None → scram.stands ≡ 0
+    → ShowsProgress scram progress opened user
+shows_no_user scram progress opened user in_is none fresh =
+    stands_so scram progress Authenticated opened opened user None in_is refl none fresh
 
-pub no_user_room : (standing : Standing) (opened : Option ServerChallenge) (user : Option (List ℕ)) (name : List ℕ)
-    → standing ≡ LoggedIn → user ≡ Some name → 256 < length name
-    → (scram : ScramStruct) → ¬ ShowsStanding scram standing opened user
-no_user_room standing opened user name in_is some long scram shows =
-    let is = stands_so scram LoggedIn standing opened opened (Some name) user (sym in_is) refl (sym some) shows in
+pub no_user_room : (progress : Progress) (opened : Option ServerChallenge) (user : Option (List ℕ)) (name : List ℕ)
+    → progress ≡ Authenticated → user ≡ Some name → 256 < length name
+    → (scram : ScramStruct) → ¬ ShowsProgress scram progress opened user
+no_user_room progress opened user name in_is some long scram shows =
+    let is = stands_so scram Authenticated progress opened opened (Some name) user (sym in_is) refl (sym some) shows in
     absurd (omega (arith, user_room scram name is, long))
 
-pub shows_closed : (scram : ScramStruct) (standing : Standing) (opened : Option ServerChallenge)
-    (user : Option (List ℕ)) (why : ClosedBecause) → standing ≡ Closed why → scram.stands ≡ 0
-    → ShowsStanding scram standing opened user
-shows_closed scram standing opened user why closed fresh =
-    stands_so scram standing (Closed why) opened opened user user closed refl refl fresh
+pub shows_closed : (scram : ScramStruct) (progress : Progress) (opened : Option ServerChallenge)
+    (user : Option (List ℕ)) (why : CloseReason) → progress ≡ Failed why → scram.stands ≡ 0
+    → ShowsProgress scram progress opened user
+shows_closed scram progress opened user why closed fresh =
+    stands_so scram progress (Failed why) opened opened user user closed refl refl fresh
 
 pub ruleset shown = (
   shows_challenge,
   shows_no_challenge,
   no_challenge_room,
   shows_user,
-  shows_nobody,
+  shows_no_user,
   no_user_room,
   shows_closed,
 )
 
 -- so it is of a server whose challenge and user these are
-pub shows_as : (standing : Standing) (server : State) (opened : Option ServerChallenge) (user : Option (List ℕ))
+pub shows_as : (progress : Progress) (server : State) (opened : Option ServerChallenge) (user : Option (List ℕ))
     (answer : Option ScramStruct) → opened ≡ open_in server → user ≡ user_in server
-    → MatchOption answer ((scram : ScramStruct) → ¬ ShowsStanding scram standing opened user)
-    (λ scram. ShowsStanding scram standing opened user)
-    → MatchOption answer ((scram : ScramStruct) → ¬ ShowsState scram standing server)
-    (λ scram. ShowsState scram standing server)
-shows_as standing server opened user answer is named held =
+    → MatchOption answer ((scram : ScramStruct) → ¬ ShowsProgress scram progress opened user)
+    (λ scram. ShowsProgress scram progress opened user)
+    → MatchOption answer ((scram : ScramStruct) → ¬ ShowsState scram progress server)
+    (λ scram. ShowsState scram progress server)
+shows_as progress server opened user answer is named held =
     carried (λ (u : Option (List ℕ)).
-    MatchOption answer ((scram : ScramStruct) → ¬ ShowsStanding scram standing (open_in server) u)
-    (λ scram. ShowsStanding scram standing (open_in server) u)) user (user_in server) named
+    MatchOption answer ((scram : ScramStruct) → ¬ ShowsProgress scram progress (open_in server) u)
+    (λ scram. ShowsProgress scram progress (open_in server) u)) user (user_in server) named
     (carried (λ (o : Option ServerChallenge).
-    MatchOption answer ((scram : ScramStruct) → ¬ ShowsStanding scram standing o user)
-    (λ scram. ShowsStanding scram standing o user)) opened (open_in server) is held)
+    MatchOption answer ((scram : ScramStruct) → ¬ ShowsProgress scram progress o user)
+    (λ scram. ShowsProgress scram progress o user)) opened (open_in server) is held)
 
 -- ---- the structs of a side
 
 -- what a struct of SCRAM shows of an acceptor
-abbrev pub Shown : ScramStruct → Standing → Code → Type 0
-Shown scram standing acceptor = ShowsState scram standing (value_state acceptor)
+abbrev pub Shown : ScramStruct → Progress → Code → Type 0
+Shown scram progress acceptor = ShowsState scram progress (value_state acceptor)
 
 -- and the one that is written for it
-abbrev pub written_for : Standing → Code → ScramStruct
-written_for standing acceptor = state_struct standing (value_state acceptor)
+abbrev pub written_for : Progress → Code → ScramStruct
+written_for progress acceptor = state_struct progress (value_state acceptor)
 
 pub writes_side : (server : Struct) (next : ServerNegotiation Code) → server ≡ struct_by value_state written_for next
     → server ≡ side_struct (side_in next)
@@ -366,7 +366,7 @@ unfolding HasNoStruct
 shows_nothing next none = none
 
 pub is_server : (host : Host) (server : Struct) (side : Side State) → ShowsSide server side
-    → ServerIsReached host side.standing side.state → side.limit ≡ 512 → IsServer host server side
+    → ServerIsReached host side.progress side.state → side.limit ≡ 512 → IsServer host server side
 unfolding IsServer
 is_server host server side shows comes limit = (shows, limit, comes)
 

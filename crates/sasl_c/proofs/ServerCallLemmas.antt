@@ -15,30 +15,30 @@ use Rattle.fe2o3_scram.specs.Credentials.{Provider, Records}
 use Rattle.fe2o3_scram.specs.Readings.{IsFirst, NoneHolds}
 use Rattle.fe2o3_scram.specs.ScramServer.{ChallengesFrom, ServerState, Initial, ServerFirstSent}
 use Rattle.fe2o3_scram.specs.ServerFirst.{ServerChallenge}
-use Rattle.fe2o3_sasl_runs.specs.declared.one_of.Part.{Part}
-use Rattle.fe2o3_sasl_runs.specs.declared.one_of.Part.TheVariants.{First, Second}
-use Rattle.fe2o3_sasl_runs.specs.Bodies.{carried as sent_or_not, server_says}
-use Rattle.fe2o3_sasl_runs.specs.Events.{Given, ServerSays, Challenged, Concluded, Failed}
-use Rattle.fe2o3_sasl_runs.specs.ExternalAcceptor.{External, external_machine}
-use Rattle.fe2o3_sasl_runs.specs.OffersOnly.{OfferingReplies, is_passed_on}
-use Rattle.fe2o3_sasl_runs.specs.OneOf.{PartReplies, part_for}
-use Rattle.fe2o3_sasl_runs.specs.PlainAuthenticator.{PlainServer, plain_machine}
-use Rattle.fe2o3_sasl_runs.specs.Runs.{AcceptorGives}
-use Rattle.fe2o3_sasl_runs.specs.SaslAcceptor.{Acceptor, ScramAcceptor, AnonymousAcceptor, acceptor_machine, acceptor_names, ends_with, server_frame}
+use Rattle.fe2o3_sasl_core.specs.declared.any_mechanism.Selected.{Selected}
+use Rattle.fe2o3_sasl_core.specs.declared.any_mechanism.Selected.TheVariants.{First, Second}
+use Rattle.fe2o3_sasl_core.specs.Bodies.{carried as sent_or_not, server_says}
+use Rattle.fe2o3_sasl_core.specs.Events.{Given, ServerSays, Challenged, Concluded, Failed}
+use Rattle.fe2o3_sasl_core.specs.ExternalServer.{External, external_machine}
+use Rattle.fe2o3_sasl_core.specs.RestrictMechanisms.{OfferingReplies, is_passed_on}
+use Rattle.fe2o3_sasl_core.specs.AnyMechanism.{PartReplies, part_for}
+use Rattle.fe2o3_sasl_core.specs.PlainServer.{PlainState, plain_machine}
+use Rattle.fe2o3_sasl_core.specs.Runs.{AcceptorGives}
+use Rattle.fe2o3_sasl_core.specs.SaslAcceptor.{Acceptor, ScramAcceptor, AnonymousAcceptor, acceptor_machine, acceptor_names, ends_with, server_frame}
 use Rattle.fe2o3_sasl_negotiation.specs.declared.server.ServerNegotiation.{ServerNegotiation}
-use Rattle.fe2o3_sasl_negotiation.specs.declared.set_down.SetDown.{SetDown}
-use Rattle.fe2o3_sasl_negotiation.specs.declared.standing.ClosedBecause.{ClosedBecause}
-use Rattle.fe2o3_sasl_negotiation.specs.declared.standing.ClosedBecause.TheVariants.{OtherHeader, ReplyTooLarge}
-use Rattle.fe2o3_sasl_negotiation.specs.declared.standing.Due.{Due}
-use Rattle.fe2o3_sasl_negotiation.specs.declared.standing.Due.TheVariants.{Header, Frame}
-use Rattle.fe2o3_sasl_negotiation.specs.declared.standing.Standing.{Standing}
-use Rattle.fe2o3_sasl_negotiation.specs.declared.standing.Standing.TheVariants.{Wanting, LoggedIn}
-use Rattle.fe2o3_sasl_negotiation.specs.declared.standing.Turn.{Turn}
-use Rattle.fe2o3_sasl_negotiation.specs.declared.standing.Turn.TheVariants as turns
+use Rattle.fe2o3_sasl_negotiation.specs.declared.snapshot.Snapshot.{Snapshot}
+use Rattle.fe2o3_sasl_negotiation.specs.declared.progress.CloseReason.{CloseReason}
+use Rattle.fe2o3_sasl_negotiation.specs.declared.progress.CloseReason.TheVariants.{ProtocolHeaderMismatch, ReplyTooLarge}
+use Rattle.fe2o3_sasl_negotiation.specs.declared.progress.Expected.{Expected}
+use Rattle.fe2o3_sasl_negotiation.specs.declared.progress.Expected.TheVariants.{Header, Frame}
+use Rattle.fe2o3_sasl_negotiation.specs.declared.progress.Progress.{Progress}
+use Rattle.fe2o3_sasl_negotiation.specs.declared.progress.Progress.TheVariants.{InProgress, Authenticated}
+use Rattle.fe2o3_sasl_negotiation.specs.declared.progress.FrameKind.{FrameKind}
+use Rattle.fe2o3_sasl_negotiation.specs.declared.progress.FrameKind.TheVariants as turns
 use Rattle.fe2o3_sasl_negotiation.specs.Framing.{IsPart, framed, sasl_header}
 use Rattle.fe2o3_sasl_negotiation.specs.Negotiations.{Side, SideOutput, Sends, ReceivesAt, closes}
 use Rattle.fe2o3_sasl_negotiation.specs.ServerNegotiation.{Offers, ServerOutputs, ServerSideAnswers, ServerReceives, behind_header, offer_body}
-use Rattle.fe2o3_sasl_negotiation.specs.SetDown.{server_fits, server_due, IsKept, IsServerKept, side_of}
+use Rattle.fe2o3_sasl_negotiation.specs.Snapshot.{server_fits, server_due, IsKept, IsServerKept, side_of}
 use Rattle.fe2o3_sasl_negotiation.proofs.lemmas.UnitLemmas.{length-framed}
 use Rattle.sasl_c.specs.declared.connection.Connection.{Connection}
 use Rattle.sasl_c.specs.declared.sasl_server.Choice.{Choice}
@@ -61,10 +61,10 @@ Ends reply = (code : SaslCode) × (more : Option (List ℕ)) × (reply ≡ frame
 ends_so : (reply : SaslFrame) (code : SaslCode) → reply ≡ ends_with code → Ends reply
 ends_so reply code same = (code, None, same)
 
-plain_ends : (plain next : PlainServer) (nonce : List ℕ) (frame reply : SaslFrame)
+plain_ends : (plain next : PlainState) (nonce : List ℕ) (frame reply : SaslFrame)
     → plain_machine plain nonce frame reply next → Ends reply
 plain_ends plain next nonce frame reply (inl (user, logs, same, then)) = ends_so reply outcomes.Ok same
-plain_ends plain next nonce frame reply (inr (nobody, same, then)) = ends_so reply outcomes.Auth same
+plain_ends plain next nonce frame reply (inr (mock, same, then)) = ends_so reply outcomes.Auth same
 
 external_ends : (external next : External) (nonce : List ℕ) (frame reply : SaslFrame)
     → external_machine external nonce frame reply next → Ends reply
@@ -86,7 +86,7 @@ anonymous_ends next nonce (frames.Challenge text) reply is = absurd is
 anonymous_ends next nonce (frames.Outcome code more) reply is = absurd is
 
 -- ANONYMOUS and EXTERNAL end it
-last_ends : (last next : Last) (part : Option Part) (nonce : List ℕ) (frame reply : SaslFrame)
+last_ends : (last next : Last) (part : Option Selected) (nonce : List ℕ) (frame reply : SaslFrame)
     → last.first ≡ AnonymousAcceptor → PartReplies acceptor_machine external_machine last part nonce frame reply next
     → Ends reply
 last_ends last next None nonce frame reply is (same, then) = ends_so reply outcomes.Auth same
@@ -96,7 +96,7 @@ last_ends last next (Some Second) nonce frame reply is (moved, held, then) =
     external_ends last.second moved nonce frame reply held
 
 -- and so does PLAIN
-others_end : (others next : Others) (part : Option Part) (nonce : List ℕ) (frame reply : SaslFrame)
+others_end : (others next : Others) (part : Option Selected) (nonce : List ℕ) (frame reply : SaslFrame)
     → others.second.first ≡ AnonymousAcceptor
     → PartReplies plain_machine last_machine others part nonce frame reply next → Ends reply
 others_end others next None nonce frame reply is (same, then) = ends_so reply outcomes.Auth same
@@ -145,22 +145,22 @@ scram_opens provider state nonce (frames.Outcome code more) reply next is = absu
 
 -- what the machine makes of the server of a host
 abbrev Goes : Host → SaslFrame → State → Type 0
-Goes host reply next = Ends reply ⊎ ServerIsReached host Wanting next
+Goes host reply next = Ends reply ⊎ ServerIsReached host InProgress next
 
 module _ (host : Host) (version : ScramVersion) (choice : Choice) (records : Records) where
-  abbrev one : ServerState → Option Part → State
+  abbrev one : ServerState → Option Selected → State
   one state asked = struct_server host version choice records state asked
 
   abbrev Then : SaslFrame → State → Type 0
   Then reply next = Ends reply ⊎ ((challenge : ServerChallenge) × (next ≡ one (ServerFirstSent challenge) (Some First)))
 
-  opened : (state : ServerState) (asked : Option Part) (all : All) (acceptor : Acceptor) (next : State)
+  opened : (state : ServerState) (asked : Option Selected) (all : All) (acceptor : Acceptor) (next : State)
       (reply : SaslFrame) → Ends reply ⊎ Opens (record {
         version = version;
         records = records;
-        unbound = choice.unbound;
+        cbind_flag_y = choice.cbind_flag_y;
       }) acceptor
-      → all ≡ record { first = acceptor; second = (one state asked).inner.second; asked = Some First }
+      → all ≡ record { first = acceptor; second = (one state asked).inner.second; selected = Some First }
       → next ≡ record (one state asked) { inner = all } → Then reply next
   opened state asked all acceptor next reply (inl ends) is same = inl ends
   opened state asked all acceptor next reply (inr (challenge, opens)) is same = inr (
@@ -172,9 +172,9 @@ module _ (host : Host) (version : ScramVersion) (choice : Choice) (records : Rec
       with_all a = record (one state asked) { inner = a }
 
       with_first : Acceptor → All
-      with_first a = record { first = a; second = (one state asked).inner.second; asked = Some First }
+      with_first a = record { first = a; second = (one state asked).inner.second; selected = Some First }
 
-  part_goes : (state : ServerState) (asked part : Option Part) (nonce : List ℕ) (frame reply : SaslFrame) (all : All)
+  part_goes : (state : ServerState) (asked part : Option Selected) (nonce : List ℕ) (frame reply : SaslFrame) (all : All)
       (next : State)
       → PartReplies acceptor_machine other_machine (one state asked).inner part nonce frame reply all
       → next ≡ record (one state asked) { inner = all } → Then reply next
@@ -185,7 +185,7 @@ module _ (host : Host) (version : ScramVersion) (choice : Choice) (records : Rec
       inl (others_end (one state asked).inner.second moved
       (part_for plain_names last_names (one state asked).inner.second frame) nonce frame reply refl held)
 
-  offered_goes : (state : ServerState) (asked : Option Part) (passed : Bool) (nonce : List ℕ)
+  offered_goes : (state : ServerState) (asked : Option Selected) (passed : Bool) (nonce : List ℕ)
       (frame reply : SaslFrame) (next : State)
       → OfferingReplies all_machine (one state asked) passed nonce frame reply next → Then reply next
   offered_goes state asked false nonce frame reply next (same, then) = inl (ends_so reply outcomes.Auth same)
@@ -193,7 +193,7 @@ module _ (host : Host) (version : ScramVersion) (choice : Choice) (records : Rec
       part_goes state asked (part_for acceptor_names other_names (one state asked).inner frame) nonce frame reply moved
       next held then
 
-of_goes : (host : Host) (state : ServerState) (asked : Option Part) (server next : State) (nonce : List ℕ)
+of_goes : (host : Host) (state : ServerState) (asked : Option Selected) (server next : State) (nonce : List ℕ)
     (frame reply : SaslFrame) → IsOf host state asked server → state_machine server nonce frame reply next
     → Goes host reply next
 unfolding IsOf
@@ -207,7 +207,7 @@ of_goes host state asked server next nonce frame reply (version, choice, records
     go (inr (challenge, same)) = inr (inr (challenge, (version, choice, records, known, sum, has, same)))
 
 comes_goes : (host : Host) (server next : State) (nonce : List ℕ) (frame reply : SaslFrame)
-    → ServerIsReached host Wanting server → state_machine server nonce frame reply next → Goes host reply next
+    → ServerIsReached host InProgress server → state_machine server nonce frame reply next → Goes host reply next
 comes_goes host server next nonce frame reply (inl fresh) held =
     of_goes host Initial None server next nonce frame reply fresh held
 comes_goes host server next nonce frame reply (inr (challenge, waits)) held =
@@ -227,16 +227,16 @@ ends_concluded body reply sent (code, more, is) same =
 carried_comes : (host : Host) (server moved next : State) (body : List ℕ) (reply : SaslFrame)
     (sent : Option (List ℕ)) → Goes host reply moved
     → Challenged body ≡ sent_or_not (Failed faults.TooLarge) (server_says reply) sent
-    → next ≡ sent_or_not server (λ _. moved) sent → ServerIsReached host Wanting next
+    → next ≡ sent_or_not server (λ _. moved) sent → ServerIsReached host InProgress next
 carried_comes host server moved next body reply None goes says is = absurd (not_failed body faults.TooLarge says)
 carried_comes host server moved next body reply (Some sent) (inl ends) says is =
     absurd (ends_concluded body reply sent ends says)
 carried_comes host server moved next body reply (Some sent) (inr comes) says is =
-    carried (ServerIsReached host Wanting) moved next (sym is) comes
+    carried (ServerIsReached host InProgress) moved next (sym is) comes
 
 pub gives_comes : (host : Host) (server next : State) (event : Given) (spelled : Result SaslFrame Error)
-    (body : List ℕ) → ServerIsReached host Wanting server
-    → AcceptorGives state_machine server event spelled (Challenged body) next → ServerIsReached host Wanting next
+    (body : List ℕ) → ServerIsReached host InProgress server
+    → AcceptorGives state_machine server event spelled (Challenged body) next → ServerIsReached host InProgress next
 gives_comes host server next event (Err fault) body comes is = absurd (not_failed body fault is.0)
 gives_comes host server next event (Ok (frames.Mechanisms names)) body comes is =
     absurd (not_failed body faults.NotImplemented is.0)
@@ -260,64 +260,64 @@ gives_comes host server next event (Ok (frames.Response text)) body comes (inr (
 -- ---- what is behind an answer: a server that the host comes to, and at most 520 bytes sent (part 5, section 5.3.1)
 
 record Fine (host : Host) (answer : SideOutput) (next : State) : Type 0 where
-  comes : ServerIsReached host answer.standing next
+  comes : ServerIsReached host answer.progress next
   short : length answer.sent ≤ 520
 
-fine_so : (host : Host) (answer other : SideOutput) (next : State) → answer ≡ other → ServerIsReached host other.standing next
+fine_so : (host : Host) (answer other : SideOutput) (next : State) → answer ≡ other → ServerIsReached host other.progress next
     → length other.sent ≤ 520 → Fine host answer next
 fine_so host answer other next same comes short =
     carried (λ (a : SideOutput). Fine host a next) other answer (sym same) (record { comes = comes; short = short })
 
-closes_fine : (host : Host) (answer : SideOutput) (next : State) (why : ClosedBecause) (due : Due)
-    → answer ≡ closes why due → Fine host answer next
-closes_fine host answer next why due same = fine_so host answer (closes why due) next same tt (omega arith)
+closes_fine : (host : Host) (answer : SideOutput) (next : State) (why : CloseReason) (expected : Expected)
+    → answer ≡ closes why expected → Fine host answer next
+closes_fine host answer next why expected same = fine_so host answer (closes why expected) next same tt (omega arith)
 
-sends_fine : (host : Host) (answer : SideOutput) (next : State) (body : List ℕ) (standing : Standing) (due : Due)
-    → ServerIsReached host standing next → Sends body standing due answer → Fine host answer next
-sends_fine host answer next body standing due comes (inl (fits, same)) =
-    fine_so host answer (record { sent = framed body; standing = standing; due = due }) next same comes
+sends_fine : (host : Host) (answer : SideOutput) (next : State) (body : List ℕ) (progress : Progress) (expected : Expected)
+    → ServerIsReached host progress next → Sends body progress expected answer → Fine host answer next
+sends_fine host answer next body progress expected comes (inl (fits, same)) =
+    fine_so host answer (record { sent = framed body; progress = progress; expected = expected }) next same comes
     (omega (arith, fits, length-framed body))
-sends_fine host answer next body standing due comes (inr (long, same)) =
-    closes_fine host answer next ReplyTooLarge due same
+sends_fine host answer next body progress expected comes (inr (long, same)) =
+    closes_fine host answer next ReplyTooLarge expected same
 
 -- behind a header
-first_fine : (host : Host) (first : SideOutput) (server : State) (offer : Option (List ℕ)) → ServerIsReached host Wanting server
-    → Offers offer first → ServerIsReached host first.standing server × (length first.sent ≤ 512)
+first_fine : (host : Host) (first : SideOutput) (server : State) (offer : Option (List ℕ)) → ServerIsReached host InProgress server
+    → Offers offer first → ServerIsReached host first.progress server × (length first.sent ≤ 512)
 first_fine host first server None comes same = (
-  carried (λ (a : SideOutput). ServerIsReached host a.standing server) (closes ReplyTooLarge Header) first (sym same) tt,
+  carried (λ (a : SideOutput). ServerIsReached host a.progress server) (closes ReplyTooLarge Header) first (sym same) tt,
   carried (λ (a : SideOutput). length a.sent ≤ 512) (closes ReplyTooLarge Header) first (sym same) (omega arith),
 )
 first_fine host first server (Some body) comes (inl (fits, same)) = (
-  carried (λ (a : SideOutput). ServerIsReached host a.standing server)
-      (record { sent = framed body; standing = Wanting; due = Frame turns.Init }) first (sym same) comes,
+  carried (λ (a : SideOutput). ServerIsReached host a.progress server)
+      (record { sent = framed body; progress = InProgress; expected = Frame turns.Init }) first (sym same) comes,
   carried (λ (a : SideOutput). length a.sent ≤ 512)
-      (record { sent = framed body; standing = Wanting; due = Frame turns.Init }) first (sym same)
+      (record { sent = framed body; progress = InProgress; expected = Frame turns.Init }) first (sym same)
       (omega (arith, fits, length-framed body)),
 )
 first_fine host first server (Some body) comes (inr (long, same)) = (
-  carried (λ (a : SideOutput). ServerIsReached host a.standing server) (closes ReplyTooLarge (Frame turns.Init)) first (sym same) tt,
+  carried (λ (a : SideOutput). ServerIsReached host a.progress server) (closes ReplyTooLarge (Frame turns.Init)) first (sym same) tt,
   carried (λ (a : SideOutput). length a.sent ≤ 512) (closes ReplyTooLarge (Frame turns.Init)) first (sym same)
       (omega arith),
 )
 
 header_fine : (host : Host) (answer first : SideOutput) (next : State) → answer ≡ behind_header first
-    → ServerIsReached host first.standing next → length first.sent ≤ 512 → Fine host answer next
+    → ServerIsReached host first.progress next → length first.sent ≤ 512 → Fine host answer next
 header_fine host answer first next same comes short =
     let eight : length sasl_header ≡ 8 = refl in
     fine_so host answer (behind_header first) next same comes
     (omega (arith, short, eight, length-append sasl_header first.sent))
 
-says_fine : (host : Host) (says : ServerSays) (turn : Turn) (answer : SideOutput) (next : State)
-    → ((body : List ℕ) → says ≡ Challenged body → ServerIsReached host Wanting next) → ServerOutputs says turn answer
+says_fine : (host : Host) (says : ServerSays) (turn : FrameKind) (answer : SideOutput) (next : State)
+    → ((body : List ℕ) → says ≡ Challenged body → ServerIsReached host InProgress next) → ServerOutputs says turn answer
     → Fine host answer next
 says_fine host (Challenged body) turns.Init answer next comes sends =
-    sends_fine host answer next body Wanting (Frame turns.Response) (comes body refl) sends
+    sends_fine host answer next body InProgress (Frame turns.Response) (comes body refl) sends
 says_fine host (Challenged body) turns.Mechanisms answer next comes same = closes_fine host answer next _ _ same
 says_fine host (Challenged body) turns.Challenge answer next comes same = closes_fine host answer next _ _ same
 says_fine host (Challenged body) turns.Response answer next comes same = closes_fine host answer next _ _ same
 says_fine host (Challenged body) turns.Outcome answer next comes same = closes_fine host answer next _ _ same
 says_fine host (Concluded outcomes.Ok body) turn answer next comes sends =
-    sends_fine host answer next body LoggedIn (Frame turn) tt sends
+    sends_fine host answer next body Authenticated (Frame turn) tt sends
 says_fine host (Concluded outcomes.Auth body) turn answer next comes sends =
     sends_fine host answer next body _ (Frame turn) tt sends
 says_fine host (Concluded outcomes.Sys body) turn answer next comes sends =
@@ -331,15 +331,15 @@ says_fine host (Failed faults.DecodeError) turn answer next comes same = closes_
 says_fine host (Failed faults.NotImplemented) turn answer next comes same = closes_fine host answer next _ _ same
 says_fine host (Failed faults.TooLarge) turn answer next comes same = closes_fine host answer next _ _ same
 
-answers_fine : (host : Host) (due : Due) (server next : State) (nonce unit : List ℕ) (answer : SideOutput)
-    → ServerIsReached host Wanting server → ServerSideAnswers state_names state_machine due server nonce unit answer next
+answers_fine : (host : Host) (expected : Expected) (server next : State) (nonce unit : List ℕ) (answer : SideOutput)
+    → ServerIsReached host InProgress server → ServerSideAnswers state_names state_machine expected server nonce unit answer next
     → Fine host answer next
 answers_fine host Header server next nonce unit answer comes (inl (other, same), kept) =
-    header_fine host answer (closes OtherHeader Header) next same tt (omega arith)
+    header_fine host answer (closes ProtocolHeaderMismatch Header) next same tt (omega arith)
 answers_fine host Header server next nonce unit answer comes (inr (is, (first, offers, same)), kept) =
     let both = first_fine host first server (offer_body (state_names server)) comes offers in
     header_fine host answer first next same
-    (carried (λ (s : State). ServerIsReached host first.standing s) server next (sym kept) both.0) both.1
+    (carried (λ (s : State). ServerIsReached host first.progress s) server next (sym kept) both.0) both.1
 answers_fine host (Frame turn) server next nonce unit answer comes (Err fault, spells, unread) =
     closes_fine host answer next _ _ unread.0
 answers_fine host (Frame turn) server next nonce unit answer comes (Ok frame, spells, inl out) =
@@ -356,13 +356,13 @@ answers_fine host (Frame turn) server next nonce unit answer comes
 
 -- what is behind it
 record Behind (host : Host) (next : Side State) (sent : List ℕ) : Type 0 where
-  comes : ServerIsReached host next.standing next.state
+  comes : ServerIsReached host next.progress next.state
   limit : next.limit ≡ 512
   held : length next.held ≤ 512
   short : length sent ≤ 520
 
 behind : (host : Host) (next other : Side State) (sent more : List ℕ) → next ≡ other → sent ≡ more
-    → ServerIsReached host other.standing other.state → other.limit ≡ 512 → length other.held ≤ 512 → length more ≤ 520
+    → ServerIsReached host other.progress other.state → other.limit ≡ 512 → length other.held ≤ 512 → length more ≤ 520
     → Behind host next sent
 behind host next other sent more same is comes limit held short =
     carried (λ given. Behind host given sent) other next (sym same) (record {
@@ -373,51 +373,51 @@ behind host next other sent more same is comes limit held short =
     })
 
 wanting_behind : (host : Host) (side next : Side State) (bytes nonce : List ℕ) (taken : ℕ) (sent : List ℕ)
-    → ReceivesAt Wanting (ServerSideAnswers state_names state_machine) side bytes nonce taken sent next
-    → side.standing ≡ Wanting → side.limit ≡ 512 → ServerIsReached host Wanting side.state → Behind host next sent
+    → ReceivesAt InProgress (ServerSideAnswers state_names state_machine) side bytes nonce taken sent next
+    → side.progress ≡ InProgress → side.limit ≡ 512 → ServerIsReached host InProgress side.state → Behind host next sent
 wanting_behind host side next bytes nonce taken sent (inl (part, waits)) wants limit comes =
     behind host next _ sent [] waits.2 waits.1
-    (carried (λ (s : Standing). ServerIsReached host s side.state) Wanting side.standing (sym wants) comes) limit
-    (part_short side.due (side.held ++ bytes)
-    (carried (λ n. IsPart side.due n (side.held ++ bytes)) side.limit 512 limit part)) (omega arith)
+    (carried (λ (s : Progress). ServerIsReached host s side.state) InProgress side.progress (sym wants) comes) limit
+    (part_short side.expected (side.held ++ bytes)
+    (carried (λ n. IsPart side.expected n (side.held ++ bytes)) side.limit 512 limit part)) (omega arith)
 wanting_behind host side next bytes nonce taken sent (inr (inl (refused, ends))) wants limit comes =
     behind host next _ sent [] ends.2 ends.1 tt limit (omega arith) (omega arith)
 wanting_behind host side next bytes nonce taken sent (inr (inr (answer, state, whole, answers, ends))) wants limit
     comes =
-    let fine = answers_fine host side.due side.state state nonce _ answer comes answers in
+    let fine = answers_fine host side.expected side.state state nonce _ answer comes answers in
     behind host next _ sent answer.sent ends.2 ends.1 fine.comes limit (omega arith) fine.short
 
 receives_behind : (host : Host) (before : Struct) (side next : Side State) (bytes nonce : List ℕ) (taken : ℕ)
-    (sent : List ℕ) → IsServer host before side → side.standing ≡ Wanting
+    (sent : List ℕ) → IsServer host before side → side.progress ≡ InProgress
     → ServerReceives state_names state_machine side bytes nonce taken sent next → Behind host next sent
 unfolding IsServer
 receives_behind host before side next bytes nonce taken sent is wants held =
     wanting_behind host side next bytes nonce taken sent
     (carried (λ s. ReceivesAt s (ServerSideAnswers state_names state_machine) side bytes nonce taken sent next)
-    side.standing Wanting wants held) wants is.1
-    (carried (λ (s : Standing). ServerIsReached host s side.state) side.standing Wanting wants is.2)
+    side.progress InProgress wants held) wants is.1
+    (carried (λ (s : Progress). ServerIsReached host s side.state) side.progress InProgress wants is.2)
 
 pub behind_comes : (host : Host) (before : Struct) (side next : Side State) (bytes nonce : List ℕ) (taken : ℕ)
-    (sent : List ℕ) → IsServer host before side → side.standing ≡ Wanting
+    (sent : List ℕ) → IsServer host before side → side.progress ≡ InProgress
     → ServerReceives state_names state_machine side bytes nonce taken sent next
-    → ServerIsReached host next.standing next.state
+    → ServerIsReached host next.progress next.state
 behind_comes host before side next bytes nonce taken sent is wants held =
     (receives_behind host before side next bytes nonce taken sent is wants held).comes
 
 pub behind_limit : (host : Host) (before : Struct) (side next : Side State) (bytes nonce : List ℕ) (taken : ℕ)
-    (sent : List ℕ) → IsServer host before side → side.standing ≡ Wanting
+    (sent : List ℕ) → IsServer host before side → side.progress ≡ InProgress
     → ServerReceives state_names state_machine side bytes nonce taken sent next → next.limit ≡ 512
 behind_limit host before side next bytes nonce taken sent is wants held =
     (receives_behind host before side next bytes nonce taken sent is wants held).limit
 
 pub behind_held : (host : Host) (before : Struct) (side next : Side State) (bytes nonce : List ℕ) (taken : ℕ)
-    (sent : List ℕ) → IsServer host before side → side.standing ≡ Wanting
+    (sent : List ℕ) → IsServer host before side → side.progress ≡ InProgress
     → ServerReceives state_names state_machine side bytes nonce taken sent next → length next.held ≤ 512
 behind_held host before side next bytes nonce taken sent is wants held =
     (receives_behind host before side next bytes nonce taken sent is wants held).held
 
 pub behind_short : (host : Host) (before : Struct) (side next : Side State) (bytes nonce : List ℕ) (taken : ℕ)
-    (sent : List ℕ) → IsServer host before side → side.standing ≡ Wanting
+    (sent : List ℕ) → IsServer host before side → side.progress ≡ InProgress
     → ServerReceives state_names state_machine side bytes nonce taken sent next → length sent ≤ 520
 behind_short host before side next bytes nonce taken sent is wants held =
     (receives_behind host before side next bytes nonce taken sent is wants held).short
@@ -425,19 +425,19 @@ behind_short host before side next bytes nonce taken sent is wants held =
 -- ---- the structs of a call
 
 -- the side that was taken up
-pub taken_up : (host : Host) (before : Struct) (kept : SetDown) (state : State)
-    → Keeps before.connection kept.standing kept.due kept.held.now → kept.standing ≡ Wanting → kept.limit ≡ 512
-    → ServerIsReached host Wanting state → ShowsState before.scram Wanting state
+pub taken_up : (host : Host) (before : Struct) (kept : Snapshot) (state : State)
+    → Keeps before.connection kept.progress kept.expected kept.held.now → kept.progress ≡ InProgress → kept.limit ≡ 512
+    → ServerIsReached host InProgress state → ShowsState before.scram InProgress state
     → IsServer host before (side_of kept state)
 unfolding IsServer ShowsSide
 taken_up host before kept state keeps wants limit comes shows = (
-  (keeps, carried (λ (s : Standing). ShowsState before.scram s state) Wanting kept.standing (sym wants) shows),
+  (keeps, carried (λ (s : Progress). ShowsState before.scram s state) InProgress kept.progress (sym wants) shows),
   limit,
-  carried (λ (s : Standing). ServerIsReached host s state) Wanting kept.standing (sym wants) comes,
+  carried (λ (s : Progress). ServerIsReached host s state) InProgress kept.progress (sym wants) comes,
 )
 
 pub received : (host : Host) (bytes nonce : List ℕ) (before after : Struct) (side next : Side State) (taken : ℕ)
-    (sent : List ℕ) → IsServer host before side → side.standing ≡ Wanting
+    (sent : List ℕ) → IsServer host before side → side.progress ≡ InProgress
     → ServerReceives state_names state_machine side bytes nonce taken sent next → IsServer host after next
     → after ≡ side_struct next → Received host bytes nonce before after taken sent
 unfolding Received
@@ -445,7 +445,7 @@ received host bytes nonce before after side next taken sent is wants held then w
     (side, next, is, wants, held, then, written)
 
 pub too_long : (host : Host) (bytes nonce : List ℕ) (before : Struct) (side next : Side State) (taken : ℕ)
-    (sent : List ℕ) → IsServer host before side → side.standing ≡ Wanting
+    (sent : List ℕ) → IsServer host before side → side.progress ≡ InProgress
     → ServerReceives state_names state_machine side bytes nonce taken sent next
     → ((other : Struct) → ¬ IsServer host other next)
     → NotReceived host bytes nonce before statuses.TooLong
@@ -454,73 +454,73 @@ too_long host bytes nonce before side next taken sent is wants held none =
     inr (refl, (side, next, taken, sent, is, wants, held, none))
 
 -- none of the tests of the struct holds
-pub none_holds : (connection : Connection) (kept : SetDown) → Keeps connection kept.standing kept.due kept.held.now
-    → kept.standing ≡ Wanting → NoneHolds (side_tests connection)
+pub none_holds : (connection : Connection) (kept : Snapshot) → Keeps connection kept.progress kept.expected kept.held.now
+    → kept.progress ≡ InProgress → NoneHolds (side_tests connection)
 none_holds connection kept keeps wants =
-    let stands = carried (λ s. Keeps connection s kept.due kept.held.now) kept.standing Wanting wants keeps in
-    ((λ ended. ended stands.standing), ((λ nothing. nothing kept.due kept.held.now stands), tt))
+    let stands = carried (λ s. Keeps connection s kept.expected kept.held.now) kept.progress InProgress wants keeps in
+    ((λ ended. ended stands.progress), ((λ nothing. nothing kept.expected kept.held.now stands), tt))
 
 -- what a call that is out of memory takes
 pub ruleset without_memory = (none_holds, tests_without_memory)
 
-pub keeps_no_part : (connection : Connection) (kept : SetDown) → Keeps connection kept.standing kept.due kept.held.now
+pub keeps_no_part : (connection : Connection) (kept : Snapshot) → Keeps connection kept.progress kept.expected kept.held.now
     → kept.limit ≡ 512 → ¬ IsKept kept → KeepsNoPart connection
-keeps_no_part connection kept keeps limit wrong = λ due held other part.
-    let one = one_due due kept.due (other.due ∙ sym keeps.due) in
+keeps_no_part connection kept keeps limit wrong = λ expected held other part.
+    let one = one_due expected kept.expected (other.expected ∙ sym keeps.expected) in
     let same : held ≡ kept.held.now = other.held ∙ sym keeps.held in
-    let less : IsPart kept.due 512 held = carried (λ d. IsPart d 512 held) due kept.due one part in
-    let come : IsPart kept.due 512 kept.held.now = carried (λ h. IsPart kept.due 512 h) held kept.held.now same less in
+    let less : IsPart kept.expected 512 held = carried (λ d. IsPart d 512 held) expected kept.expected one part in
+    let come : IsPart kept.expected 512 kept.held.now = carried (λ h. IsPart kept.expected 512 h) held kept.held.now same less in
     wrong (
       omega (arith, limit),
-      carried (λ n. IsPart kept.due n kept.held.now) 512 kept.limit (sym limit) come,
+      carried (λ n. IsPart kept.expected n kept.held.now) 512 kept.limit (sym limit) come,
     )
 
 -- no server keeps what the struct does, where no server has these values
-pub keeps_no_server : (connection : Connection) (kept : SetDown)
-    → Keeps connection kept.standing kept.due kept.held.now → kept.standing ≡ Wanting → kept.limit ≡ 512
+pub keeps_no_server : (connection : Connection) (kept : Snapshot)
+    → Keeps connection kept.progress kept.expected kept.held.now → kept.progress ≡ InProgress → kept.limit ≡ 512
     → shown kept.user ≡ None → ¬ IsServerKept kept → KeepsNoPartOf server_due connection
-keeps_no_server connection kept keeps wants limit nobody wrong = λ due held other unit part.
-    let one = one_due due kept.due (other.due ∙ sym keeps.due) in
+keeps_no_server connection kept keeps wants limit mock wrong = λ expected held other unit part.
+    let one = one_due expected kept.expected (other.expected ∙ sym keeps.expected) in
     keeps_no_part connection kept keeps limit
     (λ holds. wrong (
       holds,
-      carried (λ (s : Standing). IsTrue (server_fits s kept.due)) Wanting kept.standing (sym wants)
-          (carried (λ (d : Due). IsTrue (server_due d)) due kept.due one unit),
+      carried (λ (s : Progress). IsTrue (server_fits s kept.expected)) InProgress kept.progress (sym wants)
+          (carried (λ (d : Expected). IsTrue (server_due d)) expected kept.expected one unit),
       (λ ended. absurd (ended wants)),
-      λ _. nobody,
-    )) due held other part
+      λ _. mock,
+    )) expected held other part
 
 pub no_connection : (host : Host) (bytes nonce : List ℕ) (before : Struct) (status : Status)
     → IsFirst (side_tests before.connection) status → NotReceived host bytes nonce before status
 unfolding NotReceived IsNoServer
 no_connection host bytes nonce before status wrong = inl (inl wrong)
 
-pub no_host : (host : Host) (bytes nonce : List ℕ) (before : Struct) (kept : SetDown) (status : Status)
-    → Keeps before.connection kept.standing kept.due kept.held.now → kept.standing ≡ Wanting → IsNoHost host status
+pub no_host : (host : Host) (bytes nonce : List ℕ) (before : Struct) (kept : Snapshot) (status : Status)
+    → Keeps before.connection kept.progress kept.expected kept.held.now → kept.progress ≡ InProgress → IsNoHost host status
     → NotReceived host bytes nonce before status
 unfolding NotReceived IsNoServer
 no_host host bytes nonce before kept status keeps wants wrong =
     inl (inr (none_holds before.connection kept keeps wants, inl wrong))
 
-pub not_kept : (host : Host) (bytes nonce : List ℕ) (before : Struct) (kept : SetDown) (state : State)
-    (status : Status) → Keeps before.connection kept.standing kept.due kept.held.now → kept.standing ≡ Wanting
-    → kept.limit ≡ 512 → shown kept.user ≡ None → ServerIsReached host Wanting state
-    → (status ≡ statuses.NotKept) × ¬ IsServerKept kept → NotReceived host bytes nonce before status
+pub not_kept : (host : Host) (bytes nonce : List ℕ) (before : Struct) (kept : Snapshot) (state : State)
+    (status : Status) → Keeps before.connection kept.progress kept.expected kept.held.now → kept.progress ≡ InProgress
+    → kept.limit ≡ 512 → shown kept.user ≡ None → ServerIsReached host InProgress state
+    → (status ≡ statuses.InvalidSnapshot) × ¬ IsServerKept kept → NotReceived host bytes nonce before status
 unfolding NotReceived IsNoServer
-not_kept host bytes nonce before kept state status keeps wants limit nobody comes (is, wrong) = inl (inr (
+not_kept host bytes nonce before kept state status keeps wants limit mock comes (is, wrong) = inl (inr (
   none_holds before.connection kept keeps wants,
-  inr (is, keeps_no_server before.connection kept keeps wants limit nobody wrong, host_has comes),
+  inr (is, keeps_no_server before.connection kept keeps wants limit mock wrong, host_has comes),
 ))
   where
-    host_has : ServerIsReached host Wanting state → (at : ServerState) × (asked : Option Part) × (server : State)
+    host_has : ServerIsReached host InProgress state → (at : ServerState) × (asked : Option Selected) × (server : State)
         × IsOf host at asked server
     host_has (inl fresh) = (Initial, None, state, fresh)
     host_has (inr (challenge, waits)) = (ServerFirstSent challenge, Some First, state, waits)
 
 -- what comes of a side that was taken up
-module _ (host : Host) (bytes nonce : List ℕ) (before : Struct) (kept : SetDown) (state : State)
-    (keeps : Keeps before.connection kept.standing kept.due kept.held.now) (wants : kept.standing ≡ Wanting)
-    (limit : kept.limit ≡ 512) (known : ServerIsReached host Wanting state × ShowsState before.scram Wanting state) where
+module _ (host : Host) (bytes nonce : List ℕ) (before : Struct) (kept : Snapshot) (state : State)
+    (keeps : Keeps before.connection kept.progress kept.expected kept.held.now) (wants : kept.progress ≡ InProgress)
+    (limit : kept.limit ≡ 512) (known : ServerIsReached host InProgress state × ShowsState before.scram InProgress state) where
   abbrev taken_side : Side State
   taken_side = side_of kept state
 
@@ -548,12 +548,12 @@ module _ (host : Host) (bytes nonce : List ℕ) (before : Struct) (kept : SetDow
   short_answer after taken sent (next, held, shows, written) =
       behind_short host before taken_side (side_in next) bytes nonce taken sent is wants held
 
-  pub unanswered : (status : Status) → shown kept.user ≡ None → ((status ≡ statuses.NotKept) × ¬ IsServerKept kept)
+  pub unanswered : (status : Status) → shown kept.user ≡ None → ((status ≡ statuses.InvalidSnapshot) × ¬ IsServerKept kept)
       ⊎ ((status ≡ statuses.TooLong) × ((next : ServerNegotiation Code) × (taken : ℕ) × (sent : List ℕ)
       × Follows taken sent next × HasNone value_state Shown next)) → NotReceived host bytes nonce before status
-  unanswered status nobody (inl wrong) =
-      not_kept host bytes nonce before kept state status keeps wants limit nobody known.0 wrong
-  unanswered status nobody (inr (same, (next, taken, sent, held, none))) =
+  unanswered status mock (inl wrong) =
+      not_kept host bytes nonce before kept state status keeps wants limit mock known.0 wrong
+  unanswered status mock (inr (same, (next, taken, sent, held, none))) =
       carried (NotReceived host bytes nonce before) statuses.TooLong status (sym same)
       (too_long host bytes nonce before taken_side (side_in next) taken sent is wants held
       (no_server host (side_in next) (shows_nothing next none)

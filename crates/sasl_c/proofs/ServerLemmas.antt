@@ -29,78 +29,78 @@ use Rattle.sasl_c.proofs.StatusLemmas.{carried, server_is_memory}
 use Rattle.sasl_c.specs.Status.{server_status}
 
 -- a message that is refused
-pub unread : (unbound : Bool) (kept : Kept) (nonce text : List ℕ) (why : ServerScramErrorKind) (status : Status)
-    → (why ≢ NoMemory → ReadsClientFirst unbound text (Err why)) → status ≡ server_status why
-    → status ≢ statuses.OutOfMemory → NotChallenged unbound kept nonce text status
+pub unread : (cbind_flag_y : Bool) (kept : Kept) (nonce text : List ℕ) (why : ServerScramErrorKind) (status : Status)
+    → (why ≢ NoMemory → ReadsClientFirst cbind_flag_y text (Err why)) → status ≡ server_status why
+    → status ≢ statuses.OutOfMemory → NotChallenged cbind_flag_y kept nonce text status
 unfolding NotChallenged
-unread unbound kept nonce text why status held gives other =
+unread cbind_flag_y kept nonce text why status held gives other =
     inl (why, gives, held (λ same. other (gives ∙ ap server_status same)))
 
-pub not_shown : (unbound : Bool) (kept : Kept) (nonce text : List ℕ) (first : ClientFirst) (status : Status)
-    → ReadsClientFirst unbound text (Ok first) → SpellsStruct kept (Err status)
-    → NotChallenged unbound kept nonce text status
+pub not_shown : (cbind_flag_y : Bool) (kept : Kept) (nonce text : List ℕ) (first : ClientFirst) (status : Status)
+    → ReadsClientFirst cbind_flag_y text (Ok first) → SpellsStruct kept (Err status)
+    → NotChallenged cbind_flag_y kept nonce text status
 unfolding NotChallenged
-not_shown unbound kept nonce text first status reads wrong = inr (inl (first, reads, wrong))
+not_shown cbind_flag_y kept nonce text first status reads wrong = inr (inl (first, reads, wrong))
 
-pub no_room : (unbound : Bool) (kept : Kept) (nonce text : List ℕ) (challenge : ServerChallenge)
-    → MakesChallenge unbound kept nonce text challenge
-    → ¬ ChallengeHasRoom challenge → NotChallenged unbound kept nonce text statuses.TooLong
+pub no_room : (cbind_flag_y : Bool) (kept : Kept) (nonce text : List ℕ) (challenge : ServerChallenge)
+    → MakesChallenge cbind_flag_y kept nonce text challenge
+    → ¬ ChallengeHasRoom challenge → NotChallenged cbind_flag_y kept nonce text statuses.TooLong
 unfolding NotChallenged
-no_room unbound kept nonce text challenge held wide = inr (inr (refl, (challenge, held, wide)))
+no_room cbind_flag_y kept nonce text challenge held wide = inr (inr (refl, (challenge, held, wide)))
 
 -- the struct of the open challenge holds its message
-pub says_first : (unbound : Bool) (kept : Kept) (nonce text : List ℕ) (state : ServerState)
+pub says_first : (cbind_flag_y : Bool) (kept : Kept) (nonce text : List ℕ) (state : ServerState)
     (challenge shown : ServerChallenge) (server : Struct) → state ≡ ServerFirstSent challenge
-    → MakesChallenge unbound kept nonce text challenge → Some shown ≡ open_challenge state → IsOpen server shown
-    → Challenges unbound kept nonce text (Ok (take server.first_len server.first)) × (server.first_len ≤ 1024)
-says_first unbound kept nonce text state challenge shown server stands held opened is =
+    → MakesChallenge cbind_flag_y kept nonce text challenge → Some shown ≡ open_challenge state → IsOpen server shown
+    → Challenges cbind_flag_y kept nonce text (Ok (take server.first_len server.first)) × (server.first_len ≤ 1024)
+says_first cbind_flag_y kept nonce text state challenge shown server stands held opened is =
     let same : Some shown ≡ Some challenge = opened ∙ ap open_challenge stands in
     let one : shown ≡ challenge = cc in
     ((challenge, held, sym (ap (λ (c : ServerChallenge). c.first) (sym one ∙ is.2))), is.1.3)
 
 -- a server that takes whom another takes answers what that one answers
-pub challenges_so : (state next : ServerState) (store : Store) (own unbound : Bool) (nonce text : List ℕ)
-    (answer : Result (Option (List ℕ)) ServerScramErrorKind) → own ≡ unbound
+pub challenges_so : (state next : ServerState) (store : Store) (own cbind_flag_y : Bool) (nonce text : List ℕ)
+    (answer : Result (Option (List ℕ)) ServerScramErrorKind) → own ≡ cbind_flag_y
     → ChallengesFrom state (serving own store) nonce text answer next
-    → ChallengesFrom state (serving unbound store) nonce text answer next
-challenges_so state next store own unbound nonce text answer same held =
-    carried (λ (option : Bool). ChallengesFrom state (serving option store) nonce text answer next) own unbound same
+    → ChallengesFrom state (serving cbind_flag_y store) nonce text answer next
+challenges_so state next store own cbind_flag_y nonce text answer same held =
+    carried (λ (option : Bool). ChallengesFrom state (serving option store) nonce text answer next) own cbind_flag_y same
     held
 
 -- the machine's answers
-pub challenged : (unbound : Bool) (kept : Kept) (nonce text user message : List ℕ) (shown : VersionedRecord)
+pub challenged : (cbind_flag_y : Bool) (kept : Kept) (nonce text user message : List ℕ) (shown : VersionedRecord)
     (store : Store) (state next : ServerState) → ShowsRecord kept shown → store ≡ one_user user shown
-    → ChallengesFrom state (serving unbound store) nonce text (Ok (Some message)) next
-    → (challenge : ServerChallenge) × (next ≡ ServerFirstSent challenge) × MakesChallenge unbound kept nonce text challenge
+    → ChallengesFrom state (serving cbind_flag_y store) nonce text (Ok (Some message)) next
+    → (challenge : ServerChallenge) × (next ≡ ServerFirstSent challenge) × MakesChallenge cbind_flag_y kept nonce text challenge
 unfolding MakesChallenge
-challenged unbound kept nonce text user message shown store state next is same held =
-    let given = carried (λ s. AnswersClientFirst (serving unbound s) (base64_text nonce) text (Ok (Some held.0))) store
+challenged cbind_flag_y kept nonce text user message shown store state next is same held =
+    let given = carried (λ s. AnswersClientFirst (serving cbind_flag_y s) (base64_text nonce) text (Ok (Some held.0))) store
     (one_user user shown) same held.1 in
     (held.0, held.3, (shown, user, is, given))
 
 -- the record stands under the name that the message has, so its user is never unknown
-pub never_unknown : (unbound : Bool) (kept : Kept) (nonce text user : List ℕ) (shown : VersionedRecord) (store : Store)
-    (state next : ServerState) (first : ClientFirst) (status : Status) → ReadsClientFirst unbound text (Ok first)
+pub never_unknown : (cbind_flag_y : Bool) (kept : Kept) (nonce text user : List ℕ) (shown : VersionedRecord) (store : Store)
+    (state next : ServerState) (first : ClientFirst) (status : Status) → ReadsClientFirst cbind_flag_y text (Ok first)
     → user ≡ first.user → store ≡ one_user user shown
-    → ChallengesFrom state (serving unbound store) nonce text (Ok None) next
-    → NotChallenged unbound kept nonce text status
-never_unknown unbound kept nonce text user shown store state next first status reads named same held =
-    let given = carried (λ s. AnswersClientFirst (serving unbound s) (base64_text nonce) text (Ok None)) store
+    → ChallengesFrom state (serving cbind_flag_y store) nonce text (Ok None) next
+    → NotChallenged cbind_flag_y kept nonce text status
+never_unknown cbind_flag_y kept nonce text user shown store state next first status reads named same held =
+    let given = carried (λ s. AnswersClientFirst (serving cbind_flag_y s) (base64_text nonce) text (Ok None)) store
     (one_user user shown) same held.0 in
-    let one : first ≡ given.0 = one_client_first_value unbound text first given.0 reads given.1 in
+    let one : first ≡ given.0 = one_client_first_value cbind_flag_y text first given.0 reads given.1 in
     let here : pointwise nat_eq user given.0.user ≡ true =
     (bytes_eq-Decides user given.0.user).1 (named ∙ ap (λ (client : ClientFirst). client.user) one) in
     let none : Some shown.stored ≡ None = carried (λ test. cond test (Some shown.stored) None ≡ None)
     (pointwise nat_eq user given.0.user) true here given.2 in
     absurd (cc)
 
-pub failed : (unbound : Bool) (kept : Kept) (nonce text : List ℕ) (store : Store) (state next : ServerState)
+pub failed : (cbind_flag_y : Bool) (kept : Kept) (nonce text : List ℕ) (store : Store) (state next : ServerState)
     (why : ServerScramErrorKind) (status : Status)
-    → (why ≢ NoMemory → ChallengesFrom state (serving unbound store) nonce text (Err why) next)
+    → (why ≢ NoMemory → ChallengesFrom state (serving cbind_flag_y store) nonce text (Err why) next)
     → status ≡ server_status why
-    → status ≢ statuses.OutOfMemory → NotChallenged unbound kept nonce text status
-failed unbound kept nonce text store state next why status held gives other =
-    unread unbound kept nonce text why status (λ told. (held told).0) gives other
+    → status ≢ statuses.OutOfMemory → NotChallenged cbind_flag_y kept nonce text status
+failed cbind_flag_y kept nonce text store state next why status held gives other =
+    unread cbind_flag_y kept nonce text why status (λ told. (held told).0) gives other
 
 -- ---- the end of an exchange
 

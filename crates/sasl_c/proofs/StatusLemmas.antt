@@ -7,8 +7,8 @@ use Rattle.fe2o3_scram.specs.declared.scram_messages.error.ServerScramErrorKind.
 use Rattle.std.specs.Prelude.{Result, Ok, Err, IfOk, IfErr, OnErr}
 use Rattle.fe2o3_sasl_wire.specs.declared.sasl_frames.error.Error.{Error}
 use Rattle.fe2o3_sasl_wire.specs.declared.sasl_frames.error.Error.TheVariants as faults
-use Rattle.fe2o3_sasl_runs.specs.declared.sasl_profile.error.ProfileError.{ProfileError}
-use Rattle.fe2o3_sasl_runs.specs.declared.sasl_profile.error.ProfileError.TheVariants as profile
+use Rattle.fe2o3_sasl_core.specs.declared.sasl_profile.error.ProfileError.{ProfileError}
+use Rattle.fe2o3_sasl_core.specs.declared.sasl_profile.error.ProfileError.TheVariants as profile
 use Rattle.sasl_c.specs.Connection.{frame_status, profile_status}
 use Rattle.sasl_c.specs.Status.{AsksWhere, client_status, server_status}
 use Rattle.sasl_c.specs.declared.status.Status.{Status}
@@ -27,7 +27,7 @@ client_not_room client.IterationCountParseError = λ same. absurd (cc)
 client_not_room client.IterationCountTooSmall = λ same. absurd (cc)
 client_not_room client.IterationCountTooLarge = λ same. absurd (cc)
 client_not_room client.NormalizeError = λ same. absurd (cc)
-client_not_room client.OtherKeys = λ same. absurd (cc)
+client_not_room client.StaleKeys = λ same. absurd (cc)
 client_not_room client.HmacErrorInvalidLength = λ same. absurd (cc)
 client_not_room client.XorLengthMismatch = λ same. absurd (cc)
 client_not_room client.IllegalClientState = λ same. absurd (cc)
@@ -72,7 +72,7 @@ client_is_memory client.IterationCountParseError status gives memory = absurd (c
 client_is_memory client.IterationCountTooSmall status gives memory = absurd (cc)
 client_is_memory client.IterationCountTooLarge status gives memory = absurd (cc)
 client_is_memory client.NormalizeError status gives memory = absurd (cc)
-client_is_memory client.OtherKeys status gives memory = absurd (cc)
+client_is_memory client.StaleKeys status gives memory = absurd (cc)
 client_is_memory client.HmacErrorInvalidLength status gives memory = absurd (cc)
 client_is_memory client.XorLengthMismatch status gives memory = absurd (cc)
 client_is_memory client.IllegalClientState status gives memory = absurd (cc)
@@ -106,7 +106,7 @@ frame_not_room faults.OutOfMemory = λ same. absurd (cc)
 pub profile_not_room : (fault : ProfileError) → profile_status fault ≢ RoomTooSmall
 profile_not_room profile.NotImplemented = λ same. absurd (cc)
 profile_not_room (profile.Scram kind) = client_not_room kind
-profile_not_room profile.OtherKeys = λ same. absurd (cc)
+profile_not_room profile.StaleKeys = λ same. absurd (cc)
 profile_not_room (profile.Frame fault) = frame_not_room fault
 profile_not_room profile.OutOfMemory = λ same. absurd (cc)
 

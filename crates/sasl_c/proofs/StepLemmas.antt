@@ -4,12 +4,12 @@ use Rattle.std.proofs.Common.{arith, refl, sym, ap, inl, inr, ◌≡◌, ◌≤�
 use Rattle.std.specs.Prelude.{Option}
 use Rattle.fe2o3_sasl_wire.specs.declared.amqp_types.SaslCode.{SaslCode}
 use Rattle.fe2o3_sasl_wire.specs.declared.amqp_types.SaslCode.TheVariants as outcomes
-use Rattle.fe2o3_sasl_runs.specs.declared.sasl_profile.error.ProfileError.{ProfileError}
-use Rattle.fe2o3_sasl_runs.specs.Events.{Given, ClientSays, Started, Answered, Reported, Refused, ServerSays, Challenged, Concluded, Failed}
-use Rattle.fe2o3_sasl_runs.specs.Profiles.{Profile}
-use Rattle.fe2o3_sasl_runs.specs.Runs.{AcceptorSteps, ProfileSteps}
-use Rattle.fe2o3_sasl_negotiation.specs.declared.standing.Standing.{Standing}
-use Rattle.fe2o3_sasl_negotiation.specs.declared.standing.Standing.TheVariants.{Wanting}
+use Rattle.fe2o3_sasl_core.specs.declared.sasl_profile.error.ProfileError.{ProfileError}
+use Rattle.fe2o3_sasl_core.specs.Events.{Given, ClientSays, Started, Answered, Reported, Refused, ServerSays, Challenged, Concluded, Failed}
+use Rattle.fe2o3_sasl_core.specs.Profiles.{Profile}
+use Rattle.fe2o3_sasl_core.specs.Runs.{AcceptorSteps, ProfileSteps}
+use Rattle.fe2o3_sasl_negotiation.specs.declared.progress.Progress.{Progress}
+use Rattle.fe2o3_sasl_negotiation.specs.declared.progress.Progress.TheVariants.{InProgress}
 use Rattle.sasl_c.specs.declared.client.ScramClient.{ScramClient as ClientStruct}
 use Rattle.sasl_c.specs.declared.sasl_client.SaslLogin.{SaslLogin as Login}
 use Rattle.sasl_c.specs.declared.sasl_server.SaslHost.{SaslHost as Host}
@@ -19,7 +19,7 @@ use Rattle.sasl_c.specs.declared.status.Status.TheVariants as statuses
 use Rattle.sasl_c.specs.Connection.{profile_status}
 use Rattle.sasl_c.specs.SaslClient.{ProfileIsReached as LoginComes, HasNoHostname, IsHostname, IsNoProfile, IsProfile}
 use Rattle.sasl_c.specs.SaslServer.{ServerIsReached, IsNoHost, State, state_machine, value_state}
-use Rattle.sasl_c.specs.Steps.{ClientHides, ClientNotStepped, ClientStepped, ClientTells, IsStepped, NotStepped, ProfileNotStepped, ProfileStepped, ServerNotStepped, ServerStepped, ServerTells, HostServes, behind_code, standing_number}
+use Rattle.sasl_c.specs.Steps.{ClientHides, ClientNotStepped, ClientStepped, ClientTells, IsStepped, NotStepped, ProfileNotStepped, ProfileStepped, ServerNotStepped, ServerStepped, ServerTells, HostServes, behind_code, progress_number}
 use Rattle.sasl_c.proofs.SaslClientLemmas.{gives_comes as profile_gives, profile_comes}
 use Rattle.sasl_c.proofs.SaslServerLemmas.{Shown, written_for}
 use Rattle.sasl_c.proofs.ServerCallLemmas.{gives_comes as acceptor_gives}
@@ -31,7 +31,7 @@ no_longer body sent same few = omega (arith, ap length same, few)
 
 -- ---- a client
 
-client_short : (says : ClientSays) (sent : List ℕ) (stands : Standing) → ClientTells says sent stands
+client_short : (says : ClientSays) (sent : List ℕ) (stands : Progress) → ClientTells says sent stands
     → length sent ≤ 508
 client_short (Started body) sent stands is = no_longer body sent is.0.0 is.0.1
 client_short (Answered body) sent stands is = no_longer body sent is.0.0 is.0.1
@@ -53,9 +53,9 @@ named_so : (login : Login) (hostname shown : Option (List ℕ)) → Names login 
 named_so login hostname shown is = carried (IsHostname login) hostname shown (sym is.0) is.1
 
 pub client_stepped : (login : Login) (event : Given) (before after : ClientStruct) (hostname shown : Option (List ℕ))
-    (profile : Profile) (stands : Standing) (sent : List ℕ) → Names login hostname shown
+    (profile : Profile) (stands : Progress) (sent : List ℕ) → Names login hostname shown
     → IsProfile login before profile → ProfileStepped shown profile event after stands sent
-    → ClientStepped login event before after (standing_number stands) sent
+    → ClientStepped login event before after (progress_number stands) sent
 unfolding ClientStepped
 client_stepped login event before after hostname shown profile stands sent named is
     (next, says, steps, tells, shows, written) = (
@@ -74,7 +74,7 @@ client_stepped login event before after hostname shown profile stands sent named
     )
 
 pub client_steps_short : (hostname : Option (List ℕ)) (profile : Profile) (event : Given) (after : ClientStruct)
-    (stands : Standing) (sent : List ℕ) → ProfileStepped hostname profile event after stands sent
+    (stands : Progress) (sent : List ℕ) → ProfileStepped hostname profile event after stands sent
     → length sent ≤ 508
 client_steps_short hostname profile event after stands sent (next, says, steps, tells, shows, written) =
     client_short says sent stands tells
@@ -105,7 +105,7 @@ client_hides fault status same = same
 
 -- ---- a server
 
-server_short : (says : ServerSays) (sent : List ℕ) (stands : Standing) → ServerTells says sent stands
+server_short : (says : ServerSays) (sent : List ℕ) (stands : Progress) → ServerTells says sent stands
     → length sent ≤ 508
 server_short (Challenged body) sent stands is = no_longer body sent is.0.0 is.0.1
 server_short (Concluded code body) sent stands is = no_longer body sent is.0.0 is.0.1
@@ -120,19 +120,19 @@ code_comes host outcomes.SysPerm next = tt
 code_comes host outcomes.SysTemp next = tt
 
 server_comes : (host : Host) (event : Given) (server next : State) (says : ServerSays) (sent : List ℕ)
-    (stands : Standing) → ServerIsReached host Wanting server → AcceptorSteps state_machine server event says next
+    (stands : Progress) → ServerIsReached host InProgress server → AcceptorSteps state_machine server event says next
     → ServerTells says sent stands → ServerIsReached host stands next
 server_comes host event server next (Challenged body) sent stands comes steps tells =
-    carried (λ (s : Standing). ServerIsReached host s next) Wanting stands (sym tells.1)
+    carried (λ (s : Progress). ServerIsReached host s next) InProgress stands (sym tells.1)
     (acceptor_gives host server next event steps.0 body comes steps.2)
 server_comes host event server next (Concluded code body) sent stands comes steps tells =
-    carried (λ (s : Standing). ServerIsReached host s next) (behind_code code) stands (sym tells.1) (code_comes host code next)
+    carried (λ (s : Progress). ServerIsReached host s next) (behind_code code) stands (sym tells.1) (code_comes host code next)
 server_comes host event server next (Failed fault) sent stands comes steps tells = absurd tells
 
 pub server_stepped : (host : Host) (event : Given) (before after : ServerStruct) (server : State)
-    (stands : Standing) (sent : List ℕ) → HostServes host before Wanting server
+    (stands : Progress) (sent : List ℕ) → HostServes host before InProgress server
     → IsStepped value_state state_machine Shown written_for server event after stands sent
-    → ServerStepped host event before after (standing_number stands) sent
+    → ServerStepped host event before after (progress_number stands) sent
 unfolding ServerStepped
 server_stepped host event before after server stands sent serves (next, says, steps, tells, shows, written) = (
   server,
@@ -149,7 +149,7 @@ server_stepped host event before after server stands sent serves (next, says, st
   refl,
 )
 
-pub server_steps_short : (server : State) (event : Given) (after : ServerStruct) (stands : Standing) (sent : List ℕ)
+pub server_steps_short : (server : State) (event : Given) (after : ServerStruct) (stands : Progress) (sent : List ℕ)
     → IsStepped value_state state_machine Shown written_for server event after stands sent → length sent ≤ 508
 server_steps_short server event after stands sent (next, says, steps, tells, shows, written) =
     server_short says sent stands tells
@@ -160,7 +160,7 @@ unfolding ServerNotStepped
 server_no_host host event before status wrong = inl wrong
 
 pub server_not_stepped : (host : Host) (event : Given) (before : ServerStruct) (server : State) (status : Status)
-    → HostServes host before Wanting server → NotStepped value_state state_machine Shown server event status
+    → HostServes host before InProgress server → NotStepped value_state state_machine Shown server event status
     → ServerNotStepped host event before status
 unfolding ServerNotStepped
 server_not_stepped host event before server status serves (next, says, steps, inl hides) =

@@ -9,7 +9,7 @@ use Rattle.fe2o3_scram.specs.ClientFirst.{client_first, client_first_bare}
 use Rattle.fe2o3_scram.specs.ClientKeys.{ClientKeys}
 use Rattle.fe2o3_scram.specs.ClientSecret.{Secret, Password, Keys, Both}
 use Rattle.fe2o3_scram.specs.Passwords.{Prepared, Typed}
-use Rattle.fe2o3_scram.specs.ScramClient.{AnswersIn, BelievesIn, ClientSide, ClientState, ClientInitial, ClientFirstSent, ClientFinalSent, Complete, started}
+use Rattle.fe2o3_scram.specs.ScramClient.{AnswersIn, VerifiesIn, ClientSide, ClientState, ClientInitial, ClientFirstSent, ClientFinalSent, Complete, started}
 use Rattle.fe2o3_scram.specs.Hmac.{zero_filled}
 use Rattle.fe2o3_scram.specs.Readings.{IsFirst, NoneHolds}
 use Rattle.fe2o3_scram.specs.ServerFinal.{ReachesVerifier}
@@ -39,8 +39,8 @@ pub record IsClientOf (login : Login) (side : ClientSide) : Type 0 where
   pub version : IsVersion login.version side.version
   pub user : side.user ≡ login.username.now
   pub secret : IsSecretOf login side.secret
-  pub least : side.limits.least ≡ login.least_iterations
-  pub most : side.limits.most ≡ login.most_iterations
+  pub least : side.limits.min_iterations ≡ login.min_iterations
+  pub most : side.limits.max_iterations ≡ login.max_iterations
 
 -- the tests of the keys of a login, in their order
 abbrev pub keys_tests : Login → List (Status × Type 0)
@@ -211,11 +211,11 @@ abbrev pub VerifyAsks : Login → List ℕ → Struct → Type 0
 VerifyAsks login text before = IsTestedLogin login × AwaitsSignature before × ReachesVerifier text
 
 -- whether the server is believed
-unfoldable pub Believes : Login → List ℕ → Struct → Struct → Result (Unit {0}) Status → Type 0
-Believes login text before after (Ok done) = (side next : ClientSide) × IsSide login before side
-    × BelievesIn side.state side text (Ok done) next × IsSide login after next × (after ≡ complete_struct before.keys)
-Believes login text before after (Err status) = (after ≡ before) × (status ≢ statuses.OutOfMemory
-    → IsNoLogin login status ⊎ Refuses login before (λ side why. BelievesIn side.state side text (Err why) side) status)
+unfoldable pub Verifies : Login → List ℕ → Struct → Struct → Result (Unit {0}) Status → Type 0
+Verifies login text before after (Ok done) = (side next : ClientSide) × IsSide login before side
+    × VerifiesIn side.state side text (Ok done) next × IsSide login after next × (after ≡ complete_struct before.keys)
+Verifies login text before after (Err status) = (after ≡ before) × (status ≢ statuses.OutOfMemory
+    → IsNoLogin login status ⊎ Refuses login before (λ side why. VerifiesIn side.state side text (Err why) side) status)
 
 -- the keys of a login whose server was believed, and of no other
 abbrev pub HandsOut : Struct → Result KeysStruct Status → Type 0

@@ -53,6 +53,6 @@ OffersName body name (Ok done) = (names : List (List ℕ)) × (taken : ℕ)
 OffersName body name (Err statuses.NotUtf8) = ¬ IsUtf8 name
 OffersName body name (Err statuses.NotImplemented) = (names : List (List ℕ)) × (taken : ℕ)
     × ReadsBody body (Ok (frames.Mechanisms names, taken)) × ¬ Contains names name
-OffersName body name (Err statuses.OutOfTurn) = (frame : SaslFrame) × (taken : ℕ) × ReadsBody body (Ok (frame, taken))
+OffersName body name (Err statuses.UnexpectedFrame) = (frame : SaslFrame) × (taken : ℕ) × ReadsBody body (Ok (frame, taken))
     × ((names : List (List ℕ)) → ◌≡◌ {A = SaslFrame} frame (frames.Mechanisms names) → ⊥)
 OffersName body name (Err status) = (fault : Error) × ReadsBody body (Err fault) × (status ≡ frame_status fault)

@@ -9,8 +9,8 @@ use Rattle.fe2o3_scram.specs.declared.credentials.record_lines.ReadLinesErrorKin
 use Rattle.fe2o3_scram.specs.declared.credentials.record_text.RecordTextError.TheVariants as texts
 use Rattle.fe2o3_scram.specs.declared.hmac.ScramVersion.{ScramVersion}
 use Rattle.fe2o3_scram.specs.Credentials.{Record, VersionedRecord, record_at, versioned}
-use Rattle.fe2o3_scram.specs.Mixed.{MixedRecords, provider_for}
-use Rattle.fe2o3_scram.specs.MixedLines.{IsMixedWritable, ReadsMixed, SpellsMixed, UpToMixed, mixed_text}
+use Rattle.fe2o3_scram.specs.Mixed.{MultiRecords, provider_for}
+use Rattle.fe2o3_scram.specs.MultiRecordLines.{IsMixedWritable, ReadsMixed, SpellsMixed, UpToMixed, mixed_text}
 use Rattle.fe2o3_scram.specs.RecordLines.{ReachesUser}
 use Rattle.sasl_c.specs.declared.records.ScramRecord.{ScramRecord as Struct}
 use Rattle.sasl_c.specs.declared.status.Status.{Status}
@@ -28,16 +28,16 @@ line_status kinds.VersionMismatch = statuses.OtherVersion
 line_status kinds.OutOfMemory = statuses.OutOfMemory
 
 -- the text is one of users
-abbrev pub HasUsers : List ℕ → ℕ → ScramVersion → MixedRecords → Type 0
+abbrev pub HasUsers : List ℕ → ℕ → ScramVersion → MultiRecords → Type 0
 HasUsers lines version known users = IsVersion version known × SpellsMixed lines users
 
 -- the struct of the first record that a user has of this version
-abbrev pub Chosen : MixedRecords → List ℕ → ScramVersion → Struct → Type 0
+abbrev pub Chosen : MultiRecords → List ℕ → ScramVersion → Struct → Type 0
 Chosen users name known made = (stored : Record) × (record_at (provider_for known users).records name ≡ Some stored)
     × RecordHasRoom (versioned known stored) × (made ≡ record_struct (versioned known stored))
 
 -- or why there is none: the user has no such record, or a struct has no room for it
-abbrev pub NotChosen : MixedRecords → List ℕ → ScramVersion → Status → Type 0
+abbrev pub NotChosen : MultiRecords → List ℕ → ScramVersion → Status → Type 0
 NotChosen users name known status =
     ((status ≡ statuses.NoSuchUser) × (record_at (provider_for known users).records name ≡ None))
     ⊎ ((status ≡ statuses.TooLong) × ((stored : Record)
@@ -46,13 +46,13 @@ NotChosen users name known status =
 -- what is found of a user in a text: the first record of the version, as a struct, or why there is none; a line that
 -- is not read is told by its number from 1, and no line by 0
 unfoldable pub FindsRecord : List ℕ → List ℕ → ℕ → ℕ → Result Struct Status → Type 0
-FindsRecord lines name version line (Ok made) = (known : ScramVersion) × (users : MixedRecords)
+FindsRecord lines name version line (Ok made) = (known : ScramVersion) × (users : MultiRecords)
     × HasUsers lines version known users × Chosen users name known made
 FindsRecord lines name version line (Err status) =
     ((error : ReadLinesError) × ReadsMixed lines (Err error) × (line ≡ error.line) × (status ≡ line_status error.kind))
     ⊎ ((line ≡ 0) × (((status ≡ statuses.NoSuchVersion) × ((known : ScramVersion) → ¬ IsVersion version known))
     ⊎ ((status ≡ statuses.NotUtf8) × (¬ IsUtf8 name ⊎ ¬ IsUtf8 lines))
-    ⊎ ((known : ScramVersion) × (users : MixedRecords) × HasUsers lines version known users
+    ⊎ ((known : ScramVersion) × (users : MultiRecords) × HasUsers lines version known users
     × NotChosen users name known status)))
 
 -- memory is asked for to find a record: the version is known, the name and the text are UTF-8, and a line that is

@@ -3,7 +3,7 @@ use Rattle.std.specs.Prelude.{◌≡◌, ◌<◌, ◌≤◌, ◌⊎◌, ℕ, Lis
 use Rattle.std.specs.Str.{IsUtf8}
 use Rattle.fe2o3_scram.specs.declared.hmac.ScramVersion.{ScramVersion}
 use Rattle.fe2o3_scram.specs.Credentials.{MeetsRecord, Record, VersionedRecord, record_of, versioned}
-use Rattle.fe2o3_scram.specs.Nobody.{nobody_record}
+use Rattle.fe2o3_scram.specs.MockSettings.{mock_record}
 use Rattle.fe2o3_scram.specs.Hmac.{digest_len, zero_filled}
 use Rattle.fe2o3_scram.specs.Passwords.{IsNormal, PasswordText, password_bytes}
 use Rattle.fe2o3_scram.specs.Readings.{Reads}
@@ -81,16 +81,16 @@ SpellsStruct kept (Err statuses.TooLong) = 128 < kept.salt_len
 SpellsStruct kept (Err status) = ⊥
 
 -- the tests before a record is made up for a name, in their order
-abbrev pub nobody_tests : ℕ → List ℕ → ℕ → List (Status × Type 0)
-nobody_tests version name salt_len =
+abbrev pub mock_tests : ℕ → List ℕ → ℕ → List (Status × Type 0)
+mock_tests version name salt_len =
     (statuses.NoSuchVersion, (known : ScramVersion) → ¬ IsVersion version known) ∷ (statuses.NotUtf8, ¬ IsUtf8 name)
     ∷ (statuses.TooLong, 64 < salt_len) ∷ []
 
 -- what comes of making up a record for a name: the first refusal that holds, or its struct
 abbrev pub MakesUp : ℕ → List ℕ → List ℕ → ℕ → ℕ → Result Struct Status → Type 0
-MakesUp version secret name salt_len count answer = Reads (nobody_tests version name salt_len)
+MakesUp version secret name salt_len count answer = Reads (mock_tests version name salt_len)
     (λ made. (known : ScramVersion) × IsVersion version known × (made ≡ record_struct (versioned known
-    (nobody_record (record { version = known; secret = secret; salt_len = salt_len; count = count }) name)))) answer
+    (mock_record (record { version = known; secret = secret; salt_len = salt_len; count = count }) name)))) answer
 
 -- whether a password that was told is that of the record (RFC 5802, section 3); or that the struct shows none, or it
 -- shows one and the password is not UTF-8, or it is and is another one

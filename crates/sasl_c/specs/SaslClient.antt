@@ -3,12 +3,12 @@ use Rattle.std.specs.Prelude.{◌≡◌, ◌≢◌, ◌<◌, ◌⊎◌, ℕ, Opt
 use Rattle.std.specs.Str.{IsUtf8}
 use Rattle.fe2o3_scram.specs.Readings.{IsFirst, NoneHolds}
 use Rattle.fe2o3_scram.specs.ScramClient.{ClientSide}
-use Rattle.fe2o3_sasl_runs.specs.Profiles.{Profile, ScramProfile, PlainProfile, AnonymousProfile, ExternalProfile}
-use Rattle.fe2o3_sasl_negotiation.specs.declared.standing.Standing.TheVariants.{Wanting}
+use Rattle.fe2o3_sasl_core.specs.Profiles.{Profile, ScramProfile, PlainProfile, AnonymousProfile, ExternalProfile}
+use Rattle.fe2o3_sasl_negotiation.specs.declared.progress.Progress.TheVariants.{InProgress}
 use Rattle.fe2o3_sasl_negotiation.specs.ClientNegotiation.{ClientReceives}
 use Rattle.fe2o3_sasl_negotiation.specs.Framing.{sasl_header}
 use Rattle.fe2o3_sasl_negotiation.specs.Negotiations.{Side}
-use Rattle.fe2o3_sasl_negotiation.specs.SetDown.{client_due}
+use Rattle.fe2o3_sasl_negotiation.specs.Snapshot.{client_due}
 use Rattle.sasl_c.specs.declared.client.Login.{Login as Words}
 use Rattle.sasl_c.specs.declared.client.ScramClient.{ScramClient as ScramStruct}
 use Rattle.sasl_c.specs.declared.sasl_client.SaslClient.{SaslClient as Struct}
@@ -58,15 +58,15 @@ WritesProfile written ExternalProfile = written ≡ fresh_client_struct
 
 -- the structs that a call writes for a side
 abbrev pub WritesSide : Struct → Side Profile → Type 0
-WritesSide written side = (written.connection ≡ connection_struct side.standing side.due side.held)
+WritesSide written side = (written.connection ≡ connection_struct side.progress side.expected side.held)
     × WritesProfile written.scram side.state
 
 -- why the structs are those of no side that wants more bytes: the tests of the connection, those of the hostname and of
--- the profile, and last that what was kept is a part of what is due
+-- the profile, and last that what was kept is a part of what is expected
 abbrev pub IsNoClient : Login → Struct → Status → Type 0
 IsNoClient login client status = IsFirst (side_tests client.connection) status
     ⊎ (NoneHolds (side_tests client.connection) × (((status ≡ statuses.NotUtf8) × HasNoHostname login)
-    ⊎ (¬ HasNoHostname login × (IsNoProfile login status ⊎ ((status ≡ statuses.NotKept)
+    ⊎ (¬ HasNoHostname login × (IsNoProfile login status ⊎ ((status ≡ statuses.InvalidSnapshot)
     × KeepsNoPartOf client_due client.connection × ((profile : Profile) × IsProfile login client.scram profile))))))
 
 -- none of the tests holds that come before memory is asked for: those of the connection, and that of the hostname
@@ -94,6 +94,6 @@ OpensConnection (Err status) = ⊥
 unfoldable pub ReceivesAsClient : Login → List ℕ → List ℕ → Struct → Struct → ℕ → Result (List ℕ) Status → Type 0
 ReceivesAsClient login bytes nonce before after taken (Ok sent) =
     (hostname : Option (List ℕ)) × (side next : Side Profile) × IsHostname login hostname
-    × IsClient login before side × (side.standing ≡ Wanting)
+    × IsClient login before side × (side.progress ≡ InProgress)
     × ClientReceives hostname side bytes nonce taken sent next × IsClient login after next × WritesSide after next
 ReceivesAsClient login bytes nonce before after taken (Err status) = IsNoClient login before status

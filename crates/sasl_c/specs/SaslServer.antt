@@ -12,28 +12,28 @@ use Rattle.fe2o3_scram.specs.Hmac.{mechanism_name}
 use Rattle.fe2o3_scram.specs.Readings.{IsFirst, NoneHolds}
 use Rattle.fe2o3_scram.specs.ScramServer.{ServerState, Initial, ServerFirstSent, open_challenge, served_by, state_in}
 use Rattle.fe2o3_scram.specs.ServerFirst.{ServerChallenge}
-use Rattle.fe2o3_sasl_runs.specs.declared.offers_only.OffersOnly.{OffersOnly}
-use Rattle.fe2o3_sasl_runs.specs.declared.one_of.OneOf.{OneOf}
-use Rattle.fe2o3_sasl_runs.specs.declared.one_of.Part.{Part}
-use Rattle.fe2o3_sasl_runs.specs.declared.one_of.Part.TheVariants.{First}
-use Rattle.fe2o3_sasl_runs.specs.Bodies.{SpellsBody}
-use Rattle.fe2o3_sasl_runs.specs.ExternalAcceptor.{External, external_machine, external_of, external_user}
-use Rattle.fe2o3_sasl_runs.specs.OffersOnly.{Offering, offering_machine, offering_names, offering_of}
-use Rattle.fe2o3_sasl_runs.specs.OneOf.{BothStates, both_names, one_of_machine, part_names}
-use Rattle.fe2o3_sasl_runs.specs.OneOfSides.{both_states}
-use Rattle.fe2o3_sasl_runs.specs.PlainAuthenticator.{IsTaken, PlainParts, PlainServer, SpellsPlain, plain_machine, plain_server}
-use Rattle.fe2o3_sasl_runs.specs.SaslAcceptor.{Acceptor, ScramAcceptor, AnonymousAcceptor, acceptor_machine, acceptor_names, acceptor_user}
+use Rattle.fe2o3_sasl_core.specs.declared.restrict_mechanisms.RestrictMechanisms.{RestrictMechanisms}
+use Rattle.fe2o3_sasl_core.specs.declared.any_mechanism.AnyMechanism.{AnyMechanism}
+use Rattle.fe2o3_sasl_core.specs.declared.any_mechanism.Selected.{Selected}
+use Rattle.fe2o3_sasl_core.specs.declared.any_mechanism.Selected.TheVariants.{First}
+use Rattle.fe2o3_sasl_core.specs.Bodies.{SpellsBody}
+use Rattle.fe2o3_sasl_core.specs.ExternalServer.{External, external_machine, external_of, external_user}
+use Rattle.fe2o3_sasl_core.specs.RestrictMechanisms.{Offering, offering_machine, offering_names, offering_of}
+use Rattle.fe2o3_sasl_core.specs.AnyMechanism.{BothStates, both_names, any_mechanism_machine, part_names}
+use Rattle.fe2o3_sasl_core.specs.AnyMechanismSides.{both_states}
+use Rattle.fe2o3_sasl_core.specs.PlainServer.{IsTaken, PlainParts, PlainState, SpellsPlain, plain_machine, plain_state}
+use Rattle.fe2o3_sasl_core.specs.SaslAcceptor.{Acceptor, ScramAcceptor, AnonymousAcceptor, acceptor_machine, acceptor_names, acceptor_user}
 use Rattle.fe2o3_sasl_negotiation.specs.declared.server.ServerNegotiation.{ServerNegotiation}
-use Rattle.fe2o3_sasl_negotiation.specs.declared.standing.Due.{Due}
-use Rattle.fe2o3_sasl_negotiation.specs.declared.standing.Due.TheVariants.{Header}
-use Rattle.fe2o3_sasl_negotiation.specs.declared.standing.Standing.{Standing}
-use Rattle.fe2o3_sasl_negotiation.specs.declared.standing.Standing.TheVariants.{Wanting, LoggedIn, Closed}
-use Rattle.fe2o3_sasl_negotiation.specs.declared.standing.Turn.{Turn}
-use Rattle.fe2o3_sasl_negotiation.specs.declared.standing.Turn.TheVariants as turns
+use Rattle.fe2o3_sasl_negotiation.specs.declared.progress.Expected.{Expected}
+use Rattle.fe2o3_sasl_negotiation.specs.declared.progress.Expected.TheVariants.{Header}
+use Rattle.fe2o3_sasl_negotiation.specs.declared.progress.Progress.{Progress}
+use Rattle.fe2o3_sasl_negotiation.specs.declared.progress.Progress.TheVariants.{InProgress, Authenticated, Failed}
+use Rattle.fe2o3_sasl_negotiation.specs.declared.progress.FrameKind.{FrameKind}
+use Rattle.fe2o3_sasl_negotiation.specs.declared.progress.FrameKind.TheVariants as turns
 use Rattle.fe2o3_sasl_negotiation.specs.Framing.{IsPart}
 use Rattle.fe2o3_sasl_negotiation.specs.Negotiations.{Completes, Side}
 use Rattle.fe2o3_sasl_negotiation.specs.ServerNegotiation.{ServerReceives}
-use Rattle.fe2o3_sasl_negotiation.specs.SetDown.{server_due}
+use Rattle.fe2o3_sasl_negotiation.specs.Snapshot.{server_due}
 use Rattle.fe2o3_sasl_negotiation.specs.Sides.{acceptor_in, server_side}
 use Rattle.sasl_c.specs.declared.connection.Connection.{Connection}
 use Rattle.sasl_c.specs.declared.others.Others.{Others as OthersCode}
@@ -54,7 +54,7 @@ abbrev pub Last : Type 0
 Last = BothStates Acceptor External
 
 abbrev pub Others : Type 0
-Others = BothStates PlainServer Last
+Others = BothStates PlainState Last
 
 abbrev pub All : Type 0
 All = BothStates Acceptor Others
@@ -70,7 +70,7 @@ external_names external = codes "EXTERNAL" ∷ []
 abbrev pub last_names : Last → List (List ℕ)
 last_names parts = both_names (acceptor_names parts.first) (external_names parts.second)
 
-abbrev pub plain_names : PlainServer → List (List ℕ)
+abbrev pub plain_names : PlainState → List (List ℕ)
 plain_names plain = codes "PLAIN" ∷ []
 
 abbrev pub other_names : Others → List (List ℕ)
@@ -86,26 +86,26 @@ state_names state = offering_names all_names state
 -- its machine: what it replies to an init and to a response
 abbrev pub last_machine : Last → List ℕ → SaslFrame → SaslFrame → Last → Type 0
 last_machine parts nonce frame reply next =
-    one_of_machine acceptor_names external_names acceptor_machine external_machine parts nonce frame reply next
+    any_mechanism_machine acceptor_names external_names acceptor_machine external_machine parts nonce frame reply next
 
 abbrev pub other_machine : Others → List ℕ → SaslFrame → SaslFrame → Others → Type 0
 other_machine parts nonce frame reply next =
-    one_of_machine plain_names last_names plain_machine last_machine parts nonce frame reply next
+    any_mechanism_machine plain_names last_names plain_machine last_machine parts nonce frame reply next
 
 abbrev pub all_machine : All → List ℕ → SaslFrame → SaslFrame → All → Type 0
 all_machine parts nonce frame reply next =
-    one_of_machine acceptor_names other_names acceptor_machine other_machine parts nonce frame reply next
+    any_mechanism_machine acceptor_names other_names acceptor_machine other_machine parts nonce frame reply next
 
 abbrev pub state_machine : State → List ℕ → SaslFrame → SaslFrame → State → Type 0
 state_machine state nonce frame reply next = offering_machine all_names all_machine state nonce frame reply next
 
 -- who has logged in: whom the mechanism of the last init names
 abbrev pub other_user : Others → Option (List ℕ)
-other_user others = let last = others.second in part_names others.asked others.first.user
-    (part_names last.asked None (external_user last.second))
+other_user others = let last = others.second in part_names others.selected others.first.user
+    (part_names last.selected None (external_user last.second))
 
 abbrev pub user_in : State → Option (List ℕ)
-user_in state = let all = state.inner in part_names all.asked (acceptor_user all.first) (other_user all.second)
+user_in state = let all = state.inner in part_names all.selected (acceptor_user all.first) (other_user all.second)
 
 -- the challenge of SCRAM that is open
 abbrev pub open_of : Acceptor → Option ServerChallenge
@@ -126,7 +126,7 @@ one_where false n = 0
 -- could bind a channel (RFC 5802, section 6)
 abbrev pub sum_of : Choice → ℕ
 sum_of choice = one_where choice.scram 1 + one_where choice.plain 2 + one_where choice.anonymous 4
-    + one_where choice.external 8 + one_where choice.unbound 16
+    + one_where choice.external 8 + one_where choice.cbind_flag_y 16
 
 -- a name where it is so, and else the empty one, which no mechanism has
 abbrev pub name_where : Bool → List ℕ → List ℕ
@@ -168,40 +168,40 @@ others_of store count peer = record {
   second = record {
     first = AnonymousAcceptor;
     second = record { user = external_name peer; accepted = false };
-    asked = None;
+    selected = None;
   };
-  asked = None;
+  selected = None;
 }
 
 -- all four mechanisms over a store, SCRAM in this state, and the one that the last init went to; SCRAM takes a client
 -- that could bind a channel on wish
-abbrev pub all_of : Bool → Store → ℕ → List ℕ → ServerState → Option Part → All
-all_of unbound store count peer state asked = record {
-  first = ScramAcceptor (serving unbound store) state;
+abbrev pub all_of : Bool → Store → ℕ → List ℕ → ServerState → Option Selected → All
+all_of cbind_flag_y store count peer state asked = record {
+  first = ScramAcceptor (serving cbind_flag_y store) state;
   second = others_of store count peer;
-  asked = asked;
+  selected = asked;
 }
 
 -- the server of these
-abbrev pub struct_server : Host → ScramVersion → Choice → Records → ServerState → Option Part → State
+abbrev pub struct_server : Host → ScramVersion → Choice → Records → ServerState → Option Selected → State
 struct_server host version choice records state asked = record {
-  inner = all_of choice.unbound (record { version = version; records = records }) host.iterations host.peer.now state
+  inner = all_of choice.cbind_flag_y (record { version = version; records = records }) host.iterations host.peer.now state
       asked;
   allowed = allowed_of version choice host.peer.now;
 }
 
 -- the server is that of a host, with SCRAM in this state, and the mechanism that was asked last
-unfoldable pub IsOf : Host → ServerState → Option Part → State → Type 0
+unfoldable pub IsOf : Host → ServerState → Option Selected → State → Type 0
 IsOf host state asked server = (version : ScramVersion) × (choice : Choice) × (records : Records)
     × IsVersion host.version version × (sum_of choice ≡ host.mechanisms) × HasRecords host version records
     × (server ≡ struct_server host version choice records state asked)
 
 -- the servers that a host comes to while more bytes are wanted: before the init, and with a challenge of SCRAM open
-abbrev pub ServerIsReached : Host → Standing → State → Type 0
-ServerIsReached host Wanting server = IsOf host Initial None server
+abbrev pub ServerIsReached : Host → Progress → State → Type 0
+ServerIsReached host InProgress server = IsOf host Initial None server
     ⊎ ((challenge : ServerChallenge) × IsOf host (ServerFirstSent challenge) (Some First) server)
-ServerIsReached host LoggedIn server = Unit {0}
-ServerIsReached host (Closed why) server = Unit {0}
+ServerIsReached host Authenticated server = Unit {0}
+ServerIsReached host (Failed why) server = Unit {0}
 
 -- the struct shows this challenge as open, or that none is
 abbrev pub ShowsOpen : ScramStruct → Option ServerChallenge → Type 0
@@ -209,16 +209,16 @@ ShowsOpen scram None = (challenge : ServerChallenge) → ¬ IsOpen scram challen
 ShowsOpen scram (Some challenge) = IsOpen scram challenge
 
 -- so is the server of SCRAM of a struct, and what was asked last
-abbrev pub ShowsExchange : ScramStruct → ServerState → Option Part → Type 0
+abbrev pub ShowsExchange : ScramStruct → ServerState → Option Selected → Type 0
 ShowsExchange scram state asked = ((challenge : ServerChallenge) × IsOpen scram challenge × (state ≡ ServerFirstSent challenge)
     × (asked ≡ Some First))
     ⊎ (((challenge : ServerChallenge) → ¬ IsOpen scram challenge) × (state ≡ Initial) × (asked ≡ None))
 
 -- and so all four mechanisms of a host in the exchange that a struct shows
 abbrev pub IsAll : Host → ScramVersion → Bool → ScramStruct → All → Type 0
-IsAll host version unbound scram all = (records : Records) × (state : ServerState) × (asked : Option Part)
+IsAll host version cbind_flag_y scram all = (records : Records) × (state : ServerState) × (asked : Option Selected)
     × HasRecords host version records × ShowsExchange scram state asked
-    × (all ≡ all_of unbound (record { version = version; records = records }) host.iterations host.peer.now state asked)
+    × (all ≡ all_of cbind_flag_y (record { version = version; records = records }) host.iterations host.peer.now state asked)
 
 -- the struct shows that this user has logged in, or nothing of whom no name is known
 abbrev pub ShowsUser : ScramStruct → Option (List ℕ) → Type 0
@@ -228,64 +228,64 @@ ShowsUser scram (Some user) = HasLoggedIn scram user
 -- the struct of SCRAM shows how far a login is that stands so: the challenge that is open, who has logged in, or
 -- nothing
 -- once it is closed
-abbrev pub ShowsStanding : ScramStruct → Standing → Option ServerChallenge → Option (List ℕ) → Type 0
-ShowsStanding scram Wanting opened user = ShowsOpen scram opened
-ShowsStanding scram LoggedIn opened user = ShowsUser scram user
-ShowsStanding scram (Closed why) opened user = scram.stands ≡ 0
+abbrev pub ShowsProgress : ScramStruct → Progress → Option ServerChallenge → Option (List ℕ) → Type 0
+ShowsProgress scram InProgress opened user = ShowsOpen scram opened
+ShowsProgress scram Authenticated opened user = ShowsUser scram user
+ShowsProgress scram (Failed why) opened user = scram.stands ≡ 0
 
 -- the struct of SCRAM that a call writes for such a login
-abbrev pub standing_struct : Standing → Option ServerChallenge → Option (List ℕ) → ScramStruct
-standing_struct Wanting None user = fresh_server_struct
-standing_struct Wanting (Some challenge) user = open_struct challenge
-standing_struct LoggedIn opened None = fresh_server_struct
-standing_struct LoggedIn opened (Some user) = logged_in_struct user
-standing_struct (Closed why) opened user = fresh_server_struct
+abbrev pub progress_struct : Progress → Option ServerChallenge → Option (List ℕ) → ScramStruct
+progress_struct InProgress None user = fresh_server_struct
+progress_struct InProgress (Some challenge) user = open_struct challenge
+progress_struct Authenticated opened None = fresh_server_struct
+progress_struct Authenticated opened (Some user) = logged_in_struct user
+progress_struct (Failed why) opened user = fresh_server_struct
 
 -- so it shows a server
-abbrev pub ShowsState : ScramStruct → Standing → State → Type 0
-ShowsState scram standing server = ShowsStanding scram standing (open_in server) (user_in server)
+abbrev pub ShowsState : ScramStruct → Progress → State → Type 0
+ShowsState scram progress server = ShowsProgress scram progress (open_in server) (user_in server)
 
 -- the struct that a call writes for a server
-abbrev pub state_struct : Standing → State → ScramStruct
-state_struct standing server = standing_struct standing (open_in server) (user_in server)
+abbrev pub state_struct : Progress → State → ScramStruct
+state_struct progress server = progress_struct progress (open_in server) (user_in server)
 
 -- the structs show a side, where this says what the one of SCRAM shows of its acceptor
-abbrev pub ShowsBy : {A S : Type 0} → (A → S) → (ScramStruct → Standing → A → Type 0) → Struct → ServerNegotiation A
+abbrev pub ShowsBy : {A S : Type 0} → (A → S) → (ScramStruct → Progress → A → Type 0) → Struct → ServerNegotiation A
     → Type 0
 ShowsBy state shows server next = let side = server_side state next in
-    Keeps server.connection side.standing side.due side.held × shows server.scram side.standing (acceptor_in next)
+    Keeps server.connection side.progress side.expected side.held × shows server.scram side.progress (acceptor_in next)
 
 -- the structs that a call writes for a side
-abbrev pub struct_by : {A S : Type 0} → (A → S) → (Standing → A → ScramStruct) → ServerNegotiation A → Struct
+abbrev pub struct_by : {A S : Type 0} → (A → S) → (Progress → A → ScramStruct) → ServerNegotiation A → Struct
 struct_by state written next = let side = server_side state next in record {
-  connection = connection_struct side.standing side.due side.held;
-  scram = written side.standing (acceptor_in next);
+  connection = connection_struct side.progress side.expected side.held;
+  scram = written side.progress (acceptor_in next);
 }
 
 -- no structs do: more is held than has room in one, or none shows how far the acceptor is
-abbrev pub HasNone : {A S : Type 0} → (A → S) → (ScramStruct → Standing → A → Type 0) → ServerNegotiation A → Type 0
+abbrev pub HasNone : {A S : Type 0} → (A → S) → (ScramStruct → Progress → A → Type 0) → ServerNegotiation A → Type 0
 HasNone state shows next = let side = server_side state next in
-    (512 < length side.held) ⊎ ((scram : ScramStruct) → ¬ shows scram side.standing (acceptor_in next))
+    (512 < length side.held) ⊎ ((scram : ScramStruct) → ¬ shows scram side.progress (acceptor_in next))
 
 -- the structs show a side of the library's acceptor
 unfoldable pub ShowsSide : Struct → Side State → Type 0
-ShowsSide server side = Keeps server.connection side.standing side.due side.held
-    × ShowsState server.scram side.standing side.state
+ShowsSide server side = Keeps server.connection side.progress side.expected side.held
+    × ShowsState server.scram side.progress side.state
 
 -- the structs that a call writes for a side of the library's acceptor
 abbrev pub side_struct : Side State → Struct
 side_struct side = record {
-  connection = connection_struct side.standing side.due side.held;
-  scram = state_struct side.standing side.state;
+  connection = connection_struct side.progress side.expected side.held;
+  scram = state_struct side.progress side.state;
 }
 
 -- or none does
 unfoldable pub HasNoStruct : Side State → Type 0
-HasNoStruct side = (512 < length side.held) ⊎ ((scram : ScramStruct) → ¬ ShowsState scram side.standing side.state)
+HasNoStruct side = (512 < length side.held) ⊎ ((scram : ScramStruct) → ¬ ShowsState scram side.progress side.state)
 
 -- the structs are those of this side, whose frames have 512 bytes at most (part 5, section 5.3.1)
 unfoldable pub IsServer : Host → Struct → Side State → Type 0
-IsServer host server side = ShowsSide server side × (side.limit ≡ 512) × ServerIsReached host side.standing side.state
+IsServer host server side = ShowsSide server side × (side.limit ≡ 512) × ServerIsReached host side.progress side.state
 
 -- the words of a host are not UTF-8: the user's name, or else the peer's
 abbrev pub HasNoServerWords : Host → Status → Type 0
@@ -303,28 +303,28 @@ host_tests host = (statuses.NoSuchVersion, (known : ScramVersion) → ¬ IsVersi
 unfoldable pub IsNoHost : Host → Status → Type 0
 IsNoHost host status = IsFirst (host_tests host) status
     ⊎ (NoneHolds (host_tests host) × (status ≡ statuses.NoSuchMechanism)
-    × ((state : ServerState) × (asked : Option Part) × (server : State) × IsOf host state asked server
+    × ((state : ServerState) × (asked : Option Selected) × (server : State) × IsOf host state asked server
     × (state_names server ≡ [])))
 
 -- why the structs are those of no side that wants more bytes: the tests of the connection, those of the host, and last
--- that what was kept is a part of what is due
+-- that what was kept is a part of what is expected
 unfoldable pub IsNoServer : Host → Struct → Status → Type 0
 IsNoServer host server status = IsFirst (side_tests server.connection) status
     ⊎ (NoneHolds (side_tests server.connection) × (IsNoHost host status
-    ⊎ ((status ≡ statuses.NotKept) × KeepsNoPartOf server_due server.connection
-    × ((state : ServerState) × (asked : Option Part) × (kept : State) × IsOf host state asked kept))))
+    ⊎ ((status ≡ statuses.InvalidSnapshot) × KeepsNoPartOf server_due server.connection
+    × ((state : ServerState) × (asked : Option Selected) × (kept : State) × IsOf host state asked kept))))
 
 -- a call answers bytes: between two structs, what the library's side of the connection makes of them
 unfoldable pub Received : Host → List ℕ → List ℕ → Struct → Struct → ℕ → List ℕ → Type 0
 Received host bytes nonce before after taken sent = (side next : Side State) × IsServer host before side
-    × (side.standing ≡ Wanting) × ServerReceives state_names state_machine side bytes nonce taken sent next
+    × (side.progress ≡ InProgress) × ServerReceives state_names state_machine side bytes nonce taken sent next
     × IsServer host after next × (after ≡ side_struct next)
 
 -- or it does not, because the structs are those of no side, or no struct is that of the side behind the call
 unfoldable pub NotReceived : Host → List ℕ → List ℕ → Struct → Status → Type 0
 NotReceived host bytes nonce before status = IsNoServer host before status
     ⊎ ((status ≡ statuses.TooLong) × ((side next : Side State) × (taken : ℕ) × (sent : List ℕ)
-    × IsServer host before side × (side.standing ≡ Wanting)
+    × IsServer host before side × (side.progress ≡ InProgress)
     × ServerReceives state_names state_machine side bytes nonce taken sent next
     × ((other : Struct) → ¬ IsServer host other next)))
 
@@ -351,19 +351,19 @@ ResponseNames mechanism (Some text) name = InitNames mechanism text name
 ResponseNames mechanism None name = ⊥
 
 -- a frame in turn names this user: an init, and a response the user of the challenge that is open
-abbrev pub FrameNames : ScramStruct → Turn → SaslFrame → List ℕ → Type 0
+abbrev pub FrameNames : ScramStruct → FrameKind → SaslFrame → List ℕ → Type 0
 FrameNames scram turns.Init (frames.Init mechanism response hostname) name = ResponseNames mechanism response name
 FrameNames scram turns.Response (frames.Response text) name = (challenge : ServerChallenge) × IsOpen scram challenge
     × (name ≡ challenge.user)
 FrameNames scram turn frame name = ⊥
 
 -- a body names this user
-abbrev pub BodyNames : ScramStruct → Turn → List ℕ → List ℕ → Type 0
+abbrev pub BodyNames : ScramStruct → FrameKind → List ℕ → List ℕ → Type 0
 BodyNames scram turn body name = (frame : SaslFrame) × SpellsBody body (Ok frame) × FrameNames scram turn frame name
 
 -- or nobody: it is not read, or what it spells names nobody
-abbrev pub BodyNamesNobody : ScramStruct → Turn → List ℕ → Type 0
-BodyNamesNobody scram turn body = ((fault : Error) × SpellsBody body (Err fault))
+abbrev pub BodyNamesNoUser : ScramStruct → FrameKind → List ℕ → Type 0
+BodyNamesNoUser scram turn body = ((fault : Error) × SpellsBody body (Err fault))
     ⊎ ((frame : SaslFrame) × SpellsBody body (Ok frame) × ((name : List ℕ) → ¬ FrameNames scram turn frame name))
 
 -- memory is asked for to look for the user of an init: it names one, or its client-first message has a name with
@@ -378,19 +378,19 @@ ResponseAsks mechanism (Some text) = InitAsks mechanism text
 ResponseAsks mechanism None = ⊥
 
 -- and for a frame in turn: an init, and a response where a challenge is open
-abbrev pub FrameAsks : ScramStruct → Turn → SaslFrame → Type 0
+abbrev pub FrameAsks : ScramStruct → FrameKind → SaslFrame → Type 0
 FrameAsks scram turns.Init (frames.Init mechanism response hostname) = ResponseAsks mechanism response
 FrameAsks scram turns.Response (frames.Response text) = (challenge : ServerChallenge) × IsOpen scram challenge
 FrameAsks scram turn frame = ⊥
 
 -- and for a body
-abbrev pub BodyAsks : ScramStruct → Turn → List ℕ → Type 0
+abbrev pub BodyAsks : ScramStruct → FrameKind → List ℕ → Type 0
 BodyAsks scram turn body = (frame : SaslFrame) × SpellsBody body (Ok frame) × FrameAsks scram turn frame
 
--- memory is asked for to look for the user of a connection's bytes: a frame is due to a side, and the struct keeps a
+-- memory is asked for to look for the user of a connection's bytes: a frame is expected to a side, and the struct keeps a
 -- part of it
 abbrev pub AwaitsFrame : Connection → Type 0
-AwaitsFrame kept = (due : Due) × (held : List ℕ) × Keeps kept Wanting due held × IsPart due 512 held × (due ≢ Header)
+AwaitsFrame kept = (expected : Expected) × (held : List ℕ) × Keeps kept InProgress expected held × IsPart expected 512 held × (expected ≢ Header)
 
 -- a side with no machine
 abbrev pub Kept : Type 0
@@ -398,18 +398,18 @@ Kept = Side (Unit {0})
 
 -- the user whom the frame names that these bytes complete
 unfoldable pub Named : Struct → List ℕ → List ℕ → Type 0
-Named server bytes name = (side : Kept) × (turn : Turn) × (body : List ℕ) × IsSideOf server.connection side
+Named server bytes name = (side : Kept) × (turn : FrameKind) × (body : List ℕ) × IsSideOf server.connection side
     × Completes side bytes turn body × BodyNames server.scram turn body name
 
 -- or why there is none: the structs are of no side that wants more bytes, or these complete no frame, or one that names
 -- nobody
 unfoldable pub NotNamed : Struct → List ℕ → Status → Type 0
 NotNamed server bytes status = IsFirst (side_tests server.connection) status
-    ⊎ (NoneHolds (side_tests server.connection) × (((status ≡ statuses.NotKept) × KeepsNoPart server.connection)
-    ⊎ ((status ≡ statuses.NamesNobody) × ((side : Kept) × IsSideOf server.connection side
-    × (side.standing ≡ Wanting) × (((turn : Turn) (body : List ℕ) → ¬ Completes side bytes turn body)
-    ⊎ ((turn : Turn) × (body : List ℕ) × Completes side bytes turn body
-    × BodyNamesNobody server.scram turn body))))))
+    ⊎ (NoneHolds (side_tests server.connection) × (((status ≡ statuses.InvalidSnapshot) × KeepsNoPart server.connection)
+    ⊎ ((status ≡ statuses.NamesNoUser) × ((side : Kept) × IsSideOf server.connection side
+    × (side.progress ≡ InProgress) × (((turn : FrameKind) (body : List ℕ) → ¬ Completes side bytes turn body)
+    ⊎ ((turn : FrameKind) × (body : List ℕ) × Completes side bytes turn body
+    × BodyNamesNoUser server.scram turn body))))))
 
 -- what a call tells
 abbrev pub Names : Struct → List ℕ → Result (List ℕ) Status → Type 0
@@ -420,7 +420,7 @@ Names server bytes (Err status) = NotNamed server bytes status
 
 -- the acceptor's type
 abbrev pub Code : Type 0
-Code = OffersOnly (OneOf (ScramAuthenticator Store) OthersCode)
+Code = RestrictMechanisms (AnyMechanism (ScramAuthenticator Store) OthersCode)
 
 -- the acceptor of SCRAM that a value is
 abbrev pub scram_state : ScramAuthenticator Store → Acceptor
@@ -428,11 +428,11 @@ scram_state machine = ScramAcceptor (served_by (λ (store : Store). store) machi
 
 -- those beside it
 abbrev pub other_state : OthersCode → Others
-other_state others = both_states (plain_server (λ store. store)) (both_states (λ _. AnonymousAcceptor) external_of)
+other_state others = both_states (plain_state (λ store. store)) (both_states (λ _. AnonymousAcceptor) external_of)
     others.joined
 
 -- the four that a value is
-abbrev pub all_in : OneOf (ScramAuthenticator Store) OthersCode → All
+abbrev pub all_in : AnyMechanism (ScramAuthenticator Store) OthersCode → All
 all_in all = both_states scram_state other_state all
 
 -- its state

@@ -5,8 +5,8 @@ use Rattle.fe2o3_scram.specs.declared.scram_messages.error.ServerScramErrorKind.
 use Rattle.fe2o3_scram.specs.declared.scram_messages.error.ServerScramErrorKind.TheVariants.{IllegalAuthenticatorState, OutOfMemory}
 use Rattle.fe2o3_scram.specs.ClientFinal.{ReachesBase64, server_of}
 use Rattle.fe2o3_scram.specs.ClientFirst.{ClientFirst, HasEscapes, ReadsClientFirst}
-use Rattle.fe2o3_scram.specs.declared.scram_messages.gs2_header.Gs2Header.{Gs2Header}
-use Rattle.fe2o3_scram.specs.declared.scram_messages.gs2_header.Gs2Header.TheVariants.{Unsupported, Unoffered}
+use Rattle.fe2o3_scram.specs.declared.scram_messages.channel_binding_flag.ChannelBindingFlag.{ChannelBindingFlag}
+use Rattle.fe2o3_scram.specs.declared.scram_messages.channel_binding_flag.ChannelBindingFlag.TheVariants.{NotSupported, ClientSupports}
 use Rattle.fe2o3_scram.specs.Credentials.{Store, VersionedRecord, serving}
 use Rattle.fe2o3_scram.specs.Hmac.{zero_filled}
 use Rattle.fe2o3_scram.specs.ScramServer.{ConcludesFrom, ServerFirstSent, ServerFinalSent}
@@ -35,12 +35,12 @@ AreLengths server = (server.user_len ≤ 256) × (server.bare_len ≤ 1024) × (
     × (server.first_len ≤ 1024)
 
 -- the number of a struct that shows a challenge to a client with this GS2 header
-abbrev pub open_number : Gs2Header → ℕ
-open_number Unsupported = 1
-open_number Unoffered = 3
+abbrev pub open_number : ChannelBindingFlag → ℕ
+open_number NotSupported = 1
+open_number ClientSupports = 3
 
 -- the challenge that a struct shows, to a client with this header
-abbrev pub struct_challenge : Gs2Header → Struct → ServerChallenge
+abbrev pub struct_challenge : ChannelBindingFlag → Struct → ServerChallenge
 struct_challenge header server = record {
   user = take server.user_len server.user;
   header = header;
@@ -111,38 +111,38 @@ logged_in_struct user = user_struct (length user) (zero_filled 256 user)
 -- a client-first message is answered by this challenge, where the record is that of the user whom it names; a client
 -- that could bind a channel is taken on wish
 unfoldable pub MakesChallenge : Bool → Kept → List ℕ → List ℕ → ServerChallenge → Type 0
-MakesChallenge unbound kept nonce text challenge = (shown : VersionedRecord) × (user : List ℕ) × ShowsRecord kept shown
-    × AnswersClientFirst (serving unbound (one_user user shown)) (base64_text nonce) text (Ok (Some challenge))
+MakesChallenge cbind_flag_y kept nonce text challenge = (shown : VersionedRecord) × (user : List ℕ) × ShowsRecord kept shown
+    × AnswersClientFirst (serving cbind_flag_y (one_user user shown)) (base64_text nonce) text (Ok (Some challenge))
 
 -- why a client-first message is not answered: it is refused; or it is read, and the struct of the record shows none; or
 -- there is a challenge, and a text of it has no room in the struct
 unfoldable pub NotChallenged : Bool → Kept → List ℕ → List ℕ → Status → Type 0
-NotChallenged unbound kept nonce text status =
-    ((why : ServerScramErrorKind) × (status ≡ server_status why) × ReadsClientFirst unbound text (Err why))
-    ⊎ ((first : ClientFirst) × ReadsClientFirst unbound text (Ok first) × SpellsStruct kept (Err status))
-    ⊎ ((status ≡ statuses.TooLong) × ((challenge : ServerChallenge) × MakesChallenge unbound kept nonce text challenge
+NotChallenged cbind_flag_y kept nonce text status =
+    ((why : ServerScramErrorKind) × (status ≡ server_status why) × ReadsClientFirst cbind_flag_y text (Err why))
+    ⊎ ((first : ClientFirst) × ReadsClientFirst cbind_flag_y text (Ok first) × SpellsStruct kept (Err status))
+    ⊎ ((status ≡ statuses.TooLong) × ((challenge : ServerChallenge) × MakesChallenge cbind_flag_y kept nonce text challenge
     × ¬ ChallengeHasRoom challenge))
 
 -- a client-first message comes to ask for memory: its user name has escapes, or it is read
 abbrev pub ReadsFirst : Bool → List ℕ → Type 0
-ReadsFirst unbound text = HasEscapes unbound text ⊎ ((first : ClientFirst) × ReadsClientFirst unbound text (Ok first))
+ReadsFirst cbind_flag_y text = HasEscapes cbind_flag_y text ⊎ ((first : ClientFirst) × ReadsClientFirst cbind_flag_y text (Ok first))
 
 -- the server-first message
 abbrev pub Challenges : Bool → Kept → List ℕ → List ℕ → Result (List ℕ) Status → Type 0
-Challenges unbound kept nonce text (Ok message) = (challenge : ServerChallenge)
-    × MakesChallenge unbound kept nonce text challenge × (message ≡ challenge.first)
-Challenges unbound kept nonce text (Err status) = NotChallenged unbound kept nonce text status
+Challenges cbind_flag_y kept nonce text (Ok message) = (challenge : ServerChallenge)
+    × MakesChallenge cbind_flag_y kept nonce text challenge × (message ≡ challenge.first)
+Challenges cbind_flag_y kept nonce text (Err status) = NotChallenged cbind_flag_y kept nonce text status
 
 -- the struct after it
 abbrev pub OpensExchange : Bool → Kept → List ℕ → List ℕ → Struct → Struct → Result (Unit {0}) Status → Type 0
-OpensExchange unbound kept nonce text before after (Ok done) = (challenge : ServerChallenge)
-    × MakesChallenge unbound kept nonce text challenge × IsOpen after challenge × (after ≡ open_struct challenge)
-OpensExchange unbound kept nonce text before after (Err status) = after ≡ before
+OpensExchange cbind_flag_y kept nonce text before after (Ok done) = (challenge : ServerChallenge)
+    × MakesChallenge cbind_flag_y kept nonce text challenge × IsOpen after challenge × (after ≡ open_struct challenge)
+OpensExchange cbind_flag_y kept nonce text before after (Err status) = after ≡ before
 
 -- the user whom the message of an init names, behind either GS2 header
-abbrev pub NamesUser : List ℕ → Result (List ℕ) Status → Type 0
-NamesUser text (Ok name) = (first : ClientFirst) × ReadsClientFirst true text (Ok first) × (name ≡ first.user)
-NamesUser text (Err status) = (why : ServerScramErrorKind) × (status ≡ server_status why)
+abbrev pub AuthenticatedUser : List ℕ → Result (List ℕ) Status → Type 0
+AuthenticatedUser text (Ok name) = (first : ClientFirst) × ReadsClientFirst true text (Ok first) × (name ≡ first.user)
+AuthenticatedUser text (Err status) = (why : ServerScramErrorKind) × (status ≡ server_status why)
     × ReadsClientFirst true text (Err why)
 
 -- the struct's open challenge is answered by this message, where the record is that of its user; whom a server takes

@@ -41,7 +41,7 @@ client_number client.IterationCountParseError = 28
 client_number client.IterationCountTooSmall = 29
 client_number client.IterationCountTooLarge = 30
 client_number client.NormalizeError = 31
-client_number client.OtherKeys = 32
+client_number client.StaleKeys = 32
 client_number client.HmacErrorInvalidLength = 33
 client_number client.XorLengthMismatch = 34
 client_number client.IllegalClientState = 35
@@ -81,8 +81,8 @@ status_number statuses.OtherVersion = 10
 status_number statuses.OtherPassword = 11
 status_number statuses.NoSuchMechanism = 12
 status_number statuses.Ended = 13
-status_number statuses.NotKept = 14
-status_number statuses.NamesNobody = 15
+status_number statuses.InvalidSnapshot = 14
+status_number statuses.NamesNoUser = 15
 status_number (statuses.Client why) = client_number why
 status_number (statuses.Server why) = server_number why
 status_number (statuses.NoRecord why) = record_text_number why
@@ -91,9 +91,9 @@ status_number statuses.SpaceMissing = 66
 status_number statuses.InvalidName = 67
 status_number statuses.NoSuchUser = 68
 status_number statuses.NotWritable = 69
-status_number statuses.OtherHeader = 70
+status_number statuses.ProtocolHeaderMismatch = 70
 status_number statuses.FrameSize = 71
-status_number statuses.OutOfTurn = 72
+status_number statuses.UnexpectedFrame = 72
 status_number statuses.ReplyTooLarge = 73
 status_number statuses.FrameUnread = 74
 status_number statuses.NoSaslFrame = 75
@@ -127,14 +127,14 @@ answer_number (Err status) = status_number status
 abbrev pub Answers : ℕ → (Result (Unit {0}) Status → Type 0) → Type 0
 Answers number Answer = (answer : Result (Unit {0}) Status) × (number ≡ answer_number answer) × Answer answer
 
--- a call is out of memory only where this holds: then no refusal was due before it asked for memory
+-- a call is out of memory only where this holds: then no refusal was expected before it asked for memory
 abbrev pub AsksWhere : {A : Type 0} → Type 0 → Result A Status → Type 0
 AsksWhere Asks answer = IfErr answer (λ status. status ≡ OutOfMemory → Asks)
 
 -- ---- what a call writes
 
 -- a struct: where the call is done, one that it may make; otherwise the struct stays, and the refusal is the one that
--- is due, or want of memory, where the call comes to ask for some
+-- is expected, or want of memory, where the call comes to ask for some
 abbrev pub Makes : {S : Type 0} → Type 0 → (Result S Status → Type 0) → S → S → Result (Unit {0}) Status → Type 0
 Makes Allocates Due before after (Ok done) = Due (Ok after)
 Makes Allocates Due before after (Err status) = (status ≡ OutOfMemory → Allocates)
@@ -154,7 +154,7 @@ abbrev pub Lacks : Room → Room → List ℕ → Type 0
 Lacks before after text = (length before.bytes < length text) × (after.len ≡ length text)
 
 -- a text: where the call is done, one that it may say, at the head of the room, with its length; otherwise the room
--- stays, and the refusal is the one that is due, or want of memory, or `RoomTooSmall` with the length of a text that it
+-- stays, and the refusal is the one that is expected, or want of memory, or `RoomTooSmall` with the length of a text that it
 -- may say, and that has no room
 abbrev pub Fills : (Result (List ℕ) Status → Type 0) → Room → Room → Result (Unit {0}) Status → Type 0
 Fills Due before after (Ok done) = (text : List ℕ) × Due (Ok text) × (length text ≤ length before.bytes)

@@ -4,13 +4,13 @@ use Rattle.std.specs.Prelude.{◌≡◌, ◌<◌, ◌≤◌, ◌⊎◌, ℕ, Opt
 use Rattle.fe2o3_sasl_wire.specs.declared.amqp_types.SaslCode.{SaslCode}
 use Rattle.fe2o3_sasl_wire.specs.declared.amqp_types.SaslCode.TheVariants as outcomes
 use Rattle.fe2o3_sasl_wire.specs.SaslFrames.{SaslFrame}
-use Rattle.fe2o3_sasl_runs.specs.Events.{Given, ClientSays, Started, Answered, Reported, Refused, ServerSays, Challenged, Concluded, Failed}
-use Rattle.fe2o3_sasl_runs.specs.Profiles.{Profile}
-use Rattle.fe2o3_sasl_runs.specs.Runs.{AcceptorSteps, ProfileSteps}
-use Rattle.fe2o3_sasl_negotiation.specs.declared.standing.ClosedBecause.TheVariants as closed
-use Rattle.fe2o3_sasl_negotiation.specs.declared.standing.Standing.{Standing}
-use Rattle.fe2o3_sasl_negotiation.specs.declared.standing.Standing.TheVariants.{Wanting, LoggedIn, Closed}
-use Rattle.fe2o3_sasl_negotiation.specs.declared.standing.Turn.TheVariants as turns
+use Rattle.fe2o3_sasl_core.specs.Events.{Given, ClientSays, Started, Answered, Reported, Refused, ServerSays, Challenged, Concluded, Failed}
+use Rattle.fe2o3_sasl_core.specs.Profiles.{Profile}
+use Rattle.fe2o3_sasl_core.specs.Runs.{AcceptorSteps, ProfileSteps}
+use Rattle.fe2o3_sasl_negotiation.specs.declared.progress.CloseReason.TheVariants as closed
+use Rattle.fe2o3_sasl_negotiation.specs.declared.progress.Progress.{Progress}
+use Rattle.fe2o3_sasl_negotiation.specs.declared.progress.Progress.TheVariants.{InProgress, Authenticated, Failed as HasFailed}
+use Rattle.fe2o3_sasl_negotiation.specs.declared.progress.FrameKind.TheVariants as turns
 use Rattle.fe2o3_sasl_negotiation.specs.ServerNegotiation.{offer_body}
 use Rattle.sasl_c.specs.declared.client.ScramClient.{ScramClient as ClientStruct}
 use Rattle.sasl_c.specs.declared.sasl_client.SaslLogin.{SaslLogin as Login}
@@ -20,20 +20,20 @@ use Rattle.sasl_c.specs.declared.status.Status.{Status}
 use Rattle.sasl_c.specs.declared.status.Status.TheVariants as statuses
 use Rattle.sasl_c.specs.Connection.{closed_status, frame_status, profile_status}
 use Rattle.sasl_c.specs.SaslClient.{ProfileIsReached, HasNoHostname, IsHostname, IsNoProfile, IsProfile, WritesProfile}
-use Rattle.sasl_c.specs.SaslServer.{BodyNames, BodyNamesNobody, ServerIsReached as HostComes, IsNoHost, ShowsState, State, state_machine, state_names, state_struct}
+use Rattle.sasl_c.specs.SaslServer.{BodyNames, BodyNamesNoUser, ServerIsReached as HostComes, IsNoHost, ShowsState, State, state_machine, state_names, state_struct}
 use Rattle.sasl_c.specs.Status.{status_number}
 
 -- how a login stands behind an outcome of this code (part 5, section 5.3.3.6)
-abbrev pub behind_code : SaslCode → Standing
-behind_code outcomes.Ok = LoggedIn
-behind_code code = Closed (closed.Refused code)
+abbrev pub behind_code : SaslCode → Progress
+behind_code outcomes.Ok = Authenticated
+behind_code code = HasFailed (closed.Refused code)
 
 -- the number of how a login stands: 0 while it goes on, 1 once the client is logged in, and else the status of why it
 -- was refused
-abbrev pub standing_number : Standing → ℕ
-standing_number Wanting = 0
-standing_number LoggedIn = 1
-standing_number (Closed why) = status_number (closed_status why)
+abbrev pub progress_number : Progress → ℕ
+progress_number InProgress = 0
+progress_number Authenticated = 1
+progress_number (HasFailed why) = status_number (closed_status why)
 
 -- a body is sent that a frame of 512 bytes has room for, behind the four of its size (part 5, section 5.3.1)
 abbrev pub IsSent : List ℕ → List ℕ → Type 0
@@ -46,9 +46,9 @@ IsUnsent body status = (508 < length body) × (status ≡ statuses.ReplyTooLarge
 -- ---- a client
 
 -- what it tells with what it says: an init and a response are sent, and an outcome is told by how the login stands
-abbrev pub ClientTells : ClientSays → List ℕ → Standing → Type 0
-ClientTells (Started body) sent stands = IsSent body sent × (stands ≡ Wanting)
-ClientTells (Answered body) sent stands = IsSent body sent × (stands ≡ Wanting)
+abbrev pub ClientTells : ClientSays → List ℕ → Progress → Type 0
+ClientTells (Started body) sent stands = IsSent body sent × (stands ≡ InProgress)
+ClientTells (Answered body) sent stands = IsSent body sent × (stands ≡ InProgress)
 ClientTells (Reported code more) sent stands = (sent ≡ []) × (stands ≡ behind_code code)
 ClientTells (Refused fault) sent stands = ⊥
 
@@ -60,7 +60,7 @@ ClientHides (Reported code more) status = ⊥
 ClientHides (Refused fault) status = status ≡ profile_status fault
 
 -- a profile makes a step over a body, after which it is, for each login that comes to it, the one of the struct
-abbrev pub ProfileStepped : Option (List ℕ) → Profile → Given → ClientStruct → Standing → List ℕ → Type 0
+abbrev pub ProfileStepped : Option (List ℕ) → Profile → Given → ClientStruct → Progress → List ℕ → Type 0
 ProfileStepped hostname profile event after stands sent = (next : Profile) × (says : ClientSays)
     × ProfileSteps hostname profile event says next × ClientTells says sent stands
     × ((login : Login) → ProfileIsReached login next → IsProfile login after next) × WritesProfile after next
@@ -73,10 +73,10 @@ ProfileNotStepped hostname profile event status = (next : Profile) × (says : Cl
 
 -- a step between two structs: the one that the library's profile makes over the body
 unfoldable pub ClientStepped : Login → Given → ClientStruct → ClientStruct → ℕ → List ℕ → Type 0
-ClientStepped login event before after standing sent = (hostname : Option (List ℕ)) × (profile next : Profile)
-    × (says : ClientSays) × (stands : Standing) × IsHostname login hostname × IsProfile login before profile
+ClientStepped login event before after progress sent = (hostname : Option (List ℕ)) × (profile next : Profile)
+    × (says : ClientSays) × (stands : Progress) × IsHostname login hostname × IsProfile login before profile
     × ProfileSteps hostname profile event says next × ClientTells says sent stands
-    × (standing ≡ standing_number stands) × IsProfile login after next × WritesProfile after next
+    × (progress ≡ progress_number stands) × IsProfile login after next × WritesProfile after next
 
 -- or none: the hostname cannot be sent, the login has no profile, or it refuses the body
 unfoldable pub ClientNotStepped : Login → Given → ClientStruct → Status → Type 0
@@ -87,24 +87,24 @@ ClientNotStepped login event before status = ((status ≡ statuses.NotUtf8) × H
 
 -- what a call makes of a body
 abbrev pub ClientSteps : Login → Given → ClientStruct → ClientStruct → ℕ → Result (List ℕ) Status → Type 0
-ClientSteps login event before after standing (Ok sent) = ClientStepped login event before after standing sent
-ClientSteps login event before after standing (Err status) = ClientNotStepped login event before status
+ClientSteps login event before after progress (Ok sent) = ClientStepped login event before after progress sent
+ClientSteps login event before after progress (Err status) = ClientNotStepped login event before status
 
 -- ---- a server
 
 -- the struct is that of this server of a host, whose login stands so
-abbrev pub HostServes : Host → ServerStruct → Standing → State → Type 0
+abbrev pub HostServes : Host → ServerStruct → Progress → State → Type 0
 HostServes host scram stands server = HostComes host stands server × ShowsState scram stands server
 
 -- the body with which a server offers its mechanisms (part 5, section 5.3.3.1), or why there is none
 abbrev pub HostOffers : Host → Result (List ℕ) Status → Type 0
-HostOffers host (Ok body) = (server : State) × HostComes host Wanting server × (offer_body (state_names server) ≡ Some body)
+HostOffers host (Ok body) = (server : State) × HostComes host InProgress server × (offer_body (state_names server) ≡ Some body)
 HostOffers host (Err status) = IsNoHost host status ⊎ ((status ≡ statuses.FrameTooLarge)
-    × ((server : State) × HostComes host Wanting server × (offer_body (state_names server) ≡ None)))
+    × ((server : State) × HostComes host InProgress server × (offer_body (state_names server) ≡ None)))
 
 -- what it tells with what it says: a challenge and an outcome are sent
-abbrev pub ServerTells : ServerSays → List ℕ → Standing → Type 0
-ServerTells (Challenged body) sent stands = IsSent body sent × (stands ≡ Wanting)
+abbrev pub ServerTells : ServerSays → List ℕ → Progress → Type 0
+ServerTells (Challenged body) sent stands = IsSent body sent × (stands ≡ InProgress)
 ServerTells (Concluded code body) sent stands = IsSent body sent × (stands ≡ behind_code code)
 ServerTells (Failed fault) sent stands = ⊥
 
@@ -116,7 +116,7 @@ ServerHides (Failed fault) status = status ≡ frame_status fault
 
 -- an acceptor makes a step over a body, after which the struct shows it
 abbrev pub IsStepped : {A S : Type 0} → (A → S) → (S → List ℕ → SaslFrame → SaslFrame → S → Type 0)
-    → (ServerStruct → Standing → A → Type 0) → (Standing → A → ServerStruct) → S → Given → ServerStruct → Standing
+    → (ServerStruct → Progress → A → Type 0) → (Progress → A → ServerStruct) → S → Given → ServerStruct → Progress
     → List ℕ → Type 0
 IsStepped {A} state machine shows written server event after stands sent = (next : A) × (says : ServerSays)
     × AcceptorSteps machine server event says (state next) × ServerTells says sent stands × shows after stands next
@@ -124,32 +124,32 @@ IsStepped {A} state machine shows written server event after stands sent = (next
 
 -- or none: it refuses the body, or no struct shows it
 abbrev pub NotStepped : {A S : Type 0} → (A → S) → (S → List ℕ → SaslFrame → SaslFrame → S → Type 0)
-    → (ServerStruct → Standing → A → Type 0) → S → Given → Status → Type 0
+    → (ServerStruct → Progress → A → Type 0) → S → Given → Status → Type 0
 NotStepped {A} state machine shows server event status = (next : A) × (says : ServerSays)
     × AcceptorSteps machine server event says (state next) × (ServerHides says status
-    ⊎ ((status ≡ statuses.TooLong) × ((stands : Standing) × (sent : List ℕ) × ServerTells says sent stands
+    ⊎ ((status ≡ statuses.TooLong) × ((stands : Progress) × (sent : List ℕ) × ServerTells says sent stands
     × ((after : ServerStruct) → ¬ shows after stands next))))
 
 -- a step between two structs: the one that the library's acceptor of the host makes over the body
 unfoldable pub ServerStepped : Host → Given → ServerStruct → ServerStruct → ℕ → List ℕ → Type 0
-ServerStepped host event before after standing sent = (server : State) × (stands : Standing)
-    × HostServes host before Wanting server
+ServerStepped host event before after progress sent = (server : State) × (stands : Progress)
+    × HostServes host before InProgress server
     × IsStepped (λ (next : State). next) state_machine (HostServes host) state_struct server event after stands sent
-    × (standing ≡ standing_number stands)
+    × (progress ≡ progress_number stands)
 
 -- or none: the host has no acceptor, or it makes none
 unfoldable pub ServerNotStepped : Host → Given → ServerStruct → Status → Type 0
 ServerNotStepped host event before status = IsNoHost host status
-    ⊎ ((server : State) × HostServes host before Wanting server
+    ⊎ ((server : State) × HostServes host before InProgress server
     × NotStepped (λ (next : State). next) state_machine (HostServes host) server event status)
 
 -- what a call makes of a body
 abbrev pub ServerSteps : Host → Given → ServerStruct → ServerStruct → ℕ → Result (List ℕ) Status → Type 0
-ServerSteps host event before after standing (Ok sent) = ServerStepped host event before after standing sent
-ServerSteps host event before after standing (Err status) = ServerNotStepped host event before status
+ServerSteps host event before after progress (Ok sent) = ServerStepped host event before after progress sent
+ServerSteps host event before after progress (Err status) = ServerNotStepped host event before status
 
 -- the user whom a body names, as an init or as a response
 abbrev pub StepNames : ServerStruct → List ℕ → Result (List ℕ) Status → Type 0
 StepNames scram body (Ok name) = BodyNames scram turns.Init body name ⊎ BodyNames scram turns.Response body name
-StepNames scram body (Err status) = (status ≡ statuses.NamesNobody) × BodyNamesNobody scram turns.Init body
-    × BodyNamesNobody scram turns.Response body
+StepNames scram body (Err status) = (status ≡ statuses.NamesNoUser) × BodyNamesNoUser scram turns.Init body
+    × BodyNamesNoUser scram turns.Response body

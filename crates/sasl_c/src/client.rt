@@ -7,7 +7,7 @@ ghost use Rattle.fe2o3_scram.specs.ScramClient.{ClientFinalSent, ClientInitial};
 ghost use Rattle.fe2o3_scram.specs.Readings.{IsFirst, NoneHolds, Reads};
 ghost use Rattle.sasl_c.specs.Records.{IsVersion};
 ghost use Rattle.fe2o3_scram.specs.ClientKeys.{ClientKeys as Keys};
-ghost use Rattle.sasl_c.specs.Client.{AwaitsSignature, Believes, HandsOut, HasSecret, Holds, HoldsNone, IsClientOf, IsTestedLogin, IsNoLogin, IsNoSecret, IsSecretOf, IsReached, IsSide, IsState, StartsClient, Starts, VerifyAsks, WritesClient, complete_struct, fresh_client_struct, keys_tests, name_tests, started_struct};
+ghost use Rattle.sasl_c.specs.Client.{AwaitsSignature, Verifies, HandsOut, HasSecret, Holds, HoldsNone, IsClientOf, IsTestedLogin, IsNoLogin, IsNoSecret, IsSecretOf, IsReached, IsSide, IsState, StartsClient, Starts, VerifyAsks, WritesClient, complete_struct, fresh_client_struct, keys_tests, name_tests, started_struct};
 ghost use Rattle.sasl_c.specs.Keys.{ShowsKeys, ShowsSomeKeys, WritesKeys, no_keys_struct};
 ghost use Rattle.sasl_c.specs.Status.{Answers, AsksWhere, Fills, Makes, with_written};
 ghost use Rattle.sasl_c.specs.declared.status.Status.TheVariants.{OutOfMemory as StatusOutOfMemory, NotUtf8 as StatusNotUtf8, RoomTooSmall};
@@ -17,7 +17,7 @@ use crate::keys::ClientKeys;
 use crate::status::{Status, number, text, version_of};
 use bytes::Bytes;
 use fe2o3_scram::{
-    ClientAnswer, IterationLimits, ScramClient as Machine, ScramClientKeys, ScramErrorKind,
+    ClientAnswer, IterationLimits, ScramClient as Machine, CachedKeys, ScramErrorKind,
     ScramVersion,
 };
 use std::alloc::Global;
@@ -35,10 +35,10 @@ pub struct Login<'a> {
     pub secret: u32,
 
     /// The lowest iteration count that is answered. RFC 7677 asks for 4096 at least.
-    pub least_iterations: u32,
+    pub min_iterations: u32,
 
     /// The highest iteration count that is answered.
-    pub most_iterations: u32,
+    pub max_iterations: u32,
 
     /// The plain name of the user.
     pub username: &'a [u8],
@@ -89,7 +89,7 @@ fn no_keys() -> ClientKeys
 }
 
 /// The struct of a client's keys, where it has some that have room.
-fn held(keys: Option<&ScramClientKeys>) -> ClientKeys
+fn held(keys: Option<&CachedKeys>) -> ClientKeys
     ensures holds { Holds result (option_map (λ held. held.now) keys.entry) }
     ensures writes { WritesKeys result (option_map (λ held. held.now) keys.entry) }
 {
@@ -159,7 +159,7 @@ impl ScramClient {
 
     /// The struct of a client that waits for this signature, with the keys of its answer where they have room, or
     /// `None` where the signature has none.
-    fn waiting_for(signature: &[u8], keys: Option<&ScramClientKeys>) -> Option<ScramClient>
+    fn waiting_for(signature: &[u8], keys: Option<&CachedKeys>) -> Option<ScramClient>
         ensures state { MatchOption result (64 < length signature.now) (λ client. (user : List ℕ)
             → IsState user client (ClientFinalSent signature.now (option_map (λ held. held.now) keys.entry))) }
         ensures writes { IfSome result (λ client.
@@ -275,7 +275,7 @@ impl ScramClient {
 
 /// The keys that a struct shows, if it shows some. `OutOfMemory` is the only refusal.
 #[tactic(auto, using(crate::proofs::LoginLemmas::none_shown))]
-fn shown(alloc: Global, keys: &ClientKeys) -> Result<Option<ScramClientKeys>, Status>
+fn shown(alloc: Global, keys: &ClientKeys) -> Result<Option<CachedKeys>, Status>
     ensures ok { IfOk result (λ shown. MatchOption shown (HoldsNone keys.now) (λ shown. ShowsKeys keys.now shown)) }
     ensures err { IfErr result (λ status. status ≡ StatusOutOfMemory) }
     ensures memory { OnErr result (ShowsSomeKeys keys.now) }
@@ -304,11 +304,11 @@ impl Login<'_> {
 
     /// The iteration counts that are answered.
     pub fn limits(&self) -> IterationLimits
-        ensures { result ≡ record { least = self.now.least_iterations; most = self.now.most_iterations } }
+        ensures { result ≡ record { min_iterations = self.now.min_iterations; max_iterations = self.now.max_iterations } }
     {
         IterationLimits {
-            least: self.least_iterations,
-            most: self.most_iterations,
+            min_iterations: self.min_iterations,
+            max_iterations: self.max_iterations,
         }
     }
 
@@ -408,7 +408,7 @@ impl Login<'_> {
     }
 
     /// The keys, which are of the login's version.
-    pub fn keys(&self, alloc: Global) -> Result<ScramClientKeys, Status>
+    pub fn keys(&self, alloc: Global) -> Result<CachedKeys, Status>
         ensures ok { IfOk result (λ keys. ShowsKeys self.now.keys.now keys × IsVersion self.now.version keys.version) }
         ensures err { IfErr result (λ status. status ≢ StatusOutOfMemory
             → IsFirst (keys_tests self.now) status) }
@@ -495,8 +495,8 @@ impl Login<'_> {
         match self.by_secret(alloc, username, version) {
             Ok(client) => Ok(
                 client
-                    .with_least_iterations(self.least_iterations)
-                    .with_iteration_limit(self.most_iterations),
+                    .with_min_iterations(self.min_iterations)
+                    .with_iteration_limit(self.max_iterations),
             ),
             Err(status) => Err(status),
         }
@@ -585,14 +585,14 @@ pub extern "C" fn fe2o3_scram_client_first(
     number(first(alloc, login, client, nonce, out, len))
 }
 
-/// Believes the server, or not.
+/// Verifies the server, or not.
 fn verify(
     alloc: Global,
     login: &Login<'_>,
     client: &mut ScramClient,
     server_final: &[u8],
 ) -> Result<(), Status>
-    ensures believes { Believes login.now server_final.now client.old client.new result }
+    ensures verifies { Verifies login.now server_final.now client.old client.new result }
     ensures memory { AsksWhere (VerifyAsks login.now server_final.now client.old) result }
 {
     let version = match login.tested() {
@@ -609,7 +609,7 @@ fn verify(
     Ok(())
 }
 
-/// Believes the server-final message, or refuses it. The login is done only where the number is 0.
+/// Verifies the server-final message, or refuses it. The login is done only where the number is 0.
 #[unsafe(no_mangle)]
 pub extern "C" fn fe2o3_scram_client_verify(
     alloc: Global,
@@ -617,7 +617,7 @@ pub extern "C" fn fe2o3_scram_client_verify(
     client: &mut ScramClient,
     server_final: &[u8],
 ) -> u32
-    ensures { Answers result (λ answer. Believes login.now server_final.now client.old client.new answer
+    ensures { Answers result (λ answer. Verifies login.now server_final.now client.old client.new answer
         × AsksWhere (VerifyAsks login.now server_final.now client.old) answer) }
 {
     number(verify(alloc, login, client, server_final))
@@ -647,7 +647,7 @@ fn hand_out(client: &ScramClient, keys: &mut ClientKeys) -> Result<(), Status>
 /// Hands out the keys of a login whose server was believed: with them the next login to a server that keeps its salt
 /// and its count takes no password, and two hashes of HMAC. Whoever has them can log in.
 #[unsafe(no_mangle)]
-pub extern "C" fn fe2o3_scram_client_keys(client: &ScramClient, keys: &mut ClientKeys) -> u32
+pub extern "C" fn fe2o3_scram_client_get_keys(client: &ScramClient, keys: &mut ClientKeys) -> u32
     ensures { Answers result (Makes ⊥ (HandsOut client.now) keys.old keys.new) }
 {
     number(hand_out(client, keys))

@@ -2,11 +2,11 @@
 
 ghost use Rattle.std.specs.Prelude.{◌≡◌, ◌≢◌, ◌≤◌, ◌^◌, length, option_map, string_bytes, IfOk, IfErr, OnErr, MatchResult};
 ghost use Rattle.fe2o3_sasl_wire.specs.FrameView.{shown};
-ghost use Rattle.fe2o3_sasl_runs.specs.Runs.{client_reply};
-ghost use Rattle.fe2o3_sasl_runs.specs.SaslProfile.{profile_of};
+ghost use Rattle.fe2o3_sasl_core.specs.Runs.{client_reply};
+ghost use Rattle.fe2o3_sasl_core.specs.SaslProfile.{profile_of};
 ghost use Rattle.sasl_c.specs.SaslClient.{HasNoHostname};
 ghost use Rattle.sasl_c.specs.Status.{Answers, AsksWhere, FillsWithin};
-ghost use Rattle.sasl_c.specs.Steps.{ClientHides, ClientNotStepped, ClientStepped, ClientSteps, ClientTells, ProfileNotStepped, ProfileStepped, standing_number};
+ghost use Rattle.sasl_c.specs.Steps.{ClientHides, ClientNotStepped, ClientStepped, ClientSteps, ClientTells, ProfileNotStepped, ProfileStepped, progress_number};
 ghost use Rattle.sasl_c.specs.declared.status.Status.TheVariants.{OutOfMemory as StatusOutOfMemory, RoomTooSmall};
 
 use crate::arrays::put;
@@ -15,20 +15,20 @@ use crate::connection::of_profile;
 use crate::sasl_client::{SaslLogin, scram_of};
 use crate::status::{Status, number};
 use crate::steps::{behind, has_room, number_of, sendable};
-use fe2o3_sasl_negotiation::Standing;
-use fe2o3_sasl_runs::{ClientReply, SaslProfile, profile_body_step};
+use fe2o3_sasl_negotiation::Progress;
+use fe2o3_sasl_core::{ClientReply, SaslProfile, profile_body_step};
 use fe2o3_scram::Meter;
 use std::alloc::Global;
 
 /// The body that a reply sends, and how the login stands behind it.
-fn told(alloc: Global, reply: ClientReply) -> Result<(Vec<u8>, Standing), Status>
+fn told(alloc: Global, reply: ClientReply) -> Result<(Vec<u8>, Progress), Status>
     ensures told { MatchResult result (λ told. ClientTells (client_reply reply) told.0.items told.1)
         (λ status. ClientHides (client_reply reply) status) }
     ensures room { IfErr result (λ status. status ≢ RoomTooSmall) }
 {
     match reply {
-        ClientReply::Init { body } => Ok((sendable(body)?, Standing::Wanting)),
-        ClientReply::Response { body } => Ok((sendable(body)?, Standing::Wanting)),
+        ClientReply::Init { body } => Ok((sendable(body)?, Progress::InProgress)),
+        ClientReply::Response { body } => Ok((sendable(body)?, Progress::InProgress)),
         ClientReply::Outcome(outcome) => Ok((Vec::new(alloc), behind(outcome.code))),
     }
 }
@@ -50,7 +50,7 @@ struct Made {
     sent: Vec<u8>,
 
     /// How the login stands then.
-    standing: Standing,
+    progress: Progress,
 
     /// The struct then.
     next: ScramClient,
@@ -67,7 +67,7 @@ fn stepped(
 ) -> Result<Made, Status>
     requires { meter.old ≤ 2 ^ 63 }
     ensures ok { IfOk result (λ made. ProfileStepped (shown hostname.entry) (profile_of profile.old)
-        (record { body = body.now; nonce = nonce.now }) made.next made.standing made.sent.items) }
+        (record { body = body.now; nonce = nonce.now }) made.next made.progress made.sent.items) }
     ensures err { IfErr result (λ status. status ≢ StatusOutOfMemory → ProfileNotStepped (shown hostname.entry)
         (profile_of profile.old) (record { body = body.now; nonce = nonce.now }) status) }
     ensures room { IfErr result (λ status. status ≢ RoomTooSmall) }
@@ -76,16 +76,16 @@ fn stepped(
         Ok(reply) => reply,
         Err(fault) => return Err(of_profile(fault)),
     };
-    let (sent, standing) = match told(alloc, reply) {
+    let (sent, progress) = match told(alloc, reply) {
         Ok(told) => told,
         Err(status) => return Err(status),
     };
     let Some(next) = scram_of(profile) else {
-        return Err(Status::NotKept);
+        return Err(Status::InvalidSnapshot);
     };
     Ok(Made {
         sent,
-        standing,
+        progress,
         next,
     })
 }
@@ -101,7 +101,7 @@ fn answered(
 ) -> Result<Made, Status>
     requires { meter.old ≤ 2 ^ 63 }
     ensures ok { IfOk result (λ made. ClientStepped login.now (record { body = body.now; nonce = nonce.now })
-        client.now made.next (standing_number made.standing) made.sent.items) }
+        client.now made.next (progress_number made.progress) made.sent.items) }
     ensures fits { IfOk result (λ made. length made.sent.items ≤ 508) }
     ensures err { IfErr result (λ status. status ≢ StatusOutOfMemory
         → ClientNotStepped login.now (record { body = body.now; nonce = nonce.now }) client.now status) }
@@ -130,15 +130,15 @@ fn step(
     body: &[u8],
     nonce: &[u8; 32],
     meter: &mut Meter,
-    standing: &mut u32,
+    progress: &mut u32,
     out: &mut [u8],
     len: &mut usize,
 ) -> Result<(), Status>
     requires { meter.old ≤ 2 ^ 63 }
     ensures text { FillsWithin 508 (ClientSteps login.now (record { body = body.now; nonce = nonce.now }) client.old
-        client.new standing.new) (record { bytes = out.old; len = len.old })
+        client.new progress.new) (record { bytes = out.old; len = len.old })
         (record { bytes = out.new; len = len.new }) result }
-    ensures stays { OnErr result ((client.new ≡ client.old) × (standing.new ≡ standing.old)) }
+    ensures stays { OnErr result ((client.new ≡ client.old) × (progress.new ≡ progress.old)) }
     ensures first { IfErr result (λ status. status ≡ RoomTooSmall → meter.new ≡ meter.old) }
     ensures memory { AsksWhere (¬ HasNoHostname login.now) result }
 {
@@ -148,14 +148,14 @@ fn step(
         Err(status) => return Err(status),
     };
     put(&made.sent, out, len)?;
-    *standing = number_of(made.standing);
+    *progress = number_of(made.progress);
     *client = made.next;
     Ok(())
 }
 
 /// Takes the body of a frame that the server sent, behind the four bytes of the frame's size, and writes the body that
 /// is to be sent: the init to its mechanisms, the response to its challenge, and nothing (a length of 0) to its outcome.
-/// Standing is 0 while the login goes on, 1 once the client is logged in, and the number of a refusal (81 to 84) where
+/// Progress is 0 while the login goes on, 1 once the client is logged in, and the number of a refusal (81 to 84) where
 /// the outcome is one; hand in no body after that. A room of 508 bytes suffices, and is asked for before any hash is
 /// made. The nonce is 32 random bytes, fresh for each call.
 ///
@@ -170,18 +170,18 @@ pub extern "C" fn fe2o3_sasl_client_step(
     client: &mut ScramClient,
     body: &[u8],
     nonce: &[u8; 32],
-    standing: &mut u32,
+    progress: &mut u32,
     out: &mut [u8],
     len: &mut usize,
 ) -> u32
     ensures { Answers result (λ answer. FillsWithin 508 (ClientSteps login.now
-        (record { body = body.now; nonce = nonce.now }) client.old client.new standing.new)
+        (record { body = body.now; nonce = nonce.now }) client.old client.new progress.new)
         (record { bytes = out.old; len = len.old }) (record { bytes = out.new; len = len.new }) answer
-        × OnErr answer ((client.new ≡ client.old) × (standing.new ≡ standing.old))
+        × OnErr answer ((client.new ≡ client.old) × (progress.new ≡ progress.old))
         × AsksWhere (¬ HasNoHostname login.now) answer) }
 {
     let mut meter = Meter::new();
     number(step(
-        alloc, login, client, body, nonce, &mut meter, standing, out, len,
+        alloc, login, client, body, nonce, &mut meter, progress, out, len,
     ))
 }

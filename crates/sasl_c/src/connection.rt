@@ -2,16 +2,16 @@
 
 ghost use Rattle.std.specs.Prelude.{◌≡◌, ◌≢◌, ◌<◌, length, IfOk, IfErr, IfSome, MatchOption, None};
 ghost use Rattle.fe2o3_sasl_wire.specs.FrameView.{shown};
-ghost use Rattle.fe2o3_sasl_negotiation.specs.declared.standing.Due.{Due as DueUnit};
-ghost use Rattle.fe2o3_sasl_negotiation.specs.declared.standing.Standing.TheVariants.{Wanting};
+ghost use Rattle.fe2o3_sasl_negotiation.specs.declared.progress.Expected.{Expected as DueUnit};
+ghost use Rattle.fe2o3_sasl_negotiation.specs.declared.progress.Progress.TheVariants.{InProgress};
 ghost use Rattle.sasl_c.specs.declared.status.Status.TheVariants.{RoomTooSmall};
 ghost use Rattle.fe2o3_scram.specs.Readings.{IsFirst};
 ghost use Rattle.sasl_c.specs.Connection.{Keeps, closed_status, code_status, due_number, frame_status, profile_status, side_tests, connection_struct};
 
 use crate::arrays::{head, padded};
 use crate::status::Status;
-use fe2o3_sasl_negotiation::{ClosedBecause, Due, SetDown, Standing, Turn};
-use fe2o3_sasl_runs::ProfileError;
+use fe2o3_sasl_negotiation::{CloseReason, Expected, Snapshot, Progress, FrameKind};
+use fe2o3_sasl_core::ProfileError;
 use fe2o3_sasl_wire::{Error, SaslCode};
 use fe2o3_scram::ScramErrorKind;
 
@@ -24,48 +24,48 @@ pub struct Connection {
     /// waited for; by the other mechanisms the server's word is all that there is. Behind an outcome of another code
     /// it stands at 2, and so it does behind one that is Ok and does not show the signature. A server stands at 1 with
     /// the outcome Ok that it writes, and at 2 with any other.
-    pub standing: u32,
+    pub progress: u32,
 
     /// Why it is to be closed: a status, as `REFUSED_AUTH` of an outcome that says so, or
     /// `CLIENT_SERVER_SIGNATURE_MISMATCH` of a server that a client does not believe.
     pub why: u32,
 
-    /// What is due: 0 the other side's header, 1 the mechanisms, 2 the init, 3 the challenge, or at once the outcome,
+    /// What is expected: 0 the other side's header, 1 the mechanisms, 2 the init, 3 the challenge, or at once the outcome,
     /// 4 the response, and 5 the outcome.
-    pub due: u32,
+    pub expected: u32,
 
     /// How many bytes of `held` there are.
     pub held_len: u32,
 
-    /// What has come of the header or of the frame that is due.
+    /// What has come of the header or of the frame that is expected.
     pub held: [u8; 512],
 }
 
-/// The number of what is due.
-fn number_of(due: Due) -> u32
-    ensures { result ≡ due_number due }
+/// The number of what is expected.
+fn number_of(expected: Expected) -> u32
+    ensures { result ≡ due_number expected }
 {
-    match due {
-        Due::Header => 0,
-        Due::Frame(Turn::Mechanisms) => 1,
-        Due::Frame(Turn::Init) => 2,
-        Due::Frame(Turn::Challenge) => 3,
-        Due::Frame(Turn::Response) => 4,
-        Due::Frame(Turn::Outcome) => 5,
+    match expected {
+        Expected::Header => 0,
+        Expected::Frame(FrameKind::Mechanisms) => 1,
+        Expected::Frame(FrameKind::Init) => 2,
+        Expected::Frame(FrameKind::Challenge) => 3,
+        Expected::Frame(FrameKind::Response) => 4,
+        Expected::Frame(FrameKind::Outcome) => 5,
     }
 }
 
-/// What is due, of its number.
-fn due_of(number: u32) -> Option<Due>
-    ensures { MatchOption result ((due : DueUnit) → due_number due ≢ number) (λ due. due_number due ≡ number) }
+/// What is expected, of its number.
+fn due_of(number: u32) -> Option<Expected>
+    ensures { MatchOption result ((expected : DueUnit) → due_number expected ≢ number) (λ expected. due_number expected ≡ number) }
 {
     match number {
-        0 => Some(Due::Header),
-        1 => Some(Due::Frame(Turn::Mechanisms)),
-        2 => Some(Due::Frame(Turn::Init)),
-        3 => Some(Due::Frame(Turn::Challenge)),
-        4 => Some(Due::Frame(Turn::Response)),
-        5 => Some(Due::Frame(Turn::Outcome)),
+        0 => Some(Expected::Header),
+        1 => Some(Expected::Frame(FrameKind::Mechanisms)),
+        2 => Some(Expected::Frame(FrameKind::Init)),
+        3 => Some(Expected::Frame(FrameKind::Challenge)),
+        4 => Some(Expected::Frame(FrameKind::Response)),
+        5 => Some(Expected::Frame(FrameKind::Outcome)),
         _ => None,
     }
 }
@@ -101,66 +101,66 @@ pub fn of_profile(fault: ProfileError) -> Status
     match fault {
         ProfileError::NotImplemented => Status::NotImplemented,
         ProfileError::Scram(why) => Status::from(why),
-        ProfileError::OtherKeys => Status::Client(ScramErrorKind::OtherKeys),
+        ProfileError::StaleKeys => Status::Client(ScramErrorKind::StaleKeys),
         ProfileError::Frame(fault) => of_frame(fault),
         ProfileError::OutOfMemory => Status::OutOfMemory,
     }
 }
 
 /// Why a connection is to be closed, as a status.
-pub fn of_closed(why: ClosedBecause) -> Status
+pub fn of_closed(why: CloseReason) -> Status
     ensures { result ≡ closed_status why }
 {
     match why {
-        ClosedBecause::OtherHeader => Status::OtherHeader,
-        ClosedBecause::FrameSize => Status::FrameSize,
-        ClosedBecause::Unread(fault) => of_frame(fault),
-        ClosedBecause::OutOfTurn => Status::OutOfTurn,
-        ClosedBecause::ReplyTooLarge => Status::ReplyTooLarge,
-        ClosedBecause::Refused(code) => of_code(code),
-        ClosedBecause::Profile(fault) => of_profile(fault),
+        CloseReason::ProtocolHeaderMismatch => Status::ProtocolHeaderMismatch,
+        CloseReason::FrameSize => Status::FrameSize,
+        CloseReason::MalformedFrame(fault) => of_frame(fault),
+        CloseReason::UnexpectedFrame => Status::UnexpectedFrame,
+        CloseReason::ReplyTooLarge => Status::ReplyTooLarge,
+        CloseReason::Refused(code) => of_code(code),
+        CloseReason::Mechanism(fault) => of_profile(fault),
     }
 }
 
 impl Connection {
     /// The struct that keeps these values, or `None` where more than 512 bytes are held.
-    pub fn of(kept: &SetDown<'_>) -> Option<Connection>
+    pub fn of(kept: &Snapshot<'_>) -> Option<Connection>
         ensures keeps { MatchOption result (512 < length kept.now.held.now)
-            (λ connection. Keeps connection kept.now.standing kept.now.due kept.now.held.now) }
+            (λ connection. Keeps connection kept.now.progress kept.now.expected kept.now.held.now) }
         ensures writes { IfSome result (λ connection.
-            connection ≡ connection_struct kept.now.standing kept.now.due kept.now.held.now) }
+            connection ≡ connection_struct kept.now.progress kept.now.expected kept.now.held.now) }
     {
-        let (standing, why) = match kept.standing {
-            Standing::Wanting => (0, 0),
-            Standing::LoggedIn => (1, 0),
-            Standing::Closed(why) => (2, of_closed(why).number()),
+        let (progress, why) = match kept.progress {
+            Progress::InProgress => (0, 0),
+            Progress::Authenticated => (1, 0),
+            Progress::Failed(why) => (2, of_closed(why).number()),
         };
         Some(Connection {
-            standing,
+            progress,
             why,
-            due: number_of(kept.due),
+            expected: number_of(kept.expected),
             held: padded(kept.held)?,
             held_len: kept.held.len() as u32,
         })
     }
 
-    /// What the struct keeps of a side that wants more bytes. `Ended` where it wants none, and `NotKept` where no
-    /// such unit is due, or where `held_len` is above 512.
-    pub fn read(&self) -> Result<SetDown<'_>, Status>
-        ensures kept { IfOk result (λ kept. Keeps self.now kept.standing kept.due kept.held.now) }
-        ensures wanting { IfOk result (λ kept. (kept.standing ≡ Wanting) × (kept.limit ≡ 512)) }
-        ensures nobody { IfOk result (λ kept. shown kept.user ≡ None) }
+    /// What the struct keeps of a side that wants more bytes. `Ended` where it wants none, and `InvalidSnapshot` where no
+    /// such unit is expected, or where `held_len` is above 512.
+    pub fn read(&self) -> Result<Snapshot<'_>, Status>
+        ensures kept { IfOk result (λ kept. Keeps self.now kept.progress kept.expected kept.held.now) }
+        ensures wanting { IfOk result (λ kept. (kept.progress ≡ InProgress) × (kept.limit ≡ 512)) }
+        ensures mock { IfOk result (λ kept. shown kept.user ≡ None) }
         ensures err { IfErr result (λ status. IsFirst (side_tests self.now) status) }
         ensures room { IfErr result (λ status. status ≢ RoomTooSmall) }
     {
-        if self.standing != 0 {
+        if self.progress != 0 {
             return Err(Status::Ended);
         }
-        let due = due_of(self.due).ok_or(Status::NotKept)?;
-        let held = head(&self.held, self.held_len).ok_or(Status::NotKept)?;
-        Ok(SetDown {
-            standing: Standing::Wanting,
-            due,
+        let expected = due_of(self.expected).ok_or(Status::InvalidSnapshot)?;
+        let held = head(&self.held, self.held_len).ok_or(Status::InvalidSnapshot)?;
+        Ok(Snapshot {
+            progress: Progress::InProgress,
+            expected,
             limit: 512,
             held,
             user: None,

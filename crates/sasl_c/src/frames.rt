@@ -152,7 +152,7 @@ fn offers(body: &[u8], mechanism: &[u8]) -> Result<(), Status>
                 Err(Status::NotImplemented)
             }
         }
-        Ok(_) => Err(Status::OutOfTurn),
+        Ok(_) => Err(Status::UnexpectedFrame),
         Err(fault) => Err(of_frame(fault)),
     }
 }

@@ -13,7 +13,7 @@ ghost use Rattle.sasl_c.specs.declared.status.Status.TheVariants.{OutOfMemory as
 use crate::arrays::{head, padded};
 use crate::passwords::PasswordForm;
 use crate::status::{Status, digest_len, number, number_of, text, version_of};
-use fe2o3_scram::{Meter, ScramClientKeys};
+use fe2o3_scram::{Meter, CachedKeys};
 use std::alloc::Global;
 
 /// What a client keeps in place of its password: a secret, with which one can log in.
@@ -41,7 +41,7 @@ pub struct ClientKeys {
 
 impl ClientKeys {
     /// The struct of keys, or `None` where it cannot hold them.
-    pub fn of(keys: &ScramClientKeys) -> Option<ClientKeys>
+    pub fn of(keys: &CachedKeys) -> Option<ClientKeys>
         ensures { MatchOption result (¬ KeysHaveRoom keys.now) (λ shown. KeysHaveRoom keys.now × (shown ≡ keys_struct keys.now)) }
     {
         let (version, salt) = (keys.scram_version(), keys.salt());
@@ -86,14 +86,14 @@ impl ClientKeys {
 
     /// The keys that the struct shows. `NoSuchVersion`, `TooLong` where `salt_len` is above 128, and else
     /// `OutOfMemory`.
-    pub fn read(&self, alloc: Global) -> Result<ScramClientKeys, Status>
+    pub fn read(&self, alloc: Global) -> Result<CachedKeys, Status>
         ensures ok { IfOk result (λ keys. ShowsKeys self.now keys) }
         ensures err { IfErr result (λ status. status ≢ StatusOutOfMemory → ShowsNoKeys self.now status) }
     {
         let version = version_of(self.version).ok_or(Status::NoSuchVersion)?;
         let salt = head(&self.salt, self.salt_len).ok_or(Status::TooLong)?;
         let len = digest_len(version);
-        let keys = ScramClientKeys::from_parts(
+        let keys = CachedKeys::from_parts(
             version,
             salt.to_vec(alloc)?,
             self.iterations,
@@ -133,7 +133,7 @@ fn made(
     }
     let mut meter = Meter::new();
     // (what it refuses besides is told by now)
-    let Ok(keys) = ScramClientKeys::from_prepared_password(
+    let Ok(keys) = CachedKeys::from_prepared_password(
         alloc, version, password, salt, iterations, &mut meter,
     ) else {
         return Err(Status::OutOfMemory);

@@ -10,7 +10,7 @@ use crate::arrays::put;
 use crate::records::ScramRecord;
 use crate::status::{Status, number, text, version_of};
 use fe2o3_scram::{
-    MixedCredentials, ReadLinesErrorKind, RecordTextError, ScramVersion, WriteLinesError,
+    MultiRecordStore, ReadLinesErrorKind, RecordTextError, ScramVersion, WriteLinesError,
 };
 use std::alloc::Global;
 
@@ -31,7 +31,7 @@ fn of_line(kind: ReadLinesErrorKind) -> Status
 
 /// The struct of the record of this version that a user has.
 fn chosen(
-    users: &MixedCredentials,
+    users: &MultiRecordStore,
     username: &str,
     version: ScramVersion,
 ) -> Result<ScramRecord, Status>
@@ -81,7 +81,7 @@ fn found(
     };
     let username = text(username)?;
     let lines = text(lines)?;
-    match MixedCredentials::parse_lines(alloc, lines) {
+    match MultiRecordStore::parse_lines(alloc, lines) {
         Ok(users) => match chosen(&users, username, version) {
             Ok(made) => {
                 drop(users);
@@ -165,7 +165,7 @@ fn line_of(alloc: Global, username: &[u8], kept: &ScramRecord) -> Result<Vec<u8>
         Ok(kept) => kept,
         Err(status) => return Err(status),
     };
-    let mut users = MixedCredentials::new(alloc);
+    let mut users = MultiRecordStore::new(alloc);
     if let Err(error) = users.add(username, kept) {
         drop(users);
         return Err(Status::from(error));

@@ -1,22 +1,22 @@
 //! The mechanisms of a server beside SCRAM, as one acceptor whose parts do not show (AMQP 1.0, part 5, section 5.3.2).
 
 ghost use Rattle.std.specs.Prelude.{◌≡◌, List, ℕ, false};
-ghost use Rattle.fe2o3_sasl_runs.specs.ExternalAcceptor.{external_of};
-ghost use Rattle.fe2o3_sasl_runs.specs.SaslAcceptor.{AnonymousAcceptor};
+ghost use Rattle.fe2o3_sasl_core.specs.ExternalServer.{external_of};
+ghost use Rattle.fe2o3_sasl_core.specs.SaslAcceptor.{AnonymousAcceptor};
 ghost use Rattle.sasl_c.specs.SaslServer.{Others as OtherStates, other_machine, other_names, other_state, external_name, other_user, others_of};
 
-use fe2o3_sasl_runs::{
-    ExternalAcceptor, HasMechanism, NamesUser, OneOf, OutOfMemory, PlainAuthenticator,
+use fe2o3_sasl_core::{
+    ExternalServer, HasMechanism, AuthenticatedUser, AnyMechanism, OutOfMemory, PlainServer,
     SaslAcceptor, SaslAnonymousMechanism, SaslServerFrame,
 };
 use fe2o3_sasl_wire::{Array, SaslInit, SaslResponse, Symbol};
-use fe2o3_scram::{Meter, ScramCredentials};
+use fe2o3_scram::{Meter, RecordStore};
 use std::alloc::{AllocError, Global};
 
 /// PLAIN over a store, ANONYMOUS and EXTERNAL.
-type Joined = OneOf<
-    PlainAuthenticator<ScramCredentials>,
-    OneOf<SaslAnonymousMechanism, ExternalAcceptor>,
+type Joined = AnyMechanism<
+    PlainServer<RecordStore>,
+    AnyMechanism<SaslAnonymousMechanism, ExternalServer>,
 >;
 
 /// PLAIN, ANONYMOUS and EXTERNAL. What is proved of the server of all four mechanisms names this type once, in place of
@@ -28,13 +28,13 @@ pub struct Others {
 
 impl Others {
     /// All three, which nobody has asked.
-    pub fn new(store: ScramCredentials, iterations: u32, external: ExternalAcceptor) -> Self
+    pub fn new(store: RecordStore, iterations: u32, external: ExternalServer) -> Self
         ensures { (peer : List ℕ) → external_of external ≡ record { user = external_name peer; accepted = false }
             → other_state result ≡ others_of store iterations peer }
     {
-        let last = OneOf::new(SaslAnonymousMechanism::new(), external);
+        let last = AnyMechanism::new(SaslAnonymousMechanism::new(), external);
         Self {
-            joined: OneOf::new(PlainAuthenticator::new(store, iterations), last),
+            joined: AnyMechanism::new(PlainServer::new(store, iterations), last),
         }
     }
 }
@@ -64,8 +64,8 @@ impl SaslAcceptor for Others {
 
     ghost clone_keeps = { λ others copy same i. record {
       first = record { provider = same.0.0 i; count = same.0.1 i; user = same.0.2 i };
-      second = record { first = AnonymousAcceptor; second = same.1.1 i; asked = same.1.2 i };
-      asked = same.2 i;
+      second = record { first = AnonymousAcceptor; second = same.1.1 i; selected = same.1.2 i };
+      selected = same.2 i;
     } };
 
     fn mechanisms(&self, alloc: Global) -> Result<Array<Symbol>, OutOfMemory> {
@@ -109,13 +109,13 @@ impl SaslAcceptor for Others {
     }
 }
 
-impl NamesUser for Others {
+impl AuthenticatedUser for Others {
     ghost named = { λ others. other_user (other_state others) };
 
     ghost named_by_state = { λ others copy same i. other_user (same i) };
 
-    fn user(&self) -> Option<&str> {
-        self.joined.user()
+    fn authenticated_user(&self) -> Option<&str> {
+        self.joined.authenticated_user()
     }
 }
 

@@ -7,7 +7,7 @@ ghost use Rattle.fe2o3_scram.specs.RecordText.{ReachesValues};
 ghost use Rattle.fe2o3_scram.specs.Passwords.{Prepared, Typed};
 ghost use Rattle.sasl_c.specs.Passwords.{in_form};
 ghost use Rattle.sasl_c.specs.Status.{Answers, AsksWhere, Fills, Makes};
-ghost use Rattle.sasl_c.specs.Records.{RecordHasRoom, ShowsSomeRecord, ShowsRecord, record_struct, struct_making_tests, MakesRecordStruct, MakesUp, nobody_tests, ParsesStruct, SpellsStruct, Verifies};
+ghost use Rattle.sasl_c.specs.Records.{RecordHasRoom, ShowsSomeRecord, ShowsRecord, record_struct, struct_making_tests, MakesRecordStruct, MakesUp, mock_tests, ParsesStruct, SpellsStruct, Verifies};
 ghost use Rattle.sasl_c.specs.declared.records.ScramRecord.{ScramRecord as Struct};
 ghost use Rattle.sasl_c.specs.declared.status.Status.TheVariants.{OutOfMemory as StatusOutOfMemory, RoomTooSmall};
 
@@ -267,7 +267,7 @@ pub extern "C" fn fe2o3_scram_record_text(
 }
 
 /// The struct of the record that is made up for a name.
-#[tactic(auto, using(crate::proofs::RoomLemmas::nobody_has_room))]
+#[tactic(auto, using(crate::proofs::RoomLemmas::mock_has_room))]
 fn made_up(
     alloc: Global,
     version: u32,
@@ -276,7 +276,7 @@ fn made_up(
     made_salt_len: usize,
     iterations: u32,
 ) -> Result<ScramRecord, Status>
-    ensures { Gives StatusOutOfMemory (NoneHolds (nobody_tests version username.now made_salt_len))
+    ensures { Gives StatusOutOfMemory (NoneHolds (mock_tests version username.now made_salt_len))
         (λ (kept : Struct). kept) result (MakesUp version secret.now username.now made_salt_len iterations) }
 {
     let version = version_of(version).ok_or(Status::NoSuchVersion)?;
@@ -284,7 +284,7 @@ fn made_up(
     if made_salt_len > 64 {
         return Err(Status::TooLong);
     }
-    let made = fe2o3_scram::ScramRecord::of_nobody(
+    let made = fe2o3_scram::ScramRecord::mock(
         alloc,
         version,
         secret,
@@ -311,7 +311,7 @@ fn make_up(
     iterations: u32,
     kept: &mut ScramRecord,
 ) -> Result<(), Status>
-    ensures { Makes (NoneHolds (nobody_tests version username.now made_salt_len))
+    ensures { Makes (NoneHolds (mock_tests version username.now made_salt_len))
         (MakesUp version secret.now username.now made_salt_len iterations) kept.old kept.new result }
 {
     match made_up(alloc, version, secret, username, made_salt_len, iterations) {
@@ -327,7 +327,7 @@ fn make_up(
 /// is refused at its proof. The secret is 32 random bytes, the same for all names and kept as long as the records;
 /// `made_salt_len`, of at most 64, and the count are those of the server's other records.
 #[unsafe(no_mangle)]
-pub extern "C" fn fe2o3_scram_record_of_nobody(
+pub extern "C" fn fe2o3_scram_record_mock(
     alloc: Global,
     version: u32,
     secret: &[u8],
@@ -336,7 +336,7 @@ pub extern "C" fn fe2o3_scram_record_of_nobody(
     iterations: u32,
     kept: &mut ScramRecord,
 ) -> u32
-    ensures { Answers result (Makes (NoneHolds (nobody_tests version username.now made_salt_len))
+    ensures { Answers result (Makes (NoneHolds (mock_tests version username.now made_salt_len))
         (MakesUp version secret.now username.now made_salt_len iterations) kept.old kept.new) }
 {
     number(make_up(

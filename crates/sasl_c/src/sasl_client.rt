@@ -1,9 +1,9 @@
 //! The client's side of a connection, which stands in a struct between its calls.
 
 ghost use Rattle.std.specs.Prelude.{◌≡◌, ◌≢◌, ◌≤◌, ◌^◌, List, ℕ, Ok, Err, length, option_map, string_bytes, IfOk, IfErr, IfSome, OnErr, MatchOption};
-ghost use Rattle.fe2o3_sasl_runs.specs.Profiles.{PlainProfile};
-ghost use Rattle.fe2o3_sasl_runs.specs.SaslProfile.{profile_of};
-ghost use Rattle.fe2o3_sasl_negotiation.specs.declared.standing.Standing.TheVariants.{Wanting};
+ghost use Rattle.fe2o3_sasl_core.specs.Profiles.{PlainProfile};
+ghost use Rattle.fe2o3_sasl_core.specs.SaslProfile.{profile_of};
+ghost use Rattle.fe2o3_sasl_negotiation.specs.declared.progress.Progress.TheVariants.{InProgress};
 ghost use Rattle.fe2o3_sasl_negotiation.specs.ClientNegotiation.{ClientReceives};
 ghost use Rattle.fe2o3_sasl_negotiation.specs.Sides.{client_side, hostname_in};
 ghost use Rattle.sasl_c.specs.SaslClient.{ProfileIsReached, HasNoClientWords, IsClient, IsHostname, IsNoClient, HasNoHostname, IsNoProfile, ReadsClient, IsProfile, OpensConnection, ReceivesAsClient, WritesProfile, WritesSide};
@@ -17,8 +17,8 @@ use crate::client::{Login, ScramClient};
 use crate::connection::Connection;
 use crate::status::{Status, number, text};
 use bytes::BytesMut;
-use fe2o3_sasl_negotiation::{ClientNegotiation, TakeUpError};
-use fe2o3_sasl_runs::SaslProfile;
+use fe2o3_sasl_negotiation::{ClientNegotiation, RestoreError};
+use fe2o3_sasl_core::SaslProfile;
 use fe2o3_sasl_wire::ProtocolHeader;
 use fe2o3_scram::Meter;
 use std::alloc::Global;
@@ -44,7 +44,7 @@ pub struct SaslClient {
     /// The connection.
     pub connection: Connection,
 
-    /// What SCRAM keeps. Once the client is logged in, it hands out the keys (`fe2o3_scram_client_keys`).
+    /// What SCRAM keeps. Once the client is logged in, it hands out the keys (`fe2o3_scram_client_get_keys`).
     pub scram: ScramClient,
 }
 
@@ -115,7 +115,7 @@ impl SaslClient {
             → MatchOption result ⊥ (λ client. IsClient login client (client_side side.now)) }
         ensures writes { IfSome result (λ client. WritesSide client (client_side side.now)) }
     {
-        let kept = side.set_down();
+        let kept = side.snapshot();
         let Some(connection) = Connection::of(&kept) else {
             return None;
         };
@@ -129,7 +129,7 @@ impl SaslClient {
     #[tactic(auto, using(crate::proofs::SaslClientLemmas::taken_up))]
     fn read(&self, alloc: Global, login: &SaslLogin<'_>) -> Result<ClientNegotiation, Status>
         ensures ok { IfOk result (λ side. IsHostname login.now (hostname_in side)
-            × IsClient login.now self.now (client_side side) × ((client_side side).standing ≡ Wanting)) }
+            × IsClient login.now self.now (client_side side) × ((client_side side).progress ≡ InProgress)) }
         ensures reads { IfOk result (λ _. ReadsClient login.now self.now) }
         ensures err { IfErr result (λ status. status ≢ StatusOutOfMemory → IsNoClient login.now self.now status) }
         ensures memory { AsksWhere (ReadsClient login.now self.now) result }
@@ -141,11 +141,11 @@ impl SaslClient {
             Ok(profile) => profile,
             Err(status) => return Err(status),
         };
-        match ClientNegotiation::take_up(alloc, profile, hostname, &kept) {
+        match ClientNegotiation::restore(alloc, profile, hostname, &kept) {
             Ok(side) => Ok(side),
-            Err(TakeUpError::NotKept) => Err(Status::NotKept),
-            Err(TakeUpError::OtherUser) => Err(Status::NotKept),
-            Err(TakeUpError::OutOfMemory) => Err(Status::OutOfMemory),
+            Err(RestoreError::InvalidSnapshot) => Err(Status::InvalidSnapshot),
+            Err(RestoreError::OtherUser) => Err(Status::InvalidSnapshot),
+            Err(RestoreError::OutOfMemory) => Err(Status::OutOfMemory),
         }
     }
 }
@@ -181,7 +181,7 @@ struct Made {
     next: SaslClient,
 }
 
-/// What a side makes of bytes, and the structs that it is then. That it has none is answered by `NotKept`, and happens to
+/// What a side makes of bytes, and the structs that it is then. That it has none is answered by `InvalidSnapshot`, and happens to
 /// no side that structs are.
 fn taken(
     alloc: Global,
@@ -192,17 +192,17 @@ fn taken(
 ) -> Result<Made, Status>
     requires { meter.old ≤ 2 ^ 63 }
     ensures ok { IfOk result (λ made. (login : LoginStruct) (before : Structs) → IsClient login before (client_side side.old)
-        → (client_side side.old).standing ≡ Wanting → ClientReceives (hostname_in side.old) (client_side side.old) bytes.now
+        → (client_side side.old).progress ≡ InProgress → ClientReceives (hostname_in side.old) (client_side side.old) bytes.now
         nonce.now made.taken made.sent.items (client_side side.new) × IsClient login made.next (client_side side.new)
         × (length made.sent.items ≤ 512) × WritesSide made.next (client_side side.new)) }
     ensures err { IfErr result (λ status. status ≢ StatusOutOfMemory → (login : LoginStruct) (before : Structs)
-        → IsClient login before (client_side side.old) → (client_side side.old).standing ≢ Wanting) }
+        → IsClient login before (client_side side.old) → (client_side side.old).progress ≢ InProgress) }
     ensures room { IfErr result (λ status. status ≢ RoomTooSmall) }
 {
     let mut sent = BytesMut::new(alloc);
     let received = side.receive(alloc, bytes, nonce, meter, &mut sent)?;
     let Some(next) = SaslClient::of(side) else {
-        return Err(Status::NotKept);
+        return Err(Status::InvalidSnapshot);
     };
     Ok(Made {
         taken: received.taken,
@@ -273,7 +273,7 @@ fn receive(
     Ok(())
 }
 
-/// Takes bytes of the connection as they came, to the end of the header or of the frame that is due, and writes what is
+/// Takes bytes of the connection as they came, to the end of the header or of the frame that is expected, and writes what is
 /// to be sent, of at most 512 bytes, a room that is asked for before any hash is made. The number is 0 also where these
 /// bytes close the connection, whose struct says so. Behind an outcome the connection stands at 1 where its code is Ok
 /// and, by SCRAM, it shows the signature that is waited for; else at 2, and `why` says which. What is left of the bytes

@@ -2,20 +2,20 @@
 
 ghost use Rattle.std.specs.Prelude.{false, ◌≡◌, ◌≢◌, ◌<◌, ◌≤◌, ◌⊎◌, ◌+◌, ◌^◌, ℕ, List, Ok, length, map, option_map, string_bytes, IfOk, IfErr, IfSome, OnErr, MatchOption, MatchResult};
 ghost use Rattle.std.specs.Str.{IsUtf8};
-ghost use Rattle.fe2o3_scram.specs.ScramServer.{challenge_kept, provider_in, state_in, unbound_in};
-ghost use Rattle.fe2o3_sasl_runs.specs.ExternalAcceptor.{external_of};
-ghost use Rattle.fe2o3_sasl_negotiation.specs.declared.standing.Standing.{Standing as StandingOf};
-ghost use Rattle.fe2o3_sasl_negotiation.specs.declared.standing.Standing.TheVariants.{Wanting};
+ghost use Rattle.fe2o3_scram.specs.ScramServer.{challenge_kept, provider_in, state_in, cbind_flag_y_in};
+ghost use Rattle.fe2o3_sasl_core.specs.ExternalServer.{external_of};
+ghost use Rattle.fe2o3_sasl_negotiation.specs.declared.progress.Progress.{Progress as ProgressOf};
+ghost use Rattle.fe2o3_sasl_negotiation.specs.declared.progress.Progress.TheVariants.{InProgress};
 ghost use Rattle.fe2o3_sasl_negotiation.specs.ServerNegotiation.{ServerReceives};
-ghost use Rattle.fe2o3_sasl_negotiation.specs.SetDown.{IsServerKept, side_of};
+ghost use Rattle.fe2o3_sasl_negotiation.specs.Snapshot.{IsServerKept, side_of};
 ghost use Rattle.fe2o3_sasl_negotiation.specs.Sides.{server_side};
-ghost use Rattle.sasl_c.specs.SaslServer.{ServerIsReached, HasNoServerWords, HasNone, HasRecords, IsAll, IsNoHost, NotReceived, Received, ReceivesAsServer, ShowsBy, ShowsStanding, ShowsState, ShowsExchange, all_in, all_of, allowed_of, external_mechanism, external_name, host_tests, name_where, one_where, standing_struct, value_state, state_struct, struct_by, sum_of};
+ghost use Rattle.sasl_c.specs.SaslServer.{ServerIsReached, HasNoServerWords, HasNone, HasRecords, IsAll, IsNoHost, NotReceived, Received, ReceivesAsServer, ShowsBy, ShowsProgress, ShowsState, ShowsExchange, all_in, all_of, allowed_of, external_mechanism, external_name, host_tests, name_where, one_where, progress_struct, value_state, state_struct, struct_by, sum_of};
 ghost use Rattle.sasl_c.specs.declared.sasl_server.Choice.{Choice as Choices};
 ghost use Rattle.sasl_c.specs.declared.server.ScramServer.{ScramServer as ScramStruct};
 ghost use Rattle.fe2o3_scram.specs.Readings.{NoneHolds};
 ghost use Rattle.sasl_c.specs.Connection.{side_tests};
 ghost use Rattle.sasl_c.specs.Status.{Answers, AsksWhere, FillsWithin};
-ghost use Rattle.sasl_c.specs.declared.status.Status.TheVariants.{OutOfMemory as StatusOutOfMemory, NotKept as StatusNotKept, NotUtf8 as StatusNotUtf8, RoomTooSmall, TooLong as StatusTooLong};
+ghost use Rattle.sasl_c.specs.declared.status.Status.TheVariants.{OutOfMemory as StatusOutOfMemory, InvalidSnapshot as StatusInvalidSnapshot, NotUtf8 as StatusNotUtf8, RoomTooSmall, TooLong as StatusTooLong};
 
 use crate::arrays::put;
 use crate::connection::Connection;
@@ -24,9 +24,9 @@ use crate::records::ScramRecord;
 use crate::server::{ScramServer, server_over};
 use crate::status::{Status, number, text, version_of};
 use bytes::BytesMut;
-use fe2o3_sasl_negotiation::{ServerNegotiation, SetDown, Standing, TakeUpError};
-use fe2o3_sasl_runs::{ExternalAcceptor, NamesUser, OfferError, OffersOnly, OneOf, Part};
-use fe2o3_scram::{Meter, OpenChallenge, ScramAuthenticator, ScramCredentials, ScramVersion};
+use fe2o3_sasl_negotiation::{ServerNegotiation, Snapshot, Progress, RestoreError};
+use fe2o3_sasl_core::{ExternalServer, AuthenticatedUser, OfferError, RestrictMechanisms, AnyMechanism, Selected};
+use fe2o3_scram::{Meter, OpenChallenge, ScramAuthenticator, RecordStore, ScramVersion};
 use std::alloc::Global;
 
 /// What a server offers, and whose record it has: lent for each call.
@@ -35,7 +35,7 @@ use std::alloc::Global;
 pub struct SaslHost<'a> {
     /// Which mechanisms are offered: the sum of 1 for SCRAM of the version, 2 for PLAIN, 4 for ANONYMOUS, and 8 for
     /// EXTERNAL where there is a peer; and of 16 where SCRAM takes a client whose GS2 header is `y,,`, as
-    /// `fe2o3_scram_server_first_unbound` does. PLAIN shows the password to whoever reads the connection, and is for
+    /// `fe2o3_scram_server_first_with_cbind_flag_y` does. PLAIN shows the password to whoever reads the connection, and is for
     /// TLS alone.
     pub mechanisms: u32,
 
@@ -64,18 +64,18 @@ pub struct SaslServer {
     pub connection: Connection,
 
     /// What SCRAM keeps. Once a client is logged in, it names the user of any mechanism
-    /// (`fe2o3_scram_server_logged_in`); ANONYMOUS names nobody.
+    /// (`fe2o3_scram_server_authenticated_user`); ANONYMOUS names nobody.
     pub scram: ScramServer,
 }
 
 /// SCRAM over the host's user.
-pub type Scram = ScramAuthenticator<ScramCredentials>;
+pub type Scram = ScramAuthenticator<RecordStore>;
 
 /// All four mechanisms.
-pub type All = OneOf<Scram, Others>;
+pub type All = AnyMechanism<Scram, Others>;
 
 /// Those that are offered.
-pub type Acceptor = OffersOnly<All>;
+pub type Acceptor = RestrictMechanisms<All>;
 
 /// Which mechanisms are offered.
 #[derive(Clone, Copy)]
@@ -86,7 +86,7 @@ struct Choice {
     external: bool,
 
     /// Whether SCRAM takes a client that could bind a channel.
-    unbound: bool,
+    cbind_flag_y: bool,
 }
 
 /// Whether a number is in a sum below its double, and the rest.
@@ -111,7 +111,7 @@ impl Choice {
         if sum > 31 {
             return None;
         }
-        let (unbound, rest) = split(sum, 16);
+        let (cbind_flag_y, rest) = split(sum, 16);
         let (external, rest) = split(rest, 8);
         let (anonymous, rest) = split(rest, 4);
         let (plain, rest) = split(rest, 2);
@@ -121,7 +121,7 @@ impl Choice {
             plain,
             anonymous,
             external,
-            unbound,
+            cbind_flag_y,
         })
     }
 
@@ -162,33 +162,33 @@ fn name_where(offered: bool, name: &'static str) -> &'static str
 /// All four mechanisms over a store, of which the last init went to this one.
 fn joined(
     scram: Scram,
-    store: ScramCredentials,
+    store: RecordStore,
     iterations: u32,
-    external: ExternalAcceptor,
-    asked: Option<Part>,
+    external: ExternalServer,
+    asked: Option<Selected>,
 ) -> All
     ensures { (peer : List ℕ) → external_of external ≡ record { user = external_name peer; accepted = false }
         → provider_in scram ≡ store → all_in result
-        ≡ all_of (unbound_in scram) store iterations peer (state_in scram) asked }
+        ≡ all_of (cbind_flag_y_in scram) store iterations peer (state_in scram) asked }
 {
-    OneOf::with_asked(scram, Others::new(store, iterations, external), asked)
+    AnyMechanism::with_selected(scram, Others::new(store, iterations, external), asked)
 }
 
 /// The server of SCRAM that a struct is, over a store, and what was asked last. `OutOfMemory` is the only refusal.
 fn stands(
     alloc: Global,
-    accepts_unbound: bool,
-    store: ScramCredentials,
+    accept_cbind_flag_y: bool,
+    store: RecordStore,
     scram: &ScramServer,
-) -> Result<(Scram, Option<Part>), Status>
+) -> Result<(Scram, Option<Selected>), Status>
     ensures provider { IfOk result (λ made. provider_in made.0 ≡ store) }
-    ensures unbound { IfOk result (λ made. unbound_in made.0 ≡ accepts_unbound) }
+    ensures cbind_flag_y { IfOk result (λ made. cbind_flag_y_in made.0 ≡ accept_cbind_flag_y) }
     ensures state { IfOk result (λ made. ShowsExchange scram.now (state_in made.0) made.1) }
     ensures err { IfErr result (λ status. status ≡ StatusOutOfMemory) }
 {
-    let fresh = server_over(store, accepts_unbound);
+    let fresh = server_over(store, accept_cbind_flag_y);
     match scram.challenge() {
-        Some(challenge) => Ok((fresh.waiting_for(alloc, &challenge)?, Some(Part::First))),
+        Some(challenge) => Ok((fresh.waiting_for(alloc, &challenge)?, Some(Selected::First))),
         None => Ok((fresh, None)),
     }
 }
@@ -196,7 +196,7 @@ fn stands(
 impl SaslHost<'_> {
     /// The store of the host's one user, or of nobody. `NotUtf8`, and else `OutOfMemory`.
     #[tactic(auto, using(crate::proofs::SaslServerLemmas::store))]
-    fn store(&self, alloc: Global, version: ScramVersion) -> Result<ScramCredentials, Status>
+    fn store(&self, alloc: Global, version: ScramVersion) -> Result<RecordStore, Status>
         ensures version { IfOk result (λ store. store.version ≡ version) }
         ensures records { IfOk result (λ store. HasRecords self.now version store.records) }
         ensures utf8 { IfOk result (λ _. IsUtf8 self.now.username.now) }
@@ -205,7 +205,7 @@ impl SaslHost<'_> {
         ensures room { IfErr result (λ status. status ≢ RoomTooSmall) }
     {
         let username = text(self.username)?.to_string(alloc)?;
-        let mut store = ScramCredentials::new(alloc, version);
+        let mut store = RecordStore::new(alloc, version);
         let kept = match self.record.read(alloc) {
             Ok(kept) => kept,
             Err(Status::OutOfMemory) => return Err(Status::OutOfMemory),
@@ -221,7 +221,7 @@ impl SaslHost<'_> {
     }
 
     /// The acceptor of EXTERNAL for the host's peer. `NotUtf8`, and otherwise `OutOfMemory`.
-    fn external(&self, alloc: Global) -> Result<ExternalAcceptor, Status>
+    fn external(&self, alloc: Global) -> Result<ExternalServer, Status>
         ensures ok { IfOk result (λ external.
             external_of external ≡ record { user = external_name self.now.peer.now; accepted = false }) }
         ensures utf8 { IfOk result (λ _. IsUtf8 self.now.peer.now) }
@@ -230,7 +230,7 @@ impl SaslHost<'_> {
         ensures room { IfErr result (λ status. status ≢ RoomTooSmall) }
     {
         let name = external_name(text(self.peer)?).to_string(alloc)?;
-        match ExternalAcceptor::new(name) {
+        match ExternalServer::new(name) {
             Ok(external) => Ok(external),
             Err(_) => unreachable!(),
         }
@@ -241,17 +241,17 @@ impl SaslHost<'_> {
         &self,
         alloc: Global,
         version: ScramVersion,
-        accepts_unbound: bool,
+        accept_cbind_flag_y: bool,
         scram: &ScramServer,
     ) -> Result<All, Status>
-        ensures ok { IfOk result (λ all. IsAll self.now version accepts_unbound scram.now (all_in all)) }
+        ensures ok { IfOk result (λ all. IsAll self.now version accept_cbind_flag_y scram.now (all_in all)) }
         ensures utf8 { IfOk result (λ _. IsUtf8 self.now.username.now × IsUtf8 self.now.peer.now) }
         ensures err { IfErr result (λ status. status ≢ StatusOutOfMemory → HasNoServerWords self.now status) }
         ensures room { IfErr result (λ status. status ≢ RoomTooSmall) }
     {
         let store = self.store(alloc, version)?;
         let external = self.external(alloc)?;
-        let (machine, asked) = stands(alloc, accepts_unbound, store.clone()?, scram)?;
+        let (machine, asked) = stands(alloc, accept_cbind_flag_y, store.clone()?, scram)?;
         Ok(joined(machine, store, self.iterations, external, asked))
     }
 
@@ -268,8 +268,8 @@ impl SaslHost<'_> {
     /// The acceptor, in the exchange that the struct of SCRAM shows.
     #[tactic(auto, using(crate::proofs::SaslServerLemmas::acceptor))]
     pub fn acceptor(&self, alloc: Global, scram: &ScramServer) -> Result<Acceptor, Status>
-        ensures ok { IfOk result (λ acceptor. ServerIsReached self.now Wanting (value_state acceptor)
-            × ShowsState scram.now Wanting (value_state acceptor)) }
+        ensures ok { IfOk result (λ acceptor. ServerIsReached self.now InProgress (value_state acceptor)
+            × ShowsState scram.now InProgress (value_state acceptor)) }
         ensures tests { IfOk result (λ _. NoneHolds (host_tests self.now)) }
         ensures err { IfErr result (λ status. status ≢ StatusOutOfMemory → IsNoHost self.now status) }
         ensures memory { AsksWhere (NoneHolds (host_tests self.now)) result }
@@ -285,13 +285,13 @@ impl SaslHost<'_> {
         if let Err(status) = self.words() {
             return Err(status);
         }
-        let all = match self.all(alloc, version, choice.unbound, scram) {
+        let all = match self.all(alloc, version, choice.cbind_flag_y, scram) {
             Ok(all) => all,
             Err(status) => return Err(status),
         };
-        match OffersOnly::new(alloc, all, &choice.names(version, self.peer)) {
+        match RestrictMechanisms::new(alloc, all, &choice.names(version, self.peer)) {
             Ok(acceptor) => Ok(acceptor),
-            Err(OfferError::NothingOffered) => Err(Status::NoSuchMechanism),
+            Err(OfferError::NoMechanismLeft) => Err(Status::NoSuchMechanism),
             Err(OfferError::OutOfMemory) => Err(Status::OutOfMemory),
         }
     }
@@ -311,27 +311,27 @@ struct TakenUp<A> {
 }
 
 /// Restores a side that waits, which takes bytes.
-fn take_up<A: NamesUser + Drop>(
+fn restore<A: AuthenticatedUser + Drop>(
     alloc: Global,
     acceptor: A,
-    kept: &SetDown<'_>,
+    kept: &Snapshot<'_>,
     bytes: &[u8],
     nonce: &[u8; 32],
     meter: &mut Meter,
 ) -> Result<TakenUp<A>, Status>
     requires meter { meter.old ≤ 2 ^ 63 }
-    requires wanting { kept.now.standing ≡ Wanting }
+    requires wanting { kept.now.progress ≡ InProgress }
     ensures ok { IfOk result (λ call. IsServerKept kept.now
         × ServerReceives A.names A.machine (side_of kept.now (A.state acceptor)) bytes.now nonce.now call.taken
         call.sent.items (server_side A.state call.side)) }
-    ensures err { IfErr result (λ status. status ≢ StatusOutOfMemory → (status ≡ StatusNotKept) × ¬ IsServerKept kept.now) }
+    ensures err { IfErr result (λ status. status ≢ StatusOutOfMemory → (status ≡ StatusInvalidSnapshot) × ¬ IsServerKept kept.now) }
     ensures room { IfErr result (λ status. status ≢ RoomTooSmall) }
 {
-    let mut side = match ServerNegotiation::take_up(alloc, acceptor, kept) {
+    let mut side = match ServerNegotiation::restore(alloc, acceptor, kept) {
         Ok(side) => side,
-        Err(TakeUpError::NotKept) => return Err(Status::NotKept),
-        Err(TakeUpError::OtherUser) => return Err(Status::NotKept),
-        Err(TakeUpError::OutOfMemory) => return Err(Status::OutOfMemory),
+        Err(RestoreError::InvalidSnapshot) => return Err(Status::InvalidSnapshot),
+        Err(RestoreError::OtherUser) => return Err(Status::InvalidSnapshot),
+        Err(RestoreError::OutOfMemory) => return Err(Status::OutOfMemory),
     };
     let mut sent = BytesMut::new(alloc);
     let received = side.receive(alloc, bytes, nonce, meter, &mut sent)?;
@@ -345,54 +345,54 @@ fn take_up<A: NamesUser + Drop>(
 /// The struct of SCRAM that shows how far a login is that stands so, or `None` where a text has no room in it.
 #[tactic(auto, using(crate::proofs::SaslServerLemmas::shown))]
 fn shown(
-    standing: Standing,
+    progress: Progress,
     challenge: Option<OpenChallenge<'_>>,
     user: Option<&str>,
 ) -> Option<ScramServer>
     ensures shows { MatchOption result
-        ((scram : ScramStruct) → ¬ ShowsStanding scram standing (option_map challenge_kept challenge.entry)
-        (option_map (λ user. user.now) user.entry)) (λ scram. ShowsStanding scram standing
+        ((scram : ScramStruct) → ¬ ShowsProgress scram progress (option_map challenge_kept challenge.entry)
+        (option_map (λ user. user.now) user.entry)) (λ scram. ShowsProgress scram progress
         (option_map challenge_kept challenge.entry)
         (option_map (λ user. user.now) user.entry)) }
-    ensures writes { IfSome result (λ scram. scram ≡ standing_struct standing
+    ensures writes { IfSome result (λ scram. scram ≡ progress_struct progress
         (option_map challenge_kept challenge.entry) (option_map (λ user. user.now) user.entry)) }
 {
-    match standing {
-        Standing::Wanting => match challenge {
+    match progress {
+        Progress::InProgress => match challenge {
             Some(challenge) => ScramServer::of(&challenge),
             None => Some(ScramServer::fresh()),
         },
-        Standing::LoggedIn => match user {
+        Progress::Authenticated => match user {
             Some(user) => ScramServer::logged_in(user),
             None => Some(ScramServer::fresh()),
         },
-        Standing::Closed(_) => Some(ScramServer::fresh()),
+        Progress::Failed(_) => Some(ScramServer::fresh()),
     }
 }
 
 /// An acceptor of which a struct of SCRAM shows how far it is.
-pub trait Shows: NamesUser {
-    ghost shows: { ScramStruct → StandingOf → Self → Type 0 };
+pub trait Shows: AuthenticatedUser {
+    ghost shows: { ScramStruct → ProgressOf → Self → Type 0 };
 
-    ghost written_for: { StandingOf → Self → ScramStruct };
+    ghost written_for: { ProgressOf → Self → ScramStruct };
 
     /// The struct that shows it where the login stands so, or `None` where a text has no room in it.
-    fn shown(&self, standing: Standing) -> Option<ScramServer>
-        ensures shows { MatchOption result ((scram : ScramStruct) → ¬ shows scram standing self.now)
-            (λ scram. shows scram standing self.now) }
-        ensures writes { IfSome result (λ scram. scram ≡ written_for standing self.now) };
+    fn shown(&self, progress: Progress) -> Option<ScramServer>
+        ensures shows { MatchOption result ((scram : ScramStruct) → ¬ shows scram progress self.now)
+            (λ scram. shows scram progress self.now) }
+        ensures writes { IfSome result (λ scram. scram ≡ written_for progress self.now) };
 }
 
 impl Shows for Acceptor {
-    ghost shows = { λ scram standing acceptor. ShowsState scram standing (value_state acceptor) };
+    ghost shows = { λ scram progress acceptor. ShowsState scram progress (value_state acceptor) };
 
-    ghost written_for = { λ standing acceptor. state_struct standing (value_state acceptor) };
+    ghost written_for = { λ progress acceptor. state_struct progress (value_state acceptor) };
 
-    fn shown(&self, standing: Standing) -> Option<ScramServer> {
+    fn shown(&self, progress: Progress) -> Option<ScramServer> {
         shown(
-            standing,
+            progress,
             self.acceptor().first().open_challenge(),
-            self.user(),
+            self.authenticated_user(),
         )
     }
 }
@@ -404,10 +404,10 @@ impl SaslServer {
             (λ server. ShowsBy A.state A.shows server side.now) }
         ensures writes { IfSome result (λ server. server ≡ struct_by A.state A.written_for side.now) }
     {
-        let Some(connection) = Connection::of(&side.set_down()) else {
+        let Some(connection) = Connection::of(&side.snapshot()) else {
             return None;
         };
-        let Some(scram) = side.acceptor().shown(side.standing()) else {
+        let Some(scram) = side.acceptor().shown(side.progress()) else {
             return None;
         };
         Some(SaslServer { connection, scram })
@@ -431,23 +431,23 @@ struct Made {
 fn taken<A: Shows + Drop>(
     alloc: Global,
     acceptor: A,
-    kept: &SetDown<'_>,
+    kept: &Snapshot<'_>,
     bytes: &[u8],
     nonce: &[u8; 32],
     meter: &mut Meter,
 ) -> Result<Made, Status>
     requires meter { meter.old ≤ 2 ^ 63 }
-    requires wanting { kept.now.standing ≡ Wanting }
+    requires wanting { kept.now.progress ≡ InProgress }
     ensures ok { IfOk result (λ made. (next : ServerNegotiation A) × ServerReceives A.names A.machine
         (side_of kept.now (A.state acceptor)) bytes.now nonce.now made.taken made.sent.items (server_side A.state next)
         × ShowsBy A.state A.shows made.next next × (made.next ≡ struct_by A.state A.written_for next)) }
-    ensures err { IfErr result (λ status. status ≢ StatusOutOfMemory → ((status ≡ StatusNotKept) × ¬ IsServerKept kept.now)
+    ensures err { IfErr result (λ status. status ≢ StatusOutOfMemory → ((status ≡ StatusInvalidSnapshot) × ¬ IsServerKept kept.now)
         ⊎ ((status ≡ StatusTooLong) × ((next : ServerNegotiation A) × (taken : ℕ) × (sent : List ℕ)
         × ServerReceives A.names A.machine (side_of kept.now (A.state acceptor)) bytes.now nonce.now taken sent
         (server_side A.state next) × HasNone A.state A.shows next))) }
     ensures room { IfErr result (λ status. status ≢ RoomTooSmall) }
 {
-    let call = match take_up(alloc, acceptor, kept, bytes, nonce, meter) {
+    let call = match restore(alloc, acceptor, kept, bytes, nonce, meter) {
         Ok(call) => call,
         Err(status) => return Err(status),
     };
@@ -530,10 +530,10 @@ fn receive(
     Ok(())
 }
 
-/// Takes bytes of the connection as they came, to the end of the header or of the frame that is due, and writes what is
+/// Takes bytes of the connection as they came, to the end of the header or of the frame that is expected, and writes what is
 /// to be sent, of at most 520 bytes, a room that is asked for before any hash is made. What is left of the bytes is to
 /// be handed in again while the connection stands at 0; behind a login it is AMQP's. Before it the caller fetches the
-/// record of the user whom the bytes name (`fe2o3_sasl_server_user`), if they name one. The nonce is 32 random bytes,
+/// record of the user whom the bytes name (`fe2o3_sasl_server_claimed_user`), if they name one. The nonce is 32 random bytes,
 /// fresh for each call. Where a name or a message has no room in the struct, the call is refused by `TOO_LONG`, and the
 /// connection is to be closed.
 #[unsafe(no_mangle)]

@@ -3,9 +3,9 @@
 ghost use Rattle.std.specs.Prelude.{false, true, ◌≡◌, ◌≢◌, ◌<◌, ◌≤◌, ◌^◌, List, ℕ, length, take, Ok, Err, IfOk, IfErr, IfSome, OnErr, MatchOption};
 ghost use Rattle.fe2o3_scram.specs.ClientFirst.{HasEscapes};
 ghost use Rattle.fe2o3_scram.specs.ServerFirst.{ServerChallenge};
-ghost use Rattle.fe2o3_scram.specs.ScramServer.{Initial, ServerFirstSent, challenge_kept, provider_in, state_in, unbound_in};
-ghost use Rattle.fe2o3_scram.specs.declared.scram_messages.gs2_header.Gs2Header.{Gs2Header as HeaderOf};
-ghost use Rattle.sasl_c.specs.Server.{MakesChallenge, Challenges, ConcludesLogin, Concludes, FinalAsks, HasLoggedIn, ChallengeHasRoom, IsOpen, NamesUser, NotChallenged, OpensExchange, MemoryCosts, ReadsFirst, TellsUser, fresh_server_struct, logged_in_struct, open_number, open_struct, user_struct};
+ghost use Rattle.fe2o3_scram.specs.ScramServer.{Initial, ServerFirstSent, challenge_kept, provider_in, state_in, cbind_flag_y_in};
+ghost use Rattle.fe2o3_scram.specs.declared.scram_messages.channel_binding_flag.ChannelBindingFlag.{ChannelBindingFlag as HeaderOf};
+ghost use Rattle.sasl_c.specs.Server.{MakesChallenge, Challenges, ConcludesLogin, Concludes, FinalAsks, HasLoggedIn, ChallengeHasRoom, IsOpen, AuthenticatedUser, NotChallenged, OpensExchange, MemoryCosts, ReadsFirst, TellsUser, fresh_server_struct, logged_in_struct, open_number, open_struct, user_struct};
 ghost use Rattle.sasl_c.specs.Status.{Answers, AsksWhere, Fills, FillsWithin};
 ghost use Rattle.sasl_c.specs.declared.status.Status.TheVariants.{OutOfMemory as StatusOutOfMemory, RoomTooSmall};
 
@@ -13,8 +13,8 @@ use crate::arrays::{cleared, head, padded, put};
 use crate::records::ScramRecord;
 use crate::status::{Status, number};
 use fe2o3_scram::{
-    ClientFirst, Gs2Header, Meter, OpenChallenge, ScramAuthenticator, ScramCredentialProvider,
-    ServerScramErrorKind, StoredScramCredential,
+    ClientFirst, ChannelBindingFlag, Meter, OpenChallenge, ScramAuthenticator, ScramCredentialProvider,
+    ServerScramErrorKind, UserRecord,
 };
 use std::alloc::Global;
 
@@ -52,7 +52,7 @@ pub struct ScramServer {
 }
 
 /// A server of one user.
-type Machine = ScramAuthenticator<StoredScramCredential>;
+type Machine = ScramAuthenticator<UserRecord>;
 
 impl ScramServer {
     /// The struct of a server that has nobody's challenge open, and has logged nobody in.
@@ -129,40 +129,40 @@ impl ScramServer {
 }
 
 /// The number of a struct that shows a challenge to a client with this GS2 header.
-fn open_number(header: Gs2Header) -> u32
+fn open_number(header: ChannelBindingFlag) -> u32
     ensures { result ≡ open_number header }
 {
     match header {
-        Gs2Header::Unsupported => 1,
-        Gs2Header::Unoffered => 3,
+        ChannelBindingFlag::NotSupported => 1,
+        ChannelBindingFlag::ClientSupports => 3,
     }
 }
 
 /// The GS2 header of the challenge that a struct with this number shows, if it shows one.
-fn open_header(stands: u32) -> Option<Gs2Header>
+fn open_header(stands: u32) -> Option<ChannelBindingFlag>
     ensures { MatchOption result ((header : HeaderOf) → open_number header ≢ stands)
         (λ header. stands ≡ open_number header) }
 {
     match stands {
-        1 => Some(Gs2Header::Unsupported),
-        3 => Some(Gs2Header::Unoffered),
+        1 => Some(ChannelBindingFlag::NotSupported),
+        3 => Some(ChannelBindingFlag::ClientSupports),
         _ => None,
     }
 }
 
-/// A server over these credentials, which takes a client that could bind a channel where `accepts_unbound`
+/// A server over these credentials, which takes a client that could bind a channel where `accept_cbind_flag_y`
 /// says so.
 pub fn server_over<C: ScramCredentialProvider>(
     credentials: C,
-    accepts_unbound: bool,
+    accept_cbind_flag_y: bool,
 ) -> ScramAuthenticator<C>
     ensures provider { provider_in result ≡ credentials }
-    ensures unbound { unbound_in result ≡ accepts_unbound }
+    ensures cbind_flag_y { cbind_flag_y_in result ≡ accept_cbind_flag_y }
     ensures state { state_in result ≡ Initial }
 {
     let fresh = ScramAuthenticator::new(credentials);
-    if accepts_unbound {
-        fresh.accepts_unbound()
+    if accept_cbind_flag_y {
+        fresh.accept_cbind_flag_y()
     } else {
         fresh
     }
@@ -195,19 +195,19 @@ impl ScramServer {
 /// A server with an open challenge to a client-first message.
 fn challenged(
     alloc: Global,
-    accepts_unbound: bool,
+    accept_cbind_flag_y: bool,
     kept: &ScramRecord,
     nonce: &[u8; 32],
     client_first: &[u8],
 ) -> Result<Machine, Status>
     ensures ok { IfOk result (λ machine. (challenge : ServerChallenge) × (state_in machine ≡ ServerFirstSent challenge)
-        × MakesChallenge accepts_unbound kept.now nonce.now client_first.now challenge) }
+        × MakesChallenge accept_cbind_flag_y kept.now nonce.now client_first.now challenge) }
     ensures err { IfErr result (λ status. status ≢ StatusOutOfMemory
-        → NotChallenged accepts_unbound kept.now nonce.now client_first.now status) }
-    ensures memory { AsksWhere (ReadsFirst accepts_unbound client_first.now) result }
+        → NotChallenged accept_cbind_flag_y kept.now nonce.now client_first.now status) }
+    ensures memory { AsksWhere (ReadsFirst accept_cbind_flag_y client_first.now) result }
     ensures room { IfErr result (λ status. status ≢ RoomTooSmall) }
 {
-    let first = match ClientFirst::parse_unbound(alloc, client_first, accepts_unbound) {
+    let first = match ClientFirst::parse_with_cbind_flag_y(alloc, client_first, accept_cbind_flag_y) {
         Ok(first) => first,
         Err(why) => return Err(Status::from(why)),
     };
@@ -216,8 +216,8 @@ fn challenged(
         Ok(kept) => kept,
         Err(status) => return Err(status),
     };
-    let credential = StoredScramCredential::new(username, kept);
-    let mut machine = server_over(credential, accepts_unbound);
+    let credential = UserRecord::new(username, kept);
+    let mut machine = server_over(credential, accept_cbind_flag_y);
     match machine.compute_server_first_message(alloc, client_first, nonce) {
         Ok(Some(_)) => Ok(machine),
         Ok(None) => Err(Status::Server(ServerScramErrorKind::AuthenticationFailed)),
@@ -229,22 +229,22 @@ fn challenged(
 #[tactic(auto, using(crate::proofs::ServerLemmas::no_room))]
 fn opened(
     alloc: Global,
-    accepts_unbound: bool,
+    accept_cbind_flag_y: bool,
     kept: &ScramRecord,
     nonce: &[u8; 32],
     client_first: &[u8],
 ) -> Result<ScramServer, Status>
     ensures ok { IfOk result (λ opened. (challenge : ServerChallenge)
-        × MakesChallenge accepts_unbound kept.now nonce.now client_first.now challenge × IsOpen opened challenge
+        × MakesChallenge accept_cbind_flag_y kept.now nonce.now client_first.now challenge × IsOpen opened challenge
         × (opened ≡ open_struct challenge)) }
-    ensures message { IfOk result (λ opened. Challenges accepts_unbound kept.now nonce.now client_first.now
+    ensures message { IfOk result (λ opened. Challenges accept_cbind_flag_y kept.now nonce.now client_first.now
         (Ok (take opened.first_len opened.first)) × (opened.first_len ≤ 1024)) }
     ensures err { IfErr result (λ status. status ≢ StatusOutOfMemory
-        → NotChallenged accepts_unbound kept.now nonce.now client_first.now status) }
-    ensures memory { AsksWhere (ReadsFirst accepts_unbound client_first.now) result }
+        → NotChallenged accept_cbind_flag_y kept.now nonce.now client_first.now status) }
+    ensures memory { AsksWhere (ReadsFirst accept_cbind_flag_y client_first.now) result }
     ensures room { IfErr result (λ status. status ≢ RoomTooSmall) }
 {
-    let machine = match challenged(alloc, accepts_unbound, kept, nonce, client_first) {
+    let machine = match challenged(alloc, accept_cbind_flag_y, kept, nonce, client_first) {
         Ok(machine) => machine,
         Err(status) => return Err(status),
     };
@@ -267,7 +267,7 @@ fn opened(
 /// Writes the server-first message.
 fn first(
     alloc: Global,
-    accepts_unbound: bool,
+    accept_cbind_flag_y: bool,
     kept: &ScramRecord,
     server: &mut ScramServer,
     nonce: &[u8; 32],
@@ -275,12 +275,12 @@ fn first(
     out: &mut [u8],
     len: &mut usize,
 ) -> Result<(), Status>
-    ensures text { Fills (Challenges accepts_unbound kept.now nonce.now client_first.now)
+    ensures text { Fills (Challenges accept_cbind_flag_y kept.now nonce.now client_first.now)
         (record { bytes = out.old; len = len.old }) (record { bytes = out.new; len = len.new }) result }
-    ensures moved { OpensExchange accepts_unbound kept.now nonce.now client_first.now server.old server.new result }
-    ensures memory { AsksWhere (ReadsFirst accepts_unbound client_first.now) result }
+    ensures moved { OpensExchange accept_cbind_flag_y kept.now nonce.now client_first.now server.old server.new result }
+    ensures memory { AsksWhere (ReadsFirst accept_cbind_flag_y client_first.now) result }
 {
-    let opened = opened(alloc, accepts_unbound, kept, nonce, client_first)?;
+    let opened = opened(alloc, accept_cbind_flag_y, kept, nonce, client_first)?;
     put(&opened.first[..opened.first_len as usize], out, len)?;
     *server = opened;
     Ok(())
@@ -288,7 +288,7 @@ fn first(
 
 /// Answers a client-first message with the server-first message, which starts an exchange afresh at any time. The
 /// GS2 header of the message has to be `n,,`. The record is that of the user whom the message names
-/// (`fe2o3_scram_server_user`), or one that is made up (`fe2o3_scram_record_of_nobody`). The nonce is 32 random
+/// (`fe2o3_scram_server_claimed_user`), or one that is made up (`fe2o3_scram_record_mock`). The nonce is 32 random
 /// bytes, fresh for each.
 #[unsafe(no_mangle)]
 pub extern "C" fn fe2o3_scram_server_first(
@@ -312,7 +312,7 @@ pub extern "C" fn fe2o3_scram_server_first(
 /// channel and believes that the server cannot, since it was offered no mechanism with `-PLUS` (RFC 5802,
 /// section 6). Only for a server that offers none.
 #[unsafe(no_mangle)]
-pub extern "C" fn fe2o3_scram_server_first_unbound(
+pub extern "C" fn fe2o3_scram_server_first_with_cbind_flag_y(
     alloc: Global,
     kept: &ScramRecord,
     server: &mut ScramServer,
@@ -331,11 +331,11 @@ pub extern "C" fn fe2o3_scram_server_first_unbound(
 
 /// Writes the name of the user.
 fn user(alloc: Global, client_first: &[u8], out: &mut [u8], len: &mut usize) -> Result<(), Status>
-    ensures text { Fills (NamesUser client_first.now) (record { bytes = out.old; len = len.old })
+    ensures text { Fills (AuthenticatedUser client_first.now) (record { bytes = out.old; len = len.old })
         (record { bytes = out.new; len = len.new }) result }
     ensures memory { AsksWhere (HasEscapes true client_first.now) result }
 {
-    let first = match ClientFirst::parse_unbound(alloc, client_first, true) {
+    let first = match ClientFirst::parse_with_cbind_flag_y(alloc, client_first, true) {
         Ok(first) => first,
         Err(why) => return Err(Status::from(why)),
     };
@@ -344,13 +344,13 @@ fn user(alloc: Global, client_first: &[u8], out: &mut [u8], len: &mut usize) -> 
 
 /// Writes the plain name of the user whom a client-first message names, and whose record is to be fetched.
 #[unsafe(no_mangle)]
-pub extern "C" fn fe2o3_scram_server_user(
+pub extern "C" fn fe2o3_scram_server_claimed_user(
     alloc: Global,
     client_first: &[u8],
     out: &mut [u8],
     len: &mut usize,
 ) -> u32
-    ensures { Answers result (λ answer. Fills (NamesUser client_first.now) (record { bytes = out.old; len = len.old })
+    ensures { Answers result (λ answer. Fills (AuthenticatedUser client_first.now) (record { bytes = out.old; len = len.old })
         (record { bytes = out.new; len = len.new }) answer × AsksWhere (HasEscapes true client_first.now) answer) }
 {
     number(user(alloc, client_first, out, len))
@@ -382,7 +382,7 @@ fn concluded(
         Ok(shown) => shown,
         Err(status) => return Err(status),
     };
-    match version.compute_server_final_message_behind(
+    match version.compute_server_final_message_with_gs2_header(
         alloc,
         challenge.header,
         client_final,
@@ -467,7 +467,7 @@ fn tell(server: &ScramServer, out: &mut [u8], len: &mut usize) -> Result<(), Sta
 
 /// Writes the plain name of the user who has logged in: the one whose challenge was answered.
 #[unsafe(no_mangle)]
-pub extern "C" fn fe2o3_scram_server_logged_in(
+pub extern "C" fn fe2o3_scram_server_authenticated_user(
     server: &ScramServer,
     out: &mut [u8],
     len: &mut usize,

@@ -1,14 +1,14 @@
 //! A server's steps over the bodies of frames, for whoever reads and writes the frames.
 
 ghost use Rattle.std.specs.Prelude.{◌≡◌, ◌≢◌, ◌≤◌, ◌^◌, ◌⊎◌, Some, None, length, Ok, Err, IfOk, IfErr, OnErr, MatchResult};
-ghost use Rattle.fe2o3_sasl_runs.specs.Events.{ServerSays};
-ghost use Rattle.fe2o3_sasl_runs.specs.Runs.{AcceptorSteps, server_reply};
+ghost use Rattle.fe2o3_sasl_core.specs.Events.{ServerSays};
+ghost use Rattle.fe2o3_sasl_core.specs.Runs.{AcceptorSteps, server_reply};
 ghost use Rattle.fe2o3_sasl_negotiation.specs.ServerNegotiation.{offer_body};
-ghost use Rattle.fe2o3_sasl_negotiation.specs.declared.standing.Turn.TheVariants.{Init, Response};
-ghost use Rattle.sasl_c.specs.SaslServer.{BodyAsks, BodyNames, BodyNamesNobody, host_tests};
+ghost use Rattle.fe2o3_sasl_negotiation.specs.declared.progress.FrameKind.TheVariants.{Init, Response};
+ghost use Rattle.sasl_c.specs.SaslServer.{BodyAsks, BodyNames, BodyNamesNoUser, host_tests};
 ghost use Rattle.fe2o3_scram.specs.Readings.{NoneHolds};
 ghost use Rattle.sasl_c.specs.Status.{Answers, AsksWhere, Fills, FillsWithin};
-ghost use Rattle.sasl_c.specs.Steps.{IsStepped, NotStepped, HostOffers, ServerHides, ServerNotStepped, ServerStepped, ServerSteps, ServerTells, StepNames, standing_number};
+ghost use Rattle.sasl_c.specs.Steps.{IsStepped, NotStepped, HostOffers, ServerHides, ServerNotStepped, ServerStepped, ServerSteps, ServerTells, StepNames, progress_number};
 ghost use Rattle.sasl_c.specs.declared.status.Status.TheVariants.{FrameTooLarge, OutOfMemory as StatusOutOfMemory, RoomTooSmall};
 
 use crate::arrays::put;
@@ -19,8 +19,8 @@ use crate::server_user::body_user;
 use crate::status::{Status, number};
 use crate::steps::{behind, has_room, number_of, sendable};
 use bytes::BytesMut;
-use fe2o3_sasl_negotiation::{Standing, Turn};
-use fe2o3_sasl_runs::{SaslAcceptor, SaslAcceptorExt, ServerReply, acceptor_body_step};
+use fe2o3_sasl_negotiation::{Progress, FrameKind};
+use fe2o3_sasl_core::{SaslAcceptor, SaslAcceptorExt, ServerReply, acceptor_body_step};
 use fe2o3_sasl_wire::{Error, Frame, FrameCodec};
 use fe2o3_scram::Meter;
 use std::alloc::Global;
@@ -86,13 +86,13 @@ pub extern "C" fn fe2o3_sasl_server_offer(
 }
 
 /// The body that a reply sends, and how the login stands behind it.
-fn told(reply: ServerReply) -> Result<(Vec<u8>, Standing), Status>
+fn told(reply: ServerReply) -> Result<(Vec<u8>, Progress), Status>
     ensures told { MatchResult result (λ told. ServerTells (server_reply reply) told.0.items told.1)
         (λ status. ServerHides (server_reply reply) status) }
     ensures room { IfErr result (λ status. status ≢ RoomTooSmall) }
 {
     match reply {
-        ServerReply::Challenge { body } => Ok((sendable(body)?, Standing::Wanting)),
+        ServerReply::Challenge { body } => Ok((sendable(body)?, Progress::InProgress)),
         ServerReply::Outcome { code, body } => Ok((sendable(body)?, behind(code))),
     }
 }
@@ -104,7 +104,7 @@ struct Made {
     sent: Vec<u8>,
 
     /// How the login stands then.
-    standing: Standing,
+    progress: Progress,
 
     /// The struct then.
     next: ScramServer,
@@ -120,7 +120,7 @@ fn stepped<A: Shows + Drop>(
 ) -> Result<Made, Status>
     requires { meter.old ≤ 2 ^ 63 }
     ensures ok { IfOk result (λ made. IsStepped A.state A.machine A.shows A.written_for (A.state acceptor)
-        (record { body = body.now; nonce = nonce.now }) made.next made.standing made.sent.items) }
+        (record { body = body.now; nonce = nonce.now }) made.next made.progress made.sent.items) }
     ensures err { IfErr result (λ status. status ≢ StatusOutOfMemory → NotStepped A.state A.machine A.shows
         (A.state acceptor)
         (record { body = body.now; nonce = nonce.now }) status) }
@@ -131,16 +131,16 @@ fn stepped<A: Shows + Drop>(
         Ok(reply) => reply,
         Err(fault) => return Err(of_frame(fault)),
     };
-    let (sent, standing) = match told(reply) {
+    let (sent, progress) = match told(reply) {
         Ok(told) => told,
         Err(status) => return Err(status),
     };
-    let Some(next) = acceptor.shown(standing) else {
+    let Some(next) = acceptor.shown(progress) else {
         return Err(Status::TooLong);
     };
     Ok(Made {
         sent,
-        standing,
+        progress,
         next,
     })
 }
@@ -156,7 +156,7 @@ fn answered(
 ) -> Result<Made, Status>
     requires { meter.old ≤ 2 ^ 63 }
     ensures ok { IfOk result (λ made. ServerStepped host.now (record { body = body.now; nonce = nonce.now })
-        server.now made.next (standing_number made.standing) made.sent.items) }
+        server.now made.next (progress_number made.progress) made.sent.items) }
     ensures fits { IfOk result (λ made. length made.sent.items ≤ 508) }
     ensures err { IfErr result (λ status. status ≢ StatusOutOfMemory
         → ServerNotStepped host.now (record { body = body.now; nonce = nonce.now }) server.now status) }
@@ -181,15 +181,15 @@ fn step(
     body: &[u8],
     nonce: &[u8; 32],
     meter: &mut Meter,
-    standing: &mut u32,
+    progress: &mut u32,
     out: &mut [u8],
     len: &mut usize,
 ) -> Result<(), Status>
     requires { meter.old ≤ 2 ^ 63 }
     ensures text { FillsWithin 508 (ServerSteps host.now (record { body = body.now; nonce = nonce.now }) server.old
-        server.new standing.new) (record { bytes = out.old; len = len.old })
+        server.new progress.new) (record { bytes = out.old; len = len.old })
         (record { bytes = out.new; len = len.new }) result }
-    ensures stays { OnErr result ((server.new ≡ server.old) × (standing.new ≡ standing.old)) }
+    ensures stays { OnErr result ((server.new ≡ server.old) × (progress.new ≡ progress.old)) }
     ensures first { IfErr result (λ status. status ≡ RoomTooSmall → meter.new ≡ meter.old) }
     ensures memory { AsksWhere (NoneHolds (host_tests host.now)) result }
 {
@@ -199,17 +199,17 @@ fn step(
         Err(status) => return Err(status),
     };
     put(&made.sent, out, len)?;
-    *standing = number_of(made.standing);
+    *progress = number_of(made.progress);
     *server = made.next;
     Ok(())
 }
 
 /// Takes the body of a frame that the client sent, behind the four bytes of the frame's size, and writes the body that
-/// is to be sent: a challenge, or the outcome. Standing is 0 while the login goes on, 1 once the client is logged in, and
+/// is to be sent: a challenge, or the outcome. Progress is 0 while the login goes on, 1 once the client is logged in, and
 /// the number of a refusal (81 to 84) where the outcome is one, which is to be sent too; hand in no body after that. A
 /// room of 508 bytes suffices, and is asked for before any hash is made. Before the call the caller fetches the record
-/// of the user whom the body names (`fe2o3_sasl_server_step_user`), if it names one. Once the client is logged in, the
-/// struct names the user of any mechanism (`fe2o3_scram_server_logged_in`); ANONYMOUS names nobody. The nonce is 32
+/// of the user whom the body names (`fe2o3_sasl_server_step_claimed_user`), if it names one. Once the client is logged in, the
+/// struct names the user of any mechanism (`fe2o3_scram_server_authenticated_user`); ANONYMOUS names nobody. The nonce is 32
 /// random bytes, fresh for each call.
 ///
 /// It is for who reads the frames, refuses those of more than 512 bytes, and knows whose turn it is: a login takes an
@@ -224,19 +224,19 @@ pub extern "C" fn fe2o3_sasl_server_step(
     server: &mut ScramServer,
     body: &[u8],
     nonce: &[u8; 32],
-    standing: &mut u32,
+    progress: &mut u32,
     out: &mut [u8],
     len: &mut usize,
 ) -> u32
     ensures { Answers result (λ answer. FillsWithin 508 (ServerSteps host.now
-        (record { body = body.now; nonce = nonce.now }) server.old server.new standing.new)
+        (record { body = body.now; nonce = nonce.now }) server.old server.new progress.new)
         (record { bytes = out.old; len = len.old }) (record { bytes = out.new; len = len.new }) answer
-        × OnErr answer ((server.new ≡ server.old) × (standing.new ≡ standing.old))
+        × OnErr answer ((server.new ≡ server.old) × (progress.new ≡ progress.old))
         × AsksWhere (NoneHolds (host_tests host.now)) answer) }
 {
     let mut meter = Meter::new();
     number(step(
-        alloc, host, server, body, nonce, &mut meter, standing, out, len,
+        alloc, host, server, body, nonce, &mut meter, progress, out, len,
     ))
 }
 
@@ -247,12 +247,12 @@ fn named(alloc: Global, server: &ScramServer, body: &[u8]) -> Result<Vec<u8>, St
     ensures memory { AsksWhere (BodyAsks server.now Init body.now ⊎ BodyAsks server.now Response body.now) result }
     ensures room { IfErr result (λ status. status ≢ RoomTooSmall) }
 {
-    if let Some(name) = body_user(alloc, server, Turn::Init, body)? {
+    if let Some(name) = body_user(alloc, server, FrameKind::Init, body)? {
         return Ok(name);
     }
-    match body_user(alloc, server, Turn::Response, body)? {
+    match body_user(alloc, server, FrameKind::Response, body)? {
         Some(name) => Ok(name),
-        None => Err(Status::NamesNobody),
+        None => Err(Status::NamesNoUser),
     }
 }
 
@@ -279,7 +279,7 @@ fn user(
 /// taken: that of an init of SCRAM or PLAIN, and for a response that of the open challenge. Where it names nobody, the
 /// number is that of `NAMES_NOBODY`, and no record is needed.
 #[unsafe(no_mangle)]
-pub extern "C" fn fe2o3_sasl_server_step_user(
+pub extern "C" fn fe2o3_sasl_server_step_claimed_user(
     alloc: Global,
     server: &ScramServer,
     body: &[u8],

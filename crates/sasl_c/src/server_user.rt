@@ -1,7 +1,7 @@
 //! Whom the bytes of a connection, or the body of a frame, name to a server before it takes them.
 
 ghost use Rattle.std.specs.Prelude.{true, ◌≡◌, ◌≢◌, ℕ, List, Ok, IfOk, IfErr, OnErr, MatchOption};
-ghost use Rattle.sasl_c.specs.SaslServer.{AwaitsFrame, BodyAsks, BodyNames, BodyNamesNobody, FrameAsks, FrameNames, InitAsks, InitNames, Named, Names, NotNamed, ResponseAsks, ResponseNames};
+ghost use Rattle.sasl_c.specs.SaslServer.{AwaitsFrame, BodyAsks, BodyNames, BodyNamesNoUser, FrameAsks, FrameNames, InitAsks, InitNames, Named, Names, NotNamed, ResponseAsks, ResponseNames};
 ghost use Rattle.fe2o3_sasl_wire.specs.FrameView.{shown, viewed_frame};
 ghost use Rattle.fe2o3_scram.specs.ClientFirst.{ClientFirst as FirstValues, ReadsClientFirst};
 ghost use Rattle.fe2o3_scram.specs.ServerFirst.{ServerChallenge};
@@ -13,8 +13,8 @@ use crate::arrays::put;
 use crate::sasl_server::SaslServer;
 use crate::server::ScramServer;
 use crate::status::{Status, number};
-use fe2o3_sasl_negotiation::{Due, TakeUpError, Turn};
-use fe2o3_sasl_runs::plain_authenticator::plain_user;
+use fe2o3_sasl_negotiation::{Expected, RestoreError, FrameKind};
+use fe2o3_sasl_core::plain_server::plain_user;
 use fe2o3_sasl_wire::{FrameView, view_frame};
 use fe2o3_scram::{ClientFirst, ScramVersion, ServerScramErrorKind};
 use std::alloc::Global;
@@ -29,7 +29,7 @@ fn scram_user(alloc: Global, text: &[u8]) -> Result<Option<Vec<u8>>, Status>
     ensures err { IfErr result (λ status. status ≡ StatusOutOfMemory) }
     ensures memory { OnErr result (ReadsFirst true text.now) }
 {
-    match ClientFirst::parse_unbound(alloc, text, true) {
+    match ClientFirst::parse_with_cbind_flag_y(alloc, text, true) {
         Ok(first) => Ok(Some(first.username.as_bytes().to_vec(alloc)?)),
         Err(ServerScramErrorKind::OutOfMemory) => Err(Status::OutOfMemory),
         Err(_) => Ok(None),
@@ -92,7 +92,7 @@ fn open_user(alloc: Global, scram: &ScramServer) -> Result<Option<Vec<u8>>, Stat
 fn frame_user(
     alloc: Global,
     scram: &ScramServer,
-    turn: Turn,
+    turn: FrameKind,
     frame: &FrameView<'_>,
 ) -> Result<Option<Vec<u8>>, Status>
     ensures ok { IfOk result (λ user. MatchOption user
@@ -103,14 +103,14 @@ fn frame_user(
 {
     match (turn, frame) {
         (
-            Turn::Init,
+            FrameKind::Init,
             FrameView::Init {
                 mechanism,
                 initial_response,
                 ..
             },
         ) => response_user(alloc, mechanism, *initial_response),
-        (Turn::Response, FrameView::Response(_)) => open_user(alloc, scram),
+        (FrameKind::Response, FrameView::Response(_)) => open_user(alloc, scram),
         _ => Ok(None),
     }
 }
@@ -120,10 +120,10 @@ fn frame_user(
 pub fn body_user(
     alloc: Global,
     scram: &ScramServer,
-    turn: Turn,
+    turn: FrameKind,
     body: &[u8],
 ) -> Result<Option<Vec<u8>>, Status>
-    ensures ok { IfOk result (λ user. MatchOption user (BodyNamesNobody scram.now turn body.now)
+    ensures ok { IfOk result (λ user. MatchOption user (BodyNamesNoUser scram.now turn body.now)
         (λ user. BodyNames scram.now turn body.now user.items)) }
     ensures err { IfErr result (λ status. status ≡ StatusOutOfMemory) }
     ensures memory { OnErr result (BodyAsks scram.now turn body.now) }
@@ -145,17 +145,17 @@ fn named(alloc: Global, server: &SaslServer, bytes: &[u8]) -> Result<Vec<u8>, St
     let kept = server.connection.read()?;
     let body = match kept.completed(alloc, bytes) {
         Ok(Some(body)) => body,
-        Ok(None) => return Err(Status::NamesNobody),
-        Err(TakeUpError::NotKept) => return Err(Status::NotKept),
-        Err(TakeUpError::OtherUser) => return Err(Status::NotKept),
-        Err(TakeUpError::OutOfMemory) => return Err(Status::OutOfMemory),
+        Ok(None) => return Err(Status::NamesNoUser),
+        Err(RestoreError::InvalidSnapshot) => return Err(Status::InvalidSnapshot),
+        Err(RestoreError::OtherUser) => return Err(Status::InvalidSnapshot),
+        Err(RestoreError::OutOfMemory) => return Err(Status::OutOfMemory),
     };
-    let Due::Frame(turn) = kept.due else {
-        return Err(Status::NamesNobody);
+    let Expected::Frame(turn) = kept.expected else {
+        return Err(Status::NamesNoUser);
     };
     match body_user(alloc, &server.scram, turn, &body) {
         Ok(Some(name)) => Ok(name),
-        Ok(None) => Err(Status::NamesNobody),
+        Ok(None) => Err(Status::NamesNoUser),
         Err(status) => Err(status),
     }
 }
@@ -183,7 +183,7 @@ fn user(
 /// before they are taken: that of an init of SCRAM or PLAIN, and for a response that of the open challenge. Where they
 /// complete no frame, or one that names nobody, the number is that of `NAMES_NOBODY`, and no record is needed.
 #[unsafe(no_mangle)]
-pub extern "C" fn fe2o3_sasl_server_user(
+pub extern "C" fn fe2o3_sasl_server_claimed_user(
     alloc: Global,
     server: &SaslServer,
     bytes: &[u8],

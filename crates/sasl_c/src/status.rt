@@ -55,10 +55,10 @@ pub enum Status {
     Ended,
 
     /// The struct of the connection is none that a call leaves.
-    NotKept,
+    InvalidSnapshot,
 
     /// The bytes complete no frame that names a user.
-    NamesNobody,
+    NamesNoUser,
 
     /// A client refuses what a server sent.
     Client(ScramErrorKind),
@@ -85,13 +85,13 @@ pub enum Status {
     NotWritable,
 
     /// The other side's header is not that of SASL.
-    OtherHeader,
+    ProtocolHeaderMismatch,
 
     /// The size of a frame is below 8 or above 512.
     FrameSize,
 
-    /// The frame is not the one that is due.
-    OutOfTurn,
+    /// The frame is not the one that is expected.
+    UnexpectedFrame,
 
     /// The answer fits in no frame of 512 bytes.
     ReplyTooLarge,
@@ -183,8 +183,8 @@ impl Status {
             Status::OtherPassword => 11,
             Status::NoSuchMechanism => 12,
             Status::Ended => 13,
-            Status::NotKept => 14,
-            Status::NamesNobody => 15,
+            Status::InvalidSnapshot => 14,
+            Status::NamesNoUser => 15,
             Status::Client(why) => client_number(why),
             Status::Server(why) => server_number(why),
             Status::NoRecord(why) => record_text_number(why),
@@ -193,9 +193,9 @@ impl Status {
             Status::InvalidName => 67,
             Status::NoSuchUser => 68,
             Status::NotWritable => 69,
-            Status::OtherHeader => 70,
+            Status::ProtocolHeaderMismatch => 70,
             Status::FrameSize => 71,
-            Status::OutOfTurn => 72,
+            Status::UnexpectedFrame => 72,
             Status::ReplyTooLarge => 73,
             Status::FrameUnread => 74,
             Status::NoSaslFrame => 75,
@@ -230,7 +230,7 @@ fn client_number(why: ScramErrorKind) -> u32
         ScramErrorKind::IterationCountTooSmall => 29,
         ScramErrorKind::IterationCountTooLarge => 30,
         ScramErrorKind::NormalizeError => 31,
-        ScramErrorKind::OtherKeys => 32,
+        ScramErrorKind::StaleKeys => 32,
         ScramErrorKind::HmacErrorInvalidLength => 33,
         ScramErrorKind::XorLengthMismatch => 34,
         ScramErrorKind::IllegalClientState => 35,

@@ -1,12 +1,12 @@
 //! What the steps of a client and of a server over the bodies of frames have in common.
 
 ghost use Rattle.std.specs.Prelude.{◌≡◌, ◌<◌, ◌≤◌, length, IfOk, IfErr, MatchResult};
-ghost use Rattle.sasl_c.specs.Steps.{IsSent, IsUnsent, behind_code, standing_number};
+ghost use Rattle.sasl_c.specs.Steps.{IsSent, IsUnsent, behind_code, progress_number};
 ghost use Rattle.sasl_c.specs.declared.status.Status.TheVariants.{RoomTooSmall};
 
 use crate::connection::of_closed;
 use crate::status::Status;
-use fe2o3_sasl_negotiation::{ClosedBecause, Standing};
+use fe2o3_sasl_negotiation::{CloseReason, Progress};
 use fe2o3_sasl_wire::SaslCode;
 
 /// The most bytes of a body that is sent.
@@ -35,22 +35,22 @@ pub fn sendable(body: Vec<u8>) -> Result<Vec<u8>, Status>
 }
 
 /// How a login stands behind an outcome.
-pub fn behind(code: SaslCode) -> Standing
+pub fn behind(code: SaslCode) -> Progress
     ensures { result ≡ behind_code code }
 {
     match code {
-        SaslCode::Ok => Standing::LoggedIn,
-        code => Standing::Closed(ClosedBecause::Refused(code)),
+        SaslCode::Ok => Progress::Authenticated,
+        code => Progress::Failed(CloseReason::Refused(code)),
     }
 }
 
 /// The number of how a login stands.
-pub fn number_of(standing: Standing) -> u32
-    ensures { result ≡ standing_number standing }
+pub fn number_of(progress: Progress) -> u32
+    ensures { result ≡ progress_number progress }
 {
-    match standing {
-        Standing::Wanting => 0,
-        Standing::LoggedIn => 1,
-        Standing::Closed(why) => of_closed(why).number(),
+    match progress {
+        Progress::InProgress => 0,
+        Progress::Authenticated => 1,
+        Progress::Failed(why) => of_closed(why).number(),
     }
 }

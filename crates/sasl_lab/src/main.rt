@@ -1,7 +1,7 @@
-//! The program `sasl_lab`: `sasl_commands` over the words and the streams that it is given.
+//! The program `sasl_lab`: `sasl_lab_lib` over the words and the streams that it is given.
 #![tactic(auto)]
 
-use sasl_commands::stop::Stop;
+use sasl_lab_lib::stop::Stop;
 use std::process::ExitCode;
 use std::rt::Env;
 use std::{env, io};
@@ -20,7 +20,7 @@ fn main(rt: HostRuntime) -> ExitCode {
     let status = match words(&rt) {
         Ok(words) => {
             let (mut input, mut errors) = (rt.reader(), rt.stderr());
-            sasl_commands::run(rt.alloc(), &words, &mut input, &mut output, &mut errors)
+            sasl_lab_lib::run(rt.alloc(), &words, &mut input, &mut output, &mut errors)
         }
         Err(stop) => stop.end(&mut output),
     };

@@ -1,7 +1,7 @@
-//! The program `scram`: `scram_commands` over the words and the streams that it is given.
+//! The program `scram`: `scram_lib` over the words and the streams that it is given.
 #![tactic(auto)]
 
-use scram_commands::stop::Stop;
+use scram_lib::stop::Stop;
 use std::io::BufReader;
 use std::process::ExitCode;
 use std::rt::Env;
@@ -21,12 +21,12 @@ fn run(rt: &HostRuntime) -> Result<u8, Stop> {
     let words = words(rt)?;
     let mut input = BufReader::new(rt.alloc(), rt.reader()).map_err(Stop::of_input)?;
     let (mut output, mut errors) = (io::writer(rt), rt.stderr());
-    Ok(scram_commands::run(rt, &words, &mut input, &mut output, &mut errors))
+    Ok(scram_lib::run(rt, &words, &mut input, &mut output, &mut errors))
 }
 
 fn main(rt: HostRuntime) -> ExitCode {
     match run(&rt) {
         Ok(status) => ExitCode::from(status),
-        Err(stop) => ExitCode::from(scram_commands::tell(stop, &mut rt.stderr())),
+        Err(stop) => ExitCode::from(scram_lib::tell(stop, &mut rt.stderr())),
     }
 }

@@ -3,7 +3,7 @@
 use crate::cuts::{Call, End, Row, all_end, text};
 use crate::units::*;
 use fe2o3_sasl::sasl_profile::{SaslProfile, SaslScramSha256};
-use fe2o3_sasl_negotiation::{ClosedBecause, Piece, Standing, client_connection};
+use fe2o3_sasl_negotiation::{CloseReason, Piece, Progress, client_connection};
 use fe2o3_sasl_wire::SaslCode;
 use std::process::Abort;
 
@@ -17,7 +17,7 @@ impl Call for Client {
         let scram = SaslScramSha256::new(text(rt, USER), text(rt, PASSWORD));
         let answered = client_connection(rt.alloc(), SaslProfile::from(scram), None, pieces);
         let answered = answered.expect(rt, "memory");
-        end.is(&answered, answered.side.standing())
+        end.is(&answered, answered.side.progress())
     }
 }
 
@@ -27,42 +27,42 @@ static ROWS: [Row; 6] = [
         name: "A login by SCRAM-SHA-256, all at once, with AMQP's header after it",
         given: &[SASL, MECHANISMS, CHALLENGE, OUTCOME, AMQP],
         sent: &[INIT, RESPONSE],
-        standing: Standing::LoggedIn,
+        progress: Progress::Authenticated,
         stops: [(0, 261), (261, 0), (37, 2)],
     },
     Row {
         name: "A login by SCRAM-SHA-256, unit by unit, up to the response",
         given: &[SASL, MECHANISMS, CHALLENGE],
         sent: &[INIT, RESPONSE],
-        standing: Standing::Wanting,
+        progress: Progress::InProgress,
         stops: [(1, 0), (197, 0), (29, 0)],
     },
     Row {
         name: "The refusal in place of the outcome",
         given: &[SASL, MECHANISMS, CHALLENGE, OUTCOME_AUTH, AMQP],
         sent: &[INIT, RESPONSE],
-        standing: Standing::Closed(ClosedBecause::Refused(SaslCode::Auth)),
+        progress: Progress::Failed(CloseReason::Refused(SaslCode::Auth)),
         stops: [(0, 213), (213, 0), (30, 3)],
     },
     Row {
         name: "Another header",
         given: &[OTHER_HEADER, SASL],
         sent: &[],
-        standing: Standing::Closed(ClosedBecause::OtherHeader),
+        progress: Progress::Failed(CloseReason::ProtocolHeaderMismatch),
         stops: [(0, 8), (8, 0), (1, 1)],
     },
     Row {
         name: "The size 513 in place of the list",
         given: &[SASL, SIZE_513, AMQP],
         sent: &[],
-        standing: Standing::Closed(ClosedBecause::FrameSize),
+        progress: Progress::Failed(CloseReason::FrameSize),
         stops: [(0, 12), (12, 0), (1, 5)],
     },
     Row {
         name: "No bytes at all",
         given: &[],
         sent: &[],
-        standing: Standing::Wanting,
+        progress: Progress::InProgress,
         stops: [(0, 0); 3],
     },
 ];

@@ -1,6 +1,6 @@
 //! Cuts the bytes of a connection into pieces, and compares what a call returns over them.
 
-use fe2o3_sasl_negotiation::{Negotiated, Piece, Standing};
+use fe2o3_sasl_negotiation::{Negotiated, Piece, Progress};
 use std::process::Abort;
 
 /// The bytes of a connection, and what a call has to return over them.
@@ -15,7 +15,7 @@ pub struct Row {
     pub sent: &'static [&'static str],
 
     /// How the side stands at its end.
-    pub standing: Standing,
+    pub progress: Progress,
 
     /// For each length of `LENGTHS`, how many pieces the side takes whole, and how many bytes of the next.
     pub stops: [(usize, usize); 3],
@@ -28,14 +28,14 @@ static LENGTHS: [usize; 3] = [512, 1, 7];
 #[derive(Drop)]
 pub struct End<'a> {
     sent: &'a [u8],
-    standing: Standing,
+    progress: Progress,
     stop: (usize, usize),
 }
 
 impl End<'_> {
     /// Returns whether the call returned this, with a side that stands so.
-    pub fn is<S>(&self, negotiated: &Negotiated<S>, standing: Standing) -> bool {
-        standing == self.standing
+    pub fn is<S>(&self, negotiated: &Negotiated<S>, progress: Progress) -> bool {
+        progress == self.progress
             && (negotiated.pieces, negotiated.bytes) == self.stop
             && negotiated.sent.as_slice() == self.sent
     }
@@ -94,7 +94,7 @@ pub fn all_end<R: Abort + AllocGlobal, C: Call>(rt: &R, call: &C, rows: &[Row]) 
             let pieces = cut(rt, &given, *len, C::NONCE);
             let end = End {
                 sent: &sent,
-                standing: row.standing,
+                progress: row.progress,
                 stop: *stop,
             };
             assert!(rt; call.ends(rt, &pieces, &end), "{} {len}", row.name);

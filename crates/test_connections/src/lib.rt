@@ -1,5 +1,5 @@
 //! Tests of the public calls of `fe2o3_sasl_negotiation` that pass a whole connection in pieces, and of sides that are
-//! saved and restored. Expected values are rows of `crates/sasl_vectors/data/connections.txt`, which a model in Python
+//! saved and restored. Expected values are rows of `crates/test_vectors_sasl/data/connections.txt`, which a model in Python
 //! wrote (`tools/negotiations`).
 #![tactic(auto)]
 

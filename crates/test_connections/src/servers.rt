@@ -2,24 +2,24 @@
 
 use crate::cuts::{Call, End, Row, all_end, text};
 use crate::units::*;
-use fe2o3_sasl::credentials::{ScramRecord, StoredScramCredential};
+use fe2o3_sasl::credentials::{ScramRecord, UserRecord};
 use fe2o3_sasl::hmac::ScramVersion;
-use fe2o3_sasl::sasl_acceptor::{NamesUser, SaslPlainMechanism};
+use fe2o3_sasl::sasl_acceptor::{AuthenticatedUser, SaslPlainMechanism};
 use fe2o3_sasl_negotiation::{
-    ClosedBecause, Negotiated, Piece, ServerNegotiation, Standing, scram_server_connection,
+    CloseReason, Negotiated, Piece, ServerNegotiation, Progress, scram_server_connection,
     server_connection,
 };
 use fe2o3_sasl_wire::SaslCode;
 use std::process::Abort;
 
 /// Returns whether a server ends so, and names the user exactly if it has logged a client in.
-fn is_end<A: NamesUser>(served: &Negotiated<ServerNegotiation<A>>, end: &End<'_>) -> bool {
-    let standing = served.side.standing();
-    let user = match standing {
-        Standing::LoggedIn => Some(USER),
-        Standing::Wanting | Standing::Closed(_) => None,
+fn is_end<A: AuthenticatedUser>(served: &Negotiated<ServerNegotiation<A>>, end: &End<'_>) -> bool {
+    let progress = served.side.progress();
+    let user = match progress {
+        Progress::Authenticated => Some(USER),
+        Progress::InProgress | Progress::Failed(_) => None,
     };
-    end.is(served, standing) && served.side.user() == user
+    end.is(served, progress) && served.side.authenticated_user() == user
 }
 
 /// A server of PLAIN by [`server_connection`].
@@ -37,7 +37,7 @@ impl Call for Plain {
 
 /// A server of SCRAM over these credentials by [`scram_server_connection`].
 #[derive(Drop)]
-struct Scram(StoredScramCredential);
+struct Scram(UserRecord);
 
 impl Call for Scram {
     const NONCE: (u8, usize) = (2, 95);
@@ -54,28 +54,28 @@ static PLAIN: [Row; 4] = [
         name: "A login by PLAIN, all at once, with AMQP's header after it",
         given: &[SASL, PLAIN_INIT, AMQP],
         sent: &[SASL, PLAIN_MECHANISMS, PLAIN_OUTCOME],
-        standing: Standing::LoggedIn,
+        progress: Progress::Authenticated,
         stops: [(0, 43), (43, 0), (6, 1)],
     },
     Row {
         name: "A message of PLAIN, with another password",
         given: &[SASL, PLAIN_WRONG_INIT, AMQP],
         sent: &[SASL, PLAIN_MECHANISMS, OUTCOME_AUTH],
-        standing: Standing::Closed(ClosedBecause::Refused(SaslCode::Auth)),
+        progress: Progress::Failed(CloseReason::Refused(SaslCode::Auth)),
         stops: [(0, 43), (43, 0), (6, 1)],
     },
     Row {
         name: "A response to PLAIN",
         given: &[SASL, EMPTY_RESPONSE],
         sent: &[SASL, PLAIN_MECHANISMS],
-        standing: Standing::Closed(ClosedBecause::OutOfTurn),
+        progress: Progress::Failed(CloseReason::UnexpectedFrame),
         stops: [(1, 0), (24, 0), (4, 0)],
     },
     Row {
         name: "A login by PLAIN, unit by unit, its header",
         given: &[SASL],
         sent: &[SASL, PLAIN_MECHANISMS],
-        standing: Standing::Wanting,
+        progress: Progress::InProgress,
         stops: [(1, 0), (8, 0), (2, 0)],
     },
 ];
@@ -86,35 +86,35 @@ static SCRAM: [Row; 5] = [
         name: "A login by SCRAM-SHA-256, all at once, with AMQP's header after it",
         given: &[SASL, INIT, RESPONSE, AMQP],
         sent: &[SASL, MECHANISMS, CHALLENGE, OUTCOME],
-        standing: Standing::LoggedIn,
+        progress: Progress::Authenticated,
         stops: [(0, 255), (255, 0), (36, 3)],
     },
     Row {
         name: "A login by SCRAM-SHA-256, unit by unit, up to the challenge",
         given: &[SASL, INIT],
         sent: &[SASL, MECHANISMS, CHALLENGE],
-        standing: Standing::Wanting,
+        progress: Progress::InProgress,
         stops: [(1, 0), (95, 0), (14, 0)],
     },
     Row {
         name: "A wrong password",
         given: &[SASL, INIT, WRONG_RESPONSE, AMQP],
         sent: &[SASL, MECHANISMS, CHALLENGE, OUTCOME_AUTH],
-        standing: Standing::Closed(ClosedBecause::Refused(SaslCode::Auth)),
+        progress: Progress::Failed(CloseReason::Refused(SaslCode::Auth)),
         stops: [(0, 255), (255, 0), (36, 3)],
     },
     Row {
         name: "Another header",
         given: &[OTHER_HEADER, SASL],
         sent: &[SASL],
-        standing: Standing::Closed(ClosedBecause::OtherHeader),
+        progress: Progress::Failed(CloseReason::ProtocolHeaderMismatch),
         stops: [(0, 8), (8, 0), (1, 1)],
     },
     Row {
         name: "The size 513 in place of the init",
         given: &[SASL, SIZE_513, AMQP],
         sent: &[SASL, MECHANISMS],
-        standing: Standing::Closed(ClosedBecause::FrameSize),
+        progress: Progress::Failed(CloseReason::FrameSize),
         stops: [(0, 12), (12, 0), (1, 5)],
     },
 ];
@@ -129,6 +129,6 @@ fn scram_servers_end(rt: HostRuntime) {
     let (alloc, version) = (rt.alloc(), ScramVersion::Sha256);
     let record = ScramRecord::from_password(alloc, version, PASSWORD, &[3; 32], 1);
     let record = record.expect(&rt, "a record");
-    let stored = StoredScramCredential::new(text(&rt, USER), record);
+    let stored = UserRecord::new(text(&rt, USER), record);
     all_end(&rt, &Scram(stored), &SCRAM);
 }

@@ -11,8 +11,8 @@ use fe2o3_sasl::sasl_acceptor::{
     SaslAcceptor, SaslAcceptorExt, SaslAnonymousMechanism, SaslPlainMechanism, SaslServerFrame,
 };
 use fe2o3_sasl_wire::{Error, Frame};
-use help_bodies::bodies::*;
-use help_bodies::replies::{event, is_sent, is_server_reply};
+use test_help_bodies::bodies::*;
+use test_help_bodies::replies::{event, is_sent, is_server_reply};
 use std::alloc::Global;
 use std::test::Fail;
 
@@ -171,10 +171,10 @@ impl Call for Does {
         }
     }
 
-    /// Nobody has logged in, and the challenge is open that was.
+    /// MockSettings has logged in, and the challenge is open that was.
     fn stays(&self, _alloc: Global, row: &Row, acceptors: &mut Acceptors) -> Answer {
         let is_open = acceptors.scram.open_challenge().is_some();
-        right(acceptors.plain.user().is_none() && is_open != row.before.is_empty())
+        right(acceptors.plain.authenticated_user().is_none() && is_open != row.before.is_empty())
     }
 }
 

@@ -6,11 +6,11 @@ use crate::users::stored;
 use fe2o3_sasl::audit::{
     AuditError, Finding, FindingKind, Parameters, Verdict, audit, audit_limited,
 };
-use fe2o3_sasl::credentials::StoredScramCredential;
+use fe2o3_sasl::credentials::UserRecord;
 use fe2o3_sasl::hmac::ScramVersion;
 use fe2o3_sasl::runs::Event;
-use help_bodies::bodies::*;
-use help_bodies::replies::events;
+use test_help_bodies::bodies::*;
+use test_help_bodies::replies::events;
 use std::alloc::Global;
 use std::test::Fail;
 
@@ -27,7 +27,7 @@ enum OfAudit {
 struct Sides {
     client: Vec<Event>,
     server: Vec<Event>,
-    store: StoredScramCredential,
+    store: UserRecord,
 }
 
 /// Whether these are the parameters of the login.

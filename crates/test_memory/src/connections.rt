@@ -8,9 +8,9 @@ use fe2o3_sasl::OutOfMemory;
 use fe2o3_sasl::hmac::Meter;
 use fe2o3_sasl::sasl_profile::{SaslProfile, SaslScramSha256};
 use fe2o3_sasl::scram_server::ScramAuthenticator;
-use fe2o3_sasl_negotiation::{ClientNegotiation, Received, ServerNegotiation, Standing};
-use help_bodies::bodies::*;
-use help_bodies::replies::bytes_of;
+use fe2o3_sasl_negotiation::{ClientNegotiation, Received, ServerNegotiation, Progress};
+use test_help_bodies::bodies::*;
+use test_help_bodies::replies::bytes_of;
 use std::alloc::Global;
 use std::test::Fail;
 
@@ -28,7 +28,7 @@ struct Row {
     before: &'static [&'static str],
     given: &'static str,
     sends: &'static [&'static str],
-    standing: Standing,
+    progress: Progress,
 }
 
 /// Both sides of a connection.
@@ -122,7 +122,7 @@ impl Call for Side {
         match connection.sides.receive(alloc, self, given, &mut output) {
             Ok(it) => right(
                 it.taken == given.len()
-                    && it.standing == row.standing
+                    && it.progress == row.progress
                     && output.as_slice() == sends,
             ),
             Err(_) => want(output.is_empty()),
@@ -136,19 +136,19 @@ static SERVERS: [Row; 3] = [
         before: &[],
         given: HEADER,
         sends: &[HEADER, MECHANISMS],
-        standing: Standing::Wanting,
+        progress: Progress::InProgress,
     },
     Row {
         before: &[HEADER],
         given: INIT,
         sends: &[CHALLENGE],
-        standing: Standing::Wanting,
+        progress: Progress::InProgress,
     },
     Row {
         before: &[HEADER, INIT],
         given: RESPONSE,
         sends: &[OUTCOME],
-        standing: Standing::LoggedIn,
+        progress: Progress::Authenticated,
     },
 ];
 
@@ -158,19 +158,19 @@ static CLIENTS: [Row; 3] = [
         before: &[HEADER],
         given: MECHANISMS,
         sends: &[INIT],
-        standing: Standing::Wanting,
+        progress: Progress::InProgress,
     },
     Row {
         before: &[HEADER, MECHANISMS],
         given: CHALLENGE,
         sends: &[RESPONSE],
-        standing: Standing::Wanting,
+        progress: Progress::InProgress,
     },
     Row {
         before: &[HEADER, MECHANISMS, CHALLENGE],
         given: OUTCOME,
         sends: &[],
-        standing: Standing::LoggedIn,
+        progress: Progress::Authenticated,
     },
 ];
 

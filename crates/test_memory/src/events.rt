@@ -2,8 +2,8 @@
 
 use crate::calls::{Answer, Call, right, stand, take_none, want};
 use fe2o3_sasl::runs::{Event, EventError};
-use help_bodies::bodies::INIT;
-use help_bodies::replies::bytes_of;
+use test_help_bodies::bodies::INIT;
+use test_help_bodies::replies::bytes_of;
 use std::alloc::Global;
 use std::test::Fail;
 

@@ -5,7 +5,7 @@ use fe2o3_sasl::OutOfMemory;
 use fe2o3_sasl::runs::{ClientReply, Event, ServerReply};
 use fe2o3_sasl::sasl_profile::ProfileError;
 use fe2o3_sasl_wire::{Error, Frame};
-use help_bodies::replies::{bytes_of, events, frame, is_client_reply, is_server_reply, two_frames};
+use test_help_bodies::replies::{bytes_of, events, frame, is_client_reply, is_server_reply, two_frames};
 use std::alloc::Global;
 use std::test::Fail;
 

@@ -3,7 +3,7 @@
 use crate::blocks::TakenMemory;
 use crate::scram_values::{CLIENT_FIRST, SALT, WITHOUT_PROOF};
 use crate::users::stored;
-use fe2o3_scram::credentials::StoredScramCredential;
+use fe2o3_scram::credentials::UserRecord;
 use fe2o3_scram::scram_messages::ServerScramErrorKind;
 use fe2o3_scram::scram_server::hiding::HidingAuthenticator;
 use std::alloc::Global;
@@ -22,7 +22,7 @@ const STEP: usize = 16;
 const TRIES: usize = 1000;
 
 /// A server of one user.
-type Server = HidingAuthenticator<StoredScramCredential>;
+type Server = HidingAuthenticator<UserRecord>;
 
 /// Makes a server whose mock records have the salt length and the count of the stored record.
 fn server(alloc: Global) -> Result<Box<Server>, Fail> {

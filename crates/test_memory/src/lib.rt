@@ -44,7 +44,7 @@ mod scram_servers;
 #[cfg(test)]
 mod scram_values;
 #[cfg(test)]
-mod set_down;
+mod snapshot;
 #[cfg(test)]
 mod users;
 #[cfg(test)]

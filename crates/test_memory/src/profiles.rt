@@ -4,15 +4,15 @@
 use crate::calls::{Answer, Call, right, same, stand, want};
 use crate::handed::{Handed, client_ran, handed_of};
 use fe2o3_sasl::OutOfMemory;
-use fe2o3_sasl::client_keys::ScramClientKeys;
+use fe2o3_sasl::cached_keys::CachedKeys;
 use fe2o3_sasl::hmac::{Meter, ScramVersion};
 use fe2o3_sasl::runs::{
     ClientReply, Event, profile_step, run_profile, scram_client_run, scram_client_run_limited,
 };
 use fe2o3_sasl::sasl_profile::{Negotiation, ProfileError, SaslProfile, SaslScramSha256};
 use fe2o3_sasl_wire::{Frame, view_frame};
-use help_bodies::bodies::*;
-use help_bodies::replies::{event, is_client_reply, is_negotiated};
+use test_help_bodies::bodies::*;
+use test_help_bodies::replies::{event, is_client_reply, is_negotiated};
 use std::alloc::Global;
 use std::test::Fail;
 
@@ -86,7 +86,7 @@ struct AtProfile {
 /// A client of SCRAM with the keys of its password.
 fn keyed(alloc: Global, username: String) -> Result<SaslProfile, Fail> {
     let meter = &mut Meter::new();
-    let keys = ScramClientKeys::from_password(alloc, VERSION, PASSWORD, &[3; 32], 1, meter)?;
+    let keys = CachedKeys::from_password(alloc, VERSION, PASSWORD, &[3; 32], 1, meter)?;
     let scram = SaslScramSha256::with_keys(username, keys).ok_or("keys of its own version")?;
     Ok(SaslProfile::from(scram))
 }

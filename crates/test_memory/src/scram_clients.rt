@@ -5,7 +5,7 @@ use crate::calls::{Answer, Call, Expected, and, made, right, stand, told};
 use crate::scram_values::*;
 use bytes::Bytes;
 use fe2o3_scram::OutOfMemory;
-use fe2o3_scram::client_keys::ScramClientKeys;
+use fe2o3_scram::cached_keys::CachedKeys;
 use fe2o3_scram::client_secret::{ClientSecret, IterationLimits};
 use fe2o3_scram::credentials::RecordError;
 use fe2o3_scram::hmac::{Meter, ScramVersion};
@@ -42,10 +42,10 @@ enum Does {
     RespondByCopy,
 
     /// The server-final message is believed.
-    Believe,
+    Verify,
 
     /// The same of a copy.
-    BelieveByCopy,
+    VerifyByCopy,
 
     /// A copy of a client that has believed the server, which has its keys.
     CloneLast,
@@ -61,8 +61,8 @@ enum Does {
 }
 
 /// The keys of the password.
-fn keys(alloc: Global) -> Result<ScramClientKeys, RecordError> {
-    ScramClientKeys::from_password(alloc, VERSION, PASSWORD, &SALT, 1, &mut Meter::new())
+fn keys(alloc: Global) -> Result<CachedKeys, RecordError> {
+    CachedKeys::from_password(alloc, VERSION, PASSWORD, &SALT, 1, &mut Meter::new())
 }
 
 /// A client that has sent nothing.
@@ -82,7 +82,7 @@ fn calls_before(does: &Does) -> u8 {
     match does {
         Does::Start | Does::Answer | Does::MakeKeys | Does::CloneKeys => 0,
         Does::StartAfresh | Does::Respond | Does::RespondMetered | Does::RespondByCopy => 1,
-        Does::Believe | Does::BelieveByCopy => 2,
+        Does::Verify | Does::VerifyByCopy => 2,
         Does::CloneLast => 3,
     }
 }
@@ -102,7 +102,7 @@ fn log_in(alloc: Global, client: &mut ScramClient, calls: u8) -> Result<(), Fail
 }
 
 /// Whether these are there, and right.
-fn are_kept(keys: Option<&ScramClientKeys>) -> bool {
+fn are_kept(keys: Option<&CachedKeys>) -> bool {
     match keys {
         Some(keys) => keys.is_right(),
         None => false,
@@ -149,16 +149,16 @@ fn cost(by: Secret) -> u64 {
 }
 
 /// The server-final message is believed.
-fn believe(alloc: Global, client: &mut ScramClient) -> Answer {
-    let believed = client.validate_server_final(alloc, SERVER_FINAL.as_bytes());
+fn verify(alloc: Global, client: &mut ScramClient) -> Answer {
+    let verified = client.validate_server_final(alloc, SERVER_FINAL.as_bytes());
     and(
-        told(believed, ScramErrorKind::OutOfMemory),
+        told(verified, ScramErrorKind::OutOfMemory),
         has_made(client, 3),
     )
 }
 
 /// The answer by this secret without a client.
-fn answer_server_first(alloc: Global, by: Secret, keys: &ScramClientKeys) -> Answer {
+fn answer_server_first(alloc: Global, by: Secret, keys: &CachedKeys) -> Answer {
     let secret = match by {
         Secret::Password => ClientSecret::Password(PASSWORD),
         Secret::Keys => ClientSecret::Keys(keys),
@@ -187,7 +187,7 @@ fn answer_server_first(alloc: Global, by: Secret, keys: &ScramClientKeys) -> Ans
 /// A client, and the keys of its password.
 #[derive(Drop)]
 struct AtClient {
-    keys: ScramClientKeys,
+    keys: CachedKeys,
     client: Box<ScramClient>,
 }
 
@@ -196,7 +196,7 @@ fn copy_goes_on(alloc: Global, client: &ScramClient, does: &Does, by: Secret) ->
     match client.clone() {
         Ok(mut copy) => match does {
             Does::RespondByCopy => respond(alloc, &mut copy, by),
-            Does::BelieveByCopy => believe(alloc, &mut copy),
+            Does::VerifyByCopy => verify(alloc, &mut copy),
             _ => right(has_made(&copy, 3)),
         },
         Err(_) => Answer::WantOfMemory,
@@ -232,8 +232,8 @@ impl Call for Does {
                 ScramErrorKind::OutOfMemory,
             ),
             Does::RespondMetered => respond(alloc, client, *by),
-            Does::Believe => believe(alloc, client),
-            Does::RespondByCopy | Does::BelieveByCopy | Does::CloneLast => {
+            Does::Verify => verify(alloc, client),
+            Does::RespondByCopy | Does::VerifyByCopy | Does::CloneLast => {
                 copy_goes_on(alloc, client, self, *by)
             }
             Does::Answer => answer_server_first(alloc, *by, &at.keys),
@@ -254,8 +254,8 @@ static DOES: [Does; 11] = [
     Does::Respond,
     Does::RespondMetered,
     Does::RespondByCopy,
-    Does::Believe,
-    Does::BelieveByCopy,
+    Does::Verify,
+    Does::VerifyByCopy,
     Does::CloneLast,
     Does::Answer,
     Does::MakeKeys,

@@ -3,10 +3,10 @@
 use crate::calls::Expected;
 use crate::scram_values::*;
 use bytes::Bytes;
-use fe2o3_scram::client_keys::ScramClientKeys;
+use fe2o3_scram::cached_keys::CachedKeys;
 use fe2o3_scram::credentials::{
     ScramCredentialProvider, ScramRecord, SingleScramCredential, StoredPassword,
-    StoredScramCredential,
+    UserRecord,
 };
 use fe2o3_scram::scram_messages::{
     ClientAnswer, ClientFinal, ClientFirst, ServerFinal, ServerFirst, ServerFirstMessage,
@@ -90,7 +90,7 @@ impl Expected for Option<ServerFirstMessage<'_>> {
 }
 
 /// The keys of the password.
-impl Expected for ScramClientKeys {
+impl Expected for CachedKeys {
     fn is_right(&self) -> bool {
         self.salt() == SALT.as_slice()
             && self.iterations() == 1
@@ -123,7 +123,7 @@ pub fn has_record<C: ScramCredentialProvider>(provider: &C, username: &str) -> b
     }
 }
 
-impl Expected for StoredScramCredential {
+impl Expected for UserRecord {
     fn is_right(&self) -> bool {
         has_record(self, USER)
     }

@@ -4,10 +4,10 @@ use crate::calls::{Answer, Call, Expected, right, take_none};
 use crate::scram_expected::has_record;
 use crate::scram_values::*;
 use crate::users::{record, stored, two_names, two_of};
-use fe2o3_scram::client_keys::ScramClientKeys;
+use fe2o3_scram::cached_keys::CachedKeys;
 use fe2o3_scram::credentials::{
-    RecordError, RecordTextError, ScramCredentialProvider, ScramCredentials, ScramRecord,
-    StoredScramCredential,
+    RecordError, RecordTextError, ScramCredentialProvider, RecordStore, ScramRecord,
+    UserRecord,
 };
 use fe2o3_scram::hmac::{Meter, ScramVersion};
 use fe2o3_scram::scram_client::ScramClient;
@@ -142,7 +142,7 @@ struct Parts {
     names: Vec<String>,
     keys: Vec<Vec<u8>>,
     record: Option<ScramRecord>,
-    provider: Option<StoredScramCredential>,
+    provider: Option<UserRecord>,
 }
 
 /// The record's server key, stored key and salt.
@@ -158,12 +158,12 @@ fn keys(alloc: Global) -> Result<Vec<Vec<u8>>, Fail> {
 fn client_of(making: &Making, parts: &mut Parts) -> Option<ScramClient> {
     let (user, password) = two_of(&mut parts.names)?;
     let salt = parts.keys.pop()?;
-    let keys = ScramClientKeys::from_parts(VERSION, salt, 1, &CLIENT_KEY, &SERVER_KEY).ok()?;
+    let keys = CachedKeys::from_parts(VERSION, salt, 1, &CLIENT_KEY, &SERVER_KEY).ok()?;
     let signature = parts.keys.pop()?;
     Some(match making {
-        Making::ClientWithKeys => ScramClient::with_keys(user, keys).with_least_iterations(1),
+        Making::ClientWithKeys => ScramClient::with_keys(user, keys).with_min_iterations(1),
         Making::ClientWithBoth => ScramClient::with_password_and_keys(user, password, keys)
-            .with_least_iterations(1)
+            .with_min_iterations(1)
             .with_iteration_limit(1),
         Making::ClientTakenUp => {
             ScramClient::new(user, password, VERSION).waiting_for(signature, Some(keys))
@@ -215,7 +215,7 @@ fn has_the_record<C: ScramCredentialProvider>(provider: &C) -> bool {
 
 fn credential_is_made(parts: &mut Parts) -> bool {
     match (parts.names.pop(), parts.record.take()) {
-        (Some(user), Some(record)) => has_the_record(&StoredScramCredential::new(user, record)),
+        (Some(user), Some(record)) => has_the_record(&UserRecord::new(user, record)),
         _ => false,
     }
 }
@@ -231,7 +231,7 @@ fn server_is_made(alloc: Global, parts: &mut Parts) -> bool {
 }
 
 fn store_is_made(alloc: Global) -> bool {
-    let store = ScramCredentials::new(alloc, VERSION);
+    let store = RecordStore::new(alloc, VERSION);
     store.get_stored_password(USER).is_none() && *store.scram_version() == VERSION
 }
 

@@ -4,7 +4,7 @@ use crate::calls::{Answer, Call, and, made, stand, told};
 use crate::scram_values::*;
 use crate::users::stored;
 use fe2o3_scram::OutOfMemory;
-use fe2o3_scram::credentials::{StoredPassword, StoredScramCredential};
+use fe2o3_scram::credentials::{StoredPassword, UserRecord};
 use fe2o3_scram::hmac::{Meter, ScramVersion};
 use fe2o3_scram::scram_messages::{
     ClientFinal, ClientFirst, ScramErrorKind, ServerFinal, ServerFirst, ServerScramErrorKind,
@@ -23,7 +23,7 @@ enum Written {
     ClientFinalLimited,
     ServerFinal,
     ServerFinalMetered,
-    Believed,
+    Verified,
 }
 
 /// What is kept of the password.
@@ -56,13 +56,13 @@ fn server_final(alloc: Global, is_metered: bool) -> Answer {
 impl Call for Written {
     type Row = ();
 
-    type Subject = StoredScramCredential;
+    type Subject = UserRecord;
 
-    fn subject(&self, alloc: Global, _row: &()) -> Result<StoredScramCredential, Fail> {
+    fn subject(&self, alloc: Global, _row: &()) -> Result<UserRecord, Fail> {
         stored(alloc)
     }
 
-    fn answer(&self, alloc: Global, _row: &(), store: &mut StoredScramCredential) -> Answer {
+    fn answer(&self, alloc: Global, _row: &(), store: &mut UserRecord) -> Answer {
         let (first, bare) = (CLIENT_FIRST.as_bytes(), CLIENT_FIRST_BARE.as_bytes());
         let (nonce, challenge, want) = (CLIENT_NONCE, SERVER_FIRST, ScramErrorKind::OutOfMemory);
         let mut meter = Meter::new();
@@ -93,7 +93,7 @@ impl Call for Written {
             }
             Written::ServerFinal => server_final(alloc, false),
             Written::ServerFinalMetered => server_final(alloc, true),
-            Written::Believed => told(
+            Written::Verified => told(
                 VERSION.validate_server_final(alloc, SERVER_FINAL.as_bytes(), &SIGNATURE),
                 want,
             ),
@@ -109,7 +109,7 @@ static WRITTEN: [Written; 8] = [
     Written::ClientFinalLimited,
     Written::ServerFinal,
     Written::ServerFinalMetered,
-    Written::Believed,
+    Written::Verified,
 ];
 
 /// A call that reads a message.

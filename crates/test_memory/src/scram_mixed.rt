@@ -5,7 +5,7 @@ use crate::scram_values::USER;
 use crate::users::new_users;
 use fe2o3_scram::OutOfMemory;
 use fe2o3_scram::credentials::{
-    MixedCredentials, ReadLinesErrorKind, ScramRecord, WriteLinesError,
+    MultiRecordStore, ReadLinesErrorKind, ScramRecord, WriteLinesError,
 };
 use fe2o3_scram::hmac::ScramVersion;
 use std::alloc::Global;
@@ -37,12 +37,12 @@ type Row = (&'static str, &'static str);
 /// A store, and users to add, one for each call. Their records are of SHA-256.
 #[derive(Drop)]
 struct Mixed {
-    store: MixedCredentials,
+    store: MultiRecordStore,
     new: Vec<(String, ScramRecord)>,
 }
 
 /// Whether the store has a record of this version and name.
-fn has(store: &MixedCredentials, version: ScramVersion, name: &str) -> bool {
+fn has(store: &MultiRecordStore, version: ScramVersion, name: &str) -> bool {
     store.for_version(version).record(name).is_some()
 }
 
@@ -54,7 +54,7 @@ impl Call for OfMixed {
     fn subject(&self, alloc: Global, row: &Row) -> Result<Mixed, Fail> {
         Ok(Mixed {
             new: new_users(alloc)?,
-            store: MixedCredentials::parse_lines(alloc, row.0)?,
+            store: MultiRecordStore::parse_lines(alloc, row.0)?,
         })
     }
 
@@ -72,7 +72,7 @@ impl Call for OfMixed {
                 Ok(records) => right(records.len() == 2),
                 Err(_) => Answer::WantOfMemory,
             },
-            OfMixed::Parse => match MixedCredentials::parse_lines(alloc, row.0) {
+            OfMixed::Parse => match MultiRecordStore::parse_lines(alloc, row.0) {
                 Ok(read) => right(
                     has(&read, ScramVersion::Sha1, "third")
                         && has(&read, ScramVersion::Sha256, "second"),

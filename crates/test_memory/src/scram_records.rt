@@ -6,8 +6,8 @@ use crate::scram_values::*;
 use crate::users::{new_users, record, stored, two_names};
 use fe2o3_scram::OutOfMemory;
 use fe2o3_scram::credentials::{
-    AddRecordError, ReadLinesErrorKind, RecordError, RecordTextError, ScramCredentials,
-    ScramRecord, SingleScramCredential, StoredScramCredential, WriteLinesError,
+    AddRecordError, ReadLinesErrorKind, RecordError, RecordTextError, RecordStore,
+    ScramRecord, SingleScramCredential, UserRecord, WriteLinesError,
 };
 use fe2o3_scram::hmac::{Meter, ScramVersion};
 use fe2o3_scram::scram_messages::ServerScramErrorKind;
@@ -30,7 +30,7 @@ enum OfRecord {
 #[derive(Drop)]
 struct Records {
     record: ScramRecord,
-    stored: StoredScramCredential,
+    stored: UserRecord,
 }
 
 impl Call for OfRecord {
@@ -141,13 +141,13 @@ struct Row {
 /// A store, its clone, and records to add or to put into it, one for each call.
 #[derive(Drop)]
 struct Users {
-    users: ScramCredentials,
-    clone: Option<ScramCredentials>,
+    users: RecordStore,
+    clone: Option<RecordStore>,
     new: Vec<(String, ScramRecord)>,
 }
 
 /// The user and the other.
-impl Expected for ScramCredentials {
+impl Expected for RecordStore {
     fn is_right(&self) -> bool {
         has_record(self, USER) && has_record(self, OTHER_USER)
     }
@@ -156,7 +156,7 @@ impl Expected for ScramCredentials {
 /// The answer of a call that puts in the user's record, or that of the other one in place of its own.
 fn put(
     is_replaced: bool,
-    users: &mut ScramCredentials,
+    users: &mut RecordStore,
     new: Option<(String, ScramRecord)>,
 ) -> Answer {
     let none = AddRecordError::OutOfMemory;
@@ -168,7 +168,7 @@ fn put(
 }
 
 /// Whether these are the lines of the users.
-fn are_written(alloc: Global, users: &ScramCredentials, lines: &str) -> Answer {
+fn are_written(alloc: Global, users: &RecordStore, lines: &str) -> Answer {
     made(
         users.to_lines(alloc),
         lines.as_bytes(),
@@ -183,7 +183,7 @@ impl Call for OfUsers {
 
     fn subject(&self, alloc: Global, row: &Row) -> Result<Users, Fail> {
         let new = new_users(alloc)?;
-        let users = ScramCredentials::parse_lines(alloc, VERSION, row.lines)?;
+        let users = RecordStore::parse_lines(alloc, VERSION, row.lines)?;
         let clone = if row.is_shared {
             Some(users.clone()?)
         } else {
@@ -204,7 +204,7 @@ impl Call for OfUsers {
                     !has_record(users, USER) && has_record(users, OTHER_USER),
                 )
             }
-            OfUsers::Parse => match ScramCredentials::parse_lines(alloc, VERSION, row.lines) {
+            OfUsers::Parse => match RecordStore::parse_lines(alloc, VERSION, row.lines) {
                 Ok(read) => right(read.is_right()),
                 Err(error) => want(error.kind == ReadLinesErrorKind::OutOfMemory),
             },

@@ -3,7 +3,7 @@
 use crate::calls::{Answer, Call, and, made, right, stand};
 use crate::scram_values::*;
 use crate::users::stored;
-use fe2o3_scram::credentials::StoredScramCredential;
+use fe2o3_scram::credentials::UserRecord;
 use fe2o3_scram::hmac::Meter;
 use fe2o3_scram::scram_messages::ServerScramErrorKind;
 use fe2o3_scram::scram_server::ScramAuthenticator;
@@ -29,7 +29,7 @@ enum OfServer {
 }
 
 /// A server of one user.
-pub type Server = ScramAuthenticator<StoredScramCredential>;
+pub type Server = ScramAuthenticator<UserRecord>;
 
 /// A server that has read nothing.
 pub fn server(alloc: Global) -> Result<Box<Server>, Fail> {

@@ -2,7 +2,7 @@
 //! 32 bytes 03, count 1, a client's nonce of 32 bytes 01 and a server's of 32 bytes 02. Its values were
 //! computed with Python's `hashlib` and `hmac`.
 
-pub use help_bodies::bodies::{PASSWORD, RECORD, USER};
+pub use test_help_bodies::bodies::{PASSWORD, RECORD, USER};
 
 /// The salt.
 pub const SALT: [u8; 32] = [3; 32];

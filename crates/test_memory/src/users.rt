@@ -1,7 +1,7 @@
 //! The user of the logins, as what a server keeps of the password.
 
-use fe2o3_scram::credentials::{ScramRecord, StoredScramCredential};
-use help_bodies::bodies::{RECORD, USER};
+use fe2o3_scram::credentials::{ScramRecord, UserRecord};
+use test_help_bodies::bodies::{RECORD, USER};
 use std::alloc::Global;
 use std::test::Fail;
 
@@ -11,9 +11,9 @@ pub fn record(alloc: Global) -> Result<ScramRecord, Fail> {
 }
 
 /// The record as a provider of the one user.
-pub fn stored(alloc: Global) -> Result<StoredScramCredential, Fail> {
+pub fn stored(alloc: Global) -> Result<UserRecord, Fail> {
     let username = USER.to_string(alloc)?;
-    Ok(StoredScramCredential::new(username, record(alloc)?))
+    Ok(UserRecord::new(username, record(alloc)?))
 }
 
 /// The user, twice: once for each call that is handed a user.

@@ -8,8 +8,8 @@ use fe2o3_sasl_wire::{
     Array, Binary, Error, Frame, FrameCodec, ProtocolHeader, ProtocolHeaderCodec, SaslMechanisms,
     Symbol, SymbolError, view_frame,
 };
-use help_bodies::bodies::{INIT_ANONYMOUS_WITH_HOSTNAME, MECHANISM_ANONYMOUS, OUTCOME_OK};
-use help_bodies::replies::{bytes_of, frame, two_frames};
+use test_help_bodies::bodies::{INIT_ANONYMOUS_WITH_HOSTNAME, MECHANISM_ANONYMOUS, OUTCOME_OK};
+use test_help_bodies::replies::{bytes_of, frame, two_frames};
 use std::alloc::{AllocError, Global};
 use std::test::Fail;
 

@@ -7,7 +7,7 @@ use fe2o3_sasl_wire::{
     Error, FrameCodec, FrameView, NegotiationError, ProtocolHeader, ProtocolHeaderCodec,
     ProtocolId, SaslCode, Symbol, SymbolError, SymbolsView, view_frame,
 };
-use help_bodies::replies::bytes_of;
+use test_help_bodies::replies::bytes_of;
 use std::alloc::{AllocError, Global};
 use std::test::Fail;
 

@@ -112,7 +112,7 @@ fn both_users_log_in_and_nobody_else(rt: HostRuntime) {
     }
     is_refused(&rt, &mut server, "user", "crayon");
     is_refused(&rt, &mut server, "guest", "pencil");
-    for &message in &["n,,n=nobody,r=a", "n,,n=,r=a", "n,,n=users,r=a"] {
+    for &message in &["n,,n=mock,r=a", "n,,n=,r=a", "n,,n=users,r=a"] {
         let answer = server.compute_server_first_message(rt.alloc(), message.as_bytes(), &[2; 32]);
         assert!(rt; answer.expect(&rt, "memory").is_none(), "{message}");
     }

@@ -1,6 +1,6 @@
 //! What the library re-exports, by its modules' paths and at its root.
 
-use fe2o3_sasl::client_keys::ScramClientKeys;
+use fe2o3_sasl::cached_keys::CachedKeys;
 use fe2o3_sasl::client_secret::{ClientSecret, IterationLimits};
 use fe2o3_sasl::credentials::{DEFAULT_SCRAM_ITERATIONS, SingleScramCredential};
 use fe2o3_sasl::hmac::{Meter, ScramVersion};
@@ -85,6 +85,6 @@ fn answer<R: Abort + AllocGlobal>(
 fn a_secret_has_one_type_by_both_names(rt: HostRuntime) {
     let password = ClientSecret::Password("pencil");
     let by_password: ClientAnswer = answer(&rt, password, IterationLimits::none());
-    let keys: &ScramClientKeys = &by_password.keys;
+    let keys: &CachedKeys = &by_password.keys;
     answer(&rt, ClientSecret::Keys(keys), IterationLimits::up_to(1));
 }

@@ -3,12 +3,12 @@
 
 /// The items by their modules.
 pub mod by_module {
-    pub use fe2o3_sasl::client_keys::ScramClientKeys;
+    pub use fe2o3_sasl::cached_keys::CachedKeys;
     pub use fe2o3_sasl::client_secret::{ClientSecret, IterationLimits};
     pub use fe2o3_sasl::credentials::{
         AddRecordError, DEFAULT_SCRAM_ITERATIONS, ReadLinesError, ReadLinesErrorKind, RecordError,
-        RecordTextError, ScramCredentialProvider, ScramCredentials, ScramRecord,
-        SingleScramCredential, StoredPassword, StoredScramCredential, WriteLinesError,
+        RecordTextError, ScramCredentialProvider, RecordStore, ScramRecord,
+        SingleScramCredential, StoredPassword, UserRecord, WriteLinesError,
     };
     pub use fe2o3_sasl::hmac::{
         DigestBytes, Meter, SCRAM_SHA_1, SCRAM_SHA_256, SCRAM_SHA_512, ScramVersion,
@@ -53,9 +53,9 @@ pub mod at_root {
         Parameters, ProfileError, ReadLinesError, ReadLinesErrorKind, RecordError, RecordTextError,
         SaslAcceptor, SaslAcceptorExt, SaslAnonymousMechanism, SaslPlainMechanism, SaslProfile,
         SaslScramSha1, SaslScramSha256, SaslScramSha512, SaslServerFrame, ScramAuthenticator,
-        ScramClient, ScramClientKeys, ScramCredentialProvider, ScramCredentials, ScramErrorKind,
+        ScramClient, CachedKeys, ScramCredentialProvider, RecordStore, ScramErrorKind,
         ScramRecord, ScramVersion, ServerFinal, ServerFirst, ServerFirstMessage, ServerReply,
-        ServerScramErrorKind, SingleScramCredential, StoredPassword, StoredScramCredential,
+        ServerScramErrorKind, SingleScramCredential, StoredPassword, UserRecord,
         UnescapeError, UnknownMechanism, UrlError, Verdict, WriteLinesError, XorLengthMismatch,
         acceptor_step, audit_limited, auth_message, escape_username, profile_step, run_acceptor,
         run_profile, saslprep, scram_client_run, scram_client_run_limited, scram_server_run,

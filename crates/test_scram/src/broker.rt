@@ -1,7 +1,7 @@
 //! The loop of a server whose users stand in a store of its own.
 
 use crate::logins::{Login, client, exchange};
-use fe2o3_scram::credentials::{ScramRecord, StoredScramCredential};
+use fe2o3_scram::credentials::{ScramRecord, UserRecord};
 use fe2o3_scram::hmac::ScramVersion;
 use fe2o3_scram::scram_messages::{ClientFirst, ServerScramErrorKind};
 use fe2o3_scram::scram_server::ScramAuthenticator;
@@ -47,19 +47,19 @@ fn look_up(name: &str) -> Option<&'static str> {
 fn record_for(alloc: Global, name: &str) -> Option<ScramRecord> {
     match look_up(name) {
         Some(text) => ScramRecord::parse(alloc, text).ok(),
-        None => ScramRecord::of_nobody(alloc, VERSION, SECRET, name, 16, 4096).ok(),
+        None => ScramRecord::mock(alloc, VERSION, SECRET, name, 16, 4096).ok(),
     }
 }
 
 /// The server of one exchange.
-type Server = ScramAuthenticator<Rc<StoredScramCredential>>;
+type Server = ScramAuthenticator<Rc<UserRecord>>;
 
 /// A server for the user whom the message names.
 fn server_for(alloc: Global, client_first: &[u8]) -> Option<Box<Server>> {
     let client = ClientFirst::parse(alloc, client_first).ok()?;
     let name = client.username.into_owned(alloc).ok()?;
     let record = record_for(alloc, &name)?;
-    let credential = Rc::new(alloc, StoredScramCredential::new(name, record)).ok()?;
+    let credential = Rc::new(alloc, UserRecord::new(name, record)).ok()?;
     Box::new(alloc, ScramAuthenticator::new(credential)).ok()
 }
 
@@ -78,7 +78,7 @@ static LOGINS: [(&str, &str, Login); 6] = [
     ("a,b=c", "x", Login::Accepted),
     ("user", "Pencil", REFUSED),
     ("a,b=c", "pencil", REFUSED),
-    ("nobody", "pencil", REFUSED),
+    ("mock", "pencil", REFUSED),
     ("", "x", REFUSED),
 ];
 

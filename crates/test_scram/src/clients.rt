@@ -1,11 +1,11 @@
 //! Clients and the keys that they keep. The login is that of `user` with the password `pencil` by
 //! SCRAM-SHA-256, with 32 bytes 01 as the client's nonce, 32 bytes 02 as the server's and 32 bytes 03 as
 //! the salt. Other logins through both machines, and answers by each secret, stand in the data of
-//! `scram_vectors`.
+//! `test_vectors_scram`.
 
 use crate::published::{CLIENT_KEY, SALT, SALTED_PASSWORD, SERVER_KEY, VERSION};
 use crate::values::{bytes_of, spells};
-use fe2o3_scram::client_keys::ScramClientKeys;
+use fe2o3_scram::cached_keys::CachedKeys;
 use fe2o3_scram::hmac::Meter;
 use fe2o3_scram::scram_client::ScramClient;
 use fe2o3_scram::scram_messages::ScramErrorKind;
@@ -49,7 +49,7 @@ const PUBLISHED: Kept = Kept {
 
 impl Kept {
     /// Whether these are the keys.
-    pub fn are(&self, alloc: Global, keys: &ScramClientKeys) -> bool {
+    pub fn are(&self, alloc: Global, keys: &CachedKeys) -> bool {
         keys.scram_version() == VERSION
             && keys.iterations() == 4096
             && spells(alloc, self.salt, keys.salt())
@@ -59,11 +59,11 @@ impl Kept {
 }
 
 /// The keys of the login.
-pub fn keys<R: Abort + AllocGlobal>(rt: &R) -> ScramClientKeys {
+pub fn keys<R: Abort + AllocGlobal>(rt: &R) -> CachedKeys {
     let client_key = bytes_of(rt, KEPT.client_key);
     let server_key = bytes_of(rt, KEPT.server_key);
     let salt = bytes_of(rt, KEPT.salt);
-    let keys = ScramClientKeys::from_parts(VERSION, salt, 4096, &client_key, &server_key);
+    let keys = CachedKeys::from_parts(VERSION, salt, 4096, &client_key, &server_key);
     keys.expect(rt, "keys of 32 bytes")
 }
 
@@ -72,7 +72,7 @@ fn keys_are_made_of_a_password_and_of_a_salted_password(rt: HostRuntime) {
     let salt = bytes_of(&rt, SALT);
     let salted_password = bytes_of(&rt, SALTED_PASSWORD);
     let mut meter = Meter::new();
-    let keys = ScramClientKeys::from_password(
+    let keys = CachedKeys::from_password(
         rt.alloc(),
         VERSION,
         "pencil",
@@ -82,7 +82,7 @@ fn keys_are_made_of_a_password_and_of_a_salted_password(rt: HostRuntime) {
     );
     let keys = keys.expect(&rt, "keys");
     assert!(rt; PUBLISHED.are(rt.alloc(), &keys) && meter.count() == 4098);
-    let keys = ScramClientKeys::from_salted_password(
+    let keys = CachedKeys::from_salted_password(
         VERSION,
         salt,
         4096,
@@ -166,7 +166,7 @@ fn a_client_logs_in_by_its_secret(rt: HostRuntime) {
 fn refusal<R: Abort + AllocGlobal>(rt: &R, least: u32, most: u32) -> Option<ScramErrorKind> {
     let mut client = client(rt, Secret::Password)
         .with_iteration_limit(most)
-        .with_least_iterations(least);
+        .with_min_iterations(least);
     let sent = client.compute_client_first_message(rt.alloc(), &[1; 32]);
     assert!(rt; sent.is_ok());
     let answer = client.compute_client_final_message(rt.alloc(), SERVER_FIRST);

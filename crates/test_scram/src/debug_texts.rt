@@ -3,8 +3,8 @@
 
 use crate::clients::{Secret, client, keys};
 use fe2o3_scram::credentials::{
-    MixedCredentials, ScramCredentialProvider, ScramCredentials, ScramRecord,
-    SingleScramCredential, StoredPassword, StoredScramCredential,
+    MultiRecordStore, ScramCredentialProvider, RecordStore, ScramRecord,
+    SingleScramCredential, StoredPassword, UserRecord,
 };
 use fe2o3_scram::hmac::ScramVersion;
 use fe2o3_scram::scram_server::ScramAuthenticator;
@@ -35,7 +35,7 @@ fn record<R: Abort + AllocGlobal>(rt: &R, version: ScramVersion) -> ScramRecord 
 
 #[test]
 fn hides_the_password_and_the_keys_of_a_client(rt: HostRuntime) {
-    let wanted = "ScramClientKeys { scram_version: Sha256, iterations: 4096, .. }";
+    let wanted = "CachedKeys { scram_version: Sha256, iterations: 4096, .. }";
     assert!(rt; shows(rt.alloc(), &keys(&rt), wanted));
     for &secret in &[Secret::Password, Secret::Keys, Secret::PasswordAndKeys] {
         let wanted =
@@ -77,13 +77,13 @@ static RECORDS: [(ScramVersion, &str, &str); 2] = [
     (
         ScramVersion::Sha256,
         "ScramRecord { scram_version: Sha256, iterations: 4096, .. }",
-        "StoredScramCredential { username: \"user\", \
+        "UserRecord { username: \"user\", \
             record: ScramRecord { scram_version: Sha256, iterations: 4096, .. } }",
     ),
     (
         ScramVersion::Sha1,
         "ScramRecord { scram_version: Sha1, iterations: 4096, .. }",
-        "StoredScramCredential { username: \"user\", \
+        "UserRecord { username: \"user\", \
             record: ScramRecord { scram_version: Sha1, iterations: 4096, .. } }",
     ),
 ];
@@ -93,7 +93,7 @@ fn hides_the_keys_of_a_record(rt: HostRuntime) {
     for &(version, wanted, of_user) in &RECORDS {
         let record = record(&rt, version);
         assert!(rt; shows(rt.alloc(), &record, wanted), "{wanted}");
-        let credential = StoredScramCredential::new(user(&rt), record);
+        let credential = UserRecord::new(user(&rt), record);
         assert!(rt; shows(rt.alloc(), &credential, of_user), "{of_user}");
     }
 }
@@ -101,12 +101,12 @@ fn hides_the_keys_of_a_record(rt: HostRuntime) {
 #[test]
 fn hides_what_stores_hold(rt: HostRuntime) {
     let version = ScramVersion::Sha256;
-    let mut store = ScramCredentials::new(rt.alloc(), version);
+    let mut store = RecordStore::new(rt.alloc(), version);
     let added = store.add(user(&rt), record(&rt, version));
     assert!(rt; added == Ok(()));
-    let wanted = "ScramCredentials { scram_version: Sha256, .. }";
+    let wanted = "RecordStore { scram_version: Sha256, .. }";
     assert!(rt; shows(rt.alloc(), &store, wanted));
-    let mut store = MixedCredentials::new(rt.alloc());
+    let mut store = MultiRecordStore::new(rt.alloc());
     let added = store.add(user(&rt), record(&rt, version));
-    assert!(rt; added == Ok(()) && shows(rt.alloc(), &store, "MixedCredentials { .. }"));
+    assert!(rt; added == Ok(()) && shows(rt.alloc(), &store, "MultiRecordStore { .. }"));
 }

@@ -23,8 +23,8 @@ fn a_client_plays_its_side(rt: HostRuntime) {
     );
     let (client_final, signature) = answer.expect(&rt, "an answer");
     assert!(rt; client_final.as_slice() == CLIENT_FINAL && meter.count() == 4100);
-    let believed = VERSION.validate_server_final(rt.alloc(), SERVER_FINAL, &signature);
-    assert!(rt; believed == Ok(()));
+    let verified = VERSION.validate_server_final(rt.alloc(), SERVER_FINAL, &signature);
+    assert!(rt; verified == Ok(()));
 }
 
 #[test]

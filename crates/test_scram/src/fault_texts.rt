@@ -48,7 +48,7 @@ static SCRAM_ERROR_KINDS: [(ScramErrorKind, &str); 18] = [
     ),
     (ScramErrorKind::NormalizeError, "Error normalizing password"),
     (
-        ScramErrorKind::OtherKeys,
+        ScramErrorKind::StaleKeys,
         "The keys are of another salt or iteration count",
     ),
     (ScramErrorKind::HmacErrorInvalidLength, "Invalid length"),

@@ -2,7 +2,7 @@
 //! its servers; and of what a server keeps of its users: records, their lines, the providers made of
 //! them, and brokers over these. Expected values come from the standards and from other programs. The
 //! rows of values and refusals, and the texts that are read or refused, stand in the data of
-//! `scram_vectors`.
+//! `test_vectors_scram`.
 #![tactic(auto)]
 
 #[cfg(test)]
@@ -30,6 +30,6 @@ mod published;
 #[cfg(test)]
 mod stores;
 #[cfg(test)]
-mod unbound;
+mod cbind_flag_y;
 #[cfg(test)]
 mod values;

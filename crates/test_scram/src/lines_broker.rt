@@ -1,7 +1,7 @@
 //! The loop of a server that reads its store from lines, and hands a clone to each exchange.
 
 use crate::logins::{Login, client, exchange};
-use fe2o3_scram::credentials::ScramCredentials;
+use fe2o3_scram::credentials::RecordStore;
 use fe2o3_scram::hmac::ScramVersion;
 use fe2o3_scram::scram_messages::ServerScramErrorKind;
 use fe2o3_scram::scram_server::ScramAuthenticator;
@@ -18,7 +18,7 @@ const FILE: &str =
 /// One exchange over a clone of the store.
 pub fn log_in(
     alloc: Global,
-    store: &ScramCredentials,
+    store: &RecordStore,
     name: &str,
     password: &str,
 ) -> Result<Login, AllocError> {
@@ -30,7 +30,7 @@ pub fn log_in(
 
 #[test]
 fn serves_the_users_of_its_file(rt: HostRuntime) -> Result<(), Fail> {
-    let store = ScramCredentials::parse_lines(rt.alloc(), ScramVersion::Sha256, FILE)?;
+    let store = RecordStore::parse_lines(rt.alloc(), ScramVersion::Sha256, FILE)?;
     let refused = Login::ServerRefuses(ServerScramErrorKind::AuthenticationFailed);
     for &(name, password, wanted) in &[
         ("user", "pencil", Login::Accepted),
@@ -38,7 +38,7 @@ fn serves_the_users_of_its_file(rt: HostRuntime) -> Result<(), Fail> {
         ("user", "x", refused),
         ("a,b=c", "pencil", refused),
         ("a=2Cb=3Dc", "x", Login::Unknown),
-        ("nobody", "pencil", Login::Unknown),
+        ("mock", "pencil", Login::Unknown),
     ] {
         let login = log_in(rt.alloc(), &store, name, password);
         assert!(rt; login == Ok(wanted), "{name}");

@@ -4,7 +4,7 @@
 use crate::lines_broker::log_in;
 use crate::logins::Login;
 use fe2o3_scram::OutOfMemory;
-use fe2o3_scram::credentials::{MixedCredentials, ScramRecord};
+use fe2o3_scram::credentials::{MultiRecordStore, ScramRecord};
 use fe2o3_scram::hmac::ScramVersion;
 use fe2o3_scram::scram_messages::ServerScramErrorKind;
 use std::alloc::Global;
@@ -27,19 +27,19 @@ const LINES: &str =
     user SCRAM-SHA-256$1:AA==$q543IgzVrdKaJWKZAObT/tVAKRM2dOrKH5FD3kGlq2o=:Az4mYWZGczNgQNLViL4wmA2f5/gXgNBJcTXkkO8GmdQ=\n";
 
 /// The iteration count of the user's record of this version.
-fn count(store: &MixedCredentials, version: ScramVersion, name: &str) -> Option<u32> {
+fn count(store: &MultiRecordStore, version: ScramVersion, name: &str) -> Option<u32> {
     let record = store.for_version(version).record(name)?;
     Some(record.as_stored_password().iterations)
 }
 
 /// The store of the lines, in a box, where it costs the proof of its holder little.
-fn store<R: Abort + AllocGlobal>(rt: &R) -> Box<MixedCredentials> {
-    let store = MixedCredentials::parse_lines(rt.alloc(), LINES).expect(rt, "lines");
+fn store<R: Abort + AllocGlobal>(rt: &R) -> Box<MultiRecordStore> {
+    let store = MultiRecordStore::parse_lines(rt.alloc(), LINES).expect(rt, "lines");
     Box::new(rt.alloc(), store).expect(rt, "memory")
 }
 
 /// Whether the store has the lines that it was read from.
-fn is_written(alloc: Global, store: &MixedCredentials) -> bool {
+fn is_written(alloc: Global, store: &MultiRecordStore) -> bool {
     match store.to_lines(alloc) {
         Ok(lines) => lines.as_slice() == LINES.as_bytes(),
         Err(_) => false,
@@ -66,7 +66,7 @@ fn writes_what_it_reads_and_finds_the_first_of_a_version(rt: HostRuntime) {
 }
 
 /// Whether the records of the user are of these versions and counts.
-fn has(store: &MixedCredentials, name: &str, wanted: &[(ScramVersion, u32)]) -> bool {
+fn has(store: &MultiRecordStore, name: &str, wanted: &[(ScramVersion, u32)]) -> bool {
     let Ok(records) = store.records(name) else {
         return false;
     };
@@ -90,7 +90,7 @@ static RECORDS: [(ScramVersion, u32); 5] = [
 #[test]
 fn finds_each_record_of_a_name(rt: HostRuntime) {
     let mut store = store(&rt);
-    assert!(rt; has(&store, "user", &RECORDS) && has(&store, "nobody", &[]));
+    assert!(rt; has(&store, "user", &RECORDS) && has(&store, "mock", &[]));
     assert!(rt; has(&store, "a,b=c", &[(ScramVersion::Sha1, 2)]));
     let record = ScramRecord::from_password(rt.alloc(), ScramVersion::Sha512, "pencil", b"salt", 1);
     let name = "a,b=c".to_string(rt.alloc()).expect(&rt, "memory");
@@ -101,7 +101,7 @@ fn finds_each_record_of_a_name(rt: HostRuntime) {
 
 #[test]
 fn serves_a_version(rt: HostRuntime) -> Result<(), Fail> {
-    let store = MixedCredentials::parse_lines(rt.alloc(), LINES)?;
+    let store = MultiRecordStore::parse_lines(rt.alloc(), LINES)?;
     let refused = Login::ServerRefuses(ServerScramErrorKind::AuthenticationFailed);
     for &(name, password, wanted) in &[
         ("user", "pencil", Login::Accepted),
@@ -118,7 +118,7 @@ fn serves_a_version(rt: HostRuntime) -> Result<(), Fail> {
 /// Whether this comes of a login over the records of SHA-256.
 fn serves<R: AllocGlobal>(
     rt: &R,
-    store: &MixedCredentials,
+    store: &MultiRecordStore,
     name: &str,
     password: &str,
     wanted: Login,

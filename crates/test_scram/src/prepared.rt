@@ -1,8 +1,8 @@
 //! Passwords that their caller has prepared. What a typed password is prepared to, the records of it and
-//! the answers by it stand in the data of `scram_vectors`.
+//! the answers by it stand in the data of `test_vectors_scram`.
 
 use crate::clients::Kept;
-use fe2o3_scram::client_keys::ScramClientKeys;
+use fe2o3_scram::cached_keys::CachedKeys;
 use fe2o3_scram::credentials::ScramRecord;
 use fe2o3_scram::hmac::{Meter, ScramVersion};
 
@@ -40,7 +40,7 @@ fn a_prepared_password_is_taken_as_it_stands(rt: HostRuntime) {
 fn a_prepared_password_has_its_keys(rt: HostRuntime) {
     let mut meter = Meter::new();
     let version = ScramVersion::Sha256;
-    let made = ScramClientKeys::from_prepared_password(
+    let made = CachedKeys::from_prepared_password(
         rt.alloc(),
         version,
         PASSWORD,

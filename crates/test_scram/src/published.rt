@@ -1,5 +1,5 @@
 //! The exchange of RFC 7677, section 3, of the user `user` with the password `pencil`. That of RFC 5802 and
-//! one of SHA-512 stand in the data of `scram_vectors`.
+//! one of SHA-512 stand in the data of `test_vectors_scram`.
 
 use fe2o3_scram::hmac::ScramVersion;
 

@@ -1,7 +1,7 @@
 //! Stores that are read from lines, asked for their users, changed, and written as lines.
 
 use crate::map_store::count;
-use fe2o3_scram::credentials::{ScramCredentials, ScramRecord};
+use fe2o3_scram::credentials::{RecordStore, ScramRecord};
 use fe2o3_scram::hmac::ScramVersion;
 use std::alloc::Global;
 use std::process::Abort;
@@ -54,12 +54,12 @@ const OTHERS: &str =
     other SCRAM-SHA-1$1:AA==$YF7oDQGjPVIPxi8iznLc+46IvFc=:8h4ZQlkCz/2y5tGl1vo8XJd6czQ=\n";
 
 /// A store of these lines.
-fn store<R: Abort + AllocGlobal>(rt: &R, lines: &str) -> ScramCredentials {
-    ScramCredentials::parse_lines(rt.alloc(), ScramVersion::Sha1, lines).expect(rt, "lines")
+fn store<R: Abort + AllocGlobal>(rt: &R, lines: &str) -> RecordStore {
+    RecordStore::parse_lines(rt.alloc(), ScramVersion::Sha1, lines).expect(rt, "lines")
 }
 
 /// Whether the store is that of these lines.
-fn is_of(alloc: Global, store: &ScramCredentials, lines: &str) -> bool {
+fn is_of(alloc: Global, store: &RecordStore, lines: &str) -> bool {
     match store.to_lines(alloc) {
         Ok(written) => written.as_slice() == lines.as_bytes(),
         Err(_) => false,
@@ -78,7 +78,7 @@ fn writes_what_it_reads_and_finds_its_users(rt: HostRuntime) {
         ("a b  c", Some(1)),
         ("a b c", None),
         ("Зина", Some(1)),
-        ("nobody", None),
+        ("mock", None),
     ] {
         assert!(rt; count(&store, name) == wanted, "{name}");
     }
@@ -86,7 +86,7 @@ fn writes_what_it_reads_and_finds_its_users(rt: HostRuntime) {
 
 #[test]
 fn says_which_line_and_why(rt: HostRuntime) {
-    let read = ScramCredentials::parse_lines(rt.alloc(), ScramVersion::Sha1, BAD);
+    let read = RecordStore::parse_lines(rt.alloc(), ScramVersion::Sha1, BAD);
     let shown = read
         .expect_err(&rt, "a fault")
         .to_string(rt.alloc())
@@ -100,7 +100,7 @@ fn record<R: Abort + AllocGlobal>(rt: &R, text: &str) -> ScramRecord {
 }
 
 /// Whether the user has a record, of this text.
-fn shows(alloc: Global, store: &ScramCredentials, name: &str, text: &str) -> bool {
+fn shows(alloc: Global, store: &RecordStore, name: &str, text: &str) -> bool {
     let Some(record) = store.record(name) else {
         return false;
     };

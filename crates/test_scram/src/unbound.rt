@@ -1,13 +1,13 @@
 //! A client that could bind a channel and believes that the server cannot: its GS2 header is `y,,`. Proof and
 //! signature are those of Python's `hashlib` and `hmac`, for the password `pencil`, a salt of 32 bytes 03, a
 //! client's nonce of 32 bytes 01 and a server's of 32 bytes 02. The runs of all versions, and those that are
-//! refused, stand in the data of `sasl_vectors`.
+//! refused, stand in the data of `test_vectors_sasl`.
 
 use crate::published::VERSION;
 use fe2o3_scram::hmac::Meter;
 use fe2o3_scram::provider::{ScramCredentialProvider, StoredPassword};
 use fe2o3_scram::scram_messages::{
-    ClientFinal, ClientFirst, Gs2Header, ServerFirstMessage, ServerScramErrorKind,
+    ClientFinal, ClientFirst, ChannelBindingFlag, ServerFirstMessage, ServerScramErrorKind,
 };
 use fe2o3_scram::{HidingAuthenticator, ScramAuthenticator, SingleScramCredential};
 use std::alloc::Global;
@@ -53,7 +53,7 @@ fn is(answer: &Result<Option<Vec<u8>>, ServerScramErrorKind>, text: &[u8]) -> bo
 fn opens<C: ScramCredentialProvider>(alloc: Global, server: &mut ScramAuthenticator<C>) -> bool {
     let answer = server.compute_server_first_message(alloc, CLIENT_FIRST, &[2; 32]);
     match server.open_challenge() {
-        Some(open) => is(&answer, SERVER_FIRST) && open.header == Gs2Header::Unoffered,
+        Some(open) => is(&answer, SERVER_FIRST) && open.header == ChannelBindingFlag::ClientSupports,
         None => false,
     }
 }
@@ -80,7 +80,7 @@ fn concludes<C: ScramCredentialProvider>(
         Some(kept) => {
             is(&answer, SERVER_FINAL)
                 && kept.salt == [3; 32].as_slice()
-                && server.user() == Some("user")
+                && server.authenticated_user() == Some("user")
         }
         None => false,
     }
@@ -88,7 +88,7 @@ fn concludes<C: ScramCredentialProvider>(
 
 #[test]
 fn a_server_opens_the_login_and_another_ends_it(rt: HostRuntime) {
-    let mut first = ScramAuthenticator::new(credential(&rt)).accepts_unbound();
+    let mut first = ScramAuthenticator::new(credential(&rt)).accept_cbind_flag_y();
     assert!(rt; opens(rt.alloc(), &mut first));
     let second = ScramAuthenticator::new(credential(&rt));
     let second = taken_up(rt.alloc(), &first, second);
@@ -109,23 +109,23 @@ fn so_does_one_that_hides_users(rt: HostRuntime) {
     let secret = secret.expect(&rt, "memory");
     let server = HidingAuthenticator::new(credential(&rt), secret, 32, 4096);
     let server = server.expect(&rt, "a salt of at most 64 bytes");
-    assert!(rt; hides(rt.alloc(), &mut server.accepts_unbound()));
+    assert!(rt; hides(rt.alloc(), &mut server.accept_cbind_flag_y()));
 }
 
 #[test]
 fn the_readings_take_a_header(rt: HostRuntime) {
-    let first = ClientFirst::parse_unbound(rt.alloc(), CLIENT_FIRST, true);
+    let first = ClientFirst::parse_with_cbind_flag_y(rt.alloc(), CLIENT_FIRST, true);
     let first = first.expect(&rt, "a message");
     let header = first.header;
     assert!(rt; first.username.as_str() == "user" && header.text() == "y,,");
-    let last = ClientFinal::parse_behind(rt.alloc(), header, BOTH_NONCES, CLIENT_FINAL);
+    let last = ClientFinal::parse_with_gs2_header(rt.alloc(), header, BOTH_NONCES, CLIENT_FINAL);
     let last = last.expect(&rt, "a message");
     assert!(rt; last.without_proof.starts_with("c=eSws,r="));
 }
 
 /// Whether the last message is answered behind this first one.
 fn ends(alloc: Global, first: &ServerFirstMessage<'_>, kept: &StoredPassword<'_>) -> bool {
-    let last = VERSION.compute_server_final_message_behind(
+    let last = VERSION.compute_server_final_message_with_gs2_header(
         alloc,
         first.header,
         CLIENT_FINAL,
@@ -146,7 +146,7 @@ fn answers<C: ScramCredentialProvider>(alloc: Global, users: &C) -> bool {
     let Some(kept) = users.get_stored_password("user") else {
         return false;
     };
-    match &VERSION.compute_server_first_message_unbound(
+    match &VERSION.compute_server_first_message_with_cbind_flag_y(
         alloc,
         CLIENT_FIRST,
         SERVER_NONCE,

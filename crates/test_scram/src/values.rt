@@ -1,5 +1,5 @@
 //! Calls that make a value of the published exchange, once each. The rows of values, and of digests, HMAC
-//! values, passwords and names, stand in the data of `scram_vectors`.
+//! values, passwords and names, stand in the data of `test_vectors_scram`.
 
 use crate::published::*;
 use base64::engine::general_purpose::STANDARD;

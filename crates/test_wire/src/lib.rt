@@ -1,6 +1,6 @@
 //! Tests of the public calls of `fe2o3_sasl_wire`. Expected values come from the standard, from worked
 //! examples, and from other programs. Bodies that are read, written and refused stand in the data of
-//! `sasl_vectors`.
+//! `test_vectors_sasl`.
 #![tactic(auto)]
 
 #[cfg(test)]

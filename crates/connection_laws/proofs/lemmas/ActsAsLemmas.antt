@@ -7,36 +7,36 @@ use Rattle.fe2o3_sasl_wire.specs.declared.sasl_frames.error.Error.{Error}
 use Rattle.fe2o3_sasl_wire.specs.declared.sasl_frames.error.Error.TheVariants as faults
 use Rattle.fe2o3_sasl_wire.specs.SaslFrames as frames
 use Rattle.fe2o3_sasl_wire.specs.SaslFrames.{SaslFrame, canonical}
-use Rattle.fe2o3_sasl_runs.specs.Bodies.{SpellsBody, carried, server_says}
-use Rattle.fe2o3_sasl_runs.specs.Events.{Given, ServerSays, Challenged, Concluded, Failed}
-use Rattle.fe2o3_sasl_runs.specs.OffersOnly.{Offering, offering_machine}
-use Rattle.fe2o3_sasl_runs.specs.OneOf.{BothStates, PartReplies, part_for, one_of_machine}
-use Rattle.fe2o3_sasl_runs.specs.OneOfLaws.{Machine, IsRefusal, those}
-use Rattle.fe2o3_sasl_runs.specs.Runs.{Runs, AcceptorSteps, AcceptorAnswers}
-use Rattle.fe2o3_sasl_runs.specs.SaslAcceptor.{ends_with}
-use Rattle.fe2o3_sasl_runs.specs.declared.one_of.Part.{Part}
-use Rattle.fe2o3_sasl_runs.specs.declared.one_of.Part.TheVariants.{First, Second}
-use Rattle.fe2o3_sasl_runs.proofs.lemmas.frames.SpellingLemmas.{one_spelled_frame}
-use Rattle.fe2o3_sasl_runs.proofs.lemmas.machines.OffersOnlyLemmas.{offering_runs}
-use Rattle.fe2o3_sasl_runs.proofs.lemmas.machines.OneOfLemmas.{Goes, auth_is_refusal, one_goes}
-use Rattle.fe2o3_sasl_negotiation.specs.declared.standing.ClosedBecause.TheVariants.{Refused}
-use Rattle.fe2o3_sasl_negotiation.specs.declared.standing.Due.TheVariants.{Frame}
-use Rattle.fe2o3_sasl_negotiation.specs.declared.standing.Standing.TheVariants.{Wanting}
-use Rattle.fe2o3_sasl_negotiation.specs.declared.standing.Turn.TheVariants as turns
+use Rattle.fe2o3_sasl_core.specs.Bodies.{SpellsBody, carried, server_says}
+use Rattle.fe2o3_sasl_core.specs.Events.{Given, ServerSays, Challenged, Concluded, Failed}
+use Rattle.fe2o3_sasl_core.specs.RestrictMechanisms.{Offering, offering_machine}
+use Rattle.fe2o3_sasl_core.specs.AnyMechanism.{BothStates, PartReplies, part_for, any_mechanism_machine}
+use Rattle.fe2o3_sasl_core.specs.AnyMechanismLaws.{Machine, IsRefusal, those}
+use Rattle.fe2o3_sasl_core.specs.Runs.{Runs, AcceptorSteps, AcceptorAnswers}
+use Rattle.fe2o3_sasl_core.specs.SaslAcceptor.{ends_with}
+use Rattle.fe2o3_sasl_core.specs.declared.any_mechanism.Selected.{Selected}
+use Rattle.fe2o3_sasl_core.specs.declared.any_mechanism.Selected.TheVariants.{First, Second}
+use Rattle.fe2o3_sasl_core.proofs.lemmas.frames.SpellingLemmas.{one_spelled_frame}
+use Rattle.fe2o3_sasl_core.proofs.lemmas.machines.OffersOnlyLemmas.{offering_runs}
+use Rattle.fe2o3_sasl_core.proofs.lemmas.machines.AnyMechanismLemmas.{Goes, auth_is_refusal, one_goes}
+use Rattle.fe2o3_sasl_negotiation.specs.declared.progress.CloseReason.TheVariants.{Refused}
+use Rattle.fe2o3_sasl_negotiation.specs.declared.progress.Expected.TheVariants.{Frame}
+use Rattle.fe2o3_sasl_negotiation.specs.declared.progress.Progress.TheVariants.{InProgress}
+use Rattle.fe2o3_sasl_negotiation.specs.declared.progress.FrameKind.TheVariants as turns
 use Rattle.fe2o3_sasl_negotiation.specs.Connections.{Piece, AreFrames, Replied, LastReply, IsOkSent}
 use Rattle.fe2o3_sasl_negotiation.specs.Negotiations.{Side, SideOutput}
 use Rattle.fe2o3_sasl_negotiation.specs.ServerNegotiation.{ServerOutputs}
 use Rattle.fe2o3_sasl_negotiation.proofs.lemmas.ConnectionLemmas.{closed_is_not_wanting}
 use Rattle.fe2o3_sasl_negotiation.proofs.lemmas.KindLemmas.{closes_waits_not, sends_ends}
 use Rattle.fe2o3_sasl_negotiation.proofs.lemmas.LoginLemmas.{servers_log_in}
-use Rattle.connection_laws.specs.Servers.{ServerBy, side_with, NegotiatesAs, PartNegotiates, OneOfServersActAsPart, OfferingServersActAsInner}
+use Rattle.connection_laws.specs.Servers.{ServerBy, side_with, NegotiatesAs, PartNegotiates, AnyMechanismServersActAsPart, OfferingServersActAsInner}
 use Rattle.connection_laws.proofs.lemmas.OneFrameLemmas.{response_of}
 
 -- ---- replies
 
 -- a reply that leaves a server waiting is no refusal
 goes_on_is_no_refusal : (says : ServerSays) (answer : SideOutput) → ServerOutputs says turns.Init answer
-    → answer.standing ≡ Wanting → ¬ IsRefusal says
+    → answer.progress ≡ InProgress → ¬ IsRefusal says
 goes_on_is_no_refusal (Challenged body) answer said waits refused = refused
 goes_on_is_no_refusal (Concluded outcomes.Auth body) answer sends waits refused =
     sends_ends body _ (Frame turns.Init) answer (closed_is_not_wanting (Refused outcomes.Auth)) sends waits
@@ -92,13 +92,13 @@ negotiates_as {S} {T} whole state server machine begin end run = let n = server.
 module _ {S T : Type 0} (names : S → List (List ℕ)) (others : T → List (List ℕ)) (machine : Machine S)
     (other : Machine T) where
   abbrev whole : Machine (BothStates S T)
-  whole = one_of_machine names others machine other
+  whole = any_mechanism_machine names others machine other
 
   -- what was answered without a refusal went to the part that is now the one asked
-  asked_now : (parts next : BothStates S T) (mark : Option Part) (nonce : List ℕ) (frame : SaslFrame) (says : ServerSays)
+  asked_now : (parts next : BothStates S T) (mark : Option Selected) (nonce : List ℕ) (frame : SaslFrame) (says : ServerSays)
       → ¬ IsRefusal says
       → AcceptorAnswers (λ (at : BothStates S T). PartReplies machine other at mark) parts nonce frame says next
-      → next.asked ≡ mark
+      → next.selected ≡ mark
   asked_now parts next mark nonce frame says kept (inl want) = absurd (kept (subst IsRefusal (sym want.0) tt))
   asked_now parts next mark nonce frame says kept (inr (reply, moved, replies, sent)) = go mark replies
     where
@@ -107,25 +107,25 @@ module _ {S T : Type 0} (names : S → List (List ℕ)) (others : T → List (Li
       moves None is same = absurd (kept (subst IsRefusal (sym is) tt))
       moves (Some body) is same = same
 
-      to : next.asked ≡ moved.asked
-      to = ap (λ (p : BothStates S T). p.asked) (moves (canonical reply) sent.0 sent.1)
+      to : next.selected ≡ moved.selected
+      to = ap (λ (p : BothStates S T). p.selected) (moves (canonical reply) sent.0 sent.1)
 
-      go : (mark : Option Part) → PartReplies machine other parts mark nonce frame reply moved → next.asked ≡ mark
+      go : (mark : Option Selected) → PartReplies machine other parts mark nonce frame reply moved → next.selected ≡ mark
       go None is = absurd (kept (subst IsRefusal (sym (sent.0 ∙ ap (λ (r : SaslFrame). carried
           (Failed faults.TooLarge) (server_says r) (canonical r)) is.0))
           (auth_is_refusal (canonical (ends_with outcomes.Auth)))))
-      go (Some First) (state, replies, is) = to ∙ ap (λ (p : BothStates S T). p.asked) is
-      go (Some Second) (state, replies, is) = to ∙ ap (λ (p : BothStates S T). p.asked) is
+      go (Some First) (state, replies, is) = to ∙ ap (λ (p : BothStates S T). p.selected) is
+      go (Some Second) (state, replies, is) = to ∙ ap (λ (p : BothStates S T). p.selected) is
 
   -- a step of the part that the frame goes to, which is now the one asked
   abbrev Acts : BothStates S T → Given → ServerSays → BothStates S T → Type 0
   Acts parts event says next = (frame : SaslFrame) × SpellsBody event.body (Ok frame)
-      × ((part : Part) × (part_for names others parts frame ≡ Some part) × (next.asked ≡ Some part)
+      × ((part : Selected) × (part_for names others parts frame ≡ Some part) × (next.selected ≡ Some part)
       × Goes machine other parts (Some part) event says next)
 
-  of_part : (parts next : BothStates S T) (event : Given) (says : ServerSays) (mark : Option Part) → ¬ IsRefusal says
-      → next.asked ≡ mark → Goes machine other parts mark event says next
-      → (part : Part) × (mark ≡ Some part) × (next.asked ≡ Some part)
+  of_part : (parts next : BothStates S T) (event : Given) (says : ServerSays) (mark : Option Selected) → ¬ IsRefusal says
+      → next.selected ≡ mark → Goes machine other parts mark event says next
+      → (part : Selected) × (mark ≡ Some part) × (next.selected ≡ Some part)
       × Goes machine other parts (Some part) event says next
   of_part parts next event says None kept asked goes = absurd (kept goes.0)
   of_part parts next event says (Some part) kept asked goes = (part, refl, asked, goes)
@@ -160,16 +160,16 @@ module _ {S T : Type 0} (names : S → List (List ℕ)) (others : T → List (Li
       )
 
   -- a run of a part
-  abbrev PartRuns : Part → BothStates S T → List Given → List ServerSays → BothStates S T → Type 0
+  abbrev PartRuns : Selected → BothStates S T → List Given → List ServerSays → BothStates S T → Type 0
   PartRuns First parts events replies last = Runs (AcceptorSteps machine) parts.first events replies last.first
   PartRuns Second parts events replies last = Runs (AcceptorSteps other) parts.second events replies last.second
 
-  run_ends : (part : Part) (parts last : BothStates S T) (replies : List ServerSays) → replies ≡ [] → last ≡ parts
+  run_ends : (part : Selected) (parts last : BothStates S T) (replies : List ServerSays) → replies ≡ [] → last ≡ parts
       → PartRuns part parts [] replies last
   run_ends First parts last replies none same = (none, ap (λ (p : BothStates S T). p.first) same)
   run_ends Second parts last replies none same = (none, ap (λ (p : BothStates S T). p.second) same)
 
-  run_more : (part : Part) (parts next last : BothStates S T) (event : Given) (events : List Given) (says : ServerSays)
+  run_more : (part : Selected) (parts next last : BothStates S T) (event : Given) (events : List Given) (says : ServerSays)
       (replies rest : List ServerSays) → Goes machine other parts (Some part) event says next → replies ≡ says ∷ rest
       → PartRuns part next events rest last → PartRuns part parts (event ∷ events) replies last
   run_more First parts next last event events says replies rest goes is run =
@@ -180,9 +180,9 @@ module _ {S T : Type 0} (names : S → List (List ℕ)) (others : T → List (Li
   -- the part asked at last runs by itself
   abbrev ActsAs : BothStates S T → List Given → List ServerSays → BothStates S T → Type 0
   ActsAs parts events replies last =
-      (part : Part) × (last.asked ≡ Some part) × PartRuns part parts events replies last
+      (part : Selected) × (last.selected ≡ Some part) × PartRuns part parts events replies last
 
-  same_part : (one two : Part) → ◌≡◌ {A = Option Part} (Some one) (Some two) → one ≡ two
+  same_part : (one two : Selected) → ◌≡◌ {A = Option Selected} (Some one) (Some two) → one ≡ two
   same_part one two same = cc
 
   acts_as : (pieces : List Piece) (limit : ℕ) (events : List Given) (replies : List ServerSays) (answer : SideOutput)
@@ -190,18 +190,18 @@ module _ {S T : Type 0} (names : S → List (List ℕ)) (others : T → List (Li
       → Runs (AcceptorSteps whole) state events replies last
       → Replied ServerOutputs (turns.Init ∷ turns.Response ∷ []) replies answer → LastReply IsOkSent replies
       → ActsAs state events replies last
-  acts_as pieces limit [] replies answer state last due run replied ok =
+  acts_as pieces limit [] replies answer state last expected run replied ok =
       absurd (subst (λ (l : List ServerSays). LastReply IsOkSent l) run.0 ok)
-  acts_as pieces limit (event ∷ []) replies answer state last due (says, next, none, step, is, (empty, end)) replied
+  acts_as pieces limit (event ∷ []) replies answer state last expected (says, next, none, step, is, (empty, end)) replied
       ok =
       let all : replies ≡ says ∷ [] = is ∙ ap (λ (l : List ServerSays). says ∷ l) empty in
       let kept = subst NoneRefuses all (none_refuses replies answer replied ok) in
       let (frame, spells, (part, goes_to, asked, goes)) = acts state next event says kept.0 step in (
         part,
-        ap (λ (p : BothStates S T). p.asked) end ∙ asked,
+        ap (λ (p : BothStates S T). p.selected) end ∙ asked,
         run_more part state next last event [] says replies none goes is (run_ends part next last none empty end),
       )
-  acts_as pieces limit (event ∷ second ∷ []) replies answer state last due
+  acts_as pieces limit (event ∷ second ∷ []) replies answer state last expected
       (says, mid, more, step, is, (then, next, none, step_then, is_then, (empty, end))) replied ok =
       let all : replies ≡ says ∷ then ∷ [] =
       is ∙ ap (λ (l : List ServerSays). says ∷ l) (is_then ∙ ap (λ (l : List ServerSays). then ∷ l) empty) in
@@ -209,28 +209,28 @@ module _ {S T : Type 0} (names : S → List (List ℕ)) (others : T → List (Li
       let (frame, spells, (part, goes_to, asked, goes)) = acts state mid event says kept.0 step in
       let (frame_then, spells_then, (part_then, goes_then_to, asked_then, goes_then)) =
       acts mid next second then kept.1.0 step_then in
-      let (text, response) = response_of second.body due.3.1 in
+      let (text, response) = response_of second.body expected.3.1 in
       let one : part_then ≡ part = same_part part_then part (sym goes_then_to ∙ (ap (part_for names others mid)
       (one_spelled_frame second.body frame_then (frames.Response text) spells_then response) ∙ asked)) in (
         part,
-        ap (λ (p : BothStates S T). p.asked) end ∙ (asked_then ∙ ap (λ (p : Part). Some p) one),
+        ap (λ (p : BothStates S T). p.selected) end ∙ (asked_then ∙ ap (λ (p : Selected). Some p) one),
         run_more part state mid last event (second ∷ []) says replies more goes is
             (run_more part mid next last second [] then more none
-            (subst (λ (p : Part). Goes machine other mid (Some p) second then next) one goes_then) is_then
+            (subst (λ (p : Selected). Goes machine other mid (Some p) second then next) one goes_then) is_then
             (run_ends part next last none empty end)),
       )
-  acts_as pieces limit (event ∷ second ∷ third ∷ events) replies answer state last due run replied ok =
-      absurd due.3.3
+  acts_as pieces limit (event ∷ second ∷ third ∷ events) replies answer state last expected run replied ok =
+      absurd expected.3.3
 
-  pub one_of_servers_act_as_part : OneOfServersActAsPart names others machine other
-  one_of_servers_act_as_part state server logged =
+  pub any_mechanism_servers_act_as_part : AnyMechanismServersActAsPart names others machine other
+  any_mechanism_servers_act_as_part state server logged =
       let n = server.connection in
       let (part, asked, run) = acts_as server.pieces server.limit n.events n.replies n.answer state server.last.state
       n.frames n.run n.replied
       ((servers_log_in whole server.limit state server.pieces server.taken server.sent server.last n).0 logged) in
       (part, asked, go part run)
     where
-      go : (part : Part)
+      go : (part : Selected)
           → PartRuns part state server.connection.events server.connection.replies server.last.state
           → PartNegotiates whole state server machine other part
       go First run = negotiates_as whole state server machine state.first server.last.state.first run

@@ -2,10 +2,10 @@
 use Rattle.std.proofs.Common.{◌≡◌, ◌⊎◌, ℕ, ◌+◌, ◌-◌, ◌<◌, ◌≤◌, List, [], ◌∷◌, ◌++◌, length, take, drop, refl, sym, ap, ◌∙◌, subst, inl, inr, append_assoc, arith, length-append}
 use Rattle.std.proofs.Math.Seq.{take-append-add}
 use Rattle.std.proofs.lemmas.List.{append-nil, take_at, drop_at, take-append-le, drop-append-le, take-append-drop, length-take-le}
-use Rattle.fe2o3_sasl_negotiation.specs.declared.standing.Due.{Due}
-use Rattle.fe2o3_sasl_negotiation.specs.declared.standing.Due.TheVariants.{Header, Frame}
-use Rattle.fe2o3_sasl_negotiation.specs.declared.standing.Standing.TheVariants.{Wanting, LoggedIn}
-use Rattle.fe2o3_sasl_negotiation.specs.declared.standing.Turn.{Turn}
+use Rattle.fe2o3_sasl_negotiation.specs.declared.progress.Expected.{Expected}
+use Rattle.fe2o3_sasl_negotiation.specs.declared.progress.Expected.TheVariants.{Header, Frame}
+use Rattle.fe2o3_sasl_negotiation.specs.declared.progress.Progress.TheVariants.{InProgress, Authenticated}
+use Rattle.fe2o3_sasl_negotiation.specs.declared.progress.FrameKind.{FrameKind}
 use Rattle.fe2o3_sasl_negotiation.specs.Framing.{sasl_header, framed, size_of, unit_size, Fits, IsPart, IsWhole}
 use Rattle.fe2o3_sasl_negotiation.specs.Laws.{Call, Calls}
 use Rattle.fe2o3_sasl_negotiation.specs.Negotiations.{Side, SideOutput, Receives, ReceivesAt}
@@ -22,10 +22,10 @@ Finishes (call ∷ calls) n nonce after =
 -- ---- units
 
 -- what the sizes of a unit say
-pub record IsUnit (due : Due) (limit : ℕ) (unit : List ℕ) : Type 0 where
-  pub size : (extra : List ℕ) → unit_size due (unit ++ extra) ≡ length unit
-  pub whole : (extra : List ℕ) → IsWhole due limit (unit ++ extra)
-  pub part : (front back : List ℕ) → front ++ back ≡ unit → 1 ≤ length back → IsPart due limit front
+pub record IsUnit (expected : Expected) (limit : ℕ) (unit : List ℕ) : Type 0 where
+  pub size : (extra : List ℕ) → unit_size expected (unit ++ extra) ≡ length unit
+  pub whole : (extra : List ℕ) → IsWhole expected limit (unit ++ extra)
+  pub part : (front back : List ℕ) → front ++ back ≡ unit → 1 ≤ length back → IsPart expected limit front
 
 pub header_is_unit : (limit : ℕ) → IsUnit Header limit sasl_header
 header_is_unit limit = record {
@@ -34,7 +34,7 @@ header_is_unit limit = record {
   part = λ front back same some. omega (arith, ap length same, length-append front back, some);
 }
 
-pub frame_is_unit : (turn : Turn) (limit : ℕ) (body : List ℕ) → 512 ≤ limit → 4 ≤ length body → length body + 4 ≤ 512
+pub frame_is_unit : (turn : FrameKind) (limit : ℕ) (body : List ℕ) → 512 ≤ limit → 4 ≤ length body → length body + 4 ≤ 512
     → IsUnit (Frame turn) limit (framed body)
 frame_is_unit turn limit body wide least small = record {
   size = λ extra. size extra ∙ sym (length-framed body);
@@ -58,19 +58,19 @@ frame_is_unit turn limit body wide least small = record {
 
 -- ---- calls
 
-module _ {S : Type 0} (Answers : Due → S → List ℕ → List ℕ → SideOutput → S → Type 0) where
+module _ {S : Type 0} (Answers : Expected → S → List ℕ → List ℕ → SideOutput → S → Type 0) where
   -- a side that holds the beginning of a unit
-  abbrev holding : Due → ℕ → S → List ℕ → Side S
-  holding due limit state held = record { standing = Wanting; due = due; limit = limit; held = held; state = state }
+  abbrev holding : Expected → ℕ → S → List ℕ → Side S
+  holding expected limit state held = record { progress = InProgress; expected = expected; limit = limit; held = held; state = state }
 
-  module _ (due : Due) (limit : ℕ) (state next : S) (unit more nonce sent : List ℕ) (answer : SideOutput)
-      (after : List Call) (last : Side S) (is : IsUnit due limit unit) (answers : Answers due state nonce unit answer next)
+  module _ (expected : Expected) (limit : ℕ) (state next : S) (unit more nonce sent : List ℕ) (answer : SideOutput)
+      (after : List Call) (last : Side S) (is : IsUnit expected limit unit) (answers : Answers expected state nonce unit answer next)
       (others : Calls (Receives Answers) (behind_answer answer limit next) after more sent last []) where
     -- a call that takes the rest of the unit
     completes : (held rest : List ℕ) (handed : ℕ) → held ++ rest ≡ unit → length rest ≤ handed
-        → Receives Answers (holding due limit state held) (take handed (rest ++ more)) nonce (length rest) answer.sent
+        → Receives Answers (holding expected limit state held) (take handed (rest ++ more)) nonce (length rest) answer.sent
         (behind_answer answer limit next)
-    completes held rest handed same enough = subst (λ (l : List ℕ). Receives Answers (holding due limit state held) l
+    completes held rest handed same enough = subst (λ (l : List ℕ). Receives Answers (holding expected limit state held) l
         nonce (length rest) answer.sent (behind_answer answer limit next)) (sym taken)
         (inr (inr (answer, next, whole, answered, (omega (arith, size, count), refl, refl))))
       where
@@ -87,28 +87,28 @@ module _ {S : Type 0} (Answers : Due → S → List ℕ → List ℕ → SideOut
         count : length held + length rest ≡ length unit
         count = sym (length-append held rest) ∙ ap length same
 
-        size : unit_size due (held ++ (rest ++ extra)) ≡ length unit
-        size = ap (λ (l : List ℕ). unit_size due l) come ∙ is.size extra
+        size : unit_size expected (held ++ (rest ++ extra)) ≡ length unit
+        size = ap (λ (l : List ℕ). unit_size expected l) come ∙ is.size extra
 
-        whole : IsWhole due limit (held ++ (rest ++ extra))
-        whole = subst (λ (l : List ℕ). IsWhole due limit l) (sym come) (is.whole extra)
+        whole : IsWhole expected limit (held ++ (rest ++ extra))
+        whole = subst (λ (l : List ℕ). IsWhole expected limit l) (sym come) (is.whole extra)
 
-        answered : Answers due state nonce
-            (take (unit_size due (held ++ (rest ++ extra))) (held ++ (rest ++ extra))) answer next
-        answered = subst (λ (l : List ℕ). Answers due state nonce l answer next) (sym
+        answered : Answers expected state nonce
+            (take (unit_size expected (held ++ (rest ++ extra))) (held ++ (rest ++ extra))) answer next
+        answered = subst (λ (l : List ℕ). Answers expected state nonce l answer next) (sym
             (ap (λ (n : ℕ). take n (held ++ (rest ++ extra))) size
             ∙ (ap (λ (l : List ℕ). take (length unit) l) come ∙ take_at unit extra (length unit) refl))) answers
 
     pub unit_calls : (calls : List Call) (held rest : List ℕ) → held ++ rest ≡ unit
         → Finishes calls (length rest) nonce after
-        → Calls (Receives Answers) (holding due limit state held) calls (rest ++ more) (answer.sent ++ sent) last []
+        → Calls (Receives Answers) (holding expected limit state held) calls (rest ++ more) (answer.sent ++ sent) last []
     unit_calls [] held rest same finishes = absurd finishes
     unit_calls (call ∷ calls) held rest same (inl (enough, with_nonce, then)) = (
       length rest,
       answer.sent,
       behind_answer answer limit next,
       sent,
-      subst (λ (n : List ℕ). Receives Answers (holding due limit state held) (take call.handed (rest ++ more)) n
+      subst (λ (n : List ℕ). Receives Answers (holding expected limit state held) (take call.handed (rest ++ more)) n
           (length rest) answer.sent (behind_answer answer limit next)) (sym with_nonce)
           (completes held rest call.handed same enough),
       subst (λ (l : List ℕ). Calls (Receives Answers) (behind_answer answer limit next) calls l sent last [])
@@ -120,15 +120,15 @@ module _ {S : Type 0} (Answers : Due → S → List ℕ → List ℕ → SideOut
     unit_calls (call ∷ calls) held rest same (inr (few, finishes)) = (
       call.handed,
       [],
-      holding due limit state (held ++ front),
+      holding expected limit state (held ++ front),
       answer.sent ++ sent,
-      subst (λ (l : List ℕ). Receives Answers (holding due limit state held) l call.nonce call.handed []
-          (holding due limit state (held ++ front))) (sym (take-append-le call.handed rest more (omega (arith, few))))
+      subst (λ (l : List ℕ). Receives Answers (holding expected limit state held) l call.nonce call.handed []
+          (holding expected limit state (held ++ front))) (sym (take-append-le call.handed rest more (omega (arith, few))))
           (inl (
             is.part (held ++ front) back joined (omega (arith, few, back_length)),
             (sym front_length, refl, refl),
           )),
-      subst (λ (l : List ℕ). Calls (Receives Answers) (holding due limit state (held ++ front)) calls l (answer.sent ++ sent) last
+      subst (λ (l : List ℕ). Calls (Receives Answers) (holding expected limit state (held ++ front)) calls l (answer.sent ++ sent) last
           []) (sym (drop-append-le call.handed rest more (omega (arith, few))))
           (unit_calls calls (held ++ front) back joined
           (subst (λ (n : ℕ). Finishes calls n nonce after) (sym back_length) finishes)),
@@ -158,7 +158,7 @@ module _ {S : Type 0} (Answers : Due → S → List ℕ → List ℕ → SideOut
         )
 
   -- a side that has logged in takes nothing
-  pub rests : (calls : List Call) (side : Side S) → side.standing ≡ LoggedIn → Calls (Receives Answers) side calls [] [] side []
+  pub rests : (calls : List Call) (side : Side S) → side.progress ≡ Authenticated → Calls (Receives Answers) side calls [] [] side []
   rests [] side logged_in = (refl, refl, refl)
   rests (call ∷ calls) side logged_in = (
     0,
@@ -171,5 +171,5 @@ module _ {S : Type 0} (Answers : Due → S → List ℕ → List ℕ → SideOut
   )
     where
       rest : (bytes : List ℕ) → Receives Answers side bytes call.nonce 0 [] side
-      rest bytes = subst (λ standing. ReceivesAt standing Answers side bytes call.nonce 0 [] side) (sym logged_in)
+      rest bytes = subst (λ progress. ReceivesAt progress Answers side bytes call.nonce 0 [] side) (sym logged_in)
           (refl, refl, refl)

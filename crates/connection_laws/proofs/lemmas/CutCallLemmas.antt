@@ -6,12 +6,12 @@ use Rattle.std.proofs.lemmas.List.{append-nil, length-append, length-take, lengt
 use Rattle.std.proofs.Math.Seq.{take-append-add, take-append_seam}
 use Rattle.fe2o3_sasl_wire.specs.SaslFrames.{IsBytes}
 use Rattle.fe2o3_sasl_wire.proofs.lemmas.reading.StepLemmas.{IsBytes-take}
-use Rattle.fe2o3_sasl_runs.specs.OneOfLaws.{Machine}
-use Rattle.fe2o3_sasl_runs.specs.Runs.{ProfileSteps}
-use Rattle.fe2o3_sasl_runs.specs.SaslAcceptor.{acceptor_names, acceptor_machine}
-use Rattle.fe2o3_sasl_runs.proofs.lemmas.machines.OneReplyLemmas.{one_acceptor_reply}
-use Rattle.fe2o3_sasl_negotiation.specs.declared.standing.Due.{Due}
-use Rattle.fe2o3_sasl_negotiation.specs.declared.standing.Standing.TheVariants.{Wanting}
+use Rattle.fe2o3_sasl_core.specs.AnyMechanismLaws.{Machine}
+use Rattle.fe2o3_sasl_core.specs.Runs.{ProfileSteps}
+use Rattle.fe2o3_sasl_core.specs.SaslAcceptor.{acceptor_names, acceptor_machine}
+use Rattle.fe2o3_sasl_core.proofs.lemmas.machines.OneReplyLemmas.{one_acceptor_reply}
+use Rattle.fe2o3_sasl_negotiation.specs.declared.progress.Expected.{Expected}
+use Rattle.fe2o3_sasl_negotiation.specs.declared.progress.Progress.TheVariants.{InProgress}
 use Rattle.fe2o3_sasl_negotiation.specs.ClientNegotiation.{ClientSideAnswers}
 use Rattle.fe2o3_sasl_negotiation.specs.Connections.{Piece, bytes_of, PieceNonceAt, ServerConnection, ClientConnection, fresh}
 use Rattle.fe2o3_sasl_negotiation.specs.Framing.{sasl_header, framed}
@@ -26,7 +26,7 @@ use Rattle.connection_laws.proofs.lemmas.CutConnectionLemmas.{functions_end_equa
 use Rattle.connection_laws.proofs.lemmas.PairLemmas.{one_split}
 use Rattle.connection_laws.proofs.lemmas.RestLemmas.{bytes_of-more, taken_within, waited}
 
-module _ {S : Type 0} (Answers : Due → S → List ℕ → List ℕ → SideOutput → S → Type 0) where
+module _ {S : Type 0} (Answers : Expected → S → List ℕ → List ℕ → SideOutput → S → Type 0) where
   -- the pieces are the front of the stream
   covers : (side : Side S) (calls : List Call) (stream sent : List ℕ) (last : Side S) (rest : List ℕ)
       (made : Calls (Receives Answers) side calls stream sent last rest)
@@ -34,7 +34,7 @@ module _ {S : Type 0} (Answers : Due → S → List ℕ → List ℕ → SideOut
   covers side [] stream sent last rest (nothing, same, left) = sym left
   covers side (call ∷ calls) stream sent last rest (k, first, next, later, receives, made, all) =
       let handed = take call.handed stream in
-      let within : k ≤ length handed = taken_within Answers side next handed call.nonce first k side.standing receives in
+      let within : k ≤ length handed = taken_within Answers side next handed call.nonce first k side.progress receives in
       let few : k ≤ call.handed = omega (arith, within, length-take call.handed stream) in
       let front : take k handed ≡ take k stream = take-take k call.handed stream few in
       let pieces = taken_pieces Answers next calls (drop k stream) later last rest made in
@@ -57,7 +57,7 @@ module _ {S : Type 0} (Answers : Due → S → List ℕ → List ℕ → SideOut
     in_calls (call ∷ calls) done side last stream before sent rest (k, first, next, later, receives, made, sum) whole is
         are_bytes =
         let handed = take call.handed stream in
-        let within : k ≤ length handed = taken_within Answers side next handed call.nonce first k side.standing receives in
+        let within : k ≤ length handed = taken_within Answers side next handed call.nonce first k side.progress receives in
         let few : k ≤ call.handed = omega (arith, within, length-take call.handed stream) in
         let piece : Piece = record { bytes = take k handed; nonce = call.nonce } in
         let front : take k handed ≡ take k stream = take-take k call.handed stream few in
@@ -103,7 +103,7 @@ ends_in_stream front rest stream n same (bodies, body, tail, is, place) = (
         ∙ ap (λ l. sasl_header ++ l) (append_assoc a (b ++ c) rest ∙ ap (λ l. a ++ l) (append_assoc b c rest))
 
 -- two lists of calls whose connections end equally
-module _ {S : Type 0} (Answers : Due → S → List ℕ → List ℕ → SideOutput → S → Type 0) (limit : ℕ) (state : S)
+module _ {S : Type 0} (Answers : Expected → S → List ℕ → List ℕ → SideOutput → S → Type 0) (limit : ℕ) (state : S)
     (stream : List ℕ) (Is : List Piece → List ℕ → List ℕ → Side S → Type 0)
     (one_more : (pieces : List Piece) (taken sent : List ℕ) (side next : Side S) (bytes nonce first : List ℕ) (k : ℕ)
     → Is pieces taken sent side → IsBytes (taken ++ bytes)
@@ -140,7 +140,7 @@ module _ {S : Type 0} (Answers : Due → S → List ℕ → List ℕ → SideOut
   -- calls that leave more bytes than others wait for them
   longer_rests_wait : IsBytes stream → (first second : CallsOver Answers (fresh limit state) stream)
       → HaveOneNonceEach (pieces first) (pieces second) stream → length second.rest < length first.rest
-      → first.last.standing ≡ Wanting
+      → first.last.progress ≡ InProgress
   longer_rests_wait are_bytes first second nonces longer =
       let size = ap length (front first) ∙ length-append (bytes_of (pieces first)) first.rest in
       let whole = ap length (front second) ∙ length-append (bytes_of (pieces second)) second.rest in
@@ -156,11 +156,11 @@ module _ {S : Type 0} (Answers : Due → S → List ℕ → List ℕ → SideOut
       (connection first are_bytes) (subst (λ (l : List ℕ). Is (pieces second) l out mid) taken is)
       (λ n nonce other ends. nonces n nonce other
       (ends_in_stream (bytes_of (pieces first)) first.rest stream n (front first) ends)) in
-      equal.standing ∙ waits
+      equal.progress ∙ waits
 
   -- calls that have finished leave no more than others
   none_longer : (first second : CallsOver Answers (fresh limit state) stream) → HaveFinished first
-      → (length second.rest < length first.rest → first.last.standing ≡ Wanting)
+      → (length second.rest < length first.rest → first.last.progress ≡ InProgress)
       → ¬ (length second.rest < length first.rest)
   none_longer first second (inl ended) waits longer = ended (waits longer)
   none_longer first second (inr nothing) waits longer = omega (arith, longer, ap length nothing)

@@ -1,12 +1,12 @@
 -- Two connections over the same bytes, from the first byte on.
 use Rattle.std.proofs.Common.{◌≡◌, ◌≢◌, ℕ, ◌+◌, ◌<◌, ◌≤◌, ◌^◌, Some, List, [], ◌∷◌, ◌++◌, length, sym, ap, ◌∙◌, inl, inr, arith}
 use Rattle.std.proofs.lemmas.List.{append-nil, length-append}
-use Rattle.fe2o3_sasl_runs.specs.OneOfLaws.{Machine}
-use Rattle.fe2o3_sasl_runs.specs.SaslAcceptor.{acceptor_names, acceptor_machine}
-use Rattle.fe2o3_sasl_runs.proofs.lemmas.machines.OneReplyLemmas.{one_acceptor_reply}
-use Rattle.fe2o3_sasl_negotiation.specs.declared.standing.ClosedBecause.{ClosedBecause}
-use Rattle.fe2o3_sasl_negotiation.specs.declared.standing.ClosedBecause.TheVariants.{OtherHeader, ReplyTooLarge}
-use Rattle.fe2o3_sasl_negotiation.specs.declared.standing.Standing.TheVariants.{Closed}
+use Rattle.fe2o3_sasl_core.specs.AnyMechanismLaws.{Machine}
+use Rattle.fe2o3_sasl_core.specs.SaslAcceptor.{acceptor_names, acceptor_machine}
+use Rattle.fe2o3_sasl_core.proofs.lemmas.machines.OneReplyLemmas.{one_acceptor_reply}
+use Rattle.fe2o3_sasl_negotiation.specs.declared.progress.CloseReason.{CloseReason}
+use Rattle.fe2o3_sasl_negotiation.specs.declared.progress.CloseReason.TheVariants.{ProtocolHeaderMismatch, ReplyTooLarge}
+use Rattle.fe2o3_sasl_negotiation.specs.declared.progress.Progress.TheVariants.{Failed}
 use Rattle.fe2o3_sasl_negotiation.specs.Connections.{Piece, IsHeaderPart, IsOtherHeader, OffersNone, ServerConnection}
 use Rattle.fe2o3_sasl_negotiation.specs.Framing.{sasl_header, framed}
 use Rattle.fe2o3_sasl_negotiation.specs.Negotiations.{Side}
@@ -21,18 +21,18 @@ module _ {S : Type 0} where
       → IsHeaderPart limit state taken sent last → IsHeaderPart limit state taken out end → EndEqually sent out last end
   held_equally limit state taken sent out last end (few, nothing, is) (also, none, too) = let same = is ∙ sym too in record {
     sends = nothing ∙ sym none;
-    standing = ap (λ (s : Side S). s.standing) same;
+    progress = ap (λ (s : Side S). s.progress) same;
     state = ap (λ (s : Side S). s.state) same;
     waits = λ _. same;
   }
 
   -- two sides that have closed
-  closed_equally : (why : ClosedBecause) (state : S) (sent out : List ℕ) (last end : Side S) → sent ≡ out
-      → last.standing ≡ Closed why → end.standing ≡ Closed why → last.state ≡ state → end.state ≡ state
+  closed_equally : (why : CloseReason) (state : S) (sent out : List ℕ) (last end : Side S) → sent ≡ out
+      → last.progress ≡ Failed why → end.progress ≡ Failed why → last.state ≡ state → end.state ≡ state
       → EndEqually sent out last end
   closed_equally why state sent out last end sends one two is too = record {
     sends = sends;
-    standing = one ∙ sym two;
+    progress = one ∙ sym two;
     state = is ∙ sym too;
     waits = λ waits. absurd (closed_is_not_wanting why (sym one ∙ waits));
   }
@@ -84,7 +84,7 @@ module _ {S : Type 0} (names : S → List (List ℕ)) (machine : Machine S) (fun
   servers_equal pieces others sent out last end (inr (inl other)) (inl part) nonces =
       absurd (part_is_not_other limit state taken out end last part other.0)
   servers_equal pieces others sent out last end (inr (inl other)) (inr (inl too)) nonces =
-      closed_equally OtherHeader state sent out last end (other.1 ∙ sym too.1) other.0.2 too.0.2 other.0.3 too.0.3
+      closed_equally ProtocolHeaderMismatch state sent out last end (other.1 ∙ sym too.1) other.0.2 too.0.2 other.0.3 too.0.3
   servers_equal pieces others sent out last end (inr (inl other)) (inr (inr (inl none))) nonces =
       absurd (other_is_not state taken [] last other.0 (none.0 ∙ sym (append-nil sasl_header)))
   servers_equal pieces others sent out last end (inr (inl other)) (inr (inr (inr all))) nonces =
@@ -109,7 +109,7 @@ module _ {S : Type 0} (names : S → List (List ℕ)) (machine : Machine S) (fun
       negotiated second nonces).2 in
       let offers : offer ≡ again = one_offer offer again (sym is ∙ too) in record {
         sends = all ∙ ((λ i. sasl_header ++ (framed (offers i) ++ equal.sends i)) ∙ sym whole);
-        standing = equal.standing;
+        progress = equal.progress;
         state = equal.state;
         waits = equal.waits;
       }
@@ -135,7 +135,7 @@ clients_end_equally hostname limit profile pieces others taken sent out last end
     absurd (part_is_not_other limit profile taken out end last part other.0)
 clients_end_equally hostname limit profile pieces others taken sent out last end small (inr (inl other)) (inr (inl too))
     nonces =
-    closed_equally OtherHeader profile sent out last end (other.1 ∙ sym too.1) other.0.2 too.0.2 other.0.3 too.0.3
+    closed_equally ProtocolHeaderMismatch profile sent out last end (other.1 ∙ sym too.1) other.0.2 too.0.2 other.0.3 too.0.3
 clients_end_equally hostname limit profile pieces others taken sent out last end small (inr (inl other)) (inr (inr all))
     nonces =
     absurd (other_is_not profile taken _ last other.0 all.carried)

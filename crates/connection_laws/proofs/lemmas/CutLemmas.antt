@@ -5,16 +5,16 @@ use Rattle.std.proofs.lemmas.Grind.{flat_map-append}
 use Rattle.std.proofs.lemmas.List.{append-nil, length-append}
 use Rattle.fe2o3_sasl_wire.specs.declared.sasl_frames.error.Error.{Error}
 use Rattle.fe2o3_sasl_wire.specs.SaslFrames.{SaslFrame}
-use Rattle.fe2o3_sasl_runs.specs.Bodies.{SpellsBody}
-use Rattle.fe2o3_sasl_runs.specs.Events.{Given}
-use Rattle.fe2o3_sasl_runs.specs.Runs.{Runs}
-use Rattle.fe2o3_sasl_runs.proofs.lemmas.frames.SpellingLemmas.{one_spelling}
-use Rattle.fe2o3_sasl_negotiation.specs.declared.standing.ClosedBecause.{ClosedBecause}
-use Rattle.fe2o3_sasl_negotiation.specs.declared.standing.Due.{Due}
-use Rattle.fe2o3_sasl_negotiation.specs.declared.standing.Due.TheVariants.{Frame}
-use Rattle.fe2o3_sasl_negotiation.specs.declared.standing.Standing.{Standing}
-use Rattle.fe2o3_sasl_negotiation.specs.declared.standing.Standing.TheVariants.{Wanting, Closed}
-use Rattle.fe2o3_sasl_negotiation.specs.declared.standing.Turn.{Turn}
+use Rattle.fe2o3_sasl_core.specs.Bodies.{SpellsBody}
+use Rattle.fe2o3_sasl_core.specs.Events.{Given}
+use Rattle.fe2o3_sasl_core.specs.Runs.{Runs}
+use Rattle.fe2o3_sasl_core.proofs.lemmas.frames.SpellingLemmas.{one_spelling}
+use Rattle.fe2o3_sasl_negotiation.specs.declared.progress.CloseReason.{CloseReason}
+use Rattle.fe2o3_sasl_negotiation.specs.declared.progress.Expected.{Expected}
+use Rattle.fe2o3_sasl_negotiation.specs.declared.progress.Expected.TheVariants.{Frame}
+use Rattle.fe2o3_sasl_negotiation.specs.declared.progress.Progress.{Progress}
+use Rattle.fe2o3_sasl_negotiation.specs.declared.progress.Progress.TheVariants.{InProgress, Failed}
+use Rattle.fe2o3_sasl_negotiation.specs.declared.progress.FrameKind.{FrameKind}
 use Rattle.fe2o3_sasl_negotiation.specs.Connections.{Piece, PieceNonceAt, frames_of, SpellsTurn, AreFrames, LeftOver, Unanswered, Replied, Negotiated}
 use Rattle.fe2o3_sasl_negotiation.specs.Framing.{sasl_header, framed, size_of, Fits, IsPart}
 use Rattle.fe2o3_sasl_negotiation.specs.Negotiations.{Side, SideOutput, IsInTurn}
@@ -23,8 +23,8 @@ use Rattle.connection_laws.specs.Cuts.{HaveOneNonceEach, EndEqually}
 use Rattle.connection_laws.proofs.lemmas.PairLemmas.{one_split}
 use Rattle.connection_laws.proofs.lemmas.ShapeLemmas.{one_frame}
 
-one_turn : (turn other : Turn) (due : Due) → due ≡ Frame turn → due ≡ Frame other → turn ≡ other
-one_turn turn other due one two = let same : Frame turn ≡ Frame other = sym one ∙ two in cc
+one_turn : (turn other : FrameKind) (expected : Expected) → expected ≡ Frame turn → expected ≡ Frame other → turn ≡ other
+one_turn turn other expected one two = let same : Frame turn ≡ Frame other = sym one ∙ two in cc
 
 -- the first frames of both have one nonce, the second frames, and further while both have one
 abbrev PairNonces : List Given → List Given → Type 0
@@ -39,7 +39,7 @@ module _ (limit : ℕ) (small : limit < 2 ^ 32) where
   fits_small n fits = let most : n ≤ limit = fits.1 in let s = small in omega (arith, most, s)
 
   -- a whole frame is no part of one
-  frame_is_no_part : (turn : Turn) (tail body more : List ℕ) → tail ≡ framed body ++ more
+  frame_is_no_part : (turn : FrameKind) (tail body more : List ℕ) → tail ≡ framed body ++ more
       → Fits limit (length body + 4) → ¬ IsPart (Frame turn) limit tail
   frame_is_no_part turn tail body more is fits part =
       let long : length tail ≡ (length body + 4) + length more =
@@ -50,32 +50,32 @@ module _ (limit : ℕ) (small : limit < 2 ^ 32) where
       let short : length tail < size_of tail = (part (omega (arith, long, eight))).1 in
       omega (arith, long, size, short)
 
-  unanswered_apart : (turn : Turn) (body : List ℕ) (frame : SaslFrame) (spelled : Result SaslFrame Error)
-      (why : ClosedBecause) → SpellsBody body spelled → SpellsBody body (Ok frame) → IsInTurn turn frame
+  unanswered_apart : (turn : FrameKind) (body : List ℕ) (frame : SaslFrame) (spelled : Result SaslFrame Error)
+      (why : CloseReason) → SpellsBody body spelled → SpellsBody body (Ok frame) → IsInTurn turn frame
       → ¬ Unanswered turn spelled why
   unanswered_apart turn body frame spelled why is spells in_turn unanswered =
       (subst (λ (r : Result SaslFrame Error). Unanswered turn r why) (one_spelling body spelled (Ok frame) is spells)
       unanswered).0 in_turn
 
   -- what is left over does not begin with an answered frame
-  no_frame_left : (turn : Turn) (tail body more : List ℕ) (standing : Standing) → LeftOver turn limit tail standing
+  no_frame_left : (turn : FrameKind) (tail body more : List ℕ) (progress : Progress) → LeftOver turn limit tail progress
       → tail ≡ framed body ++ more → Fits limit (length body + 4) → ¬ SpellsTurn turn body
-  no_frame_left turn tail body more standing (inl part) is fits spells =
+  no_frame_left turn tail body more progress (inl part) is fits spells =
       frame_is_no_part turn tail body more is fits part.0
-  no_frame_left turn tail body more standing (inr (inl size)) is fits spells =
+  no_frame_left turn tail body more progress (inr (inl size)) is fits spells =
       let long : length tail ≡ (length body + 4) + length more =
       ap length is ∙ (length-append (framed body) more ∙ ap (λ n. n + length more) (length-framed body)) in
       let eight : 8 ≤ length body + 4 = fits.0 in
       let four : length tail ≡ 4 = size.0 in
       omega (arith, long, eight, four)
-  no_frame_left turn tail body more standing
+  no_frame_left turn tail body more progress
       (inr (inr (other, spelled, why, whole, fits_other, spells_other, unanswered, closed))) is fits spells =
       let same = (one_frame other [] body more (fits_small (length other + 4) fits_other)
       (fits_small (length body + 4) fits) (append-nil (framed other) ∙ (sym whole ∙ is))).0 in
       unanswered_apart turn body spells.0 spelled why
       (subst (λ (b : List ℕ). SpellsBody b spelled) same spells_other) spells.1 spells.2 unanswered
 
-  one_why : (turn : Turn) (spelled other : Result SaslFrame Error) (why also : ClosedBecause) → spelled ≡ other
+  one_why : (turn : FrameKind) (spelled other : Result SaslFrame Error) (why also : CloseReason) → spelled ≡ other
       → Unanswered turn spelled why → Unanswered turn other also → why ≡ also
   one_why turn spelled other why also same is too =
       go spelled is (subst (λ (r : Result SaslFrame Error). Unanswered turn r also) (sym same) too)
@@ -90,59 +90,59 @@ module _ (limit : ℕ) (small : limit < 2 ^ 32) where
       let eight : 8 ≤ length body + 4 = fits.0 in omega (arith, four, long, eight)
 
   -- it leaves the side in one way
-  one_left_over : (turn : Turn) (tail : List ℕ) (standing other : Standing) → LeftOver turn limit tail standing
-      → LeftOver turn limit tail other → standing ≡ other
-  one_left_over turn tail standing other (inl part) (inl too) = part.1 ∙ sym too.1
-  one_left_over turn tail standing other (inl part) (inr (inl size)) =
+  one_left_over : (turn : FrameKind) (tail : List ℕ) (progress other : Progress) → LeftOver turn limit tail progress
+      → LeftOver turn limit tail other → progress ≡ other
+  one_left_over turn tail progress other (inl part) (inl too) = part.1 ∙ sym too.1
+  one_left_over turn tail progress other (inl part) (inr (inl size)) =
       let four : length tail ≡ 4 = size.0 in absurd (size.1 (part.0 (omega (arith, four))).0)
-  one_left_over turn tail standing other (inl part) (inr (inr frame)) =
+  one_left_over turn tail progress other (inl part) (inr (inr frame)) =
       absurd (frame_is_no_part turn tail frame.0 [] (frame.3 ∙ sym (append-nil (framed frame.0))) frame.4 part.0)
-  one_left_over turn tail standing other (inr (inl size)) (inl part) =
+  one_left_over turn tail progress other (inr (inl size)) (inl part) =
       let four : length tail ≡ 4 = size.0 in absurd (size.1 (part.0 (omega (arith, four))).0)
-  one_left_over turn tail standing other (inr (inl size)) (inr (inl too)) = size.2 ∙ sym too.2
-  one_left_over turn tail standing other (inr (inl size)) (inr (inr frame)) =
+  one_left_over turn tail progress other (inr (inl size)) (inr (inl too)) = size.2 ∙ sym too.2
+  one_left_over turn tail progress other (inr (inl size)) (inr (inr frame)) =
       absurd (too_long tail frame.0 size.0 frame.3 frame.4)
-  one_left_over turn tail standing other (inr (inr frame)) (inl part) =
+  one_left_over turn tail progress other (inr (inr frame)) (inl part) =
       absurd (frame_is_no_part turn tail frame.0 [] (frame.3 ∙ sym (append-nil (framed frame.0))) frame.4 part.0)
-  one_left_over turn tail standing other (inr (inr frame)) (inr (inl size)) =
+  one_left_over turn tail progress other (inr (inr frame)) (inr (inl size)) =
       absurd (too_long tail frame.0 size.0 frame.3 frame.4)
-  one_left_over turn tail standing other
+  one_left_over turn tail progress other
       (inr (inr (body, spelled, why, whole, fits, spells, unanswered, closed)))
       (inr (inr (again, read, also, too, fits_again, spells_again, unanswered_again, closed_again))) =
       let same = (one_frame body [] again [] (fits_small (length body + 4) fits)
       (fits_small (length again + 4) fits_again)
       (append-nil (framed body) ∙ (sym whole ∙ (too ∙ sym (append-nil (framed again)))))).0 in
       let one = one_spelling again spelled read (subst (λ (b : List ℕ). SpellsBody b spelled) same spells) spells_again in
-      closed ∙ (ap (λ (w : ClosedBecause). Closed w) (one_why turn spelled read why also one unanswered unanswered_again)
+      closed ∙ (ap (λ (w : CloseReason). Failed w) (one_why turn spelled read why also one unanswered unanswered_again)
       ∙ sym closed_again)
 
   -- how a negotiation ends
-  abbrev EndsIn : SideOutput → List ℕ → Standing → Type 0
-  EndsIn answer tail standing =
-      ((turn : Turn) × (answer.standing ≡ Wanting) × (answer.due ≡ Frame turn) × LeftOver turn limit tail standing)
-      ⊎ ((answer.standing ≢ Wanting) × (standing ≡ answer.standing) × (tail ≡ []))
+  abbrev EndsIn : SideOutput → List ℕ → Progress → Type 0
+  EndsIn answer tail progress =
+      ((turn : FrameKind) × (answer.progress ≡ InProgress) × (answer.expected ≡ Frame turn) × LeftOver turn limit tail progress)
+      ⊎ ((answer.progress ≢ InProgress) × (progress ≡ answer.progress) × (tail ≡ []))
 
-  -- where a frame is due, none is left over
-  pub no_frame_after : (turn : Turn) (answer : SideOutput) (tail body more : List ℕ) (standing : Standing)
-      → answer.standing ≡ Wanting → answer.due ≡ Frame turn → EndsIn answer tail standing
+  -- where a frame is expected, none is left over
+  pub no_frame_after : (turn : FrameKind) (answer : SideOutput) (tail body more : List ℕ) (progress : Progress)
+      → answer.progress ≡ InProgress → answer.expected ≡ Frame turn → EndsIn answer tail progress
       → tail ≡ framed body ++ more → Fits limit (length body + 4) → ¬ SpellsTurn turn body
-  no_frame_after turn answer tail body more standing waits due (inl (other, wants, is, left)) same fits spells =
-      no_frame_left other tail body more standing left same fits
-      (subst (λ (t : Turn). SpellsTurn t body) (one_turn turn other answer.due due is) spells)
-  no_frame_after turn answer tail body more standing waits due (inr ended) same fits spells = ended.0 waits
+  no_frame_after turn answer tail body more progress waits expected (inl (other, wants, is, left)) same fits spells =
+      no_frame_left other tail body more progress left same fits
+      (subst (λ (t : FrameKind). SpellsTurn t body) (one_turn turn other answer.expected expected is) spells)
+  no_frame_after turn answer tail body more progress waits expected (inr ended) same fits spells = ended.0 waits
 
-  one_end : (answer : SideOutput) (tail : List ℕ) (standing other : Standing) → EndsIn answer tail standing
-      → EndsIn answer tail other → standing ≡ other
-  one_end answer tail standing other (inl (turn, wants, is, left)) (inl (again, waits, too, left_again)) =
-      one_left_over turn tail standing other left
-      (subst (λ (t : Turn). LeftOver t limit tail other) (one_turn again turn answer.due too is) left_again)
-  one_end answer tail standing other (inl waiting) (inr ended) = absurd (ended.0 waiting.1)
-  one_end answer tail standing other (inr ended) (inl waiting) = absurd (ended.0 waiting.1)
-  one_end answer tail standing other (inr ended) (inr too) = ended.1 ∙ sym too.1
+  one_end : (answer : SideOutput) (tail : List ℕ) (progress other : Progress) → EndsIn answer tail progress
+      → EndsIn answer tail other → progress ≡ other
+  one_end answer tail progress other (inl (turn, wants, is, left)) (inl (again, waits, too, left_again)) =
+      one_left_over turn tail progress other left
+      (subst (λ (t : FrameKind). LeftOver t limit tail other) (one_turn again turn answer.expected too is) left_again)
+  one_end answer tail progress other (inl waiting) (inr ended) = absurd (ended.0 waiting.1)
+  one_end answer tail progress other (inr ended) (inl waiting) = absurd (ended.0 waiting.1)
+  one_end answer tail progress other (inr ended) (inr too) = ended.1 ∙ sym too.1
 
   -- ---- nonces
 
-  pair_nonces : (turns : List Turn) (pieces others : List Piece) (at : ℕ) (bodies : List (List ℕ))
+  pair_nonces : (turns : List FrameKind) (pieces others : List Piece) (at : ℕ) (bodies : List (List ℕ))
       (events more : List Given) (stream tail rest : List ℕ) → HaveOneNonceEach pieces others stream
       → at ≡ 8 + length (flat_map framed bodies)
       → stream ≡ sasl_header ++ (flat_map framed bodies ++ (frames_of events ++ tail))
@@ -195,24 +195,24 @@ module _ (limit : ℕ) (small : limit < 2 ^ 32) where
 
   -- ---- frames and replies
 
-  module _ {S A : Type 0} (Steps : S → Given → A → S → Type 0) (Says : A → Turn → SideOutput → Type 0)
-      (one_step : (turn : Turn) (state : S) (event : Given) (says other : A) (answer reply : SideOutput) (next end : S)
+  module _ {S A : Type 0} (Steps : S → Given → A → S → Type 0) (Says : A → FrameKind → SideOutput → Type 0)
+      (one_step : (turn : FrameKind) (state : S) (event : Given) (says other : A) (answer reply : SideOutput) (next end : S)
       → Steps state event says next → Says says turn answer → Steps state event other end → Says other turn reply
       → (says ≡ other) × (next ≡ end) × (answer ≡ reply)) where
-    -- what a reply leaves due is the next turn
-    abbrev pub Follow : List Turn → Type 0
+    -- what a reply leaves expected is the next turn
+    abbrev pub Follow : List FrameKind → Type 0
     Follow [] = Unit {0}
     Follow (turn ∷ []) = Unit {0}
     Follow (turn ∷ next ∷ turns) =
-        ((says : A) (answer : SideOutput) → Says says turn answer → answer.standing ≡ Wanting → answer.due ≡ Frame next)
+        ((says : A) (answer : SideOutput) → Says says turn answer → answer.progress ≡ InProgress → answer.expected ≡ Frame next)
         × Follow (next ∷ turns)
 
     -- one event
-    abbrev Single : Turn → S → Given → List A → SideOutput → S → Type 0
+    abbrev Single : FrameKind → S → Given → List A → SideOutput → S → Type 0
     Single turn state event replies answer last = (says : A) × (next : S) × Steps state event says next
         × (replies ≡ says ∷ []) × (last ≡ next) × Says says turn answer
 
-    single : (turn : Turn) (turns : List Turn) (state : S) (event : Given) (replies : List A) (answer : SideOutput) (last : S)
+    single : (turn : FrameKind) (turns : List FrameKind) (state : S) (event : Given) (replies : List A) (answer : SideOutput) (last : S)
         → Runs Steps state (event ∷ []) replies last → Replied Says (turn ∷ turns) replies answer
         → Single turn state event replies answer last
     single turn turns state event replies answer last (says, next, others, step, is, (empty, ended)) replied =
@@ -226,13 +226,13 @@ module _ (limit : ℕ) (small : limit < 2 ^ 32) where
         )
 
     -- and more of them
-    abbrev More : Turn → List Turn → S → Given → List Given → List A → SideOutput → S → Type 0
+    abbrev More : FrameKind → List FrameKind → S → Given → List Given → List A → SideOutput → S → Type 0
     More turn turns state event events replies answer last = (says : A) × (next : S) × (others : List A)
         × (first : SideOutput) × (left : SideOutput) × Steps state event says next × (replies ≡ says ∷ others)
-        × Runs Steps next events others last × Says says turn first × (first.standing ≡ Wanting)
+        × Runs Steps next events others last × Says says turn first × (first.progress ≡ InProgress)
         × Replied Says turns others left × (answer ≡ record left { sent = first.sent ++ left.sent })
 
-    more_of : (turn : Turn) (turns : List Turn) (state : S) (event second : Given) (events : List Given)
+    more_of : (turn : FrameKind) (turns : List FrameKind) (state : S) (event second : Given) (events : List Given)
         (replies : List A) (answer : SideOutput) (last : S) → Runs Steps state (event ∷ second ∷ events) replies last
         → Replied Says (turn ∷ turns) replies answer → More turn turns state event (second ∷ events) replies answer last
     more_of turn turns state event second events replies answer last
@@ -258,39 +258,39 @@ module _ (limit : ℕ) (small : limit < 2 ^ 32) where
     Same events others replies again answer reply tail rest last end = (events ≡ others) × (replies ≡ again)
         × (answer ≡ reply) × (tail ≡ rest) × (last ≡ end)
 
-    none : (turn : Turn) (turns : List Turn) (state : S) (replies : List A) (answer : SideOutput) (last : S)
+    none : (turn : FrameKind) (turns : List FrameKind) (state : S) (replies : List A) (answer : SideOutput) (last : S)
         → Runs Steps state [] replies last → Replied Says (turn ∷ turns) replies answer
-        → answer ≡ record { sent = []; standing = Wanting; due = Frame turn }
+        → answer ≡ record { sent = []; progress = InProgress; expected = Frame turn }
     none turn turns state replies answer last run replied =
         subst (λ (l : List A). Replied Says (turn ∷ turns) l answer) run.0 replied
 
     -- one side has no frame, and the other side has one
-    none_and_some : (turn : Turn) (turns : List Turn) (pieces : List Piece) (at : ℕ) (state : S) (event : Given)
-        (events : List Given) (replies : List A) (answer : SideOutput) (last : S) (tail rest : List ℕ) (standing : Standing)
+    none_and_some : (turn : FrameKind) (turns : List FrameKind) (pieces : List Piece) (at : ℕ) (state : S) (event : Given)
+        (events : List Given) (replies : List A) (answer : SideOutput) (last : S) (tail rest : List ℕ) (progress : Progress)
         → AreFrames pieces limit at (turn ∷ turns) (event ∷ events) → tail ≡ frames_of (event ∷ events) ++ rest
-        → Runs Steps state [] replies last → Replied Says (turn ∷ turns) replies answer → EndsIn answer tail standing → ⊥
-    none_and_some turn turns pieces at state event events replies answer last tail rest standing frames same run replied
+        → Runs Steps state [] replies last → Replied Says (turn ∷ turns) replies answer → EndsIn answer tail progress → ⊥
+    none_and_some turn turns pieces at state event events replies answer last tail rest progress frames same run replied
         ends =
         let is = none turn turns state replies answer last run replied in
-        no_frame_after turn answer tail event.body (frames_of events ++ rest) standing
-        (ap (λ (a : SideOutput). a.standing) is) (ap (λ (a : SideOutput). a.due) is) ends
+        no_frame_after turn answer tail event.body (frames_of events ++ rest) progress
+        (ap (λ (a : SideOutput). a.progress) is) (ap (λ (a : SideOutput). a.expected) is) ends
         (same ∙ append_assoc (framed event.body) (frames_of events) rest) frames.0 frames.1
 
     -- one side has no frame after its first reply, and the other side has one
-    one_and_more : (turn : Turn) (turns : List Turn) (pieces : List Piece) (at : ℕ) (state : S) (event second : Given)
-        (events : List Given) (says : A) (answer : SideOutput) (tail rest : List ℕ) (standing : Standing)
+    one_and_more : (turn : FrameKind) (turns : List FrameKind) (pieces : List Piece) (at : ℕ) (state : S) (event second : Given)
+        (events : List Given) (says : A) (answer : SideOutput) (tail rest : List ℕ) (progress : Progress)
         → Follow (turn ∷ turns) → AreFrames pieces limit at turns (second ∷ events)
-        → tail ≡ frames_of (second ∷ events) ++ rest → Says says turn answer → answer.standing ≡ Wanting
-        → EndsIn answer tail standing → ⊥
-    one_and_more turn [] pieces at state event second events says answer tail rest standing follow frames same said waits
+        → tail ≡ frames_of (second ∷ events) ++ rest → Says says turn answer → answer.progress ≡ InProgress
+        → EndsIn answer tail progress → ⊥
+    one_and_more turn [] pieces at state event second events says answer tail rest progress follow frames same said waits
         ends = frames
-    one_and_more turn (next ∷ turns) pieces at state event second events says answer tail rest standing follow frames same
+    one_and_more turn (next ∷ turns) pieces at state event second events says answer tail rest progress follow frames same
         said waits ends =
-        no_frame_after next answer tail second.body (frames_of events ++ rest) standing waits
+        no_frame_after next answer tail second.body (frames_of events ++ rest) progress waits
         (follow.0 says answer said waits) ends (same ∙ append_assoc (framed second.body) (frames_of events) rest) frames.0
         frames.1
 
-    first_frame : (turn : Turn) (turns : List Turn) (pieces others : List Piece) (at from : ℕ) (event other : Given)
+    first_frame : (turn : FrameKind) (turns : List FrameKind) (pieces others : List Piece) (at from : ℕ) (event other : Given)
         (events more : List Given) (tail rest : List ℕ) → AreFrames pieces limit at (turn ∷ turns) (event ∷ events)
         → AreFrames others limit from (turn ∷ turns) (other ∷ more)
         → frames_of (event ∷ events) ++ tail ≡ frames_of (other ∷ more) ++ rest → event.nonce ≡ other.nonce
@@ -303,16 +303,16 @@ module _ (limit : ℕ) (small : limit < 2 ^ 32) where
         (λ i. record { body = both.0 i; nonce = nonce i }, both.1)
 
     -- all frames and replies
-    same : (turns : List Turn) (pieces others : List Piece) (at from : ℕ) (state : S) (events more : List Given)
-        (replies again : List A) (answer reply : SideOutput) (tail rest : List ℕ) (last end : S) (standing stood : Standing)
+    same : (turns : List FrameKind) (pieces others : List Piece) (at from : ℕ) (state : S) (events more : List Given)
+        (replies again : List A) (answer reply : SideOutput) (tail rest : List ℕ) (last end : S) (progress stood : Progress)
         → Follow turns → AreFrames pieces limit at turns events → AreFrames others limit from turns more
         → PairNonces events more → frames_of events ++ tail ≡ frames_of more ++ rest
         → Runs Steps state events replies last → Runs Steps state more again end → Replied Says turns replies answer
-        → Replied Says turns again reply → EndsIn answer tail standing → EndsIn reply rest stood
+        → Replied Says turns again reply → EndsIn answer tail progress → EndsIn reply rest stood
         → Same events more replies again answer reply tail rest last end
-    same [] pieces others at from state events more replies again answer reply tail rest last end standing stood follow
+    same [] pieces others at from state events more replies again answer reply tail rest last end progress stood follow
         frames also nonces carried run ran replied too ends finishes = absurd replied
-    same (turn ∷ turns) pieces others at from state [] [] replies again answer reply tail rest last end standing stood
+    same (turn ∷ turns) pieces others at from state [] [] replies again answer reply tail rest last end progress stood
         follow frames also nonces carried run ran replied too ends finishes = (
           refl,
           run.0 ∙ sym ran.0,
@@ -321,15 +321,15 @@ module _ (limit : ℕ) (small : limit < 2 ^ 32) where
           run.1 ∙ sym ran.1,
         )
     same (turn ∷ turns) pieces others at from state [] (other ∷ more) replies again answer reply tail rest last end
-        standing stood follow frames also nonces carried run ran replied too ends finishes =
-        absurd (none_and_some turn turns others from state other more replies answer last tail rest standing also carried
+        progress stood follow frames also nonces carried run ran replied too ends finishes =
+        absurd (none_and_some turn turns others from state other more replies answer last tail rest progress also carried
         run replied ends)
     same (turn ∷ turns) pieces others at from state (event ∷ events) [] replies again answer reply tail rest last end
-        standing stood follow frames also nonces carried run ran replied too ends finishes =
+        progress stood follow frames also nonces carried run ran replied too ends finishes =
         absurd (none_and_some turn turns pieces at state event events again reply end rest tail stood frames (sym carried)
         ran too finishes)
     same (turn ∷ turns) pieces others at from state (event ∷ []) (other ∷ []) replies again answer reply tail rest last
-        end standing stood follow frames also nonces carried run ran replied too ends finishes =
+        end progress stood follow frames also nonces carried run ran replied too ends finishes =
         let (one, later) = first_frame turn turns pieces others at from event other [] [] tail rest frames also carried
         nonces.0 in
         let (says, next, step, all, ended, said) = single turn turns state event replies answer last run replied in
@@ -343,7 +343,7 @@ module _ (limit : ℕ) (small : limit < 2 ^ 32) where
           ended ∙ (state_is ∙ sym stopped),
         )
     same (turn ∷ turns) pieces others at from state (event ∷ []) (other ∷ second ∷ more) replies again answer reply tail
-        rest last end standing stood follow frames also nonces carried run ran replied too ends finishes =
+        rest last end progress stood follow frames also nonces carried run ran replied too ends finishes =
         let (one, later) = first_frame turn turns pieces others at from event other [] (second ∷ more) tail rest frames
         also carried nonces.0 in
         let (says, next, step, all, ended, said) = single turn turns state event replies answer last run replied in
@@ -352,9 +352,9 @@ module _ (limit : ℕ) (small : limit < 2 ^ 32) where
         let (reply_is, state_is, answer_is) = one_step turn state other says also_says answer first next mid
         (subst (λ (e : Given). Steps state e says next) one step) said went told in
         absurd (one_and_more turn turns others (from + (length other.body + 4)) state other second more says answer tail
-        rest standing follow also.3 later said (ap (λ (a : SideOutput). a.standing) answer_is ∙ waits) ends)
+        rest progress follow also.3 later said (ap (λ (a : SideOutput). a.progress) answer_is ∙ waits) ends)
     same (turn ∷ turns) pieces others at from state (event ∷ second ∷ events) (other ∷ []) replies again answer reply tail
-        rest last end standing stood follow frames also nonces carried run ran replied too ends finishes =
+        rest last end progress stood follow frames also nonces carried run ran replied too ends finishes =
         let (one, later) = first_frame turn turns pieces others at from event other (second ∷ events) [] tail rest frames
         also carried nonces.0 in
         let (says, next, left, first, rest_answer, step, all, goes, said, waits, then, sum) =
@@ -363,10 +363,10 @@ module _ (limit : ℕ) (small : limit < 2 ^ 32) where
         let (reply_is, state_is, answer_is) = one_step turn state other says also_says first reply next mid
         (subst (λ (e : Given). Steps state e says next) one step) said went told in
         absurd (one_and_more turn turns pieces (at + (length event.body + 4)) state event second events also_says reply
-        rest tail stood follow frames.3 (sym later) told (sym (ap (λ (a : SideOutput). a.standing) answer_is) ∙ waits)
+        rest tail stood follow frames.3 (sym later) told (sym (ap (λ (a : SideOutput). a.progress) answer_is) ∙ waits)
         finishes)
     same (turn ∷ turns) pieces others at from state (event ∷ second ∷ events) (other ∷ third ∷ more) replies again answer
-        reply tail rest last end standing stood follow frames also nonces carried run ran replied too ends finishes =
+        reply tail rest last end progress stood follow frames also nonces carried run ran replied too ends finishes =
         let (one, later) = first_frame turn turns pieces others at from event other (second ∷ events) (third ∷ more) tail
         rest frames also carried nonces.0 in
         let (says, next, left, first, rest_answer, step, all, goes, said, waits, then, sum) =
@@ -377,9 +377,9 @@ module _ (limit : ℕ) (small : limit < 2 ^ 32) where
         (subst (λ (e : Given). Steps state e says next) one step) said went told in
         let (events_are, replies_are, answers_are, tails_are, ends_are) =
         same turns pieces others (at + (length event.body + 4)) (from + (length other.body + 4)) mid (second ∷ events)
-        (third ∷ more) left over rest_answer last_answer tail rest last end standing stood (follow_on turns frames.3 follow)
+        (third ∷ more) left over rest_answer last_answer tail rest last end progress stood (follow_on turns frames.3 follow)
         frames.3 also.3 nonces.1 later (subst (λ (s : S). Runs Steps s (second ∷ events) left last) state_is goes) runs
-        then follows (subst (λ (a : SideOutput). EndsIn a tail standing) sum ends)
+        then follows (subst (λ (a : SideOutput). EndsIn a tail progress) sum ends)
         (subst (λ (a : SideOutput). EndsIn a rest stood) total finishes) in (
           (λ i. one i ∷ events_are i),
           all ∙ ((λ i. reply_is i ∷ replies_are i) ∙ sym every),
@@ -388,13 +388,13 @@ module _ (limit : ℕ) (small : limit < 2 ^ 32) where
           ends_are,
         )
       where
-        follow_on : (turns : List Turn) → AreFrames pieces limit (at + (length event.body + 4)) turns (second ∷ events)
+        follow_on : (turns : List FrameKind) → AreFrames pieces limit (at + (length event.body + 4)) turns (second ∷ events)
             → Follow (turn ∷ turns) → Follow turns
         follow_on [] none is = absurd none
         follow_on (next ∷ turns) some is = is.1
 
     -- two negotiations over the same bytes
-    pub one_result : (turns : List Turn) (state : S) (pieces others : List Piece) (taken sent out : List ℕ)
+    pub one_result : (turns : List FrameKind) (state : S) (pieces others : List Piece) (taken sent out : List ℕ)
         (last end : Side S) → Follow turns
         → (first : Negotiated Steps Says turns limit state pieces taken sent last)
         (second : Negotiated Steps Says turns limit state others taken out end)
@@ -408,22 +408,22 @@ module _ (limit : ℕ) (small : limit < 2 ^ 32) where
         refl first.carried first.frames second.frames later in
         let (events_are, replies_are, answers_are, tails_are, states_are) =
         same turns pieces others 8 8 state first.events second.events first.replies second.replies first.answer
-        second.answer first.tail second.tail last.state end.state last.standing end.standing follow first.frames
+        second.answer first.tail second.tail last.state end.state last.progress end.progress follow first.frames
         second.frames paired later first.run second.run first.replied second.replied first.ends second.ends in
-        let standings_are : last.standing ≡ end.standing =
-        one_end second.answer second.tail last.standing end.standing
-        (subst (λ (t : List ℕ). EndsIn second.answer t last.standing) tails_are
-        (subst (λ (a : SideOutput). EndsIn a first.tail last.standing) answers_are first.ends)) second.ends in (
+        let standings_are : last.progress ≡ end.progress =
+        one_end second.answer second.tail last.progress end.progress
+        (subst (λ (t : List ℕ). EndsIn second.answer t last.progress) tails_are
+        (subst (λ (a : SideOutput). EndsIn a first.tail last.progress) answers_are first.ends)) second.ends in (
           events_are,
           replies_are,
           record {
             sends = first.sends ∙ (ap (λ (a : SideOutput). a.sent) answers_are ∙ sym second.sends);
-            standing = standings_are;
+            progress = standings_are;
             state = states_are;
             waits = λ waits. first.waits waits
                 ∙ ((λ i. record {
-                  standing = Wanting;
-                  due = (answers_are i).due;
+                  progress = InProgress;
+                  expected = (answers_are i).expected;
                   limit = limit;
                   held = tails_are i;
                   state = states_are i;

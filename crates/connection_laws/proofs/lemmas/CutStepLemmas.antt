@@ -5,42 +5,42 @@ use Rattle.fe2o3_sasl_wire.specs.declared.sasl_frames.error.Error.{Error}
 use Rattle.fe2o3_sasl_wire.specs.declared.sasl_frames.error.Error.TheVariants as faults
 use Rattle.fe2o3_sasl_wire.specs.SaslFrames.{SaslFrame, canonical}
 use Rattle.fe2o3_sasl_wire.specs.SaslFrames as frames
-use Rattle.fe2o3_sasl_runs.specs.Bodies.{carried, server_says}
-use Rattle.fe2o3_sasl_runs.specs.Events.{Given, ServerSays, Challenged, Concluded, Failed, ClientSays, Started, Answered, Reported, Refused as ClientRefused}
-use Rattle.fe2o3_sasl_runs.specs.OneOfLaws.{Machine}
-use Rattle.fe2o3_sasl_runs.specs.Profiles.{Profile}
-use Rattle.fe2o3_sasl_runs.specs.Runs.{AcceptorAnswers, AcceptorGives, AcceptorSteps, ProfileGives, ProfileReplies, ProfileSteps, Replies}
-use Rattle.fe2o3_sasl_runs.specs.SaslAcceptor.{acceptor_machine}
-use Rattle.fe2o3_sasl_runs.specs.declared.sasl_profile.error.ProfileError.{ProfileError}
-use Rattle.fe2o3_sasl_runs.proofs.lemmas.frames.SpellingLemmas.{one_spelling}
-use Rattle.fe2o3_sasl_runs.proofs.lemmas.machines.OneReplyLemmas.{one_acceptor_reply, one_profile_reply}
-use Rattle.fe2o3_sasl_negotiation.specs.declared.standing.ClosedBecause.TheVariants.{Refused}
-use Rattle.fe2o3_sasl_negotiation.specs.declared.standing.Due.{Due}
-use Rattle.fe2o3_sasl_negotiation.specs.declared.standing.Due.TheVariants.{Frame}
-use Rattle.fe2o3_sasl_negotiation.specs.declared.standing.Standing.{Standing}
-use Rattle.fe2o3_sasl_negotiation.specs.declared.standing.Standing.TheVariants.{Wanting, LoggedIn}
-use Rattle.fe2o3_sasl_negotiation.specs.declared.standing.Turn.{Turn}
-use Rattle.fe2o3_sasl_negotiation.specs.declared.standing.Turn.TheVariants as turns
+use Rattle.fe2o3_sasl_core.specs.Bodies.{carried, server_says}
+use Rattle.fe2o3_sasl_core.specs.Events.{Given, ServerSays, Challenged, Concluded, Failed, ClientSays, Started, Answered, Reported, Refused as ClientRefused}
+use Rattle.fe2o3_sasl_core.specs.AnyMechanismLaws.{Machine}
+use Rattle.fe2o3_sasl_core.specs.Profiles.{Profile}
+use Rattle.fe2o3_sasl_core.specs.Runs.{AcceptorAnswers, AcceptorGives, AcceptorSteps, ProfileGives, ProfileReplies, ProfileSteps, Replies}
+use Rattle.fe2o3_sasl_core.specs.SaslAcceptor.{acceptor_machine}
+use Rattle.fe2o3_sasl_core.specs.declared.sasl_profile.error.ProfileError.{ProfileError}
+use Rattle.fe2o3_sasl_core.proofs.lemmas.frames.SpellingLemmas.{one_spelling}
+use Rattle.fe2o3_sasl_core.proofs.lemmas.machines.OneReplyLemmas.{one_acceptor_reply, one_profile_reply}
+use Rattle.fe2o3_sasl_negotiation.specs.declared.progress.CloseReason.TheVariants.{Refused}
+use Rattle.fe2o3_sasl_negotiation.specs.declared.progress.Expected.{Expected}
+use Rattle.fe2o3_sasl_negotiation.specs.declared.progress.Expected.TheVariants.{Frame}
+use Rattle.fe2o3_sasl_negotiation.specs.declared.progress.Progress.{Progress}
+use Rattle.fe2o3_sasl_negotiation.specs.declared.progress.Progress.TheVariants.{InProgress, Authenticated}
+use Rattle.fe2o3_sasl_negotiation.specs.declared.progress.FrameKind.{FrameKind}
+use Rattle.fe2o3_sasl_negotiation.specs.declared.progress.FrameKind.TheVariants as turns
 use Rattle.fe2o3_sasl_negotiation.specs.ClientNegotiation as of_client
 use Rattle.fe2o3_sasl_negotiation.specs.ServerNegotiation as of_server
 use Rattle.fe2o3_sasl_negotiation.specs.Negotiations.{SideOutput, Sends}
 use Rattle.fe2o3_sasl_negotiation.proofs.lemmas.ConnectionLemmas.{closed_is_not_wanting, logged_in_is_not_wanting}
-use Rattle.fe2o3_sasl_negotiation.proofs.lemmas.KindLemmas.{standing_of, closes_waits_not, sends_goes_on, sends_ends}
+use Rattle.fe2o3_sasl_negotiation.proofs.lemmas.KindLemmas.{progress_of, closes_waits_not, sends_goes_on, sends_ends}
 use Rattle.connection_laws.specs.Cuts.{IsFunction, ServersNegotiateEqually, FunctionsNegotiateEqually, ClientsNegotiateEqually}
 use Rattle.connection_laws.proofs.lemmas.CutLemmas.{one_result}
-use Rattle.fe2o3_sasl_runs.specs.declared.sasl_profile.error.ProfileError.TheVariants.{NotImplemented, Scram, OtherKeys, Frame as FrameFault, OutOfMemory}
+use Rattle.fe2o3_sasl_core.specs.declared.sasl_profile.error.ProfileError.TheVariants.{NotImplemented, Scram, StaleKeys, Frame as FrameFault, OutOfMemory}
 
 -- a body is sent in one way
-one_sent : (body : List ℕ) (standing : Standing) (due : Due) (answer reply : SideOutput) → Sends body standing due answer
-    → Sends body standing due reply → answer ≡ reply
-one_sent body standing due answer reply (inl (fits, is)) (inl (also, too)) = is ∙ sym too
-one_sent body standing due answer reply (inl (fits, is)) (inr (long, too)) = absurd (omega (arith, fits, long))
-one_sent body standing due answer reply (inr (long, is)) (inl (fits, too)) = absurd (omega (arith, fits, long))
-one_sent body standing due answer reply (inr (long, is)) (inr (also, too)) = is ∙ sym too
+one_sent : (body : List ℕ) (progress : Progress) (expected : Expected) (answer reply : SideOutput) → Sends body progress expected answer
+    → Sends body progress expected reply → answer ≡ reply
+one_sent body progress expected answer reply (inl (fits, is)) (inl (also, too)) = is ∙ sym too
+one_sent body progress expected answer reply (inl (fits, is)) (inr (long, too)) = absurd (omega (arith, fits, long))
+one_sent body progress expected answer reply (inr (long, is)) (inl (fits, too)) = absurd (omega (arith, fits, long))
+one_sent body progress expected answer reply (inr (long, is)) (inr (also, too)) = is ∙ sym too
 
 -- ---- a server
 
-server_answer : (says : ServerSays) (turn : Turn) (answer reply : SideOutput) → of_server.ServerOutputs says turn answer
+server_answer : (says : ServerSays) (turn : FrameKind) (answer reply : SideOutput) → of_server.ServerOutputs says turn answer
     → of_server.ServerOutputs says turn reply → answer ≡ reply
 server_answer (Challenged body) turns.Init answer reply is too = one_sent body _ _ answer reply is too
 server_answer (Challenged body) turns.Mechanisms answer reply is too = is ∙ sym too
@@ -57,11 +57,11 @@ server_answer (Failed faults.DecodeError) turn answer reply is too = is ∙ sym 
 server_answer (Failed faults.NotImplemented) turn answer reply is too = is ∙ sym too
 server_answer (Failed faults.TooLarge) turn answer reply is too = is ∙ sym too
 
-server_due : (says : ServerSays) (answer : SideOutput) → of_server.ServerOutputs says turns.Init answer → answer.standing ≡ Wanting
-    → answer.due ≡ Frame turns.Response
+server_due : (says : ServerSays) (answer : SideOutput) → of_server.ServerOutputs says turns.Init answer → answer.progress ≡ InProgress
+    → answer.expected ≡ Frame turns.Response
 server_due (Challenged body) answer sends waits = sends_goes_on body turns.Response answer sends waits
 server_due (Concluded outcomes.Ok body) answer sends waits =
-    absurd (sends_ends body LoggedIn (Frame turns.Init) answer logged_in_is_not_wanting sends waits)
+    absurd (sends_ends body Authenticated (Frame turns.Init) answer logged_in_is_not_wanting sends waits)
 server_due (Concluded outcomes.Auth body) answer sends waits =
     absurd (sends_ends body _ (Frame turns.Init) answer (closed_is_not_wanting (Refused outcomes.Auth)) sends waits)
 server_due (Concluded outcomes.Sys body) answer sends waits =
@@ -75,7 +75,7 @@ server_due (Failed faults.DecodeError) answer is waits = absurd (closes_waits_no
 server_due (Failed faults.NotImplemented) answer is waits = absurd (closes_waits_not _ _ answer is waits)
 server_due (Failed faults.TooLarge) answer is waits = absurd (closes_waits_not _ _ answer is waits)
 
-server_has_memory : (says : ServerSays) (turn : Turn) (answer : SideOutput) → of_server.ServerOutputs says turn answer
+server_has_memory : (says : ServerSays) (turn : FrameKind) (answer : SideOutput) → of_server.ServerOutputs says turn answer
     → says ≢ Failed faults.OutOfMemory
 server_has_memory says turn answer said is =
     subst (λ (s : ServerSays). of_server.ServerOutputs s turn answer) is said
@@ -111,7 +111,7 @@ module _ {S : Type 0} (machine : Machine S) (function : IsFunction machine) wher
   server_gives (Ok (frames.Response text)) state event says other next end memory too one two =
       server_answers state event.nonce (frames.Response text) says other next end memory too one two
 
-  server_step : (turn : Turn) (state : S) (event : Given) (says other : ServerSays) (answer reply : SideOutput) (next end : S)
+  server_step : (turn : FrameKind) (state : S) (event : Given) (says other : ServerSays) (answer reply : SideOutput) (next end : S)
       → AcceptorSteps machine state event says next → of_server.ServerOutputs says turn answer
       → AcceptorSteps machine state event other end → of_server.ServerOutputs other turn reply
       → (says ≡ other) × (next ≡ end) × (answer ≡ reply)
@@ -136,7 +136,7 @@ servers_negotiate_equally = functions_negotiate_equally acceptor_machine one_acc
 
 -- ---- a client
 
-client_answer : (says : ClientSays) (turn : Turn) (answer reply : SideOutput) → of_client.ClientOutputs says turn answer
+client_answer : (says : ClientSays) (turn : FrameKind) (answer reply : SideOutput) → of_client.ClientOutputs says turn answer
     → of_client.ClientOutputs says turn reply → answer ≡ reply
 client_answer (Started body) turns.Mechanisms answer reply is too = one_sent body _ _ answer reply is too
 client_answer (Started body) turns.Init answer reply is too = is ∙ sym too
@@ -156,15 +156,15 @@ client_answer (Reported outcomes.SysTemp more) turn answer reply is too = is ∙
 client_answer (ClientRefused OutOfMemory) turn answer reply is too = absurd is
 client_answer (ClientRefused NotImplemented) turn answer reply is too = is ∙ sym too
 client_answer (ClientRefused (Scram fault)) turn answer reply is too = is ∙ sym too
-client_answer (ClientRefused OtherKeys) turn answer reply is too = is ∙ sym too
+client_answer (ClientRefused StaleKeys) turn answer reply is too = is ∙ sym too
 client_answer (ClientRefused (FrameFault fault)) turn answer reply is too = is ∙ sym too
 
 client_first_due : (says : ClientSays) (answer : SideOutput) → of_client.ClientOutputs says turns.Mechanisms answer
-    → answer.standing ≡ Wanting → answer.due ≡ Frame turns.Challenge
+    → answer.progress ≡ InProgress → answer.expected ≡ Frame turns.Challenge
 client_first_due (Started body) answer sends waits = sends_goes_on body turns.Challenge answer sends waits
 client_first_due (Answered body) answer is waits = absurd (closes_waits_not _ _ answer is waits)
 client_first_due (Reported outcomes.Ok more) answer is waits =
-    absurd (logged_in_is_not_wanting (sym (standing_of answer _ is) ∙ waits))
+    absurd (logged_in_is_not_wanting (sym (progress_of answer _ is) ∙ waits))
 client_first_due (Reported outcomes.Auth more) answer is waits = absurd (closes_waits_not _ _ answer is waits)
 client_first_due (Reported outcomes.Sys more) answer is waits = absurd (closes_waits_not _ _ answer is waits)
 client_first_due (Reported outcomes.SysPerm more) answer is waits = absurd (closes_waits_not _ _ answer is waits)
@@ -174,16 +174,16 @@ client_first_due (ClientRefused NotImplemented) answer closed waits =
     absurd (closes_waits_not _ _ answer closed waits)
 client_first_due (ClientRefused (Scram fault)) answer closed waits =
     absurd (closes_waits_not _ _ answer closed waits)
-client_first_due (ClientRefused OtherKeys) answer closed waits = absurd (closes_waits_not _ _ answer closed waits)
+client_first_due (ClientRefused StaleKeys) answer closed waits = absurd (closes_waits_not _ _ answer closed waits)
 client_first_due (ClientRefused (FrameFault fault)) answer closed waits =
     absurd (closes_waits_not _ _ answer closed waits)
 
 client_second_due : (says : ClientSays) (answer : SideOutput) → of_client.ClientOutputs says turns.Challenge answer
-    → answer.standing ≡ Wanting → answer.due ≡ Frame turns.Outcome
+    → answer.progress ≡ InProgress → answer.expected ≡ Frame turns.Outcome
 client_second_due (Started body) answer is waits = absurd (closes_waits_not _ _ answer is waits)
 client_second_due (Answered body) answer sends waits = sends_goes_on body turns.Outcome answer sends waits
 client_second_due (Reported outcomes.Ok more) answer is waits =
-    absurd (logged_in_is_not_wanting (sym (standing_of answer _ is) ∙ waits))
+    absurd (logged_in_is_not_wanting (sym (progress_of answer _ is) ∙ waits))
 client_second_due (Reported outcomes.Auth more) answer is waits = absurd (closes_waits_not _ _ answer is waits)
 client_second_due (Reported outcomes.Sys more) answer is waits = absurd (closes_waits_not _ _ answer is waits)
 client_second_due (Reported outcomes.SysPerm more) answer is waits = absurd (closes_waits_not _ _ answer is waits)
@@ -193,11 +193,11 @@ client_second_due (ClientRefused NotImplemented) answer closed waits =
     absurd (closes_waits_not _ _ answer closed waits)
 client_second_due (ClientRefused (Scram fault)) answer closed waits =
     absurd (closes_waits_not _ _ answer closed waits)
-client_second_due (ClientRefused OtherKeys) answer closed waits = absurd (closes_waits_not _ _ answer closed waits)
+client_second_due (ClientRefused StaleKeys) answer closed waits = absurd (closes_waits_not _ _ answer closed waits)
 client_second_due (ClientRefused (FrameFault fault)) answer closed waits =
     absurd (closes_waits_not _ _ answer closed waits)
 
-client_has_memory : (says : ClientSays) (turn : Turn) (answer : SideOutput) → of_client.ClientOutputs says turn answer
+client_has_memory : (says : ClientSays) (turn : FrameKind) (answer : SideOutput) → of_client.ClientOutputs says turn answer
     → says ≢ ClientRefused OutOfMemory
 client_has_memory says turn answer said is =
     subst (λ (s : ClientSays). of_client.ClientOutputs s turn answer) is said
@@ -240,7 +240,7 @@ client_gives (Err fault) hostname profile event says other next end memory too o
 client_gives (Ok frame) hostname profile event says other next end memory too one two =
     client_replies hostname profile event.nonce frame says other next end memory too one two
 
-client_step : (hostname : Option (List ℕ)) (turn : Turn) (profile : Profile) (event : Given) (says other : ClientSays)
+client_step : (hostname : Option (List ℕ)) (turn : FrameKind) (profile : Profile) (event : Given) (says other : ClientSays)
     (answer reply : SideOutput) (next end : Profile) → ProfileSteps hostname profile event says next
     → of_client.ClientOutputs says turn answer → ProfileSteps hostname profile event other end → of_client.ClientOutputs other turn reply
     → (says ≡ other) × (next ≡ end) × (answer ≡ reply)

@@ -7,17 +7,17 @@ use Rattle.fe2o3_sasl_wire.specs.SaslFrames as frames
 use Rattle.fe2o3_scram.specs.Credentials.{Provider}
 use Rattle.fe2o3_scram.specs.Hmac.{mechanism_name}
 use Rattle.fe2o3_scram.specs.ScramServer.{Initial}
-use Rattle.fe2o3_sasl_runs.specs.Bodies.{SpellsBody}
-use Rattle.fe2o3_sasl_runs.specs.Events.{Given}
-use Rattle.fe2o3_sasl_runs.specs.Profiles.{Profile}
-use Rattle.fe2o3_sasl_runs.specs.SaslAcceptor.{Acceptor, ScramAcceptor, acceptor_names, acceptor_machine}
-use Rattle.fe2o3_sasl_runs.proofs.lemmas.frames.SpellingLemmas.{one_spelling}
-use Rattle.fe2o3_sasl_negotiation.specs.declared.standing.Due.{Due}
-use Rattle.fe2o3_sasl_negotiation.specs.declared.standing.Due.TheVariants.{Header, Frame}
-use Rattle.fe2o3_sasl_negotiation.specs.declared.standing.Standing.{Standing}
-use Rattle.fe2o3_sasl_negotiation.specs.declared.standing.Standing.TheVariants.{Wanting, LoggedIn, Closed}
-use Rattle.fe2o3_sasl_negotiation.specs.declared.standing.Turn.{Turn}
-use Rattle.fe2o3_sasl_negotiation.specs.declared.standing.Turn.TheVariants as turns
+use Rattle.fe2o3_sasl_core.specs.Bodies.{SpellsBody}
+use Rattle.fe2o3_sasl_core.specs.Events.{Given}
+use Rattle.fe2o3_sasl_core.specs.Profiles.{Profile}
+use Rattle.fe2o3_sasl_core.specs.SaslAcceptor.{Acceptor, ScramAcceptor, acceptor_names, acceptor_machine}
+use Rattle.fe2o3_sasl_core.proofs.lemmas.frames.SpellingLemmas.{one_spelling}
+use Rattle.fe2o3_sasl_negotiation.specs.declared.progress.Expected.{Expected}
+use Rattle.fe2o3_sasl_negotiation.specs.declared.progress.Expected.TheVariants.{Header, Frame}
+use Rattle.fe2o3_sasl_negotiation.specs.declared.progress.Progress.{Progress}
+use Rattle.fe2o3_sasl_negotiation.specs.declared.progress.Progress.TheVariants.{InProgress, Authenticated, Failed}
+use Rattle.fe2o3_sasl_negotiation.specs.declared.progress.FrameKind.{FrameKind}
+use Rattle.fe2o3_sasl_negotiation.specs.declared.progress.FrameKind.TheVariants as turns
 use Rattle.fe2o3_sasl_negotiation.specs.ClientNegotiation as of_client
 use Rattle.fe2o3_sasl_negotiation.specs.ServerNegotiation as of_server
 use Rattle.fe2o3_sasl_negotiation.specs.Framing.{sasl_header, framed, size_of, Fits}
@@ -30,22 +30,22 @@ use Rattle.connection_laws.proofs.lemmas.SmallReplyLemmas.{fits_as, names_fit}
 -- ---- nonces of 32 bytes
 
 -- the answer to a unit, with a nonce of 32 bytes
-abbrev pub Exact : {S : Type 0} → (Due → S → List ℕ → List ℕ → SideOutput → S → Type 0) → Due → S → List ℕ → List ℕ
+abbrev pub Exact : {S : Type 0} → (Expected → S → List ℕ → List ℕ → SideOutput → S → Type 0) → Expected → S → List ℕ → List ℕ
     → SideOutput → S → Type 0
-Exact Answers due state nonce unit answer next = Answers due state nonce unit answer next × (length nonce ≡ 32)
+Exact Answers expected state nonce unit answer next = Answers expected state nonce unit answer next × (length nonce ≡ 32)
 
-exact_at : {S : Type 0} (Answers : Due → S → List ℕ → List ℕ → SideOutput → S → Type 0) (standing : Standing) (side : Side S)
+exact_at : {S : Type 0} (Answers : Expected → S → List ℕ → List ℕ → SideOutput → S → Type 0) (progress : Progress) (side : Side S)
     (bytes nonce : List ℕ) (taken : ℕ) (sent : List ℕ) (next : Side S) → length nonce ≡ 32
-    → ReceivesAt standing Answers side bytes nonce taken sent next
-    → ReceivesAt standing (Exact Answers) side bytes nonce taken sent next
-exact_at Answers Wanting side bytes nonce taken sent next long (inl waits) = inl waits
-exact_at Answers Wanting side bytes nonce taken sent next long (inr (inl refused)) = inr (inl refused)
-exact_at Answers Wanting side bytes nonce taken sent next long (inr (inr (answer, state, whole, answers, ends))) =
+    → ReceivesAt progress Answers side bytes nonce taken sent next
+    → ReceivesAt progress (Exact Answers) side bytes nonce taken sent next
+exact_at Answers InProgress side bytes nonce taken sent next long (inl waits) = inl waits
+exact_at Answers InProgress side bytes nonce taken sent next long (inr (inl refused)) = inr (inl refused)
+exact_at Answers InProgress side bytes nonce taken sent next long (inr (inr (answer, state, whole, answers, ends))) =
     inr (inr (answer, state, whole, (answers, long), ends))
-exact_at Answers LoggedIn side bytes nonce taken sent next long rests = rests
-exact_at Answers (Closed why) side bytes nonce taken sent next long rests = rests
+exact_at Answers Authenticated side bytes nonce taken sent next long rests = rests
+exact_at Answers (Failed why) side bytes nonce taken sent next long rests = rests
 
-pub exact_calls : {S : Type 0} (Answers : Due → S → List ℕ → List ℕ → SideOutput → S → Type 0) (calls : List Call)
+pub exact_calls : {S : Type 0} (Answers : Expected → S → List ℕ → List ℕ → SideOutput → S → Type 0) (calls : List Call)
     (side : Side S) (stream sent : List ℕ) (last : Side S) (rest : List ℕ) → AllByRecursion HasNonce calls
     → Calls (Receives Answers) side calls stream sent last rest → Calls (Receives (Exact Answers)) side calls stream sent last rest
 exact_calls Answers [] side stream sent last rest all made = made
@@ -55,7 +55,7 @@ exact_calls Answers (call ∷ calls) side stream sent last rest all
       first,
       next,
       more,
-      exact_at Answers side.standing side _ call.nonce taken first next all.0 receives,
+      exact_at Answers side.progress side _ call.nonce taken first next all.0 receives,
       exact_calls Answers calls next (drop taken stream) more last rest all.1 others,
       whole,
     )
@@ -63,14 +63,14 @@ exact_calls Answers (call ∷ calls) side stream sent last rest all
 -- ---- headers
 
 -- what is sent of a body that is not too large
-pub sends_small : (body : List ℕ) (standing : Standing) (due : Due) (answer : SideOutput) → length body + 4 ≤ 512
-    → Sends body standing due answer → answer ≡ record { sent = framed body; standing = standing; due = due }
-sends_small body standing due answer small (inl sent) = sent.1
-sends_small body standing due answer small (inr long) = absurd (omega (arith, small, long.0))
+pub sends_small : (body : List ℕ) (progress : Progress) (expected : Expected) (answer : SideOutput) → length body + 4 ≤ 512
+    → Sends body progress expected answer → answer ≡ record { sent = framed body; progress = progress; expected = expected }
+sends_small body progress expected answer small (inl sent) = sent.1
+sends_small body progress expected answer small (inr long) = absurd (omega (arith, small, long.0))
 
-abbrev pub ClientMakes : Option (List ℕ) → ℕ → Due → Profile → List (List ℕ) → List ℕ → List ℕ → Side Profile → Type 0
-ClientMakes hostname limit due profile nonces bytes sent last =
-    Negotiates (Exact (of_client.ClientSideAnswers hostname)) (awaiting due limit profile) nonces bytes sent last
+abbrev pub ClientMakes : Option (List ℕ) → ℕ → Expected → Profile → List (List ℕ) → List ℕ → List ℕ → Side Profile → Type 0
+ClientMakes hostname limit expected profile nonces bytes sent last =
+    Negotiates (Exact (of_client.ClientSideAnswers hostname)) (awaiting expected limit profile) nonces bytes sent last
 
 -- the client takes the server's header
 pub client_header : (hostname : Option (List ℕ)) (limit : ℕ) (profile : Profile) (nonces : List (List ℕ))
@@ -99,21 +99,21 @@ client_header hostname limit profile nonces more sent last made =
               side unit.goes_on),
         )
 
-abbrev pub ServerMakes : ℕ → Due → Acceptor → List (List ℕ) → List ℕ → List ℕ → Side Acceptor → Type 0
-ServerMakes limit due acceptor nonces bytes sent last =
-    Negotiates (Exact (of_server.ServerSideAnswers acceptor_names acceptor_machine)) (awaiting due limit acceptor) nonces
+abbrev pub ServerMakes : ℕ → Expected → Acceptor → List (List ℕ) → List ℕ → List ℕ → Side Acceptor → Type 0
+ServerMakes limit expected acceptor nonces bytes sent last =
+    Negotiates (Exact (of_server.ServerSideAnswers acceptor_names acceptor_machine)) (awaiting expected limit acceptor) nonces
     bytes sent last
 
 -- the one mechanism of a SCRAM server is offered in a frame
 offers : (provider : Provider) (offer : Option (List ℕ)) (answer : SideOutput)
     → offer ≡ canonical (frames.Mechanisms (mechanism_name provider.version ∷ [])) → of_server.Offers offer answer
     → (body : List ℕ) × (offer ≡ Some body) × (length body + 4 ≤ 512)
-    × (answer ≡ record { sent = framed body; standing = Wanting; due = Frame turns.Init })
+    × (answer ≡ record { sent = framed body; progress = InProgress; expected = Frame turns.Init })
 offers provider None answer is same = let fits = names_fit provider.version in let none = is ∙ fits.1 in absurd (cc)
 offers provider (Some body) answer is sent =
     let small = fits_as (frames.Mechanisms (mechanism_name provider.version ∷ [])) body (names_fit provider.version)
     (sym is) in
-    (body, refl, small, sends_small body Wanting (Frame turns.Init) answer small sent)
+    (body, refl, small, sends_small body InProgress (Frame turns.Init) answer small sent)
 
 -- the server takes the client's header
 pub record ServerOffers (provider : Provider) (limit : ℕ) (more sent : List ℕ) (last : Side Acceptor) : Type 0 where
@@ -164,20 +164,20 @@ server_header provider limit nonces more sent last made =
 
 -- ---- frames
 
-module _ {S A : Type 0} (Answers : Due → S → List ℕ → List ℕ → SideOutput → S → Type 0) (Step : S → Given → A → S → Type 0)
-    (Says : A → Turn → SideOutput → Type 0)
-    (asked : (turn : Turn) (state next : S) (nonce unit : List ℕ) (answer : SideOutput)
+module _ {S A : Type 0} (Answers : Expected → S → List ℕ → List ℕ → SideOutput → S → Type 0) (Step : S → Given → A → S → Type 0)
+    (Says : A → FrameKind → SideOutput → Type 0)
+    (asked : (turn : FrameKind) (state next : S) (nonce unit : List ℕ) (answer : SideOutput)
     → Answers (Frame turn) state nonce unit answer next
     → (spelled : Result SaslFrame Error) × SpellsBody (drop 4 unit) spelled
     × AnswersTo (λ (a : SideOutput) (n : S). (says : A) × Step state (record { body = drop 4 unit; nonce = nonce }) says n
     × Says says turn a) turn state spelled answer next) where
   -- its machine is asked
-  abbrev Asks : S → List ℕ → List ℕ → Turn → SideOutput → S → Type 0
+  abbrev Asks : S → List ℕ → List ℕ → FrameKind → SideOutput → S → Type 0
   Asks state unit nonce turn answer next = (says : A)
       × Step state (record { body = drop 4 unit; nonce = nonce }) says next × Says says turn answer
 
-  -- what a side makes of a frame that is due
-  pub record Takes (limit : ℕ) (turn : Turn) (state : S) (body more sent : List ℕ) (last : Side S) : Type 0 where
+  -- what a side makes of a frame that is expected
+  pub record Takes (limit : ℕ) (turn : FrameKind) (state : S) (body more sent : List ℕ) (last : Side S) : Type 0 where
     pub nonces : List (List ℕ)
     pub nonce : List ℕ
     pub says : A
@@ -190,7 +190,7 @@ module _ {S A : Type 0} (Answers : Due → S → List ℕ → List ℕ → SideO
     pub goes_on : Negotiates (Exact Answers) (behind_answer answer limit next) nonces more after last
     pub all : sent ≡ answer.sent ++ after
 
-  pub takes : (limit : ℕ) (turn : Turn) (state : S) (nonces : List (List ℕ)) (body more sent : List ℕ) (last : Side S)
+  pub takes : (limit : ℕ) (turn : FrameKind) (state : S) (nonces : List (List ℕ)) (body more sent : List ℕ) (last : Side S)
       (frame : SaslFrame) → 512 ≤ limit → 4 ≤ length body → length body + 4 ≤ 512 → SpellsBody body (Ok frame)
       → IsInTurn turn frame
       → Negotiates (Exact Answers) (awaiting (Frame turn) limit state) nonces (framed body ++ more) sent last
@@ -239,15 +239,15 @@ module _ {S A : Type 0} (Answers : Due → S → List ℕ → List ℕ → SideO
           turn state s unit.answer unit.next) same answers)
 
   -- what it sends of a body, and how it goes on
-  pub goes_on_with : (limit : ℕ) (turn : Turn) (state : S) (body more sent : List ℕ) (last : Side S)
-      (made : Takes limit turn state body more sent last) (reply : List ℕ) (standing : Standing) (due : Due)
-      → length reply + 4 ≤ 512 → Sends reply standing due made.answer
+  pub goes_on_with : (limit : ℕ) (turn : FrameKind) (state : S) (body more sent : List ℕ) (last : Side S)
+      (made : Takes limit turn state body more sent last) (reply : List ℕ) (progress : Progress) (expected : Expected)
+      → length reply + 4 ≤ 512 → Sends reply progress expected made.answer
       → (sent ≡ framed reply ++ made.after)
       × Negotiates (Exact Answers)
-      (record { standing = standing; due = due; limit = limit; held = []; state = made.next }) made.nonces more
+      (record { progress = progress; expected = expected; limit = limit; held = []; state = made.next }) made.nonces more
       made.after last
-  goes_on_with limit turn state body more sent last made reply standing due small is =
-      let same = sends_small reply standing due made.answer small is in (
+  goes_on_with limit turn state body more sent last made reply progress expected small is =
+      let same = sends_small reply progress expected made.answer small is in (
         made.all ∙ ap (λ (a : SideOutput). a.sent ++ made.after) same,
         subst (λ (a : SideOutput). Negotiates (Exact Answers) (behind_answer a limit made.next) made.nonces more made.after
             last) same made.goes_on,

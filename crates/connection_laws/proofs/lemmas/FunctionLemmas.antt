@@ -6,19 +6,19 @@ use Rattle.fe2o3_scram.specs.declared.scram_messages.error.ServerScramErrorKind.
 use Rattle.fe2o3_scram.specs.Credentials.{Provider}
 use Rattle.fe2o3_scram.specs.HidingServer.{HidingServer, NamedBy, NamedIn, hiding_name}
 use Rattle.fe2o3_scram.specs.ScramServer.{ServerState, Initial, ServerFirstSent, ServerFinalSent, ChallengesFrom, ConcludesFrom}
-use Rattle.fe2o3_sasl_runs.specs.ExternalAcceptor.{external_machine}
-use Rattle.fe2o3_sasl_runs.specs.HidingAcceptor.{NamedAt, hiding_machine, with_name}
-use Rattle.fe2o3_sasl_runs.specs.OffersOnly.{Offering, OfferingReplies, is_passed_on}
-use Rattle.fe2o3_sasl_runs.specs.OneOf.{BothStates, PartReplies, part_for}
-use Rattle.fe2o3_sasl_runs.specs.OneOfLaws.{Machine}
-use Rattle.fe2o3_sasl_runs.specs.PlainAuthenticator.{PlainParts, plain_machine}
-use Rattle.fe2o3_sasl_runs.specs.SaslAcceptor.{Acceptor, ScramAcceptor, acceptor_machine}
-use Rattle.fe2o3_sasl_runs.specs.declared.one_of.Part.{Part}
-use Rattle.fe2o3_sasl_runs.specs.declared.one_of.Part.TheVariants.{First, Second}
-use Rattle.fe2o3_sasl_runs.proofs.lemmas.machines.OneReplyLemmas.{one_acceptor_reply}
-use Rattle.fe2o3_sasl_runs.proofs.lemmas.machines.PlainAuthenticatorLemmas.{one_asked}
+use Rattle.fe2o3_sasl_core.specs.ExternalServer.{external_machine}
+use Rattle.fe2o3_sasl_core.specs.HidingAcceptor.{NamedAt, hiding_machine, with_name}
+use Rattle.fe2o3_sasl_core.specs.RestrictMechanisms.{Offering, OfferingReplies, is_passed_on}
+use Rattle.fe2o3_sasl_core.specs.AnyMechanism.{BothStates, PartReplies, part_for}
+use Rattle.fe2o3_sasl_core.specs.AnyMechanismLaws.{Machine}
+use Rattle.fe2o3_sasl_core.specs.PlainServer.{PlainParts, plain_machine}
+use Rattle.fe2o3_sasl_core.specs.SaslAcceptor.{Acceptor, ScramAcceptor, acceptor_machine}
+use Rattle.fe2o3_sasl_core.specs.declared.any_mechanism.Selected.{Selected}
+use Rattle.fe2o3_sasl_core.specs.declared.any_mechanism.Selected.TheVariants.{First, Second}
+use Rattle.fe2o3_sasl_core.proofs.lemmas.machines.OneReplyLemmas.{one_acceptor_reply}
+use Rattle.fe2o3_sasl_core.proofs.lemmas.machines.PlainAuthenticatorLemmas.{one_asked}
 use Rattle.connection_laws.specs.Cuts.{IsFunction}
-use Rattle.connection_laws.specs.Functions.{OneOfIsFunction, OfferingIsFunction}
+use Rattle.connection_laws.specs.Functions.{AnyMechanismIsFunction, OfferingIsFunction}
 
 -- ---- EXTERNAL and PLAIN
 
@@ -63,8 +63,8 @@ one_state provider state other same = ap state_after same
 module _ (server : HidingServer) (name other : List ℕ) where
   -- two names that count are one, unless no name is looked up
   first_alike : (state next : ServerState) (nonce text : List ℕ)
-      (answer : Result (Option (List ℕ)) ServerScramErrorKind) → NamedIn server.provider.unbound text name
-      → NamedIn server.provider.unbound text other → ChallengesFrom state (hiding_name server name) nonce text answer next
+      (answer : Result (Option (List ℕ)) ServerScramErrorKind) → NamedIn server.provider.cbind_flag_y text name
+      → NamedIn server.provider.cbind_flag_y text other → ChallengesFrom state (hiding_name server name) nonce text answer next
       → ChallengesFrom state (hiding_name server other) nonce text answer next
   first_alike state next nonce text (Ok (Some message)) named also
       (challenge, (client, stored, reads, known, is), said, same) =
@@ -134,24 +134,24 @@ mock_is_function server nonce frame reply other next last (name, moved, named, i
 
 module _ {S T : Type 0} (machine : Machine S) (other : Machine T) (function : IsFunction machine)
     (also : IsFunction other) where
-  one_part : (parts : BothStates S T) (part : Option Part) (nonce : List ℕ) (frame reply again : SaslFrame)
+  one_part : (parts : BothStates S T) (part : Option Selected) (nonce : List ℕ) (frame reply again : SaslFrame)
       (next last : BothStates S T) → PartReplies machine other parts part nonce frame reply next
       → PartReplies machine other parts part nonce frame again last → (reply ≡ again) × (next ≡ last)
   one_part parts None nonce frame reply again next last is too = (is.0 ∙ sym too.0, is.1 ∙ sym too.1)
   one_part parts (Some First) nonce frame reply again next last (moved, is, to) (went, too, goes) =
       let one = function parts.first nonce frame reply again moved went is too in (
         one.0,
-        to ∙ ((λ i. record { first = one.1 i; second = parts.second; asked = Some First }) ∙ sym goes),
+        to ∙ ((λ i. record { first = one.1 i; second = parts.second; selected = Some First }) ∙ sym goes),
       )
   one_part parts (Some Second) nonce frame reply again next last (moved, is, to) (went, too, goes) =
       let one = also parts.second nonce frame reply again moved went is too in (
         one.0,
-        to ∙ ((λ i. record { first = parts.first; second = one.1 i; asked = Some Second }) ∙ sym goes),
+        to ∙ ((λ i. record { first = parts.first; second = one.1 i; selected = Some Second }) ∙ sym goes),
       )
 
-pub one_of_is_function : {S T : Type 0} (names : S → List (List ℕ)) (others : T → List (List ℕ)) (machine : Machine S)
-    (other : Machine T) → OneOfIsFunction names others machine other
-one_of_is_function names others machine other function also parts nonce frame reply again next last is too =
+pub any_mechanism_is_function : {S T : Type 0} (names : S → List (List ℕ)) (others : T → List (List ℕ)) (machine : Machine S)
+    (other : Machine T) → AnyMechanismIsFunction names others machine other
+any_mechanism_is_function names others machine other function also parts nonce frame reply again next last is too =
     one_part machine other function also parts (part_for names others parts frame) nonce frame reply again next last is too
 
 one_offered : {S : Type 0} (machine : Machine S) → IsFunction machine → (offering : Offering S) (passed : Bool)

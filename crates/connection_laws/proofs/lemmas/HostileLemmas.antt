@@ -10,21 +10,21 @@ use Rattle.fe2o3_sasl_wire.specs.declared.sasl_frames.error.Error.{Error}
 use Rattle.fe2o3_sasl_wire.specs.declared.sasl_frames.error.Error.TheVariants as faults
 use Rattle.fe2o3_sasl_wire.specs.SaslFrames as frames
 use Rattle.fe2o3_sasl_wire.specs.SaslFrames.{SaslFrame}
-use Rattle.fe2o3_sasl_runs.specs.declared.one_of.Part.{Part}
-use Rattle.fe2o3_sasl_runs.specs.Bodies.{SpellsBody}
-use Rattle.fe2o3_sasl_runs.specs.Events.{Given, ServerSays, Challenged, Concluded, Failed}
-use Rattle.fe2o3_sasl_runs.specs.OneOf.{BothStates, has_name, part_for, one_of_machine}
-use Rattle.fe2o3_sasl_runs.specs.OneOfLaws.{Machine, MarkedSteps, mark_of}
-use Rattle.fe2o3_sasl_runs.specs.Runs.{Runs, AcceptorSteps}
-use Rattle.fe2o3_sasl_runs.specs.declared.one_of.Part.TheVariants.{First, Second}
-use Rattle.fe2o3_sasl_runs.proofs.lemmas.frames.SpellingLemmas.{one_spelling}
-use Rattle.fe2o3_sasl_runs.proofs.lemmas.machines.NameLemmas.{has_name-both}
-use Rattle.fe2o3_sasl_negotiation.specs.declared.standing.Due.{Due}
-use Rattle.fe2o3_sasl_negotiation.specs.declared.standing.Due.TheVariants.{Frame}
-use Rattle.fe2o3_sasl_negotiation.specs.declared.standing.Standing.{Standing}
-use Rattle.fe2o3_sasl_negotiation.specs.declared.standing.Standing.TheVariants.{Wanting}
-use Rattle.fe2o3_sasl_negotiation.specs.declared.standing.Turn.{Turn}
-use Rattle.fe2o3_sasl_negotiation.specs.declared.standing.Turn.TheVariants as turns
+use Rattle.fe2o3_sasl_core.specs.declared.any_mechanism.Selected.{Selected}
+use Rattle.fe2o3_sasl_core.specs.Bodies.{SpellsBody}
+use Rattle.fe2o3_sasl_core.specs.Events.{Given, ServerSays, Challenged, Concluded, Failed}
+use Rattle.fe2o3_sasl_core.specs.AnyMechanism.{BothStates, has_name, part_for, any_mechanism_machine}
+use Rattle.fe2o3_sasl_core.specs.AnyMechanismLaws.{Machine, MarkedSteps, mark_of}
+use Rattle.fe2o3_sasl_core.specs.Runs.{Runs, AcceptorSteps}
+use Rattle.fe2o3_sasl_core.specs.declared.any_mechanism.Selected.TheVariants.{First, Second}
+use Rattle.fe2o3_sasl_core.proofs.lemmas.frames.SpellingLemmas.{one_spelling}
+use Rattle.fe2o3_sasl_core.proofs.lemmas.machines.NameLemmas.{has_name-both}
+use Rattle.fe2o3_sasl_negotiation.specs.declared.progress.Expected.{Expected}
+use Rattle.fe2o3_sasl_negotiation.specs.declared.progress.Expected.TheVariants.{Frame}
+use Rattle.fe2o3_sasl_negotiation.specs.declared.progress.Progress.{Progress}
+use Rattle.fe2o3_sasl_negotiation.specs.declared.progress.Progress.TheVariants.{InProgress}
+use Rattle.fe2o3_sasl_negotiation.specs.declared.progress.FrameKind.{FrameKind}
+use Rattle.fe2o3_sasl_negotiation.specs.declared.progress.FrameKind.TheVariants as turns
 use Rattle.fe2o3_sasl_negotiation.specs.Connections.{Piece, frames_of, AreFrames, Replied, ServerConnection, ServerNegotiated}
 use Rattle.fe2o3_sasl_negotiation.specs.Framing.{sasl_header, framed}
 use Rattle.fe2o3_sasl_negotiation.specs.Negotiations.{Side, SideOutput, Sends}
@@ -37,7 +37,7 @@ use Rattle.connection_laws.proofs.lemmas.NegotiatedLemmas.{without_header}
 use Rattle.connection_laws.proofs.lemmas.ShapeLemmas.{one_frame}
 
 -- the turns of a client's frames
-abbrev two_turns : List Turn
+abbrev two_turns : List FrameKind
 two_turns = turns.Init ∷ turns.Response ∷ []
 
 -- ---- which frames are answered
@@ -47,7 +47,7 @@ module _ {S : Type 0} (machine : Machine S) where
   waits_for_init : (state last : S) (events : List Given) (replies : List ServerSays) (answer : SideOutput)
       → events ≡ [] → Runs (AcceptorSteps machine) state events replies last
       → Replied ServerOutputs two_turns replies answer
-      → answer ≡ record { sent = []; standing = Wanting; due = Frame turns.Init }
+      → answer ≡ record { sent = []; progress = InProgress; expected = Frame turns.Init }
   waits_for_init state last events replies answer none run replied =
       subst (λ (l : List ServerSays). Replied ServerOutputs two_turns l answer)
       (subst (λ (l : List Given). Runs (AcceptorSteps machine) state l replies last) none run).0 replied
@@ -59,18 +59,18 @@ module _ {S : Type 0} (machine : Machine S) where
       let tail : n.tail ≡ framed body ++ more =
       ap (λ (l : List Given). frames_of l ++ n.tail) (sym none)
       ∙ sym (without_header (framed body ++ more) (frames_of n.events ++ n.tail) n.carried) in
-      no_frame_after served.limit served.small turns.Init n.answer n.tail body more served.last.standing
-      (ap (λ (a : SideOutput). a.standing) waits) (ap (λ (a : SideOutput). a.due) waits) n.ends tail fits spells
+      no_frame_after served.limit served.small turns.Init n.answer n.tail body more served.last.progress
+      (ap (λ (a : SideOutput). a.progress) waits) (ap (λ (a : SideOutput). a.expected) waits) n.ends tail fits spells
 
-  -- a challenge that is sent leaves a response due
+  -- a challenge that is sent leaves a response expected
   challenged : (challenge : List ℕ) (replies : List ServerSays) (answer : SideOutput)
       → replies ≡ Challenged challenge ∷ [] → length challenge + 4 ≤ 512 → Replied ServerOutputs two_turns replies answer
-      → answer ≡ record { sent = framed challenge; standing = Wanting; due = Frame turns.Response }
+      → answer ≡ record { sent = framed challenge; progress = InProgress; expected = Frame turns.Response }
   challenged challenge replies answer are fits replied =
       go (subst (λ (l : List ServerSays). Replied ServerOutputs two_turns l answer) are replied)
     where
-      go : Sends challenge Wanting (Frame turns.Response) answer
-          → answer ≡ record { sent = framed challenge; standing = Wanting; due = Frame turns.Response }
+      go : Sends challenge InProgress (Frame turns.Response) answer
+          → answer ≡ record { sent = framed challenge; progress = InProgress; expected = Frame turns.Response }
       go (inl sends) = sends.1
       go (inr closes) = let long : 512 < length challenge + 4 = closes.0 in absurd (omega (arith, fits, long))
 
@@ -87,8 +87,8 @@ module _ {S : Type 0} (machine : Machine S) where
       let tail = (one_frame init (framed body ++ more) event.body n.tail
       (fits_small served.limit served.small (length init + 4) fits)
       (fits_small served.limit served.small (length event.body + 4) frames.0) carried).1 in
-      no_frame_after served.limit served.small turns.Response n.answer n.tail body more served.last.standing
-      (ap (λ (a : SideOutput). a.standing) waits) (ap (λ (a : SideOutput). a.due) waits) n.ends (sym tail) also spells
+      no_frame_after served.limit served.small turns.Response n.answer n.tail body more served.last.progress
+      (ap (λ (a : SideOutput). a.progress) waits) (ap (λ (a : SideOutput). a.expected) waits) n.ends (sym tail) also spells
 
   pub none_answers_other : ¬ AnswersOther machine
   none_answers_other (body, more, event, events, served, fits, are, other) =
@@ -122,7 +122,7 @@ module _ {S : Type 0} (machine : Machine S) where
 
 pub no_frame_is_short : ¬ HasShortFrame
 no_frame_is_short (pieces, limit, at, [], event, events, frames, short) = frames
-no_frame_is_short (pieces, limit, at, due ∷ others, event, events, frames, short) =
+no_frame_is_short (pieces, limit, at, expected ∷ others, event, events, frames, short) =
     let least : 8 ≤ length event.body + 4 = frames.0.0 in omega (arith, least, short)
 
 -- ---- where frames go
@@ -136,11 +136,11 @@ has_part false false has none = cc
 
 module _ {S T : Type 0} (names : S → List (List ℕ)) (others : T → List (List ℕ)) (machine : Machine S)
     (other : Machine T) where
-  abbrev BothSteps : BothStates S T → Given → Option Part × ServerSays → BothStates S T → Type 0
-  BothSteps = MarkedSteps (one_of_machine names others machine other) None (part_for names others)
+  abbrev BothSteps : BothStates S T → Given → Option Selected × ServerSays → BothStates S T → Type 0
+  BothSteps = MarkedSteps (any_mechanism_machine names others machine other) None (part_for names others)
 
   first_mark : (parts last : BothStates S T) (event : Given) (events : List Given) (replies : List ServerSays)
-      (marks : List (Option Part)) (frame : SaslFrame) → Runs BothSteps parts (event ∷ events) (zip marks replies) last
+      (marks : List (Option Selected)) (frame : SaslFrame) → Runs BothSteps parts (event ∷ events) (zip marks replies) last
       → SpellsBody event.body (Ok frame) → AllByRecursion (λ mark. mark ≡ None) marks
       → None ≡ mark_of None (part_for names others) parts (Ok frame)
   first_mark parts last event events replies [] frame (says, next, more, step, is, run) spells none = absurd (cc)
@@ -149,7 +149,7 @@ module _ {S T : Type 0} (names : S → List (List ℕ)) (others : T → List (Li
   first_mark parts last event events (reply ∷ replies) (mark ∷ marks) frame
       (says, next, more, (spelled, read, gives, marked), is, run) spells none =
       let same : (mark, reply) ≡ says = cc in
-      sym none.0 ∙ (ap (λ (m : Option Part × ServerSays). m.0) same ∙ (marked
+      sym none.0 ∙ (ap (λ (m : Option Selected × ServerSays). m.0) same ∙ (marked
       ∙ ap (λ (r : Result SaslFrame Error). mark_of None (part_for names others) parts r)
       (one_spelling event.body spelled (Ok frame) read spells)))
 
@@ -228,11 +228,11 @@ module _ {S : Type 0} (names : S → List (List ℕ)) (machine : Machine S) wher
           none_of (x ∷ l) zero = absurd (omega (arith, zero))
 
 -- a body that fits is sent
-sends_body : (body : List ℕ) (standing : Standing) (due : Due) (answer : SideOutput) → length body + 4 ≤ 512
-    → Sends body standing due answer → answer.sent ≡ framed body ++ []
-sends_body body standing due answer fits (inl sends) =
+sends_body : (body : List ℕ) (progress : Progress) (expected : Expected) (answer : SideOutput) → length body + 4 ≤ 512
+    → Sends body progress expected answer → answer.sent ≡ framed body ++ []
+sends_body body progress expected answer fits (inl sends) =
     ap (λ (a : SideOutput). a.sent) sends.1 ∙ sym (append-nil (framed body))
-sends_body body standing due answer fits (inr closes) = let long : 512 < length body + 4 = closes.0 in
+sends_body body progress expected answer fits (inr closes) = let long : 512 < length body + 4 = closes.0 in
     absurd (omega (arith, fits, long))
 
 -- the replies fit in frames
@@ -240,7 +240,7 @@ abbrev AllFit : List ServerSays → Type 0
 AllFit replies = AllByRecursion (λ (body : List ℕ). length body + 4 ≤ 512) (said replies)
 
 -- an outcome and a fault are sent as they are said
-sends_end : (says : ServerSays) (turn : Turn) (answer : SideOutput) → ((body : List ℕ) → says ≢ Challenged body)
+sends_end : (says : ServerSays) (turn : FrameKind) (answer : SideOutput) → ((body : List ℕ) → says ≢ Challenged body)
     → AllFit (says ∷ []) → ServerOutputs says turn answer → answer.sent ≡ flat_map framed (said (says ∷ []))
 sends_end (Challenged body) turn answer none fit says = absurd (none body refl)
 sends_end (Concluded outcomes.Ok body) turn answer none fit says = sends_body body _ _ answer fit.0 says

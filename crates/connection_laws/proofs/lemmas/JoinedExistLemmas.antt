@@ -8,13 +8,13 @@ use Rattle.fe2o3_scram.specs.Escape.{escaped}
 use Rattle.fe2o3_scram.specs.Exchanges.{first_in}
 use Rattle.fe2o3_sasl.specs.examples.Examples.{login as user_login, provider as user_provider, salt as user_salt, client_bytes, server_bytes}
 use Rattle.fe2o3_sasl.proofs.lemmas.examples.ExampleLemmas.{premises_can_be_met}
-use Rattle.fe2o3_sasl_runs.specs.Profiles.{Profile, ScramProfile, scram_profile}
-use Rattle.fe2o3_sasl_runs.specs.SaslAcceptor.{Acceptor, acceptor_names, acceptor_machine}
-use Rattle.fe2o3_sasl_runs.specs.TwoSides.{sides_of}
-use Rattle.fe2o3_sasl_runs.specs.UnalteredRuns.{HoldsLogin}
-use Rattle.fe2o3_sasl_negotiation.specs.declared.standing.Due.TheVariants.{Header, Frame}
-use Rattle.fe2o3_sasl_negotiation.specs.declared.standing.Standing.TheVariants.{Wanting, LoggedIn}
-use Rattle.fe2o3_sasl_negotiation.specs.declared.standing.Turn.TheVariants as turns
+use Rattle.fe2o3_sasl_core.specs.Profiles.{Profile, ScramProfile, scram_profile}
+use Rattle.fe2o3_sasl_core.specs.SaslAcceptor.{Acceptor, acceptor_names, acceptor_machine}
+use Rattle.fe2o3_sasl_core.specs.TwoSides.{sides_of}
+use Rattle.fe2o3_sasl_core.specs.UnalteredRuns.{HoldsLogin}
+use Rattle.fe2o3_sasl_negotiation.specs.declared.progress.Expected.TheVariants.{Header, Frame}
+use Rattle.fe2o3_sasl_negotiation.specs.declared.progress.Progress.TheVariants.{InProgress, Authenticated}
+use Rattle.fe2o3_sasl_negotiation.specs.declared.progress.FrameKind.TheVariants as turns
 use Rattle.fe2o3_sasl_negotiation.specs.ClientNegotiation as of_client
 use Rattle.fe2o3_sasl_negotiation.specs.ServerNegotiation as of_server
 use Rattle.fe2o3_sasl_negotiation.specs.Connections.{fresh}
@@ -69,7 +69,7 @@ module _ (p : Premises) (client_limit server_limit : ℕ) (client_wide : 512 ≤
   complete_profile = ScramProfile (answer.complete_side p)
 
   abbrev client_last : Side Profile
-  client_last = behind_answer (quiet LoggedIn turns.Outcome) client_limit complete_profile
+  client_last = behind_answer (quiet Authenticated turns.Outcome) client_limit complete_profile
 
   -- what the server sends after its list of mechanisms, and what the client sends
   abbrev later_sent : List ℕ
@@ -102,13 +102,13 @@ module _ (p : Premises) (client_limit server_limit : ℕ) (client_wide : 512 ≤
       → ClientCalls (fresh client_limit first_profile) calls (sasl_header ++ (framed names_body ++ later_sent)) client_sent
   client_takes n0 n2 n3 calls to_names to_challenge to_outcome idle zeroth first second third =
       unit_calls (of_client.ClientSideAnswers p.login.hostname) Header client_limit first_profile first_profile
-      sasl_header (framed names_body ++ later_sent) n0 client_sent (quiet Wanting turns.Mechanisms) to_names client_last
+      sasl_header (framed names_body ++ later_sent) n0 client_sent (quiet InProgress turns.Mechanisms) to_names client_last
       (header_is_unit client_limit) (answer.client_opens p n0) take_names calls [] sasl_header refl zeroth
     where
       take_outcome : ClientCalls (behind_answer (waits response_body turns.Outcome) client_limit answered_profile)
           to_outcome (framed outcome_body ++ []) []
       take_outcome = unit_calls (of_client.ClientSideAnswers p.login.hostname) (Frame turns.Outcome) client_limit
-          answered_profile complete_profile (framed outcome_body) [] n3 [] (quiet LoggedIn turns.Outcome) idle
+          answered_profile complete_profile (framed outcome_body) [] n3 [] (quiet Authenticated turns.Outcome) idle
           client_last outcome_is_unit (answer.client_reports p n3)
           (rests (of_client.ClientSideAnswers p.login.hostname) idle client_last refl) to_outcome []
           (framed outcome_body) refl third
@@ -120,7 +120,7 @@ module _ (p : Premises) (client_limit server_limit : ℕ) (client_wide : 512 ≤
           (waits response_body turns.Outcome) to_outcome client_last challenge_is_unit (answer.client_answers p n2)
           take_outcome to_challenge [] (framed challenge_body) refl second
 
-      take_names : ClientCalls (behind_answer (quiet Wanting turns.Mechanisms) client_limit first_profile) to_names
+      take_names : ClientCalls (behind_answer (quiet InProgress turns.Mechanisms) client_limit first_profile) to_names
           (framed names_body ++ later_sent) client_sent
       take_names = unit_calls (of_client.ClientSideAnswers p.login.hostname) (Frame turns.Mechanisms) client_limit
           first_profile started_profile (framed names_body) later_sent p.mine (framed response_body ++ [])
@@ -219,8 +219,8 @@ module _ (p : Premises) (client_limit server_limit : ℕ) (client_wide : 512 ≤
           client_nonces = client_longs;
           server_nonces = server_longs;
         };
-        client_standing = refl;
-        server_standing = refl;
+        client_progress = refl;
+        server_progress = refl;
         user = refl;
       }
 

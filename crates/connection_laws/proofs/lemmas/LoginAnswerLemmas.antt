@@ -10,7 +10,7 @@ use Rattle.fe2o3_sasl_wire.specs.declared.sasl_frames.error.Error.TheVariants as
 use Rattle.fe2o3_sasl_wire.specs.SaslFrames.{SaslFrame, canonical}
 use Rattle.fe2o3_sasl_wire.specs.SaslFrames as frames
 use Rattle.fe2o3_scram.specs.declared.hmac.ScramVersion.{ScramVersion}
-use Rattle.fe2o3_scram.specs.declared.scram_messages.gs2_header.Gs2Header.TheVariants.{Unsupported}
+use Rattle.fe2o3_scram.specs.declared.scram_messages.channel_binding_flag.ChannelBindingFlag.TheVariants.{NotSupported}
 use Rattle.fe2o3_scram.specs.ClientFirst.{ClientFirst, client_first}
 use Rattle.fe2o3_scram.specs.ClientFinal.{ReadsClientFinal, server_of}
 use Rattle.fe2o3_scram.specs.Credentials.{Provider}
@@ -23,24 +23,24 @@ use Rattle.fe2o3_scram.specs.ServerFirst.{ServerChallenge, challenge_of}
 use Rattle.fe2o3_scram.specs.Texts.{base64_text}
 use Rattle.fe2o3_scram.proofs.lemmas.messages.ExchangeLemmas.{nonce_text}
 use Rattle.fe2o3_scram.proofs.lemmas.texts.AsciiLemmas.{IsUtf8-base64_text, IsUtf8-literal}
-use Rattle.fe2o3_sasl_runs.specs.Events.{Login, Challenged, Concluded, Failed, Started, Answered, Reported, Refused, ServerSays, ClientSays}
-use Rattle.fe2o3_sasl_runs.specs.declared.sasl_profile.error.ProfileError.TheVariants.{Frame as FrameFault}
-use Rattle.fe2o3_sasl_runs.specs.Profiles.{Profile, ScramProfile, scram_profile}
-use Rattle.fe2o3_sasl_runs.specs.Runs.{SendsCanonical, AcceptorGives, ProfileReplies}
-use Rattle.fe2o3_sasl_runs.specs.SaslAcceptor.{Acceptor, ScramAcceptor, acceptor_names, acceptor_machine}
-use Rattle.fe2o3_sasl_runs.proofs.lemmas.frames.SpellingLemmas.{spells_mechanisms, spells_init, spells_challenge, spells_response, spells_outcome}
-use Rattle.fe2o3_sasl_negotiation.specs.declared.standing.Due.{Due}
-use Rattle.fe2o3_sasl_negotiation.specs.declared.standing.Due.TheVariants.{Header, Frame}
-use Rattle.fe2o3_sasl_negotiation.specs.declared.standing.Standing.{Standing}
-use Rattle.fe2o3_sasl_negotiation.specs.declared.standing.Standing.TheVariants.{Wanting, LoggedIn}
-use Rattle.fe2o3_sasl_negotiation.specs.declared.standing.Turn.{Turn}
-use Rattle.fe2o3_sasl_negotiation.specs.declared.standing.Turn.TheVariants as turns
+use Rattle.fe2o3_sasl_core.specs.Events.{Login, Challenged, Concluded, Failed, Started, Answered, Reported, Refused, ServerSays, ClientSays}
+use Rattle.fe2o3_sasl_core.specs.declared.sasl_profile.error.ProfileError.TheVariants.{Frame as FrameFault}
+use Rattle.fe2o3_sasl_core.specs.Profiles.{Profile, ScramProfile, scram_profile}
+use Rattle.fe2o3_sasl_core.specs.Runs.{SendsCanonical, AcceptorGives, ProfileReplies}
+use Rattle.fe2o3_sasl_core.specs.SaslAcceptor.{Acceptor, ScramAcceptor, acceptor_names, acceptor_machine}
+use Rattle.fe2o3_sasl_core.proofs.lemmas.frames.SpellingLemmas.{spells_mechanisms, spells_init, spells_challenge, spells_response, spells_outcome}
+use Rattle.fe2o3_sasl_negotiation.specs.declared.progress.Expected.{Expected}
+use Rattle.fe2o3_sasl_negotiation.specs.declared.progress.Expected.TheVariants.{Header, Frame}
+use Rattle.fe2o3_sasl_negotiation.specs.declared.progress.Progress.{Progress}
+use Rattle.fe2o3_sasl_negotiation.specs.declared.progress.Progress.TheVariants.{InProgress, Authenticated}
+use Rattle.fe2o3_sasl_negotiation.specs.declared.progress.FrameKind.{FrameKind}
+use Rattle.fe2o3_sasl_negotiation.specs.declared.progress.FrameKind.TheVariants as turns
 use Rattle.fe2o3_sasl_negotiation.specs.ClientNegotiation as of_client
 use Rattle.fe2o3_sasl_negotiation.specs.ServerNegotiation as of_server
 use Rattle.fe2o3_sasl_negotiation.specs.Framing.{sasl_header, framed}
 use Rattle.fe2o3_sasl_negotiation.specs.Negotiations.{SideOutput, IsInTurn}
 use Rattle.fe2o3_sasl_negotiation.proofs.lemmas.UnitLemmas.{body_of-framed}
-use Rattle.fe2o3_sasl_runs.specs.Bodies.{SpellsBody}
+use Rattle.fe2o3_sasl_core.specs.Bodies.{SpellsBody}
 use Rattle.connection_laws.proofs.lemmas.LoginFrameLemmas.{Premises}
 use Rattle.connection_laws.proofs.lemmas.LoginFrameLemmas as frame
 
@@ -67,7 +67,7 @@ sends_canonical too_large says sent body state moved is =
     subst (λ (o : Option (List ℕ)). SendsCanonical too_large says o state moved (says body) moved) (sym is) (refl, refl)
 
 -- a client's answer to a frame in turn
-client_answer : (hostname : Option (List ℕ)) (turn : Turn) (profile next : Profile) (body nonce : List ℕ)
+client_answer : (hostname : Option (List ℕ)) (turn : FrameKind) (profile next : Profile) (body nonce : List ℕ)
     (frame : SaslFrame) (says : ClientSays) (answer : SideOutput) → SpellsBody body (Ok frame) → IsInTurn turn frame
     → ProfileReplies hostname profile nonce frame says next → of_client.ClientOutputs says turn answer
     → of_client.ClientSideAnswers hostname (Frame turn) profile nonce (framed body) answer next
@@ -77,7 +77,7 @@ client_answer hostname turn profile next body nonce frame says answer spells in_
     (sym (body_of-framed body)) (Ok frame, spells, inr (in_turn, (says, (Ok frame, spells, replies), outputs)))
 
 -- a server's answer to a frame in turn
-server_answer : (turn : Turn) (acceptor next : Acceptor) (body nonce : List ℕ) (frame : SaslFrame)
+server_answer : (turn : FrameKind) (acceptor next : Acceptor) (body nonce : List ℕ) (frame : SaslFrame)
     (says : ServerSays) (answer : SideOutput) → SpellsBody body (Ok frame) → IsInTurn turn frame
     → AcceptorGives acceptor_machine acceptor (record { body = body; nonce = nonce }) (Ok frame) says next
     → of_server.ServerOutputs says turn answer
@@ -88,14 +88,14 @@ server_answer turn acceptor next body nonce frame says answer spells in_turn giv
     (sym (body_of-framed body)) (Ok frame, spells, inr (in_turn, (says, (Ok frame, spells, gives), outputs)))
 
 -- a frame that is sent, after which the side waits; nothing that is sent; and the frame with which the server ends
-abbrev pub waits : List ℕ → Turn → SideOutput
-waits body turn = record { sent = framed body; standing = Wanting; due = Frame turn }
+abbrev pub waits : List ℕ → FrameKind → SideOutput
+waits body turn = record { sent = framed body; progress = InProgress; expected = Frame turn }
 
-abbrev pub quiet : Standing → Turn → SideOutput
-quiet standing turn = record { sent = []; standing = standing; due = Frame turn }
+abbrev pub quiet : Progress → FrameKind → SideOutput
+quiet progress turn = record { sent = []; progress = progress; expected = Frame turn }
 
 abbrev pub ends : List ℕ → SideOutput
-ends body = record { sent = framed body; standing = LoggedIn; due = Frame turns.Response }
+ends body = record { sent = framed body; progress = Authenticated; expected = Frame turns.Response }
 
 module _ (p : Premises) where
   abbrev login : Login
@@ -164,11 +164,11 @@ module _ (p : Premises) where
   abbrev pub complete_side : ClientSide
   complete_side = with_state answered_side (Complete (Some (answer_in exchange).keys))
 
-  abbrev pub ClientAnswersBy : Due → Profile → List ℕ → List ℕ → SideOutput → Profile → Type 0
-  ClientAnswersBy due profile nonce unit answer next =
-      of_client.ClientSideAnswers login.hostname due profile nonce unit answer next
+  abbrev pub ClientAnswersBy : Expected → Profile → List ℕ → List ℕ → SideOutput → Profile → Type 0
+  ClientAnswersBy expected profile nonce unit answer next =
+      of_client.ClientSideAnswers login.hostname expected profile nonce unit answer next
 
-  pub client_opens : (nonce : List ℕ) → ClientAnswersBy Header (scram_profile login) nonce sasl_header (quiet Wanting turns.Mechanisms)
+  pub client_opens : (nonce : List ℕ) → ClientAnswersBy Header (scram_profile login) nonce sasl_header (quiet InProgress turns.Mechanisms)
       (scram_profile login)
   client_opens nonce = (inr (refl, refl), refl)
 
@@ -217,7 +217,7 @@ module _ (p : Premises) where
 
   verifier_read : ReadsServerFinal (answer_in exchange).signature final_sent (Ok tt)
   verifier_read = subst (λ (version : ScramVersion). ReadsServerFinal (answer_in exchange).signature
-      (server_final_of (server_of version Unsupported (bare_in exchange) (first_in exchange) (nonce_in exchange)
+      (server_final_of (server_of version NotSupported (bare_in exchange) (first_in exchange) (nonce_in exchange)
       (record_in exchange)) (final_in exchange)) (Ok tt)) (sym p.holds.version) (frame.meets p).server_final
 
   reports : (nonce : List ℕ) → ProfileReplies login.hostname (ScramProfile answered_side) nonce outcome
@@ -230,15 +230,15 @@ module _ (p : Premises) where
   )
 
   pub client_reports : (nonce : List ℕ) → ClientAnswersBy (Frame turns.Outcome) (ScramProfile answered_side) nonce (framed outcome_body)
-      (quiet LoggedIn turns.Outcome) (ScramProfile complete_side)
+      (quiet Authenticated turns.Outcome) (ScramProfile complete_side)
   client_reports nonce = client_answer login.hostname turns.Outcome (ScramProfile answered_side) (ScramProfile complete_side)
       outcome_body nonce outcome (Reported outcomes.Ok (Some final_sent))
-      (quiet LoggedIn turns.Outcome) (spells_outcome outcomes.Ok final_sent outcome_body (frame.outcome_sent p).1) tt (reports nonce) refl
+      (quiet Authenticated turns.Outcome) (spells_outcome outcomes.Ok final_sent outcome_body (frame.outcome_sent p).1) tt (reports nonce) refl
 
   -- ---- the server, answer by answer
 
   abbrev read_first : ClientFirst
-  read_first = record { header = Unsupported; user = login.user; nonce = base64_text mine; bare = bare_in exchange }
+  read_first = record { header = NotSupported; user = login.user; nonce = base64_text mine; bare = bare_in exchange }
 
   abbrev challenge : ServerChallenge
   challenge = challenge_of read_first (base64_text theirs) (record_in exchange)
@@ -252,9 +252,9 @@ module _ (p : Premises) where
   abbrev pub last_acceptor : Acceptor
   last_acceptor = ScramAcceptor provider (ServerFinalSent login.user)
 
-  abbrev pub ServerAnswersBy : Due → Acceptor → List ℕ → List ℕ → SideOutput → Acceptor → Type 0
-  ServerAnswersBy due acceptor nonce unit answer next =
-      of_server.ServerSideAnswers acceptor_names acceptor_machine due acceptor nonce unit answer next
+  abbrev pub ServerAnswersBy : Expected → Acceptor → List ℕ → List ℕ → SideOutput → Acceptor → Type 0
+  ServerAnswersBy expected acceptor nonce unit answer next =
+      of_server.ServerSideAnswers acceptor_names acceptor_machine expected acceptor nonce unit answer next
 
   pub server_opens : (nonce : List ℕ) → ServerAnswersBy Header first_acceptor nonce sasl_header
       (of_server.behind_header (waits names_body turns.Init)) first_acceptor
@@ -300,10 +300,10 @@ module _ (p : Premises) where
       (spells_init login.version (client_first login.user (base64_text mine)) login.hostname init_body p.is.hostname (frame.init_sent p).1) tt challenges
       (inl ((frame.challenge_sent p).2, refl))
 
-  response_read : ReadsClientFinal (server_of provider.version Unsupported (bare_in exchange) (first_in exchange)
+  response_read : ReadsClientFinal (server_of provider.version NotSupported (bare_in exchange) (first_in exchange)
       (nonce_in exchange) (record_in exchange)) message (Ok (final_in exchange))
   response_read = subst (λ (version : ScramVersion). ReadsClientFinal
-      (server_of version Unsupported (bare_in exchange) (first_in exchange) (nonce_in exchange) (record_in exchange))
+      (server_of version NotSupported (bare_in exchange) (first_in exchange) (nonce_in exchange) (record_in exchange))
       message (Ok (final_in exchange))) (sym p.holds.version) (frame.meets p).client_final
 
   accepts : (nonce : List ℕ) → AcceptorGives acceptor_machine challenged_acceptor

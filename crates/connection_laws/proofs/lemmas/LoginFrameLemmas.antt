@@ -13,11 +13,11 @@ use Rattle.fe2o3_scram.specs.Hmac.{mechanism_name}
 use Rattle.fe2o3_scram.specs.Keys.{auth_message, client_proof}
 use Rattle.fe2o3_scram.specs.Texts.{base64_text}
 use Rattle.fe2o3_scram.proofs.lemmas.messages.ExchangeLemmas.{succeeds, opened}
-use Rattle.fe2o3_sasl_runs.specs.Events.{Login, IsLogin}
-use Rattle.fe2o3_sasl_runs.specs.ServerHistory.{final_message}
-use Rattle.fe2o3_sasl_runs.specs.TwoSides.{sides_of}
-use Rattle.fe2o3_sasl_runs.specs.UnalteredRuns.{HoldsLogin}
-use Rattle.fe2o3_sasl_runs.proofs.lemmas.unaltered.UnalteredStepLemmas as step
+use Rattle.fe2o3_sasl_core.specs.Events.{Login, IsLogin}
+use Rattle.fe2o3_sasl_core.specs.ServerHistory.{final_message}
+use Rattle.fe2o3_sasl_core.specs.TwoSides.{sides_of}
+use Rattle.fe2o3_sasl_core.specs.UnalteredRuns.{HoldsLogin}
+use Rattle.fe2o3_sasl_core.proofs.lemmas.unaltered.UnalteredStepLemmas as step
 use Rattle.fe2o3_sasl_negotiation.specs.FrameSizes.{CanBeSent}
 use Rattle.fe2o3_sasl_negotiation.proofs.lemmas.FrameSizeLemmas.{scram_inits_fit, texts_fit}
 use Rattle.connection_laws.specs.Unaltered.{FitsFrames}
@@ -61,7 +61,7 @@ module _ (p : Premises) where
   theirs = p.theirs
 
   abbrev pub exchange : Exchange
-  exchange = step.exchange_of login provider.unbound p.password p.salt p.count mine theirs
+  exchange = step.exchange_of login provider.cbind_flag_y p.password p.salt p.count mine theirs
 
   pub sound : IsSound exchange
   sound = step.sound_exchange (sides_of login [] [] provider [] []) p.password p.salt p.count mine theirs p.is p.holds

@@ -8,24 +8,24 @@ use Rattle.fe2o3_scram.specs.declared.scram_messages.error.ServerScramErrorKind.
 use Rattle.fe2o3_scram.specs.ClientFirst.{ClientFirst, ReadsClientFirst}
 use Rattle.fe2o3_scram.proofs.lemmas.messages.ClientFirstLemmas.{one_client_first}
 use Rattle.fe2o3_scram.proofs.lemmas.messages.SomeReadingLemmas.{some_client_first}
-use Rattle.fe2o3_sasl_runs.specs.Bodies.{SpellsBody}
-use Rattle.fe2o3_sasl_runs.specs.Events.{Given, ServerSays}
-use Rattle.fe2o3_sasl_runs.specs.HidingLaws.{HoldsName}
-use Rattle.fe2o3_sasl_runs.specs.OneOfLaws.{Machine}
-use Rattle.fe2o3_sasl_runs.specs.Runs.{Runs, AcceptorSteps}
-use Rattle.fe2o3_sasl_runs.proofs.lemmas.frames.SpellingLemmas.{one_spelling}
+use Rattle.fe2o3_sasl_core.specs.Bodies.{SpellsBody}
+use Rattle.fe2o3_sasl_core.specs.Events.{Given, ServerSays}
+use Rattle.fe2o3_sasl_core.specs.HidingLaws.{HoldsName}
+use Rattle.fe2o3_sasl_core.specs.AnyMechanismLaws.{Machine}
+use Rattle.fe2o3_sasl_core.specs.Runs.{Runs, AcceptorSteps}
+use Rattle.fe2o3_sasl_core.proofs.lemmas.frames.SpellingLemmas.{one_spelling}
 use Rattle.connection_laws.specs.Servers.{NegotiationsHaveNames}
 
 -- a name for an event: with it in front every list of names holds that of the event
 abbrev NameFor : Bool → Given → Type 0
-NameFor unbound event = (name : List ℕ) × ((names : List (List ℕ)) → HoldsName unbound (name ∷ names) event)
+NameFor cbind_flag_y event = (name : List ℕ) × ((names : List (List ℕ)) → HoldsName cbind_flag_y (name ∷ names) event)
 
 -- a body without an initial response has no name
-no_text : (unbound : Bool) (event : Given) (spelled : Result SaslFrame Error) → SpellsBody event.body spelled
+no_text : (cbind_flag_y : Bool) (event : Given) (spelled : Result SaslFrame Error) → SpellsBody event.body spelled
     → ((mechanism text : List ℕ) (hostname : Option (List ℕ))
     → spelled ≢ Ok (frames.Init mechanism (Some text) hostname))
-    → NameFor unbound event
-no_text unbound event spelled spells other = (
+    → NameFor cbind_flag_y event
+no_text cbind_flag_y event spelled spells other = (
   [],
   λ names mechanism text hostname client spells_it reads. absurd (other mechanism text hostname
       (one_spelling event.body spelled (Ok (frames.Init mechanism (Some text) hostname)) spells spells_it)),
@@ -44,73 +44,73 @@ fault_is_no_client : (fault : ServerScramErrorKind) (client : ClientFirst)
     → ◌≢◌ {A = Result ClientFirst ServerScramErrorKind} (Err fault) (Ok client)
 fault_is_no_client fault client same = cc
 
-text_name : (unbound : Bool) (event : Given) (mechanism text : List ℕ) (hostname : Option (List ℕ))
-    → SpellsBody event.body (Ok (frames.Init mechanism (Some text) hostname)) → NameFor unbound event
-text_name unbound event mechanism text hostname spells = go (some_client_first unbound text)
+text_name : (cbind_flag_y : Bool) (event : Given) (mechanism text : List ℕ) (hostname : Option (List ℕ))
+    → SpellsBody event.body (Ok (frames.Init mechanism (Some text) hostname)) → NameFor cbind_flag_y event
+text_name cbind_flag_y event mechanism text hostname spells = go (some_client_first cbind_flag_y text)
   where
     read : (another other : List ℕ) (host : Option (List ℕ)) (client : ClientFirst)
         → SpellsBody event.body (Ok (frames.Init another (Some other) host))
-        → ReadsClientFirst unbound other (Ok client) → ReadsClientFirst unbound text (Ok client)
+        → ReadsClientFirst cbind_flag_y other (Ok client) → ReadsClientFirst cbind_flag_y text (Ok client)
     read another other host client spells_it reads =
-        subst (λ (t : List ℕ). ReadsClientFirst unbound t (Ok client))
+        subst (λ (t : List ℕ). ReadsClientFirst cbind_flag_y t (Ok client))
         (sym (same_text mechanism text another other hostname host (one_spelling event.body
         (Ok (frames.Init mechanism (Some text) hostname)) (Ok (frames.Init another (Some other) host)) spells spells_it)))
         reads
 
-    go : (answer : Result ClientFirst ServerScramErrorKind) × ReadsClientFirst unbound text answer
-        → NameFor unbound event
+    go : (answer : Result ClientFirst ServerScramErrorKind) × ReadsClientFirst cbind_flag_y text answer
+        → NameFor cbind_flag_y event
     go (Ok first, reads) = (
       first.user,
       λ names another other host client spells_it too. (
         0,
         omega arith,
-        same_user first client (one_client_first unbound
+        same_user first client (one_client_first cbind_flag_y
             text (Ok first) (Ok client) reads (read another other host client spells_it too)),
       ),
     )
     go (Err fault, reads) = (
       [],
-      λ names another other host client spells_it too. absurd (fault_is_no_client fault client (one_client_first unbound
+      λ names another other host client spells_it too. absurd (fault_is_no_client fault client (one_client_first cbind_flag_y
           text (Err fault) (Ok client) reads (read another other host client spells_it too))),
     )
 
-name_for : (unbound : Bool) (event : Given) (spelled : Result SaslFrame Error) → SpellsBody event.body spelled
-    → NameFor unbound event
-name_for unbound event (Ok (frames.Init mechanism (Some text) hostname)) spells =
-    text_name unbound event mechanism text hostname spells
-name_for unbound event (Ok (frames.Init mechanism None hostname)) spells =
-    no_text unbound event (Ok (frames.Init mechanism None hostname)) spells (λ other text host same. absurd (cc))
-name_for unbound event (Ok (frames.Response message)) spells =
-    no_text unbound event (Ok (frames.Response message)) spells (λ other text host same. absurd (cc))
-name_for unbound event (Ok (frames.Mechanisms list)) spells =
-    no_text unbound event (Ok (frames.Mechanisms list)) spells (λ other text host same. absurd (cc))
-name_for unbound event (Ok (frames.Challenge message)) spells =
-    no_text unbound event (Ok (frames.Challenge message)) spells (λ other text host same. absurd (cc))
-name_for unbound event (Ok (frames.Outcome code more)) spells =
-    no_text unbound event (Ok (frames.Outcome code more)) spells (λ other text host same. absurd (cc))
-name_for unbound event (Err fault) spells =
-    no_text unbound event (Err fault) spells (λ other text host same. absurd (cc))
+name_for : (cbind_flag_y : Bool) (event : Given) (spelled : Result SaslFrame Error) → SpellsBody event.body spelled
+    → NameFor cbind_flag_y event
+name_for cbind_flag_y event (Ok (frames.Init mechanism (Some text) hostname)) spells =
+    text_name cbind_flag_y event mechanism text hostname spells
+name_for cbind_flag_y event (Ok (frames.Init mechanism None hostname)) spells =
+    no_text cbind_flag_y event (Ok (frames.Init mechanism None hostname)) spells (λ other text host same. absurd (cc))
+name_for cbind_flag_y event (Ok (frames.Response message)) spells =
+    no_text cbind_flag_y event (Ok (frames.Response message)) spells (λ other text host same. absurd (cc))
+name_for cbind_flag_y event (Ok (frames.Mechanisms list)) spells =
+    no_text cbind_flag_y event (Ok (frames.Mechanisms list)) spells (λ other text host same. absurd (cc))
+name_for cbind_flag_y event (Ok (frames.Challenge message)) spells =
+    no_text cbind_flag_y event (Ok (frames.Challenge message)) spells (λ other text host same. absurd (cc))
+name_for cbind_flag_y event (Ok (frames.Outcome code more)) spells =
+    no_text cbind_flag_y event (Ok (frames.Outcome code more)) spells (λ other text host same. absurd (cc))
+name_for cbind_flag_y event (Err fault) spells =
+    no_text cbind_flag_y event (Err fault) spells (λ other text host same. absurd (cc))
 
 -- one name more holds no fewer
-one_more : (unbound : Bool) (name : List ℕ) (names : List (List ℕ)) (events : List Given)
-    → AllByRecursion (HoldsName unbound names) events → AllByRecursion (HoldsName unbound (name ∷ names)) events
-one_more unbound name names [] holds = tt
-one_more unbound name names (event ∷ events) (here, rest) = (
+one_more : (cbind_flag_y : Bool) (name : List ℕ) (names : List (List ℕ)) (events : List Given)
+    → AllByRecursion (HoldsName cbind_flag_y names) events → AllByRecursion (HoldsName cbind_flag_y (name ∷ names)) events
+one_more cbind_flag_y name names [] holds = tt
+one_more cbind_flag_y name names (event ∷ events) (here, rest) = (
   λ mechanism text hostname client spells reads. let (k, below, at) = here mechanism text hostname client spells reads in
       (suc k, omega (below, arith), at),
-  one_more unbound name names events rest,
+  one_more cbind_flag_y name names events rest,
 )
 
-run_names : {S : Type 0} (machine : Machine S) (unbound : Bool) (state last : S) (events : List Given)
+run_names : {S : Type 0} (machine : Machine S) (cbind_flag_y : Bool) (state last : S) (events : List Given)
     (replies : List ServerSays) → Runs (AcceptorSteps machine) state events replies last
-    → (names : List (List ℕ)) × AllByRecursion (HoldsName unbound names) events
-run_names machine unbound state last [] replies run = ([], tt)
-run_names machine unbound state last (event ∷ events) replies
+    → (names : List (List ℕ)) × AllByRecursion (HoldsName cbind_flag_y names) events
+run_names machine cbind_flag_y state last [] replies run = ([], tt)
+run_names machine cbind_flag_y state last (event ∷ events) replies
     (says, next, others, (spelled, spells, gives), is, run) =
-    let (names, holds) = run_names machine unbound next last events others run in
-    let (name, holds_it) = name_for unbound event spelled spells in
-    (name ∷ names, (holds_it names, one_more unbound name names events holds))
+    let (names, holds) = run_names machine cbind_flag_y next last events others run in
+    let (name, holds_it) = name_for cbind_flag_y event spelled spells in
+    (name ∷ names, (holds_it names, one_more cbind_flag_y name names events holds))
 
 pub negotiations_have_names : {S : Type 0} (machine : Machine S) → NegotiationsHaveNames machine
-negotiations_have_names machine unbound state server =
-    let n = server.connection in run_names machine unbound state server.last.state n.events n.replies n.run
+negotiations_have_names machine cbind_flag_y state server =
+    let n = server.connection in run_names machine cbind_flag_y state server.last.state n.events n.replies n.run

@@ -7,27 +7,27 @@ use Rattle.fe2o3_sasl_wire.specs.declared.sasl_frames.error.Error.TheVariants as
 use Rattle.fe2o3_sasl_wire.specs.SaslFrames.{SaslFrame, canonical}
 use Rattle.fe2o3_sasl_wire.specs.SaslFrames as frames
 use Rattle.fe2o3_scram.specs.Credentials.{Provider}
-use Rattle.fe2o3_sasl_runs.specs.Events.{Given, ServerSays, Challenged, Concluded, Failed, ClientSays, Started, Answered, Reported, Refused as ClientRefused}
-use Rattle.fe2o3_sasl_runs.specs.ServerHistory.{ServerHistory}
-use Rattle.fe2o3_sasl_runs.proofs.lemmas.frames.SpellingLemmas.{carried_not}
-use Rattle.fe2o3_sasl_negotiation.specs.declared.standing.ClosedBecause.TheVariants.{FrameSize, Refused}
-use Rattle.fe2o3_sasl_negotiation.specs.declared.standing.Due.TheVariants.{Frame}
-use Rattle.fe2o3_sasl_negotiation.specs.declared.standing.Standing.{Standing}
-use Rattle.fe2o3_sasl_negotiation.specs.declared.standing.Standing.TheVariants.{Wanting, LoggedIn}
-use Rattle.fe2o3_sasl_negotiation.specs.declared.standing.Turn.{Turn}
-use Rattle.fe2o3_sasl_negotiation.specs.declared.standing.Turn.TheVariants as turns
+use Rattle.fe2o3_sasl_core.specs.Events.{Given, ServerSays, Challenged, Concluded, Failed, ClientSays, Started, Answered, Reported, Refused as ClientRefused}
+use Rattle.fe2o3_sasl_core.specs.ServerHistory.{ServerHistory}
+use Rattle.fe2o3_sasl_core.proofs.lemmas.frames.SpellingLemmas.{carried_not}
+use Rattle.fe2o3_sasl_negotiation.specs.declared.progress.CloseReason.TheVariants.{FrameSize, Refused}
+use Rattle.fe2o3_sasl_negotiation.specs.declared.progress.Expected.TheVariants.{Frame}
+use Rattle.fe2o3_sasl_negotiation.specs.declared.progress.Progress.{Progress}
+use Rattle.fe2o3_sasl_negotiation.specs.declared.progress.Progress.TheVariants.{InProgress, Authenticated}
+use Rattle.fe2o3_sasl_negotiation.specs.declared.progress.FrameKind.{FrameKind}
+use Rattle.fe2o3_sasl_negotiation.specs.declared.progress.FrameKind.TheVariants as turns
 use Rattle.fe2o3_sasl_negotiation.specs.ClientNegotiation as of_client
 use Rattle.fe2o3_sasl_negotiation.specs.ServerNegotiation as of_server
 use Rattle.fe2o3_sasl_negotiation.specs.Connections.{Piece, frames_of, SpellsTurn, AreFrames, LeftOver, Replied, Negotiated, LastReply, IsOkSent, IsOkReported}
 use Rattle.fe2o3_sasl_negotiation.specs.Framing.{sasl_header, framed, size_of}
 use Rattle.fe2o3_sasl_negotiation.specs.Negotiations.{Side, SideOutput}
 use Rattle.fe2o3_sasl_negotiation.proofs.lemmas.ConnectionLemmas.{logged_in_is_not_wanting, closed_is_not_wanting, closed_is_not_logged_in}
-use Rattle.fe2o3_sasl_negotiation.proofs.lemmas.KindLemmas.{standing_of, closes_waits_not, sends_ends}
+use Rattle.fe2o3_sasl_negotiation.proofs.lemmas.KindLemmas.{progress_of, closes_waits_not, sends_ends}
 use Rattle.fe2o3_sasl_negotiation.proofs.lemmas.PieceLemmas.{length-frames_of}
 use Rattle.fe2o3_sasl_negotiation.proofs.lemmas.UnitLemmas.{size_of-framed, length-framed, body_of-framed}
 use Rattle.connection_laws.proofs.lemmas.ExactSideLemmas.{sends_small}
 use Rattle.connection_laws.proofs.lemmas.SmallReplyLemmas.{ServerRow, server_row}
-use Rattle.fe2o3_sasl_runs.specs.declared.sasl_profile.error.ProfileError.TheVariants.{NotImplemented, Scram, OtherKeys, Frame as FrameFault, OutOfMemory}
+use Rattle.fe2o3_sasl_core.specs.declared.sasl_profile.error.ProfileError.TheVariants.{NotImplemented, Scram, StaleKeys, Frame as FrameFault, OutOfMemory}
 
 -- ---- frames are read in one way
 
@@ -66,26 +66,26 @@ without_header bytes others same =
 
 -- ---- a side that has logged in has taken whole frames only
 
-wanting_is_not_logged_in : Wanting ≢ LoggedIn
+wanting_is_not_logged_in : InProgress ≢ Authenticated
 wanting_is_not_logged_in same = cc
 
-left_is_not_logged_in : (turn : Turn) (limit : ℕ) (tail : List ℕ) (standing : Standing)
-    → LeftOver turn limit tail standing → standing ≢ LoggedIn
-left_is_not_logged_in turn limit tail standing (inl part) logged = wanting_is_not_logged_in (sym part.1 ∙ logged)
-left_is_not_logged_in turn limit tail standing (inr (inl size)) logged =
+left_is_not_logged_in : (turn : FrameKind) (limit : ℕ) (tail : List ℕ) (progress : Progress)
+    → LeftOver turn limit tail progress → progress ≢ Authenticated
+left_is_not_logged_in turn limit tail progress (inl part) logged = wanting_is_not_logged_in (sym part.1 ∙ logged)
+left_is_not_logged_in turn limit tail progress (inr (inl size)) logged =
     closed_is_not_logged_in FrameSize (sym size.2 ∙ logged)
-left_is_not_logged_in turn limit tail standing (inr (inr frame)) logged =
+left_is_not_logged_in turn limit tail progress (inr (inr frame)) logged =
     closed_is_not_logged_in frame.2 (sym frame.7 ∙ logged)
 
-pub no_tail : {S A : Type 0} (Steps : S → Given → A → S → Type 0) (Says : A → Turn → SideOutput → Type 0)
-    (turns : List Turn) (limit : ℕ) (state : S) (pieces : List Piece) (taken sent : List ℕ) (last : Side S)
-    (n : Negotiated Steps Says turns limit state pieces taken sent last) → last.standing ≡ LoggedIn → n.tail ≡ []
+pub no_tail : {S A : Type 0} (Steps : S → Given → A → S → Type 0) (Says : A → FrameKind → SideOutput → Type 0)
+    (turns : List FrameKind) (limit : ℕ) (state : S) (pieces : List Piece) (taken sent : List ℕ) (last : Side S)
+    (n : Negotiated Steps Says turns limit state pieces taken sent last) → last.progress ≡ Authenticated → n.tail ≡ []
 no_tail Steps Says turns limit state pieces taken sent last n logged = go n.ends
   where
-    go : ((turn : Turn) × (n.answer.standing ≡ Wanting) × (n.answer.due ≡ Frame turn)
-        × LeftOver turn limit n.tail last.standing)
-        ⊎ ((n.answer.standing ≢ Wanting) × (last.standing ≡ n.answer.standing) × (n.tail ≡ [])) → n.tail ≡ []
-    go (inl waiting) = absurd (left_is_not_logged_in waiting.0 limit n.tail last.standing waiting.3 logged)
+    go : ((turn : FrameKind) × (n.answer.progress ≡ InProgress) × (n.answer.expected ≡ Frame turn)
+        × LeftOver turn limit n.tail last.progress)
+        ⊎ ((n.answer.progress ≢ InProgress) × (last.progress ≡ n.answer.progress) × (n.tail ≡ [])) → n.tail ≡ []
+    go (inl waiting) = absurd (left_is_not_logged_in waiting.0 limit n.tail last.progress waiting.3 logged)
     go (inr ended) = ended.2
 
 -- ---- what was said
@@ -96,12 +96,12 @@ Body wraps says answer =
     (body : List ℕ) × (says ≡ wraps body) × (length body + 4 ≤ 512) × (answer.sent ≡ framed body)
 
 client_first_waits : (says : ClientSays) (answer : SideOutput) → of_client.ClientOutputs says turns.Mechanisms answer
-    → answer.standing ≡ Wanting → Body (λ (b : List ℕ). Started b) says answer
+    → answer.progress ≡ InProgress → Body (λ (b : List ℕ). Started b) says answer
 client_first_waits (Started body) answer (inl sent) waits = (body, refl, sent.0, ap (λ (a : SideOutput). a.sent) sent.1)
 client_first_waits (Started body) answer (inr long) waits = absurd (closes_waits_not _ _ answer long.1 waits)
 client_first_waits (Answered body) answer is waits = absurd (closes_waits_not _ _ answer is waits)
 client_first_waits (Reported outcomes.Ok more) answer is waits =
-    absurd (logged_in_is_not_wanting (sym (standing_of answer _ is) ∙ waits))
+    absurd (logged_in_is_not_wanting (sym (progress_of answer _ is) ∙ waits))
 client_first_waits (Reported outcomes.Auth more) answer is waits = absurd (closes_waits_not _ _ answer is waits)
 client_first_waits (Reported outcomes.Sys more) answer is waits = absurd (closes_waits_not _ _ answer is waits)
 client_first_waits (Reported outcomes.SysPerm more) answer is waits = absurd (closes_waits_not _ _ answer is waits)
@@ -111,17 +111,17 @@ client_first_waits (ClientRefused NotImplemented) answer closed waits =
     absurd (closes_waits_not _ _ answer closed waits)
 client_first_waits (ClientRefused (Scram fault)) answer closed waits =
     absurd (closes_waits_not _ _ answer closed waits)
-client_first_waits (ClientRefused OtherKeys) answer closed waits = absurd (closes_waits_not _ _ answer closed waits)
+client_first_waits (ClientRefused StaleKeys) answer closed waits = absurd (closes_waits_not _ _ answer closed waits)
 client_first_waits (ClientRefused (FrameFault fault)) answer closed waits =
     absurd (closes_waits_not _ _ answer closed waits)
 
 client_next_waits : (says : ClientSays) (answer : SideOutput) → of_client.ClientOutputs says turns.Challenge answer
-    → answer.standing ≡ Wanting → Body (λ (b : List ℕ). Answered b) says answer
+    → answer.progress ≡ InProgress → Body (λ (b : List ℕ). Answered b) says answer
 client_next_waits (Answered body) answer (inl sent) waits = (body, refl, sent.0, ap (λ (a : SideOutput). a.sent) sent.1)
 client_next_waits (Answered body) answer (inr long) waits = absurd (closes_waits_not _ _ answer long.1 waits)
 client_next_waits (Started body) answer is waits = absurd (closes_waits_not _ _ answer is waits)
 client_next_waits (Reported outcomes.Ok more) answer is waits =
-    absurd (logged_in_is_not_wanting (sym (standing_of answer _ is) ∙ waits))
+    absurd (logged_in_is_not_wanting (sym (progress_of answer _ is) ∙ waits))
 client_next_waits (Reported outcomes.Auth more) answer is waits = absurd (closes_waits_not _ _ answer is waits)
 client_next_waits (Reported outcomes.Sys more) answer is waits = absurd (closes_waits_not _ _ answer is waits)
 client_next_waits (Reported outcomes.SysPerm more) answer is waits = absurd (closes_waits_not _ _ answer is waits)
@@ -130,16 +130,16 @@ client_next_waits (ClientRefused OutOfMemory) answer never waits = absurd never
 client_next_waits (ClientRefused NotImplemented) answer closed waits =
     absurd (closes_waits_not _ _ answer closed waits)
 client_next_waits (ClientRefused (Scram fault)) answer closed waits = absurd (closes_waits_not _ _ answer closed waits)
-client_next_waits (ClientRefused OtherKeys) answer closed waits = absurd (closes_waits_not _ _ answer closed waits)
+client_next_waits (ClientRefused StaleKeys) answer closed waits = absurd (closes_waits_not _ _ answer closed waits)
 client_next_waits (ClientRefused (FrameFault fault)) answer closed waits =
     absurd (closes_waits_not _ _ answer closed waits)
 
 server_waits : (says : ServerSays) (answer : SideOutput) → of_server.ServerOutputs says turns.Init answer
-    → answer.standing ≡ Wanting → Body (λ (b : List ℕ). Challenged b) says answer
+    → answer.progress ≡ InProgress → Body (λ (b : List ℕ). Challenged b) says answer
 server_waits (Challenged body) answer (inl sent) waits = (body, refl, sent.0, ap (λ (a : SideOutput). a.sent) sent.1)
 server_waits (Challenged body) answer (inr long) waits = absurd (closes_waits_not _ _ answer long.1 waits)
 server_waits (Concluded outcomes.Ok body) answer sends waits =
-    absurd (sends_ends body LoggedIn (Frame turns.Init) answer logged_in_is_not_wanting sends waits)
+    absurd (sends_ends body Authenticated (Frame turns.Init) answer logged_in_is_not_wanting sends waits)
 server_waits (Concluded outcomes.Auth body) answer sends waits =
     absurd (sends_ends body _ (Frame turns.Init) answer (closed_is_not_wanting (Refused outcomes.Auth)) sends waits)
 server_waits (Concluded outcomes.Sys body) answer sends waits =
@@ -213,7 +213,7 @@ server_shape provider pieces limit (f ∷ e ∷ fs) (g ∷ h ∷ i ∷ j ∷ gs)
 server_shape provider pieces limit (f ∷ e ∷ []) (g ∷ h ∷ []) answer history are
     (first, rest, said, went, next, is) (outcome, ok, small) =
     let challenge = server_waits g first said went in
-    let ends = sends_small outcome LoggedIn (Frame turns.Response) rest small
+    let ends = sends_small outcome Authenticated (Frame turns.Response) rest small
     (subst (λ (s : ServerSays). of_server.ServerOutputs s turns.Response rest) ok next) in
     record {
       init = f;
@@ -251,7 +251,7 @@ client_shape (r ∷ s ∷ t ∷ []) answer count
     (first, rest, said, went, (second, end, next, on, ended, at), is) (more, ok) =
     let init = client_first_waits r first said went in
     let response = client_next_waits s second next on in
-    let ends : end ≡ record { sent = []; standing = LoggedIn; due = Frame turns.Outcome } =
+    let ends : end ≡ record { sent = []; progress = Authenticated; expected = Frame turns.Outcome } =
     subst (λ (x : ClientSays). of_client.ClientOutputs x turns.Outcome end) ok ended in
     record {
       init = init.0;

@@ -9,17 +9,17 @@ use Rattle.fe2o3_scram.specs.declared.hmac.ScramVersion.{ScramVersion}
 use Rattle.fe2o3_scram.specs.Credentials.{Provider}
 use Rattle.fe2o3_scram.specs.Hmac.{mechanism_name}
 use Rattle.fe2o3_scram.specs.ScramServer.{Initial}
-use Rattle.fe2o3_sasl_runs.specs.ClientHistory.{ClientHistory}
-use Rattle.fe2o3_sasl_runs.specs.Complete.{ClientComplete, ServerComplete}
-use Rattle.fe2o3_sasl_runs.specs.Events.{Given, Login, IsLogin, ServerSays, Challenged, Concluded, Failed, ClientSays, Started, Answered, Reported, Refused}
-use Rattle.fe2o3_sasl_runs.specs.Profiles.{Profile, scram_profile}
-use Rattle.fe2o3_sasl_runs.specs.Runs.{ProfileSteps}
-use Rattle.fe2o3_sasl_runs.specs.SaslAcceptor.{Acceptor, ScramAcceptor, acceptor_machine}
-use Rattle.fe2o3_sasl_runs.specs.ServerHistory.{ServerHistory}
-use Rattle.fe2o3_sasl_runs.specs.TwoSides.{Sides, sides_of}
-use Rattle.fe2o3_sasl_runs.specs.UnalteredRuns.{Suffices, HoldsLogin, Arrives, UnalteredRun, client_body, server_body}
-use Rattle.fe2o3_sasl_runs.proofs.lemmas.machines.ClientMachineLemmas.{profile_runs_are_histories}
-use Rattle.fe2o3_sasl_runs.proofs.lemmas.machines.ServerMachineLemmas.{acceptor_runs_are_histories}
+use Rattle.fe2o3_sasl_core.specs.ClientHistory.{ClientHistory}
+use Rattle.fe2o3_sasl_core.specs.Complete.{ClientComplete, ServerComplete}
+use Rattle.fe2o3_sasl_core.specs.Events.{Given, Login, IsLogin, ServerSays, Challenged, Concluded, Failed, ClientSays, Started, Answered, Reported, Refused}
+use Rattle.fe2o3_sasl_core.specs.Profiles.{Profile, scram_profile}
+use Rattle.fe2o3_sasl_core.specs.Runs.{ProfileSteps}
+use Rattle.fe2o3_sasl_core.specs.SaslAcceptor.{Acceptor, ScramAcceptor, acceptor_machine}
+use Rattle.fe2o3_sasl_core.specs.ServerHistory.{ServerHistory}
+use Rattle.fe2o3_sasl_core.specs.TwoSides.{Sides, sides_of}
+use Rattle.fe2o3_sasl_core.specs.UnalteredRuns.{Suffices, HoldsLogin, Arrives, UnalteredRun, client_body, server_body}
+use Rattle.fe2o3_sasl_core.proofs.lemmas.machines.ClientMachineLemmas.{profile_runs_are_histories}
+use Rattle.fe2o3_sasl_core.proofs.lemmas.machines.ServerMachineLemmas.{acceptor_runs_are_histories}
 use Rattle.fe2o3_sasl_negotiation.specs.Connections.{Piece, frames_of, ClientNegotiated, ServerNegotiated}
 use Rattle.fe2o3_sasl_negotiation.specs.Framing.{sasl_header, framed}
 use Rattle.fe2o3_sasl_negotiation.specs.Negotiations.{Side}
@@ -31,7 +31,7 @@ use Rattle.connection_laws.proofs.lemmas.NegotiatedLemmas.{SameBodies, same_fram
 use Rattle.connection_laws.proofs.lemmas.OneLoginLemmas.{one_login}
 use Rattle.connection_laws.proofs.lemmas.SmallReplyLemmas.{names_fit, fits_as}
 use Rattle.connection_laws.proofs.lemmas.UnalteredLemmas.{unaltered_sides_log_in}
-use Rattle.fe2o3_sasl_runs.specs.declared.sasl_profile.error.ProfileError.TheVariants.{Frame as FrameFault, OutOfMemory}
+use Rattle.fe2o3_sasl_core.specs.declared.sasl_profile.error.ProfileError.TheVariants.{Frame as FrameFault, OutOfMemory}
 
 abbrev plain : List ℕ → Given
 plain body = record { body = body; nonce = [] }
@@ -134,7 +134,7 @@ module _ (login : Login) (provider : Provider) (password salt : List ℕ) (count
   served = server_shape provider server_pieces joined.server_limit theirs.events theirs.replies theirs.answer
       server_history theirs.frames theirs.replied
       ((servers_log_in acceptor_machine joined.server_limit (ScramAcceptor provider Initial) server_pieces
-      (sasl_header ++ joined.client_sent) out server theirs).0 both.server_standing)
+      (sasl_header ++ joined.client_sent) out server theirs).0 both.server_progress)
 
   out_is : out ≡ framed served.challenge ++ (framed served.outcome ++ [])
   out_is = theirs.sends ∙ (served.sent
@@ -143,7 +143,7 @@ module _ (login : Login) (provider : Provider) (password salt : List ℕ) (count
   client_frames : frames_of mine.events ≡ framed offer ++ out
   client_frames =
       let tail = no_tail _ _ _ joined.client_limit (scram_profile login) client_pieces joined.server_sent
-      joined.client_sent client mine both.client_standing in
+      joined.client_sent client mine both.client_progress in
       without_header (frames_of mine.events) (framed offer ++ out)
       (sym (mine.carried ∙ (ap (λ (l : List ℕ). sasl_header ++ (frames_of mine.events ++ l)) tail
       ∙ ap (λ (l : List ℕ). sasl_header ++ l) (append-nil (frames_of mine.events)))) ∙ all)
@@ -158,12 +158,12 @@ module _ (login : Login) (provider : Provider) (password salt : List ℕ) (count
   said = client_shape mine.replies mine.answer
       (client_history.count ∙ ap (λ (events : List Given). length events) client_three.are) mine.replied
       ((clients_log_in login.hostname joined.client_limit (scram_profile login) client_pieces joined.server_sent
-      joined.client_sent client mine).0 both.client_standing)
+      joined.client_sent client mine).0 both.client_progress)
 
   server_frames : frames_of theirs.events ≡ framed said.init ++ (framed said.response ++ [])
   server_frames =
       let tail = no_tail _ _ _ joined.server_limit (ScramAcceptor provider Initial) server_pieces
-      (sasl_header ++ joined.client_sent) out server theirs both.server_standing in
+      (sasl_header ++ joined.client_sent) out server theirs both.server_progress in
       without_header (frames_of theirs.events) joined.client_sent
       (sym (theirs.carried ∙ (ap (λ (l : List ℕ). sasl_header ++ (frames_of theirs.events ++ l)) tail
       ∙ ap (λ (l : List ℕ). sasl_header ++ l) (append-nil (frames_of theirs.events))))) ∙ (mine.sends ∙ said.sent)

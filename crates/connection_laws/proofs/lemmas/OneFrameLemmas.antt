@@ -5,16 +5,16 @@ use Rattle.fe2o3_sasl_wire.specs.declared.sasl_frames.error.Error.TheVariants as
 use Rattle.fe2o3_sasl_wire.specs.SaslFrames as frames
 use Rattle.fe2o3_sasl_wire.specs.SaslFrames.{SaslFrame, canonical}
 use Rattle.fe2o3_scram.specs.Credentials.{Store}
-use Rattle.fe2o3_sasl_runs.specs.Bodies.{SpellsBody, carried, server_says}
-use Rattle.fe2o3_sasl_runs.specs.Events.{Given, ServerSays, Concluded, Failed}
-use Rattle.fe2o3_sasl_runs.specs.ExternalAcceptor.{External, IsInitOf, external_machine, external_user}
-use Rattle.fe2o3_sasl_runs.specs.OneOfLaws.{Machine}
-use Rattle.fe2o3_sasl_runs.specs.PlainAuthenticator.{PlainServer, PlainLogsIn, plain_machine}
-use Rattle.fe2o3_sasl_runs.specs.Runs.{Runs, AcceptorSteps, SendsCanonical}
-use Rattle.fe2o3_sasl_runs.specs.SaslAcceptor.{ends_with}
-use Rattle.fe2o3_sasl_runs.proofs.lemmas.frames.SpellingLemmas.{one_spelled_frame}
+use Rattle.fe2o3_sasl_core.specs.Bodies.{SpellsBody, carried, server_says}
+use Rattle.fe2o3_sasl_core.specs.Events.{Given, ServerSays, Concluded, Failed}
+use Rattle.fe2o3_sasl_core.specs.ExternalServer.{External, IsInitOf, external_machine, external_user}
+use Rattle.fe2o3_sasl_core.specs.AnyMechanismLaws.{Machine}
+use Rattle.fe2o3_sasl_core.specs.PlainServer.{PlainState, PlainLogsIn, plain_machine}
+use Rattle.fe2o3_sasl_core.specs.Runs.{Runs, AcceptorSteps, SendsCanonical}
+use Rattle.fe2o3_sasl_core.specs.SaslAcceptor.{ends_with}
+use Rattle.fe2o3_sasl_core.proofs.lemmas.frames.SpellingLemmas.{one_spelled_frame}
 use Rattle.fe2o3_sasl.proofs.lemmas.steps.StepLawLemmas.{plain_oks_log_in}
-use Rattle.fe2o3_sasl_negotiation.specs.declared.standing.Turn.TheVariants as turns
+use Rattle.fe2o3_sasl_negotiation.specs.declared.progress.FrameKind.TheVariants as turns
 use Rattle.fe2o3_sasl_negotiation.specs.Connections.{Piece, SpellsTurn, AreFrames, LastReply, IsOkSent}
 use Rattle.fe2o3_sasl_negotiation.proofs.lemmas.LoginLemmas.{servers_log_in}
 use Rattle.connection_laws.specs.Servers.{ExternalServersLogIn, PlainServersLogIn}
@@ -29,7 +29,7 @@ abbrev OnlyInits : {S : Type 0} → Machine S → Type 0
 OnlyInits {S} machine = (state next : S) (event : Given) (text : List ℕ)
     → SpellsBody event.body (Ok (frames.Response text)) → ¬ SaysOk machine state event next
 
--- a frame that is due as a response spells one
+-- a frame that is expected as a response spells one
 pub response_of : (body : List ℕ) → SpellsTurn turns.Response body
     → (text : List ℕ) × SpellsBody body (Ok (frames.Response text))
 response_of body (frames.Response text, spells, in_turn) = (text, spells)
@@ -182,5 +182,5 @@ plain_servers_log_in state server logged =
       only = only;
       spells = spells;
       logs_in = logs;
-      named = ap (λ (server : PlainServer). server.user) to;
+      named = ap (λ (server : PlainState). server.user) to;
     }

@@ -5,13 +5,13 @@ use Rattle.fe2o3_sasl_wire.specs.SaslFrames.{canonical}
 use Rattle.fe2o3_sasl_wire.specs.SaslFrames as frames
 use Rattle.fe2o3_scram.specs.Credentials.{Provider}
 use Rattle.fe2o3_scram.specs.Exchanges.{Exchange, first_in, answer_in}
-use Rattle.fe2o3_sasl_runs.specs.ClientHistory.{OpenAnswer}
-use Rattle.fe2o3_sasl_runs.specs.Events.{Given, Login, IsLogin, ServerSays, Challenged, ClientSays, Started, Answered}
-use Rattle.fe2o3_sasl_runs.specs.ServerHistory.{AcceptsAt}
-use Rattle.fe2o3_sasl_runs.specs.TwoSides.{Sides, sides_of, Histories}
-use Rattle.fe2o3_sasl_runs.specs.UnalteredRuns.{UnalteredRun, Suffices, HoldsLogin}
-use Rattle.fe2o3_sasl_runs.proofs.lemmas.unaltered.UnalteredRunLemmas.{clients_log_in}
-use Rattle.fe2o3_sasl_runs.proofs.lemmas.unaltered.UnalteredStepLemmas as step
+use Rattle.fe2o3_sasl_core.specs.ClientHistory.{OpenAnswer}
+use Rattle.fe2o3_sasl_core.specs.Events.{Given, Login, IsLogin, ServerSays, Challenged, ClientSays, Started, Answered}
+use Rattle.fe2o3_sasl_core.specs.ServerHistory.{AcceptsAt}
+use Rattle.fe2o3_sasl_core.specs.TwoSides.{Sides, sides_of, Histories}
+use Rattle.fe2o3_sasl_core.specs.UnalteredRuns.{UnalteredRun, Suffices, HoldsLogin}
+use Rattle.fe2o3_sasl_core.proofs.lemmas.unaltered.UnalteredRunLemmas.{clients_log_in}
+use Rattle.fe2o3_sasl_core.proofs.lemmas.unaltered.UnalteredStepLemmas as step
 use Rattle.connection_laws.specs.Unaltered.{OneLogin}
 
 module _ (login : Login) (client_events : List Given) (client_replies : List ClientSays) (provider : Provider)
@@ -26,7 +26,7 @@ module _ (login : Login) (client_events : List Given) (client_replies : List Cli
   sides = sides_of login client_events client_replies provider server_events server_replies
 
   abbrev exchange : Exchange
-  exchange = step.exchange_of login provider.unbound password salt count run.offer.nonce run.init.nonce
+  exchange = step.exchange_of login provider.cbind_flag_y password salt count run.offer.nonce run.init.nonce
 
   client_event : (k : ℕ) → slice_get client_events k ≡ slice_get (run.offer ∷ run.challenge ∷ run.outcome ∷ []) k
   client_event k = ap (λ (events : List Given). slice_get events k) run.client_events

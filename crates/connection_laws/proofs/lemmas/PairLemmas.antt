@@ -12,25 +12,25 @@ use Rattle.fe2o3_scram.specs.Texts.{Part, base64_text}
 use Rattle.fe2o3_scram.proofs.lemmas.texts.Base64Lemmas.{one_spelled}
 use Rattle.fe2o3_scram.proofs.lemmas.texts.PartsLemmas.{one_part}
 use Rattle.fe2o3_scram.specs.ScramServer.{Initial}
-use Rattle.fe2o3_sasl_runs.specs.Bodies.{SpellsBody}
-use Rattle.fe2o3_sasl_runs.proofs.lemmas.frames.SpellingLemmas.{one_spelled_frame}
+use Rattle.fe2o3_sasl_core.specs.Bodies.{SpellsBody}
+use Rattle.fe2o3_sasl_core.proofs.lemmas.frames.SpellingLemmas.{one_spelled_frame}
 use Rattle.fe2o3_sasl.proofs.lemmas.examples.ExampleTextLemmas.{length-base64_text}
-use Rattle.fe2o3_sasl_runs.specs.Events.{Given, Login, IsRecord, Reported}
-use Rattle.fe2o3_sasl_runs.specs.Headline.{SignedAt}
-use Rattle.fe2o3_sasl_runs.specs.Laws.{HoldsRecords}
-use Rattle.fe2o3_sasl_runs.specs.Positions.{test_at}
-use Rattle.fe2o3_sasl_runs.specs.Profiles.{scram_profile}
-use Rattle.fe2o3_sasl_runs.specs.SaslAcceptor.{ScramAcceptor, acceptor_machine}
-use Rattle.fe2o3_sasl_runs.specs.ServerHistory.{Accepted, LoggedIn as UserLoggedIn, full_nonce, is_challenge, is_ok}
-use Rattle.fe2o3_sasl_runs.specs.TwoSides.{Sides, OkAt}
-use Rattle.fe2o3_sasl_runs.proofs.lemmas.histories.ServerLawLemmas.{accepted_response}
-use Rattle.fe2o3_sasl_runs.proofs.lemmas.positions.PositionLemmas.{opens_here}
-use Rattle.fe2o3_sasl_runs.proofs.lemmas.two_sides.EqualMessageLemmas.{accepts_open, is_challenging}
-use Rattle.fe2o3_sasl_runs.proofs.lemmas.two_sides.HeadlineLemmas.{verifier_agrees}
+use Rattle.fe2o3_sasl_core.specs.Events.{Given, Login, IsRecord, Reported}
+use Rattle.fe2o3_sasl_core.specs.Headline.{SignedAt}
+use Rattle.fe2o3_sasl_core.specs.Laws.{HoldsRecords}
+use Rattle.fe2o3_sasl_core.specs.Positions.{test_at}
+use Rattle.fe2o3_sasl_core.specs.Profiles.{scram_profile}
+use Rattle.fe2o3_sasl_core.specs.SaslAcceptor.{ScramAcceptor, acceptor_machine}
+use Rattle.fe2o3_sasl_core.specs.ServerHistory.{Accepted, Authenticated as UserLoggedIn, full_nonce, is_challenge, is_ok}
+use Rattle.fe2o3_sasl_core.specs.TwoSides.{Sides, OkAt}
+use Rattle.fe2o3_sasl_core.proofs.lemmas.histories.ServerLawLemmas.{accepted_response}
+use Rattle.fe2o3_sasl_core.proofs.lemmas.positions.PositionLemmas.{opens_here}
+use Rattle.fe2o3_sasl_core.proofs.lemmas.two_sides.EqualMessageLemmas.{accepts_open, is_challenging}
+use Rattle.fe2o3_sasl_core.proofs.lemmas.two_sides.HeadlineLemmas.{verifier_agrees}
 use Rattle.fe2o3_sasl.proofs.lemmas.two_sides.VerdictLemmas.{shown_proofs_are_judged}
-use Rattle.fe2o3_sasl_negotiation.specs.declared.standing.Standing.TheVariants.{LoggedIn}
-use Rattle.fe2o3_sasl_negotiation.specs.declared.standing.Turn.{Turn}
-use Rattle.fe2o3_sasl_negotiation.specs.declared.standing.Turn.TheVariants as turns
+use Rattle.fe2o3_sasl_negotiation.specs.declared.progress.Progress.TheVariants.{Authenticated}
+use Rattle.fe2o3_sasl_negotiation.specs.declared.progress.FrameKind.{FrameKind}
+use Rattle.fe2o3_sasl_negotiation.specs.declared.progress.FrameKind.TheVariants as turns
 use Rattle.fe2o3_sasl_negotiation.specs.Connections.{Piece, PieceNonceAt, AreFrames, LastReply, IsOkSent, IsOkReported}
 use Rattle.fe2o3_sasl_negotiation.proofs.lemmas.LoginLemmas.{servers_log_in, clients_log_in, scram_servers_serve, scram_clients_report}
 use Rattle.connection_laws.specs.Pairs.{ClientOf, ServerOf, ReportsLast, sides, LoggedInClientsAgree, LoggedInServersAccept, AcceptedProofsAreJudged, AcceptsLast, ChallengesWith, RepeatedResponsesMeanOneNonce, ReplaysAreRejected}
@@ -55,7 +55,7 @@ held sides n accepted records ok =
 -- ---- from the server to the client
 
 -- the last reply of a client that has logged in
-pub reports_last : (login : Login) (client : ClientOf login) → client.last.standing ≡ LoggedIn
+pub reports_last : (login : Login) (client : ClientOf login) → client.last.progress ≡ Authenticated
     → (m : ℕ) × (text : List ℕ) × ReportsLast client m text
     × SignedAt login client.connection.events client.connection.replies m text
 reports_last login client logged =
@@ -150,7 +150,7 @@ piece_at (first ∷ pieces) n nonce at =
     (flat_map (λ (other : Piece). replicate (length other.bytes) other.nonce) pieces) n nonce at)
 
 -- and that of an event is
-event_piece : (pieces : List Piece) (limit at : ℕ) (turns : List Turn) (events : List Given)
+event_piece : (pieces : List Piece) (limit at : ℕ) (turns : List FrameKind) (events : List Given)
     → AreFrames pieces limit at turns events → (j : ℕ) (event : Given) → slice_get events j ≡ Some event
     → (piece : Piece) × Contains pieces piece × (piece.nonce ≡ event.nonce)
 event_piece pieces limit at turns [] frames j event is = absurd (cc)

@@ -2,7 +2,7 @@
 use Rattle.std.proofs.Common.{◌≢◌, ℕ, zero, suc, Option, Some, None, List, [], ◌∷◌, refl}
 use Rattle.std.specs.Prelude.{slice_get}
 use Rattle.std.proofs.lemmas.Option.{same_Some}
-use Rattle.fe2o3_sasl_runs.specs.UnalteredRuns.{Arrives}
+use Rattle.fe2o3_sasl_core.specs.UnalteredRuns.{Arrives}
 
 -- no reply of the list is this one
 abbrev pub NoneIs : {A : Type 0} → A → List A → Type 0

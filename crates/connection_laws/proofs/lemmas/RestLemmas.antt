@@ -6,10 +6,10 @@ use Rattle.std.proofs.lemmas.List.{append-nil, length-append, length-take, lengt
 use Rattle.std.proofs.Math.Seq.{take-append-add}
 use Rattle.fe2o3_sasl_wire.specs.SaslFrames.{IsBytes}
 use Rattle.fe2o3_sasl_wire.proofs.lemmas.reading.StepLemmas.{IsBytes-take}
-use Rattle.fe2o3_sasl_negotiation.specs.declared.standing.Due.{Due}
-use Rattle.fe2o3_sasl_negotiation.specs.declared.standing.Due.TheVariants.{Header, Frame}
-use Rattle.fe2o3_sasl_negotiation.specs.declared.standing.Standing.{Standing}
-use Rattle.fe2o3_sasl_negotiation.specs.declared.standing.Standing.TheVariants.{Wanting, LoggedIn, Closed}
+use Rattle.fe2o3_sasl_negotiation.specs.declared.progress.Expected.{Expected}
+use Rattle.fe2o3_sasl_negotiation.specs.declared.progress.Expected.TheVariants.{Header, Frame}
+use Rattle.fe2o3_sasl_negotiation.specs.declared.progress.Progress.{Progress}
+use Rattle.fe2o3_sasl_negotiation.specs.declared.progress.Progress.TheVariants.{InProgress, Authenticated, Failed}
 use Rattle.fe2o3_sasl_negotiation.specs.Connections.{Piece, bytes_of, PieceNonceAt}
 use Rattle.fe2o3_sasl_negotiation.specs.Framing.{Fits, unit_size, size_of, IsPart, IsRefused, IsWhole}
 use Rattle.fe2o3_sasl_negotiation.specs.Laws.{Call, Calls}
@@ -24,8 +24,8 @@ bytes_of-more pieces piece =
     flat_map-append (λ (p : Piece). p.bytes) pieces (piece ∷ []) ∙ ap (λ l. bytes_of pieces ++ l) (append-nil piece.bytes)
 
 -- the front of a part is a part
-part_of_part : (due : Due) (limit : ℕ) (front more : List ℕ) → IsPart due limit (front ++ more)
-    → IsPart due limit front
+part_of_part : (expected : Expected) (limit : ℕ) (front more : List ℕ) → IsPart expected limit (front ++ more)
+    → IsPart expected limit front
 part_of_part Header limit front more part =
     let short : length (front ++ more) < 8 = part in omega (arith, short, length-append front more)
 part_of_part (Frame turn) limit front more part = λ four.
@@ -36,8 +36,8 @@ part_of_part (Frame turn) limit front more part = λ four.
     (subst (λ (n : ℕ). Fits limit n) size whole.0, omega (arith, short, size, all))
 
 -- and so is the front of a whole unit that is shorter than the unit
-part_of_whole : (due : Due) (limit : ℕ) (front more : List ℕ) → IsWhole due limit (front ++ more)
-    → length front < unit_size due (front ++ more) → IsPart due limit front
+part_of_whole : (expected : Expected) (limit : ℕ) (front more : List ℕ) → IsWhole expected limit (front ++ more)
+    → length front < unit_size expected (front ++ more) → IsPart expected limit front
 part_of_whole Header limit front more whole short = short
 part_of_whole (Frame turn) limit front more whole short = λ four.
     let size = size_of-append front more four in
@@ -45,38 +45,38 @@ part_of_whole (Frame turn) limit front more whole short = λ four.
     (subst (λ (n : ℕ). Fits limit n) size whole.0, omega (arith, less, size))
 
 -- and what is shorter than a size
-part_of_size : (due : Due) (limit : ℕ) (front more : List ℕ) → IsRefused due limit (front ++ more) → length front < 4
-    → IsPart due limit front
+part_of_size : (expected : Expected) (limit : ℕ) (front more : List ℕ) → IsRefused expected limit (front ++ more) → length front < 4
+    → IsPart expected limit front
 part_of_size Header limit front more refused short = absurd refused
 part_of_size (Frame turn) limit front more refused short = λ four. absurd (omega (arith, short, four))
 
-module _ {S : Type 0} (Answers : Due → S → List ℕ → List ℕ → SideOutput → S → Type 0) where
+module _ {S : Type 0} (Answers : Expected → S → List ℕ → List ℕ → SideOutput → S → Type 0) where
   -- a call takes no more than it received
-  pub taken_within : (side next : Side S) (bytes nonce first : List ℕ) (k : ℕ) (standing : Standing)
-      → ReceivesAt standing Answers side bytes nonce k first next → k ≤ length bytes
-  taken_within side next bytes nonce first k Wanting (inl waits) =
+  pub taken_within : (side next : Side S) (bytes nonce first : List ℕ) (k : ℕ) (progress : Progress)
+      → ReceivesAt progress Answers side bytes nonce k first next → k ≤ length bytes
+  taken_within side next bytes nonce first k InProgress (inl waits) =
       let all : k ≡ length bytes = waits.1.0 in omega (arith, all)
-  taken_within side next bytes nonce first k Wanting (inr (inl refused)) =
-      let four = refused_long side.due side.limit (side.held ++ bytes) refused.0 in
+  taken_within side next bytes nonce first k InProgress (inr (inl refused)) =
+      let four = refused_long side.expected side.limit (side.held ++ bytes) refused.0 in
       let is : k ≡ 4 - length side.held = refused.1.0 in
       omega (arith, four, is, length-append side.held bytes)
-  taken_within side next bytes nonce first k Wanting (inr (inr whole)) =
-      let long = whole_long side.due side.limit (side.held ++ bytes) whole.2 in
+  taken_within side next bytes nonce first k InProgress (inr (inr whole)) =
+      let long = whole_long side.expected side.limit (side.held ++ bytes) whole.2 in
       let is = whole.4.0 in
       omega (arith, long, is, length-append side.held bytes)
-  taken_within side next bytes nonce first k LoggedIn rests = let none : k ≡ 0 = rests.0 in omega (arith, none)
-  taken_within side next bytes nonce first k (Closed why) rests = let none : k ≡ 0 = rests.0 in omega (arith, none)
+  taken_within side next bytes nonce first k Authenticated rests = let none : k ≡ 0 = rests.0 in omega (arith, none)
+  taken_within side next bytes nonce first k (Failed why) rests = let none : k ≡ 0 = rests.0 in omega (arith, none)
 
   -- a side after some bytes, which it holds
   abbrev holding : Side S → List ℕ → Side S
   holding side bytes = record side { held = side.held ++ bytes }
 
   -- a call that receives less than another call takes waits for more
-  cut_short : (side next : Side S) (bytes nonce first : List ℕ) (k n : ℕ) (standing : Standing)
-      → ReceivesAt standing Answers side bytes nonce k first next → k ≤ length bytes → n < k
-      → (standing ≡ Wanting)
-      × ReceivesAt standing Answers side (take n bytes) nonce n [] (holding side (take n bytes))
-  cut_short side next bytes nonce first k n Wanting received within less =
+  cut_short : (side next : Side S) (bytes nonce first : List ℕ) (k n : ℕ) (progress : Progress)
+      → ReceivesAt progress Answers side bytes nonce k first next → k ≤ length bytes → n < k
+      → (progress ≡ InProgress)
+      × ReceivesAt progress Answers side (take n bytes) nonce n [] (holding side (take n bytes))
+  cut_short side next bytes nonce first k n InProgress received within less =
       (refl, inl (part received, (sym count, refl, refl)))
     where
       count : length (take n bytes) ≡ n
@@ -89,25 +89,25 @@ module _ {S : Type 0} (Answers : Due → S → List ℕ → List ℕ → SideOut
       long : length (side.held ++ take n bytes) ≡ length side.held + n
       long = length-append side.held (take n bytes) ∙ ap (λ m. length side.held + m) count
 
-      part : ReceivesAt Wanting Answers side bytes nonce k first next
-          → IsPart side.due side.limit (side.held ++ take n bytes)
-      part (inl waits) = part_of_part side.due side.limit (side.held ++ take n bytes) (drop n bytes)
-          (subst (λ (l : List ℕ). IsPart side.due side.limit l) (sym whole) waits.0)
+      part : ReceivesAt InProgress Answers side bytes nonce k first next
+          → IsPart side.expected side.limit (side.held ++ take n bytes)
+      part (inl waits) = part_of_part side.expected side.limit (side.held ++ take n bytes) (drop n bytes)
+          (subst (λ (l : List ℕ). IsPart side.expected side.limit l) (sym whole) waits.0)
       part (inr (inl refused)) =
           let is : k ≡ 4 - length side.held = refused.1.0 in
-          part_of_size side.due side.limit (side.held ++ take n bytes) (drop n bytes)
-          (subst (λ (l : List ℕ). IsRefused side.due side.limit l) (sym whole) refused.0)
+          part_of_size side.expected side.limit (side.held ++ take n bytes) (drop n bytes)
+          (subst (λ (l : List ℕ). IsRefused side.expected side.limit l) (sym whole) refused.0)
           (omega (arith, is, less, long))
       part (inr (inr answers)) =
-          let is : k ≡ unit_size side.due (side.held ++ bytes) - length side.held = answers.4.0 in
-          let same : unit_size side.due ((side.held ++ take n bytes) ++ drop n bytes)
-          ≡ unit_size side.due (side.held ++ bytes) = ap (unit_size side.due) whole in
-          part_of_whole side.due side.limit (side.held ++ take n bytes) (drop n bytes)
-          (subst (λ (l : List ℕ). IsWhole side.due side.limit l) (sym whole) answers.2)
+          let is : k ≡ unit_size side.expected (side.held ++ bytes) - length side.held = answers.4.0 in
+          let same : unit_size side.expected ((side.held ++ take n bytes) ++ drop n bytes)
+          ≡ unit_size side.expected (side.held ++ bytes) = ap (unit_size side.expected) whole in
+          part_of_whole side.expected side.limit (side.held ++ take n bytes) (drop n bytes)
+          (subst (λ (l : List ℕ). IsWhole side.expected side.limit l) (sym whole) answers.2)
           (omega (arith, is, same, less, long))
-  cut_short side next bytes nonce first k n LoggedIn rests within less =
+  cut_short side next bytes nonce first k n Authenticated rests within less =
       let none : k ≡ 0 = rests.0 in absurd (omega (arith, none, less))
-  cut_short side next bytes nonce first k n (Closed why) rests within less =
+  cut_short side next bytes nonce first k n (Failed why) rests within less =
       let none : k ≡ 0 = rests.0 in absurd (omega (arith, none, less))
 
   module _ (all : List Piece) (Is : List ℕ → List ℕ → Side S → Type 0)
@@ -116,7 +116,7 @@ module _ {S : Type 0} (Answers : Due → S → List ℕ → List ℕ → SideOut
       → Receives Answers side bytes nonce k first next → Is (taken ++ take k bytes) (sent ++ first) next) where
     -- a side that waits after n bytes of the stream
     abbrev WaitsAfter : List ℕ → ℕ → Type 0
-    WaitsAfter stream n = (sent : List ℕ) × (mid : Side S) × Is (take n stream) sent mid × (mid.standing ≡ Wanting)
+    WaitsAfter stream n = (sent : List ℕ) × (mid : Side S) × Is (take n stream) sent mid × (mid.progress ≡ InProgress)
 
     -- and likewise for calls that go on from a side
     abbrev LaterWaits : List Piece → List Piece → List ℕ → List ℕ → Side S → ℕ → Type 0
@@ -141,7 +141,7 @@ module _ {S : Type 0} (Answers : Due → S → List ℕ → List ℕ → SideOut
         handed = take call.handed stream
 
         within : k ≤ length handed
-        within = taken_within side next handed call.nonce first k side.standing receives
+        within = taken_within side next handed call.nonce first k side.progress receives
 
         few : k ≤ call.handed
         few = omega (arith, within, length-take call.handed stream)
@@ -168,7 +168,7 @@ module _ {S : Type 0} (Answers : Due → S → List ℕ → List ℕ → SideOut
 
         stops : n < k → WaitsAfter (bytes_of done ++ stream) (length (bytes_of done) + n)
         stops small =
-            let short = cut_short side next handed call.nonce first k n side.standing receives within small in
+            let short = cut_short side next handed call.nonce first k n side.progress receives within small in
             let most : n ≤ call.handed = omega (arith, small, few) in
             let twice : take n (take n handed) ≡ take n stream =
             ap (take n) (front n most) ∙ take-take n n stream (omega arith) in

@@ -1,19 +1,19 @@
 -- What the negotiations of each kind of server are: runs of its machine, of which its laws hold.
 use Rattle.std.proofs.Common.{ℕ, List}
 use Rattle.fe2o3_scram.specs.HidingServer.{HidingServer}
-use Rattle.fe2o3_scram.specs.Nobody.{with_nobody}
+use Rattle.fe2o3_scram.specs.MockSettings.{with_mock}
 use Rattle.fe2o3_scram.specs.ScramServer.{Initial, logged_in as named_in}
-use Rattle.fe2o3_sasl_runs.specs.HidingAcceptor.{hiding_machine}
-use Rattle.fe2o3_sasl_runs.specs.HidingLaws.{hiding}
-use Rattle.fe2o3_sasl_runs.specs.OneOfLaws.{Machine}
-use Rattle.fe2o3_sasl_runs.specs.SaslAcceptor.{ScramAcceptor, acceptor_machine, acceptor_user}
-use Rattle.fe2o3_sasl_runs.proofs.lemmas.machines.OffersOnlyLemmas.{offering_runs}
-use Rattle.fe2o3_sasl_runs.proofs.lemmas.machines.OneOfLemmas.{one_of_runs}
-use Rattle.fe2o3_sasl_runs.proofs.lemmas.machines.OneOfUserLemmas.{offered_names_users}
-use Rattle.fe2o3_sasl_runs.proofs.lemmas.machines.ServerMachineLemmas.{acceptor_runs_are_histories, acceptor_runs_name_users}
-use Rattle.fe2o3_sasl_runs.proofs.lemmas.two_sides.HeadlineLemmas.{answers_ok_exactly}
+use Rattle.fe2o3_sasl_core.specs.HidingAcceptor.{hiding_machine}
+use Rattle.fe2o3_sasl_core.specs.HidingLaws.{hiding}
+use Rattle.fe2o3_sasl_core.specs.AnyMechanismLaws.{Machine}
+use Rattle.fe2o3_sasl_core.specs.SaslAcceptor.{ScramAcceptor, acceptor_machine, acceptor_user}
+use Rattle.fe2o3_sasl_core.proofs.lemmas.machines.OffersOnlyLemmas.{offering_runs}
+use Rattle.fe2o3_sasl_core.proofs.lemmas.machines.AnyMechanismLemmas.{any_mechanism_runs}
+use Rattle.fe2o3_sasl_core.proofs.lemmas.machines.AnyMechanismUserLemmas.{offered_names_users}
+use Rattle.fe2o3_sasl_core.proofs.lemmas.machines.ServerMachineLemmas.{acceptor_runs_are_histories, acceptor_runs_name_users}
+use Rattle.fe2o3_sasl_core.proofs.lemmas.two_sides.HeadlineLemmas.{answers_ok_exactly}
 use Rattle.fe2o3_sasl.proofs.lemmas.machines.HidingRunLemmas.{hidden_runs_are_runs}
-use Rattle.connection_laws.specs.Servers.{MockServersServe, MockRunsServe, ScramRunsServe, OneOfServersSplit, OfferingServersPassOn, OfferingServersNameUsers}
+use Rattle.connection_laws.specs.Servers.{MockServersServe, MockRunsServe, ScramRunsServe, AnyMechanismServersSplit, OfferingServersPassOn, OfferingServersNameUsers}
 
 pub scram_runs_serve : ScramRunsServe acceptor_machine (λ provider. ScramAcceptor provider Initial) acceptor_user
 scram_runs_serve provider events replies last run =
@@ -24,24 +24,24 @@ scram_runs_serve provider events replies last run =
       user = λ user. acceptor_runs_name_users provider events replies last user run;
     }
 
-pub mock_runs_serve : MockRunsServe hiding_machine (λ provider nobody. hiding provider nobody Initial)
+pub mock_runs_serve : MockRunsServe hiding_machine (λ provider mock. hiding provider mock Initial)
     (λ (server : HidingServer). named_in server.state)
-mock_runs_serve provider nobody names events replies last holds run =
-    let all = with_nobody provider nobody names in
+mock_runs_serve provider mock names events replies last holds run =
+    let all = with_mock provider mock names in
     scram_runs_serve all events replies (ScramAcceptor all last.state)
-    (hidden_runs_are_runs provider nobody names events replies last holds run)
+    (hidden_runs_are_runs provider mock names events replies last holds run)
 
-pub mock_servers_serve : MockServersServe hiding_machine (λ provider nobody. hiding provider nobody Initial)
+pub mock_servers_serve : MockServersServe hiding_machine (λ provider mock. hiding provider mock Initial)
     (λ (server : HidingServer). named_in server.state)
-mock_servers_serve provider nobody names server holds =
+mock_servers_serve provider mock names server holds =
     let n = server.connection in
-    mock_runs_serve provider nobody names n.events n.replies server.last.state holds n.run
+    mock_runs_serve provider mock names n.events n.replies server.last.state holds n.run
 
-pub one_of_servers_split : {S T : Type 0} (names : S → List (List ℕ)) (others : T → List (List ℕ)) (machine : Machine S)
-    (other : Machine T) → OneOfServersSplit names others machine other
-one_of_servers_split names others machine other state server =
+pub any_mechanism_servers_split : {S T : Type 0} (names : S → List (List ℕ)) (others : T → List (List ℕ)) (machine : Machine S)
+    (other : Machine T) → AnyMechanismServersSplit names others machine other
+any_mechanism_servers_split names others machine other state server =
     let n = server.connection in
-    one_of_runs names others machine other state server.last.state n.events n.replies n.run
+    any_mechanism_runs names others machine other state server.last.state n.events n.replies n.run
 
 pub offering_servers_pass_on : {S : Type 0} (names : S → List (List ℕ)) (machine : Machine S)
     → OfferingServersPassOn names machine

@@ -6,28 +6,28 @@ use Rattle.std.proofs.lemmas.Option.{same_Some}
 use Rattle.fe2o3_sasl_wire.specs.declared.amqp_types.SaslCode.TheVariants as outcomes
 use Rattle.fe2o3_scram.specs.ScramServer.{Initial}
 use Rattle.fe2o3_scram.specs.Credentials.{Provider}
-use Rattle.fe2o3_sasl_runs.specs.ClientHistory.{is_start, is_answer}
-use Rattle.fe2o3_sasl_runs.specs.Events.{Given, Login, ServerSays, Challenged, Concluded, Failed, ClientSays, Started, Answered, Reported, Refused}
-use Rattle.fe2o3_sasl_runs.specs.Positions.{test_at}
-use Rattle.fe2o3_sasl_runs.specs.Profiles.{scram_profile}
-use Rattle.fe2o3_sasl_runs.specs.Runs.{AcceptorSteps, ProfileSteps}
-use Rattle.fe2o3_sasl_runs.specs.SaslAcceptor.{ScramAcceptor, acceptor_machine}
-use Rattle.fe2o3_sasl_runs.specs.ServerHistory.{is_challenge}
-use Rattle.fe2o3_sasl_runs.proofs.lemmas.two_sides.EqualMessageLemmas.{accepts_open}
-use Rattle.fe2o3_sasl_negotiation.specs.declared.standing.ClosedBecause.{ClosedBecause}
-use Rattle.fe2o3_sasl_negotiation.specs.declared.standing.ClosedBecause.TheVariants.{ReplyTooLarge}
-use Rattle.fe2o3_sasl_negotiation.specs.declared.standing.Due.{Due}
-use Rattle.fe2o3_sasl_negotiation.specs.declared.standing.Due.TheVariants.{Frame}
-use Rattle.fe2o3_sasl_negotiation.specs.declared.standing.Standing.{Standing}
-use Rattle.fe2o3_sasl_negotiation.specs.declared.standing.Standing.TheVariants.{Wanting, LoggedIn, Closed}
-use Rattle.fe2o3_sasl_negotiation.specs.declared.standing.Turn.{Turn}
-use Rattle.fe2o3_sasl_negotiation.specs.declared.standing.Turn.TheVariants as turns
+use Rattle.fe2o3_sasl_core.specs.ClientHistory.{is_start, is_answer}
+use Rattle.fe2o3_sasl_core.specs.Events.{Given, Login, ServerSays, Challenged, Concluded, Failed, ClientSays, Started, Answered, Reported, Refused}
+use Rattle.fe2o3_sasl_core.specs.Positions.{test_at}
+use Rattle.fe2o3_sasl_core.specs.Profiles.{scram_profile}
+use Rattle.fe2o3_sasl_core.specs.Runs.{AcceptorSteps, ProfileSteps}
+use Rattle.fe2o3_sasl_core.specs.SaslAcceptor.{ScramAcceptor, acceptor_machine}
+use Rattle.fe2o3_sasl_core.specs.ServerHistory.{is_challenge}
+use Rattle.fe2o3_sasl_core.proofs.lemmas.two_sides.EqualMessageLemmas.{accepts_open}
+use Rattle.fe2o3_sasl_negotiation.specs.declared.progress.CloseReason.{CloseReason}
+use Rattle.fe2o3_sasl_negotiation.specs.declared.progress.CloseReason.TheVariants.{ReplyTooLarge}
+use Rattle.fe2o3_sasl_negotiation.specs.declared.progress.Expected.{Expected}
+use Rattle.fe2o3_sasl_negotiation.specs.declared.progress.Expected.TheVariants.{Frame}
+use Rattle.fe2o3_sasl_negotiation.specs.declared.progress.Progress.{Progress}
+use Rattle.fe2o3_sasl_negotiation.specs.declared.progress.Progress.TheVariants.{InProgress, Authenticated, Failed as HasFailed}
+use Rattle.fe2o3_sasl_negotiation.specs.declared.progress.FrameKind.{FrameKind}
+use Rattle.fe2o3_sasl_negotiation.specs.declared.progress.FrameKind.TheVariants as turns
 use Rattle.fe2o3_sasl_negotiation.specs.ClientNegotiation as of_client
 use Rattle.fe2o3_sasl_negotiation.specs.ServerNegotiation as of_server
 use Rattle.fe2o3_sasl_negotiation.specs.Connections.{Piece, AreFrames, LeftOver, Negotiated, Replied, frames_of}
 use Rattle.fe2o3_sasl_negotiation.specs.Framing.{sasl_header, framed, size_of}
 use Rattle.fe2o3_sasl_negotiation.specs.Negotiations.{Side, SideOutput, Sends}
-use Rattle.fe2o3_sasl_negotiation.proofs.lemmas.KindLemmas.{standing_of}
+use Rattle.fe2o3_sasl_negotiation.proofs.lemmas.KindLemmas.{progress_of}
 use Rattle.fe2o3_sasl_negotiation.proofs.lemmas.LoginLemmas.{scram_servers_serve, scram_clients_report}
 use Rattle.fe2o3_sasl_negotiation.proofs.lemmas.UnitLemmas.{size_of-framed, length-framed, body_of-framed}
 use Rattle.connection_laws.specs.Pairs.{ClientOf, ServerOf}
@@ -53,7 +53,7 @@ one_frame body more other behind small fits same =
     (sym (body_of-framed body) ∙ (ap (drop 4) both.0 ∙ body_of-framed other), both.1)
 
 -- at most one frame for each turn
-frames_within : (pieces : List Piece) (limit at : ℕ) (turns : List Turn) (events : List Given)
+frames_within : (pieces : List Piece) (limit at : ℕ) (turns : List FrameKind) (events : List Given)
     → AreFrames pieces limit at turns events → length events ≤ length turns
 frames_within pieces limit at turns [] frames = omega arith
 frames_within pieces limit at [] (event ∷ events) frames = absurd frames
@@ -62,32 +62,32 @@ frames_within pieces limit at (turn ∷ turns) (event ∷ events) frames =
 
 -- ---- what is sent
 
-sends_fits : (body : List ℕ) (standing : Standing) (due : Due) (answer : SideOutput)
-    → answer.standing ≢ Closed ReplyTooLarge → Sends body standing due answer
+sends_fits : (body : List ℕ) (progress : Progress) (expected : Expected) (answer : SideOutput)
+    → answer.progress ≢ HasFailed ReplyTooLarge → Sends body progress expected answer
     → (length body + 4 ≤ 512) × (answer.sent ≡ framed body)
-sends_fits body standing due answer passes (inl (fits, same)) = (fits, ap (λ (a : SideOutput). a.sent) same)
-sends_fits body standing due answer passes (inr (long, same)) = absurd (passes (standing_of answer _ same))
+sends_fits body progress expected answer passes (inl (fits, same)) = (fits, ap (λ (a : SideOutput). a.sent) same)
+sends_fits body progress expected answer passes (inr (long, same)) = absurd (passes (progress_of answer _ same))
 
-open_is_not_closed : (answer : SideOutput) (standing : Standing) → standing ≢ Closed ReplyTooLarge
-    → answer.standing ≡ standing → answer.standing ≢ Closed ReplyTooLarge
-open_is_not_closed answer standing apart is closed = apart (sym is ∙ closed)
+open_is_not_closed : (answer : SideOutput) (progress : Progress) → progress ≢ HasFailed ReplyTooLarge
+    → answer.progress ≡ progress → answer.progress ≢ HasFailed ReplyTooLarge
+open_is_not_closed answer progress apart is closed = apart (sym is ∙ closed)
 
-waits : Wanting ≢ Closed ReplyTooLarge
+waits : InProgress ≢ HasFailed ReplyTooLarge
 waits same = cc
 
-logged : LoggedIn ≢ Closed ReplyTooLarge
+logged : Authenticated ≢ HasFailed ReplyTooLarge
 logged same = cc
 
-server_sends : (challenge outcome : List ℕ) (answer : SideOutput) → answer.standing ≡ LoggedIn
+server_sends : (challenge outcome : List ℕ) (answer : SideOutput) → answer.progress ≡ Authenticated
     → Replied of_server.ServerOutputs (turns.Init ∷ turns.Response ∷ [])
     (Challenged challenge ∷ Concluded outcomes.Ok outcome ∷ []) answer
     → (length challenge + 4 ≤ 512) × (length outcome + 4 ≤ 512)
     × (answer.sent ≡ framed challenge ++ framed outcome)
 server_sends challenge outcome answer in_at (first, rest, said, went, then, is) =
-    let at : rest.standing ≡ LoggedIn = sym (standing_of answer _ is) ∙ in_at in
-    let one = sends_fits challenge Wanting (Frame turns.Response) first (open_is_not_closed first Wanting waits went)
+    let at : rest.progress ≡ Authenticated = sym (progress_of answer _ is) ∙ in_at in
+    let one = sends_fits challenge InProgress (Frame turns.Response) first (open_is_not_closed first InProgress waits went)
     said in
-    let two = sends_fits outcome LoggedIn (Frame turns.Response) rest (open_is_not_closed rest LoggedIn logged at) then
+    let two = sends_fits outcome Authenticated (Frame turns.Response) rest (open_is_not_closed rest Authenticated logged at) then
     in (
       one.0,
       two.0,
@@ -100,10 +100,10 @@ client_sends : (init response : List ℕ) (more : Option (List ℕ)) (answer : S
     (Started init ∷ Answered response ∷ Reported outcomes.Ok more ∷ []) answer
     → (length init + 4 ≤ 512) × (length response + 4 ≤ 512) × (answer.sent ≡ framed init ++ (framed response ++ []))
 client_sends init response more answer (first, rest, said, went, (second, last, says, goes, then, was), is) =
-    let one = sends_fits init Wanting (Frame turns.Challenge) first (open_is_not_closed first Wanting waits went) said
+    let one = sends_fits init InProgress (Frame turns.Challenge) first (open_is_not_closed first InProgress waits went) said
     in
-    let two = sends_fits response Wanting (Frame turns.Outcome) second
-    (open_is_not_closed second Wanting waits goes) says in
+    let two = sends_fits response InProgress (Frame turns.Outcome) second
+    (open_is_not_closed second InProgress waits goes) says in
     let ends : rest.sent ≡ framed response ++ [] =
     ap (λ (a : SideOutput). a.sent) was ∙ (ap (λ l. l ++ last.sent) two.1
     ∙ ap (λ (a : SideOutput). framed response ++ a.sent) then) in
@@ -111,27 +111,27 @@ client_sends init response more answer (first, rest, said, went, (second, last, 
 
 -- ---- what has logged in has nothing left over
 
-module _ {S A : Type 0} (Steps : S → Given → A → S → Type 0) (Says : A → Turn → SideOutput → Type 0) (turns : List Turn)
+module _ {S A : Type 0} (Steps : S → Given → A → S → Type 0) (Says : A → FrameKind → SideOutput → Type 0) (turns : List FrameKind)
     (limit : ℕ) (state : S) (pieces : List Piece) (taken sent : List ℕ) (last : Side S)
-    (n : Negotiated Steps Says turns limit state pieces taken sent last) (logged_in : last.standing ≡ LoggedIn) where
-  wanting_is_not : Wanting ≢ LoggedIn
+    (n : Negotiated Steps Says turns limit state pieces taken sent last) (logged_in : last.progress ≡ Authenticated) where
+  wanting_is_not : InProgress ≢ Authenticated
   wanting_is_not same = cc
 
-  closed_is_not : (why : ClosedBecause) → Closed why ≢ LoggedIn
+  closed_is_not : (why : CloseReason) → HasFailed why ≢ Authenticated
   closed_is_not why same = cc
 
-  nothing_left : (n.tail ≡ []) × (n.answer.standing ≡ LoggedIn)
+  nothing_left : (n.tail ≡ []) × (n.answer.progress ≡ Authenticated)
   nothing_left = go n.ends
     where
-      out : (turn : Turn) → ¬ LeftOver turn limit n.tail last.standing
+      out : (turn : FrameKind) → ¬ LeftOver turn limit n.tail last.progress
       out turn (inl part) = wanting_is_not (sym part.1 ∙ logged_in)
       out turn (inr (inl size)) = closed_is_not _ (sym size.2 ∙ logged_in)
       out turn (inr (inr frame)) = closed_is_not frame.2 (sym frame.7 ∙ logged_in)
 
-      go : ((turn : Turn) × (n.answer.standing ≡ Wanting) × (n.answer.due ≡ Frame turn)
-          × LeftOver turn limit n.tail last.standing)
-          ⊎ ((n.answer.standing ≢ Wanting) × (last.standing ≡ n.answer.standing) × (n.tail ≡ []))
-          → (n.tail ≡ []) × (n.answer.standing ≡ LoggedIn)
+      go : ((turn : FrameKind) × (n.answer.progress ≡ InProgress) × (n.answer.expected ≡ Frame turn)
+          × LeftOver turn limit n.tail last.progress)
+          ⊎ ((n.answer.progress ≢ InProgress) × (last.progress ≡ n.answer.progress) × (n.tail ≡ []))
+          → (n.tail ≡ []) × (n.answer.progress ≡ Authenticated)
       go (inl waiting) = absurd (out waiting.0 waiting.3)
       go (inr ended) = (ended.2, sym ended.1 ∙ logged_in)
 
@@ -219,7 +219,7 @@ three_events (one ∷ two ∷ []) size = absurd (omega (arith, size))
 three_events (one ∷ two ∷ last ∷ []) size = (one, two, last, refl)
 three_events (one ∷ two ∷ last ∷ more ∷ events) size = absurd (omega (arith, size))
 
-pub server_shape : (provider : Provider) (server : ServerOf provider) → server.last.standing ≡ LoggedIn
+pub server_shape : (provider : Provider) (server : ServerOf provider) → server.last.progress ≡ Authenticated
     → ServerShape server
 server_shape provider server logged_in =
     let n = server.connection in
@@ -264,19 +264,19 @@ pub record ClientShape {login : Login} (client : ClientOf login) : Type 0 where
   pub taken : client.taken
       ≡ sasl_header ++ (framed offer.body ++ (framed challenge.body ++ (framed outcome.body ++ [])))
 
-pub client_shape : (login : Login) (client : ClientOf login) → client.last.standing ≡ LoggedIn → ClientShape client
+pub client_shape : (login : Login) (client : ClientOf login) → client.last.progress ≡ Authenticated → ClientShape client
 client_shape login client logged_in =
     let n = client.connection in
     let history = (scram_clients_report login client.limit client.pieces client.taken client.sent client.last n).history
     in
     let reports = reports_last login client logged_in in
     let opened = reports.3.4 in
-    let due = opened.2.4.2 in
+    let expected = opened.2.4.2 in
     let few = frames_within client.pieces client.limit 8 (turns.Mechanisms ∷ turns.Challenge ∷ turns.Outcome ∷ [])
     n.events n.frames in
     let says = Reported outcomes.Ok (Some reports.1) in
-    let all = three_replies n.replies reports.0 opened.0 due.0 says (omega (arith, few, history.count)) reports.2.last
-    reports.2.reported opened.1.before due.1.before opened.1.opened due.1.opened in
+    let all = three_replies n.replies reports.0 opened.0 expected.0 says (omega (arith, few, history.count)) reports.2.last
+    reports.2.reported opened.1.before expected.1.before opened.1.opened expected.1.opened in
     let events = three_events n.events (sym history.count ∙ ap length all.2) in
     let ends = nothing_left (ProfileSteps login.hostname) of_client.ClientOutputs
     (turns.Mechanisms ∷ turns.Challenge ∷ turns.Outcome ∷ [])

@@ -18,7 +18,7 @@ use Rattle.fe2o3_scram.specs.declared.hmac.ScramVersion.{ScramVersion}
 use Rattle.fe2o3_scram.specs.declared.hmac.ScramVersion.TheVariants.{Sha1, Sha256, Sha512}
 use Rattle.fe2o3_scram.specs.declared.scram_messages.error.ScramErrorKind.{ScramErrorKind}
 use Rattle.fe2o3_scram.specs.declared.scram_messages.error.ScramErrorKind.TheVariants as kinds
-use Rattle.fe2o3_scram.specs.declared.scram_messages.gs2_header.Gs2Header.TheVariants.{Unsupported}
+use Rattle.fe2o3_scram.specs.declared.scram_messages.channel_binding_flag.ChannelBindingFlag.TheVariants.{NotSupported}
 use Rattle.fe2o3_scram.specs.ClientFinal.{client_final_of, without_proof}
 use Rattle.fe2o3_scram.specs.ClientFirst.{client_first, header_text}
 use Rattle.fe2o3_scram.specs.ClientKeys.{ClientKeys, keys_of}
@@ -30,16 +30,16 @@ use Rattle.fe2o3_scram.specs.Pbkdf2Hi.{salted_of}
 use Rattle.fe2o3_scram.specs.Texts.{alphabet, base64_text}
 use Rattle.fe2o3_scram.proofs.lemmas.hashes.DigestLemmas.{length-hmac_of}
 use Rattle.fe2o3_scram.proofs.lemmas.messages.ExchangeLemmas.{length-exclusive_or}
-use Rattle.fe2o3_sasl_runs.specs.Bodies.{SpellsBody, carried}
-use Rattle.fe2o3_sasl_runs.specs.ClientHistory.{Answering, answer_at, ReadsChallenge, ClientAnswers, ClientAllocates, ClientHistory, IsDue, OpenAnswer}
-use Rattle.fe2o3_sasl_runs.specs.Events.{Given, Login, ServerSays, Challenged, Concluded, Failed, ClientSays, Started, Answered, Reported, Refused, scram_fault}
-use Rattle.fe2o3_sasl_runs.specs.ServerHistory.{Challenging, Accepted, FitsAsInit, Open, ServerAnswers, ServerAllocates, ServerHistory, first_message, final_message}
-use Rattle.fe2o3_sasl_runs.proofs.lemmas.frames.SpellingLemmas.{one_spelling}
-use Rattle.fe2o3_sasl_runs.proofs.lemmas.histories.OneServerHistoryLemmas.{one_fits}
-use Rattle.fe2o3_sasl_runs.proofs.lemmas.unaltered.UnalteredReplyLemmas.{one_answering}
+use Rattle.fe2o3_sasl_core.specs.Bodies.{SpellsBody, carried}
+use Rattle.fe2o3_sasl_core.specs.ClientHistory.{Answering, answer_at, ReadsChallenge, ClientAnswers, ClientAllocates, ClientHistory, IsDue, OpenAnswer}
+use Rattle.fe2o3_sasl_core.specs.Events.{Given, Login, ServerSays, Challenged, Concluded, Failed, ClientSays, Started, Answered, Reported, Refused, scram_fault}
+use Rattle.fe2o3_sasl_core.specs.ServerHistory.{Challenging, Accepted, FitsAsInit, Open, ServerAnswers, ServerAllocates, ServerHistory, first_message, final_message}
+use Rattle.fe2o3_sasl_core.proofs.lemmas.frames.SpellingLemmas.{one_spelling}
+use Rattle.fe2o3_sasl_core.proofs.lemmas.histories.OneServerHistoryLemmas.{one_fits}
+use Rattle.fe2o3_sasl_core.proofs.lemmas.unaltered.UnalteredReplyLemmas.{one_answering}
 use Rattle.fe2o3_sasl_negotiation.specs.FrameSizes.{CanBeSent}
 use Rattle.fe2o3_sasl_negotiation.proofs.lemmas.FrameSizeLemmas.{outcomes_fit}
-use Rattle.fe2o3_sasl_runs.specs.declared.sasl_profile.error.ProfileError.TheVariants.{NotImplemented, Frame, OutOfMemory}
+use Rattle.fe2o3_sasl_core.specs.declared.sasl_profile.error.ProfileError.TheVariants.{NotImplemented, Frame, OutOfMemory}
 
 -- ---- lengths of texts
 
@@ -109,8 +109,8 @@ response_length nonce proof long few = omega (
   arith,
   long,
   length-append (without_proof nonce) (44 ∷ (codes "p=" ++ base64_text proof)),
-  length-append (codes "c=" ++ base64_text (header_text Unsupported)) (44 ∷ (codes "r=" ++ nonce)),
-  text_length (header_text Unsupported),
+  length-append (codes "c=" ++ base64_text (header_text NotSupported)) (44 ∷ (codes "r=" ++ nonce)),
+  text_length (header_text NotSupported),
   digest_text proof few,
 )
 
@@ -179,7 +179,7 @@ scram_is_small kinds.IterationCountParseError large = cc
 scram_is_small kinds.IterationCountTooSmall large = cc
 scram_is_small kinds.IterationCountTooLarge large = cc
 scram_is_small kinds.NormalizeError large = cc
-scram_is_small kinds.OtherKeys large = cc
+scram_is_small kinds.StaleKeys large = cc
 scram_is_small kinds.HmacErrorInvalidLength large = cc
 scram_is_small kinds.XorLengthMismatch large = cc
 scram_is_small kinds.IllegalClientState large = cc

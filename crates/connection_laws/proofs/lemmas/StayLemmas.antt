@@ -4,17 +4,17 @@ use Rattle.fe2o3_sasl_wire.specs.declared.amqp_types.SaslCode.TheVariants as out
 use Rattle.fe2o3_sasl_wire.specs.declared.sasl_frames.error.Error.TheVariants as faults
 use Rattle.fe2o3_sasl_wire.specs.SaslFrames as frames
 use Rattle.fe2o3_sasl_wire.specs.SaslFrames.{SaslFrame, canonical}
-use Rattle.fe2o3_sasl_runs.specs.Bodies.{carried, server_says}
-use Rattle.fe2o3_sasl_runs.specs.Events.{Given, ServerSays, Failed}
-use Rattle.fe2o3_sasl_runs.specs.ExternalAcceptor.{External, external_machine}
-use Rattle.fe2o3_sasl_runs.specs.OneOfLaws.{Machine}
-use Rattle.fe2o3_sasl_runs.specs.PlainAuthenticator.{PlainServer, plain_machine}
-use Rattle.fe2o3_sasl_runs.specs.Runs.{Runs, AcceptorSteps, AcceptorAnswers, SendsCanonical}
-use Rattle.fe2o3_sasl_runs.specs.SaslAcceptor.{ends_with}
-use Rattle.fe2o3_sasl_runs.proofs.lemmas.machines.OneOfLemmas.{unmoved}
-use Rattle.fe2o3_sasl_negotiation.specs.declared.standing.Due.TheVariants.{Frame}
-use Rattle.fe2o3_sasl_negotiation.specs.declared.standing.Standing.TheVariants.{Wanting, LoggedIn}
-use Rattle.fe2o3_sasl_negotiation.specs.declared.standing.Turn.TheVariants as turns
+use Rattle.fe2o3_sasl_core.specs.Bodies.{carried, server_says}
+use Rattle.fe2o3_sasl_core.specs.Events.{Given, ServerSays, Failed}
+use Rattle.fe2o3_sasl_core.specs.ExternalServer.{External, external_machine}
+use Rattle.fe2o3_sasl_core.specs.AnyMechanismLaws.{Machine}
+use Rattle.fe2o3_sasl_core.specs.PlainServer.{PlainState, plain_machine}
+use Rattle.fe2o3_sasl_core.specs.Runs.{Runs, AcceptorSteps, AcceptorAnswers, SendsCanonical}
+use Rattle.fe2o3_sasl_core.specs.SaslAcceptor.{ends_with}
+use Rattle.fe2o3_sasl_core.proofs.lemmas.machines.AnyMechanismLemmas.{unmoved}
+use Rattle.fe2o3_sasl_negotiation.specs.declared.progress.Expected.TheVariants.{Frame}
+use Rattle.fe2o3_sasl_negotiation.specs.declared.progress.Progress.TheVariants.{InProgress, Authenticated}
+use Rattle.fe2o3_sasl_negotiation.specs.declared.progress.FrameKind.TheVariants as turns
 use Rattle.fe2o3_sasl_negotiation.specs.Connections.{Piece, AreFrames, Replied, LastReply, IsOkSent}
 use Rattle.fe2o3_sasl_negotiation.specs.Negotiations.{SideOutput}
 use Rattle.fe2o3_sasl_negotiation.specs.ServerNegotiation.{ServerOutputs}
@@ -28,14 +28,14 @@ abbrev StaysOrOk : {S : Type 0} → Machine S → Type 0
 StaysOrOk {S} machine = (state next : S) (event : Given) (says : ServerSays) → AcceptorSteps machine state event says next
     → IsOkSent says ⊎ (next ≡ state)
 
-logged_in_waits_not : LoggedIn ≢ Wanting
+logged_in_waits_not : Authenticated ≢ InProgress
 logged_in_waits_not same = cc
 
 -- an Ok leaves no server waiting
-ok_ends : (says : ServerSays) (answer : SideOutput) → ServerOutputs says turns.Init answer → answer.standing ≡ Wanting
+ok_ends : (says : ServerSays) (answer : SideOutput) → ServerOutputs says turns.Init answer → answer.progress ≡ InProgress
     → ¬ IsOkSent says
 ok_ends says answer said waits (body, same, fits) =
-    sends_ends body LoggedIn (Frame turns.Init) answer logged_in_waits_not
+    sends_ends body Authenticated (Frame turns.Init) answer logged_in_waits_not
     (subst (λ (s : ServerSays). ServerOutputs s turns.Init answer) same said) waits
 
 module _ {S : Type 0} (machine : Machine S) (steps : StaysOrOk machine) where
@@ -43,14 +43,14 @@ module _ {S : Type 0} (machine : Machine S) (steps : StaysOrOk machine) where
       (state last : S) → AreFrames pieces limit 8 (turns.Init ∷ turns.Response ∷ []) events
       → Runs (AcceptorSteps machine) state events replies last
       → Replied ServerOutputs (turns.Init ∷ turns.Response ∷ []) replies answer → LastReply IsOkSent replies ⊎ (last ≡ state)
-  stays_or_ok pieces limit [] replies answer state last due run replied = inr run.1
-  stays_or_ok pieces limit (event ∷ []) replies answer state last due (says, next, none, step, is, (empty, end)) replied =
+  stays_or_ok pieces limit [] replies answer state last expected run replied = inr run.1
+  stays_or_ok pieces limit (event ∷ []) replies answer state last expected (says, next, none, step, is, (empty, end)) replied =
       let all : replies ≡ says ∷ [] = is ∙ ap (λ (l : List ServerSays). says ∷ l) empty in
       elim (steps state next event says step) [
         | inl ok ↦ inl (subst (λ (l : List ServerSays). LastReply IsOkSent l) (sym all) ok)
         | inr same ↦ inr (end ∙ same)
       ]
-  stays_or_ok pieces limit (event ∷ second ∷ []) replies answer state last due
+  stays_or_ok pieces limit (event ∷ second ∷ []) replies answer state last expected
       (says, mid, more, step, is, (then, next, none, step_then, is_then, (empty, end))) replied =
       let all : replies ≡ says ∷ then ∷ [] =
       is ∙ ap (λ (l : List ServerSays). says ∷ l) (is_then ∙ ap (λ (l : List ServerSays). then ∷ l) empty) in
@@ -64,8 +64,8 @@ module _ {S : Type 0} (machine : Machine S) (steps : StaysOrOk machine) where
               | inr again ↦ inr (end ∙ (again ∙ same))
             ]
       ]
-  stays_or_ok pieces limit (event ∷ second ∷ third ∷ events) replies answer state last due run replied =
-      absurd due.3.3
+  stays_or_ok pieces limit (event ∷ second ∷ third ∷ events) replies answer state last expected run replied =
+      absurd expected.3.3
 
   pub servers_stay : ServersStay machine
   servers_stay state server out =
@@ -104,7 +104,7 @@ external_answers state next nonce (frames.Outcome code more) says (inr (reply, m
 
 -- ---- PLAIN
 
-plain_answers : (state next : PlainServer) (nonce : List ℕ) (frame : SaslFrame) (says : ServerSays)
+plain_answers : (state next : PlainState) (nonce : List ℕ) (frame : SaslFrame) (says : ServerSays)
     → AcceptorAnswers plain_machine state nonce frame says next → IsOkSent says ⊎ (next ≡ state)
 plain_answers state next nonce frame says (inl want) = inr want.1
 plain_answers state next nonce frame says (inr (reply, moved, inl (user, logs, is, to), sent)) =

@@ -15,24 +15,24 @@ use Rattle.fe2o3_scram.specs.Keys.{auth_message, client_proof}
 use Rattle.fe2o3_scram.specs.ScramServer.{Initial}
 use Rattle.fe2o3_scram.specs.Texts.{base64_text}
 use Rattle.fe2o3_scram.proofs.lemmas.messages.ExchangeLemmas.{succeeds, opened}
-use Rattle.fe2o3_sasl_runs.specs.ClientHistory.{ReadsChallenge, IsDue, NonceAt, is_start, is_answer}
-use Rattle.fe2o3_sasl_runs.specs.Events.{Given, ServerSays, Challenged, Concluded, ClientSays, Started, Answered}
-use Rattle.fe2o3_sasl_runs.specs.Positions.{IsLastOpen, test_at}
-use Rattle.fe2o3_sasl_runs.specs.Profiles.{scram_profile}
-use Rattle.fe2o3_sasl_runs.specs.Runs.{AcceptorSteps, ProfileSteps, Runs}
-use Rattle.fe2o3_sasl_runs.specs.SaslAcceptor.{ScramAcceptor, acceptor_names, acceptor_machine}
-use Rattle.fe2o3_sasl_runs.specs.ServerHistory.{FitsAsInit, final_message}
-use Rattle.fe2o3_sasl_runs.specs.TwoSides.{Histories}
-use Rattle.fe2o3_sasl_runs.specs.UnalteredRuns.{Suffices, client_body, server_body}
-use Rattle.fe2o3_sasl_runs.proofs.lemmas.frames.SpellingLemmas.{spells_init, spells_challenge, spells_response, spells_outcome}
-use Rattle.fe2o3_sasl_runs.proofs.lemmas.machines.ClientMachineLemmas.{profile_runs_are_histories}
-use Rattle.fe2o3_sasl_runs.proofs.lemmas.machines.ServerMachineLemmas.{acceptor_runs_are_histories}
-use Rattle.fe2o3_sasl_runs.proofs.lemmas.positions.PositionLemmas.{opens_here}
-use Rattle.fe2o3_sasl_runs.proofs.lemmas.unaltered.UnalteredReplyLemmas.{open_value}
-use Rattle.fe2o3_sasl_runs.proofs.lemmas.unaltered.UnalteredStepLemmas as step
-use Rattle.fe2o3_sasl_negotiation.specs.declared.standing.Due.TheVariants.{Frame}
-use Rattle.fe2o3_sasl_negotiation.specs.declared.standing.Standing.TheVariants.{Wanting, LoggedIn}
-use Rattle.fe2o3_sasl_negotiation.specs.declared.standing.Turn.TheVariants as turns
+use Rattle.fe2o3_sasl_core.specs.ClientHistory.{ReadsChallenge, IsDue, NonceAt, is_start, is_answer}
+use Rattle.fe2o3_sasl_core.specs.Events.{Given, ServerSays, Challenged, Concluded, ClientSays, Started, Answered}
+use Rattle.fe2o3_sasl_core.specs.Positions.{IsLastOpen, test_at}
+use Rattle.fe2o3_sasl_core.specs.Profiles.{scram_profile}
+use Rattle.fe2o3_sasl_core.specs.Runs.{AcceptorSteps, ProfileSteps, Runs}
+use Rattle.fe2o3_sasl_core.specs.SaslAcceptor.{ScramAcceptor, acceptor_names, acceptor_machine}
+use Rattle.fe2o3_sasl_core.specs.ServerHistory.{FitsAsInit, final_message}
+use Rattle.fe2o3_sasl_core.specs.TwoSides.{Histories}
+use Rattle.fe2o3_sasl_core.specs.UnalteredRuns.{Suffices, client_body, server_body}
+use Rattle.fe2o3_sasl_core.proofs.lemmas.frames.SpellingLemmas.{spells_init, spells_challenge, spells_response, spells_outcome}
+use Rattle.fe2o3_sasl_core.proofs.lemmas.machines.ClientMachineLemmas.{profile_runs_are_histories}
+use Rattle.fe2o3_sasl_core.proofs.lemmas.machines.ServerMachineLemmas.{acceptor_runs_are_histories}
+use Rattle.fe2o3_sasl_core.proofs.lemmas.positions.PositionLemmas.{opens_here}
+use Rattle.fe2o3_sasl_core.proofs.lemmas.unaltered.UnalteredReplyLemmas.{open_value}
+use Rattle.fe2o3_sasl_core.proofs.lemmas.unaltered.UnalteredStepLemmas as step
+use Rattle.fe2o3_sasl_negotiation.specs.declared.progress.Expected.TheVariants.{Frame}
+use Rattle.fe2o3_sasl_negotiation.specs.declared.progress.Progress.TheVariants.{InProgress, Authenticated}
+use Rattle.fe2o3_sasl_negotiation.specs.declared.progress.FrameKind.TheVariants as turns
 use Rattle.fe2o3_sasl_negotiation.specs.ClientNegotiation as of_client
 use Rattle.fe2o3_sasl_negotiation.specs.ServerNegotiation as of_server
 use Rattle.fe2o3_sasl_negotiation.specs.FrameSizes.{CanBeSent}
@@ -281,12 +281,12 @@ module _ (c : Case) where
               let small = fits_as (frames.Outcome outcomes.Ok (Some final_sent)) outcome
               (ok_fits c.provider (step.accepted_in exchange)) sent_outcome in
               let (all, ends) = server_goes_on c turns.Response first.next response client_ends server_ends third outcome
-              LoggedIn (Frame turns.Response) small
+              Authenticated (Frame turns.Response) small
               (subst (λ (s : ServerSays). of_server.ServerOutputs s turns.Response third.answer) accepted third.said) in
               let rests = ended_rests (Exact (of_server.ServerSideAnswers acceptor_names acceptor_machine))
               (record {
-                standing = LoggedIn;
-                due = Frame turns.Response;
+                progress = Authenticated;
+                expected = Frame turns.Response;
                 limit = c.joined.server_limit;
                 held = [];
                 state = third.next;
@@ -351,7 +351,7 @@ module _ (c : Case) where
         let (challenge, challenged, sent_challenge) = challenges in
         let small = fits_as (frames.Challenge (first_in exchange)) challenge challenge_fits sent_challenge in
         let (all, server_waits) = server_goes_on c turns.Init (ScramAcceptor c.provider Initial) init client_sends server_sends first challenge
-        Wanting (Frame turns.Response) small
+        InProgress (Frame turns.Response) small
         (subst (λ (s : ServerSays). of_server.ServerOutputs s turns.Init first.answer) challenged first.said) in
         let second = client_takes c turns.Challenge zeroth.next zeroth.nonces challenge first.after server_sends
         client_sends (frames.Challenge (first_in exchange)) sent_challenge small

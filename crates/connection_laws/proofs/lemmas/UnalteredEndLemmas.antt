@@ -6,22 +6,22 @@ use Rattle.fe2o3_sasl_wire.specs.declared.amqp_types.SaslCode.TheVariants as out
 use Rattle.fe2o3_sasl_wire.specs.SaslFrames as frames
 use Rattle.fe2o3_scram.specs.Exchanges.{Exchange, answer_in}
 use Rattle.fe2o3_scram.specs.ScramServer.{Initial}
-use Rattle.fe2o3_sasl_runs.specs.Events.{Given, ServerSays, Challenged, Concluded, ClientSays, Reported}
-use Rattle.fe2o3_sasl_runs.specs.Positions.{test_at}
-use Rattle.fe2o3_sasl_runs.specs.Profiles.{Profile, scram_profile}
-use Rattle.fe2o3_sasl_runs.specs.Runs.{AcceptorSteps, ProfileSteps, Runs}
-use Rattle.fe2o3_sasl_runs.specs.SaslAcceptor.{Acceptor, ScramAcceptor, acceptor_machine, acceptor_user}
-use Rattle.fe2o3_sasl_runs.specs.ServerHistory.{final_message, is_challenge, is_ok}
-use Rattle.fe2o3_sasl_runs.specs.TwoSides.{Histories}
-use Rattle.fe2o3_sasl_runs.specs.UnalteredRuns.{Suffices, Arrives, UnalteredRun, client_body, server_body}
-use Rattle.fe2o3_sasl_runs.proofs.lemmas.frames.SpellingLemmas.{spells_response, spells_outcome}
-use Rattle.fe2o3_sasl_runs.proofs.lemmas.machines.ClientMachineLemmas.{profile_runs_are_histories}
-use Rattle.fe2o3_sasl_runs.proofs.lemmas.machines.ServerMachineLemmas.{acceptor_runs_name_users}
-use Rattle.fe2o3_sasl_runs.proofs.lemmas.positions.PositionLemmas.{opens_here}
-use Rattle.fe2o3_sasl_runs.proofs.lemmas.unaltered.UnalteredStepLemmas as step
-use Rattle.fe2o3_sasl_negotiation.specs.declared.standing.Due.TheVariants.{Frame}
-use Rattle.fe2o3_sasl_negotiation.specs.declared.standing.Standing.TheVariants.{LoggedIn}
-use Rattle.fe2o3_sasl_negotiation.specs.declared.standing.Turn.TheVariants as turns
+use Rattle.fe2o3_sasl_core.specs.Events.{Given, ServerSays, Challenged, Concluded, ClientSays, Reported}
+use Rattle.fe2o3_sasl_core.specs.Positions.{test_at}
+use Rattle.fe2o3_sasl_core.specs.Profiles.{Profile, scram_profile}
+use Rattle.fe2o3_sasl_core.specs.Runs.{AcceptorSteps, ProfileSteps, Runs}
+use Rattle.fe2o3_sasl_core.specs.SaslAcceptor.{Acceptor, ScramAcceptor, acceptor_machine, acceptor_user}
+use Rattle.fe2o3_sasl_core.specs.ServerHistory.{final_message, is_challenge, is_ok}
+use Rattle.fe2o3_sasl_core.specs.TwoSides.{Histories}
+use Rattle.fe2o3_sasl_core.specs.UnalteredRuns.{Suffices, Arrives, UnalteredRun, client_body, server_body}
+use Rattle.fe2o3_sasl_core.proofs.lemmas.frames.SpellingLemmas.{spells_response, spells_outcome}
+use Rattle.fe2o3_sasl_core.proofs.lemmas.machines.ClientMachineLemmas.{profile_runs_are_histories}
+use Rattle.fe2o3_sasl_core.proofs.lemmas.machines.ServerMachineLemmas.{acceptor_runs_name_users}
+use Rattle.fe2o3_sasl_core.proofs.lemmas.positions.PositionLemmas.{opens_here}
+use Rattle.fe2o3_sasl_core.proofs.lemmas.unaltered.UnalteredStepLemmas as step
+use Rattle.fe2o3_sasl_negotiation.specs.declared.progress.Expected.TheVariants.{Frame}
+use Rattle.fe2o3_sasl_negotiation.specs.declared.progress.Progress.TheVariants.{Authenticated}
+use Rattle.fe2o3_sasl_negotiation.specs.declared.progress.FrameKind.TheVariants as turns
 use Rattle.fe2o3_sasl_negotiation.specs.ClientNegotiation as of_client
 use Rattle.fe2o3_sasl_negotiation.specs.Framing.{sasl_header, framed}
 use Rattle.fe2o3_sasl_negotiation.specs.Laws.{Negotiates}
@@ -134,19 +134,19 @@ module _ (c : Case) (u : UpToOk c) where
 
   client_ends_well : (u.more ≡ []) × (u.client_ends ≡ [])
       × (c.client ≡ record {
-        standing = LoggedIn;
-        due = Frame turns.Outcome;
+        progress = Authenticated;
+        expected = Frame turns.Outcome;
         limit = c.joined.client_limit;
         held = [];
         state = u.fourth.next;
       })
   client_ends_well =
-      let ends : u.fourth.answer ≡ record { sent = []; standing = LoggedIn; due = Frame turns.Outcome } =
+      let ends : u.fourth.answer ≡ record { sent = []; progress = Authenticated; expected = Frame turns.Outcome } =
       subst (λ (s : ClientSays). of_client.ClientOutputs s turns.Outcome u.fourth.answer) reports u.fourth.said in
       let rests = ended_rests (Exact (of_client.ClientSideAnswers c.login.hostname))
       (record {
-        standing = LoggedIn;
-        due = Frame turns.Outcome;
+        progress = Authenticated;
+        expected = Frame turns.Outcome;
         limit = c.joined.client_limit;
         held = [];
         state = u.fourth.next;
@@ -186,15 +186,15 @@ module _ (c : Case) (u : UpToOk c) where
   pub both_log_in : BothLogIn c.joined c.salt c.count
   both_log_in =
       let rests = client_ends_well in
-      let client_in : c.client.standing ≡ LoggedIn = ap (λ (s : Side Profile). s.standing) rests.2 in
-      let server_in : c.server.standing ≡ LoggedIn = ap (λ (s : Side Acceptor). s.standing) u.server_rests in
+      let client_in : c.client.progress ≡ Authenticated = ap (λ (s : Side Profile). s.progress) rests.2 in
+      let server_in : c.server.progress ≡ Authenticated = ap (λ (s : Side Acceptor). s.progress) u.server_rests in
       record {
         client_events = all_events;
         client_replies = all_replies;
         server_events = last_events;
         server_replies = last_replies;
-        client_standing = client_in;
-        server_standing = server_in;
+        client_progress = client_in;
+        server_progress = server_in;
         user = ap (λ (s : Side Acceptor). acceptor_user s.state) u.server_rests ∙ names;
         client_received = u.server_all ∙ ap (λ (l : List ℕ).
             sasl_header ++ (framed u.offer ++ (framed u.challenge ++ (framed u.outcome ++ l)))) rests.0;

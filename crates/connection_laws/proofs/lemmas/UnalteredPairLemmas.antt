@@ -10,19 +10,19 @@ use Rattle.fe2o3_sasl_wire.specs.SaslFrames as frames
 use Rattle.fe2o3_scram.specs.declared.hmac.ScramVersion.{ScramVersion}
 use Rattle.fe2o3_scram.specs.Credentials.{Provider}
 use Rattle.fe2o3_scram.specs.Hmac.{mechanism_name}
-use Rattle.fe2o3_sasl_runs.specs.Events.{Login, ServerSays, Challenged, Concluded, Failed, ClientSays, Started, Answered, Reported, Refused}
-use Rattle.fe2o3_sasl_runs.specs.TwoSides.{Sides}
-use Rattle.fe2o3_sasl_runs.specs.UnalteredRuns.{Arrives, UnalteredRun, Suffices, agreed_verdict, client_body, server_body, agreed_findings}
-use Rattle.fe2o3_sasl_runs.specs.Verdicts.{Finding, OfVerifier, OfProof, IsVerifierFinding, IsProofFinding, Audits}
-use Rattle.fe2o3_sasl_runs.proofs.lemmas.lists.EachLemmas.{each_append, each_weaker}
-use Rattle.fe2o3_sasl_runs.proofs.lemmas.unaltered.UnalteredRunLemmas as unaltered
+use Rattle.fe2o3_sasl_core.specs.Events.{Login, ServerSays, Challenged, Concluded, Failed, ClientSays, Started, Answered, Reported, Refused}
+use Rattle.fe2o3_sasl_core.specs.TwoSides.{Sides}
+use Rattle.fe2o3_sasl_core.specs.UnalteredRuns.{Arrives, UnalteredRun, Suffices, agreed_verdict, client_body, server_body, agreed_findings}
+use Rattle.fe2o3_sasl_core.specs.Verdicts.{Finding, OfVerifier, OfProof, IsVerifierFinding, IsProofFinding, Audits}
+use Rattle.fe2o3_sasl_core.proofs.lemmas.lists.EachLemmas.{each_append, each_weaker}
+use Rattle.fe2o3_sasl_core.proofs.lemmas.unaltered.UnalteredRunLemmas as unaltered
 use Rattle.fe2o3_sasl_negotiation.specs.Framing.{sasl_header, framed}
 use Rattle.connection_laws.proofs.lemmas.ReplyListLemmas.{none_at}
 use Rattle.fe2o3_sasl_negotiation.proofs.lemmas.LoginLemmas.{scram_servers_serve, scram_clients_report}
 use Rattle.fe2o3_sasl_negotiation.proofs.lemmas.UnitLemmas.{length-framed}
 use Rattle.connection_laws.specs.Pairs.{ClientOf, ServerOf, sides, Unaltered, TakesEqually, ShowsEqually, UnalteredConnectionsAgree}
 use Rattle.connection_laws.proofs.lemmas.ShapeLemmas.{one_frame, three, ServerShape, server_shape, ClientShape, client_shape}
-use Rattle.fe2o3_sasl_runs.specs.declared.sasl_profile.error.ProfileError.TheVariants.{Frame as FrameFault, OutOfMemory}
+use Rattle.fe2o3_sasl_core.specs.declared.sasl_profile.error.ProfileError.TheVariants.{Frame as FrameFault, OutOfMemory}
 
 -- ---- what arrives
 

@@ -17,25 +17,25 @@ use Rattle.fe2o3_scram.specs.ScramServer.{Initial}
 use Rattle.fe2o3_scram.specs.Texts.{base64_text}
 use Rattle.fe2o3_scram.proofs.lemmas.messages.ExchangeLemmas.{nonce_text}
 use Rattle.fe2o3_scram.proofs.lemmas.texts.AsciiLemmas.{IsUtf8-base64_text, IsUtf8-literal}
-use Rattle.fe2o3_sasl_runs.specs.Bodies.{SpellsBody}
-use Rattle.fe2o3_sasl_runs.specs.Events.{Given, Login, IsLogin, ServerSays, Challenged, Concluded, Failed, ClientSays, Started, Answered, Refused}
-use Rattle.fe2o3_sasl_runs.specs.declared.sasl_profile.error.ProfileError.TheVariants.{Frame as FrameFault, OutOfMemory}
-use Rattle.fe2o3_sasl_runs.specs.Profiles.{Profile, scram_profile}
-use Rattle.fe2o3_sasl_runs.specs.Runs.{AcceptorSteps, ProfileSteps, Runs}
-use Rattle.fe2o3_sasl_runs.specs.SaslAcceptor.{Acceptor, ScramAcceptor, acceptor_names, acceptor_machine}
-use Rattle.fe2o3_sasl_runs.specs.ServerHistory.{final_message}
-use Rattle.fe2o3_sasl_runs.specs.TwoSides.{Sides, sides_of, Histories}
-use Rattle.fe2o3_sasl_runs.specs.UnalteredRuns.{Suffices, HoldsLogin, client_body}
-use Rattle.fe2o3_sasl_runs.proofs.lemmas.frames.SpellingLemmas.{spells_mechanisms}
-use Rattle.fe2o3_sasl_runs.proofs.lemmas.machines.ClientMachineLemmas.{profile_runs_are_histories}
-use Rattle.fe2o3_sasl_runs.proofs.lemmas.machines.ServerMachineLemmas.{acceptor_runs_are_histories}
-use Rattle.fe2o3_sasl_runs.proofs.lemmas.unaltered.UnalteredStepLemmas as step
-use Rattle.fe2o3_sasl_negotiation.specs.declared.standing.Due.{Due}
-use Rattle.fe2o3_sasl_negotiation.specs.declared.standing.Due.TheVariants.{Frame}
-use Rattle.fe2o3_sasl_negotiation.specs.declared.standing.Standing.{Standing}
-use Rattle.fe2o3_sasl_negotiation.specs.declared.standing.Standing.TheVariants.{Wanting, LoggedIn}
-use Rattle.fe2o3_sasl_negotiation.specs.declared.standing.Turn.{Turn}
-use Rattle.fe2o3_sasl_negotiation.specs.declared.standing.Turn.TheVariants as turns
+use Rattle.fe2o3_sasl_core.specs.Bodies.{SpellsBody}
+use Rattle.fe2o3_sasl_core.specs.Events.{Given, Login, IsLogin, ServerSays, Challenged, Concluded, Failed, ClientSays, Started, Answered, Refused}
+use Rattle.fe2o3_sasl_core.specs.declared.sasl_profile.error.ProfileError.TheVariants.{Frame as FrameFault, OutOfMemory}
+use Rattle.fe2o3_sasl_core.specs.Profiles.{Profile, scram_profile}
+use Rattle.fe2o3_sasl_core.specs.Runs.{AcceptorSteps, ProfileSteps, Runs}
+use Rattle.fe2o3_sasl_core.specs.SaslAcceptor.{Acceptor, ScramAcceptor, acceptor_names, acceptor_machine}
+use Rattle.fe2o3_sasl_core.specs.ServerHistory.{final_message}
+use Rattle.fe2o3_sasl_core.specs.TwoSides.{Sides, sides_of, Histories}
+use Rattle.fe2o3_sasl_core.specs.UnalteredRuns.{Suffices, HoldsLogin, client_body}
+use Rattle.fe2o3_sasl_core.proofs.lemmas.frames.SpellingLemmas.{spells_mechanisms}
+use Rattle.fe2o3_sasl_core.proofs.lemmas.machines.ClientMachineLemmas.{profile_runs_are_histories}
+use Rattle.fe2o3_sasl_core.proofs.lemmas.machines.ServerMachineLemmas.{acceptor_runs_are_histories}
+use Rattle.fe2o3_sasl_core.proofs.lemmas.unaltered.UnalteredStepLemmas as step
+use Rattle.fe2o3_sasl_negotiation.specs.declared.progress.Expected.{Expected}
+use Rattle.fe2o3_sasl_negotiation.specs.declared.progress.Expected.TheVariants.{Frame}
+use Rattle.fe2o3_sasl_negotiation.specs.declared.progress.Progress.{Progress}
+use Rattle.fe2o3_sasl_negotiation.specs.declared.progress.Progress.TheVariants.{InProgress, Authenticated}
+use Rattle.fe2o3_sasl_negotiation.specs.declared.progress.FrameKind.{FrameKind}
+use Rattle.fe2o3_sasl_negotiation.specs.declared.progress.FrameKind.TheVariants as turns
 use Rattle.fe2o3_sasl_negotiation.specs.ClientNegotiation as of_client
 use Rattle.fe2o3_sasl_negotiation.specs.ServerNegotiation as of_server
 use Rattle.fe2o3_sasl_negotiation.specs.FrameSizes.{CanBeSent}
@@ -56,44 +56,44 @@ ClientFine says = (says ≢ Refused OutOfMemory) × (says ≢ Refused (FrameFaul
 abbrev pub ServerFine : ServerSays → Type 0
 ServerFine says = (says ≢ Failed faults.OutOfMemory) × (says ≢ Failed faults.TooLarge)
 
-pub client_memory : (says : ClientSays) (turn : Turn) (answer : SideOutput) → of_client.ClientOutputs says turn answer
+pub client_memory : (says : ClientSays) (turn : FrameKind) (answer : SideOutput) → of_client.ClientOutputs says turn answer
     → says ≢ Refused OutOfMemory
 client_memory says turn answer said same = subst (λ (s : ClientSays). of_client.ClientOutputs s turn answer) same said
 
-pub server_memory : (says : ServerSays) (turn : Turn) (answer : SideOutput) → of_server.ServerOutputs says turn answer
+pub server_memory : (says : ServerSays) (turn : FrameKind) (answer : SideOutput) → of_server.ServerOutputs says turn answer
     → says ≢ Failed faults.OutOfMemory
 server_memory says turn answer said same = subst (λ (s : ServerSays). of_server.ServerOutputs s turn answer) same said
 
 -- ---- the machines are asked
 
-pub logged_in_is_not_wanting : LoggedIn ≢ Wanting
+pub logged_in_is_not_wanting : Authenticated ≢ InProgress
 logged_in_is_not_wanting same = cc
 
 -- a side that has ended takes nothing and sends nothing
-pub ended_rests : {S : Type 0} (Answers : Due → S → List ℕ → List ℕ → SideOutput → S → Type 0) (side last : Side S)
-    (nonces : List (List ℕ)) (bytes sent : List ℕ) → side.standing ≢ Wanting
+pub ended_rests : {S : Type 0} (Answers : Expected → S → List ℕ → List ℕ → SideOutput → S → Type 0) (side last : Side S)
+    (nonces : List (List ℕ)) (bytes sent : List ℕ) → side.progress ≢ InProgress
     → Negotiates Answers side nonces bytes sent last → (sent ≡ []) × (bytes ≡ []) × (last ≡ side)
 ended_rests Answers side last [] bytes sent ended (nothing, inl stops) = absurd (ended stops.0)
 ended_rests Answers side last [] bytes sent ended (nothing, inr stops) = (nothing, stops.1, stops.2)
 ended_rests Answers side last (nonce ∷ nonces) bytes sent ended
     (taken, first, next, more, wants, no_part, receives, rest, all) = absurd (ended wants)
 
-pub asked_client : (hostname : Option (List ℕ)) (turn : Turn) (profile next : Profile) (nonce unit : List ℕ)
+pub asked_client : (hostname : Option (List ℕ)) (turn : FrameKind) (profile next : Profile) (nonce unit : List ℕ)
     (answer : SideOutput)
     → of_client.ClientSideAnswers hostname (Frame turn) profile nonce unit answer next
     → of_client.ClientSideAnswers hostname (Frame turn) profile nonce unit answer next
 asked_client hostname turn profile next nonce unit answer answers = answers
 
-pub asked_server : (turn : Turn) (acceptor next : Acceptor) (nonce unit : List ℕ) (answer : SideOutput)
+pub asked_server : (turn : FrameKind) (acceptor next : Acceptor) (nonce unit : List ℕ) (answer : SideOutput)
     → of_server.ServerSideAnswers acceptor_names acceptor_machine (Frame turn) acceptor nonce unit answer next
     → of_server.ServerSideAnswers acceptor_names acceptor_machine (Frame turn) acceptor nonce unit answer next
 asked_server turn acceptor next nonce unit answer answers = answers
 
-abbrev pub ClientTakes : Login → ℕ → Turn → Profile → List ℕ → List ℕ → List ℕ → Side Profile → Type 0
+abbrev pub ClientTakes : Login → ℕ → FrameKind → Profile → List ℕ → List ℕ → List ℕ → Side Profile → Type 0
 ClientTakes login limit turn profile body more sent last = Takes (of_client.ClientSideAnswers login.hostname)
     (ProfileSteps login.hostname) of_client.ClientOutputs (asked_client login.hostname) limit turn profile body more sent last
 
-abbrev pub ServerTakes : ℕ → Turn → Acceptor → List ℕ → List ℕ → List ℕ → Side Acceptor → Type 0
+abbrev pub ServerTakes : ℕ → FrameKind → Acceptor → List ℕ → List ℕ → List ℕ → Side Acceptor → Type 0
 ServerTakes limit turn acceptor body more sent last =
     Takes (of_server.ServerSideAnswers acceptor_names acceptor_machine) (AcceptorSteps acceptor_machine) of_server.ServerOutputs
     asked_server limit turn acceptor body more sent last
@@ -172,17 +172,17 @@ module _ (c : Case) where
 
   -- ---- what either makes of what the other sends
 
-  pub client_goes_on : (turn : Turn) (profile : Profile) (body more sent : List ℕ)
-      (made : ClientTakes c.login c.joined.client_limit turn profile body more sent c.client) (reply : List ℕ) (due : Turn)
-      → length reply + 4 ≤ 512 → Sends reply Wanting (Frame due) made.answer
+  pub client_goes_on : (turn : FrameKind) (profile : Profile) (body more sent : List ℕ)
+      (made : ClientTakes c.login c.joined.client_limit turn profile body more sent c.client) (reply : List ℕ) (expected : FrameKind)
+      → length reply + 4 ≤ 512 → Sends reply InProgress (Frame expected) made.answer
       → (sent ≡ framed reply ++ made.after)
-      × ClientMakes c.login.hostname c.joined.client_limit (Frame due) made.next made.nonces more made.after c.client
-  client_goes_on turn profile body more sent made reply due small is =
+      × ClientMakes c.login.hostname c.joined.client_limit (Frame expected) made.next made.nonces more made.after c.client
+  client_goes_on turn profile body more sent made reply expected small is =
       goes_on_with (of_client.ClientSideAnswers c.login.hostname) (ProfileSteps c.login.hostname) of_client.ClientOutputs
-      (asked_client c.login.hostname) c.joined.client_limit turn profile body more sent c.client made reply Wanting (Frame due) small
+      (asked_client c.login.hostname) c.joined.client_limit turn profile body more sent c.client made reply InProgress (Frame expected) small
       is
 
-  pub client_takes : (turn : Turn) (profile : Profile) (nonces : List (List ℕ)) (body more bytes sent : List ℕ)
+  pub client_takes : (turn : FrameKind) (profile : Profile) (nonces : List (List ℕ)) (body more bytes sent : List ℕ)
       (frame : SaslFrame) → canonical frame ≡ Some body → length body + 4 ≤ 512 → SpellsBody body (Ok frame)
       → IsInTurn turn frame → bytes ≡ framed body ++ more
       → ClientMakes c.login.hostname c.joined.client_limit (Frame turn) profile nonces bytes sent c.client
@@ -194,18 +194,18 @@ module _ (c : Case) where
       (subst (λ (l : List ℕ). ClientMakes c.login.hostname c.joined.client_limit (Frame turn) profile nonces l sent c.client) all
       made)
 
-  pub server_goes_on : (turn : Turn) (acceptor : Acceptor) (body more sent : List ℕ)
-      (made : ServerTakes c.joined.server_limit turn acceptor body more sent c.server) (reply : List ℕ) (standing : Standing)
-      (due : Due) → length reply + 4 ≤ 512 → Sends reply standing due made.answer
+  pub server_goes_on : (turn : FrameKind) (acceptor : Acceptor) (body more sent : List ℕ)
+      (made : ServerTakes c.joined.server_limit turn acceptor body more sent c.server) (reply : List ℕ) (progress : Progress)
+      (expected : Expected) → length reply + 4 ≤ 512 → Sends reply progress expected made.answer
       → (sent ≡ framed reply ++ made.after)
       × Negotiates (Exact (of_server.ServerSideAnswers acceptor_names acceptor_machine))
-      (record { standing = standing; due = due; limit = c.joined.server_limit; held = []; state = made.next }) made.nonces more
+      (record { progress = progress; expected = expected; limit = c.joined.server_limit; held = []; state = made.next }) made.nonces more
       made.after c.server
-  server_goes_on turn acceptor body more sent made reply standing due small is =
+  server_goes_on turn acceptor body more sent made reply progress expected small is =
       goes_on_with (of_server.ServerSideAnswers acceptor_names acceptor_machine) (AcceptorSteps acceptor_machine)
-      of_server.ServerOutputs asked_server c.joined.server_limit turn acceptor body more sent c.server made reply standing due small is
+      of_server.ServerOutputs asked_server c.joined.server_limit turn acceptor body more sent c.server made reply progress expected small is
 
-  pub server_takes : (turn : Turn) (acceptor : Acceptor) (nonces : List (List ℕ)) (body more bytes sent : List ℕ)
+  pub server_takes : (turn : FrameKind) (acceptor : Acceptor) (nonces : List (List ℕ)) (body more bytes sent : List ℕ)
       (frame : SaslFrame) → canonical frame ≡ Some body → length body + 4 ≤ 512 → SpellsBody body (Ok frame)
       → IsInTurn turn frame → bytes ≡ framed body ++ more
       → ServerMakes c.joined.server_limit (Frame turn) acceptor nonces bytes sent c.server
@@ -258,7 +258,7 @@ module _ (c : Case) where
 
 -- the client's and the server's exchange with these nonces
 abbrev pub exchange_by : Case → List ℕ → List ℕ → Exchange
-exchange_by c mine theirs = step.exchange_of c.login c.provider.unbound c.password c.salt c.count mine theirs
+exchange_by c mine theirs = step.exchange_of c.login c.provider.cbind_flag_y c.password c.salt c.count mine theirs
 
 -- an unaltered connection up to the server's Ok, which the client has taken
 pub record UpToOk (c : Case) : Type 0 where
@@ -297,8 +297,8 @@ pub record UpToOk (c : Case) : Type 0 where
   pub server_all : c.joined.server_sent ≡ sasl_header ++ (framed offer ++ (framed challenge ++ (framed outcome ++ more)))
   pub client_all : c.joined.client_sent ≡ framed init ++ (framed response ++ client_ends)
   pub server_rests : c.server ≡ record {
-    standing = LoggedIn;
-    due = Frame turns.Response;
+    progress = Authenticated;
+    expected = Frame turns.Response;
     limit = c.joined.server_limit;
     held = [];
     state = third.next;

@@ -10,11 +10,11 @@ use Rattle.fe2o3_scram.specs.ClientKeys.{keys_of}
 use Rattle.fe2o3_scram.specs.ClientSecret.{Secret, Keys, no_limit}
 use Rattle.fe2o3_scram.specs.declared.client_secret.IterationLimits.{IterationLimits}
 use Rattle.fe2o3_scram.specs.Texts.{joined}
-use Rattle.fe2o3_sasl_runs.specs.ClientHistory.{Answering, ClientHistory}
-use Rattle.fe2o3_sasl_runs.specs.Events.{ClientSays, Given, Login, Answered, Reported, Refused, Started}
-use Rattle.fe2o3_sasl_runs.specs.TwoSides.{proof_at}
+use Rattle.fe2o3_sasl_core.specs.ClientHistory.{Answering, ClientHistory}
+use Rattle.fe2o3_sasl_core.specs.Events.{ClientSays, Given, Login, Answered, Reported, Refused, Started}
+use Rattle.fe2o3_sasl_core.specs.TwoSides.{proof_at}
 use Rattle.fe2o3_sasl.specs.examples.Examples.{answer_to, binds, body_of, both, client_bytes, event_of, login, names, offers, salt, salted, sends_init, sends_ok, sends_response, unaltered, verifier}
-use Rattle.fe2o3_sasl_runs.specs.declared.sasl_profile.error.ProfileError.TheVariants.{OtherKeys, Scram}
+use Rattle.fe2o3_sasl_core.specs.declared.sasl_profile.error.ProfileError.TheVariants.{StaleKeys, Scram}
 
 -- the client of the first examples with this secret, these limits and this hostname
 abbrev pub changed : Secret → IterationLimits → Option (List ℕ) → Login
@@ -73,14 +73,14 @@ abbrev pub other_salt : List ℕ
 other_salt = replicate 32 4
 
 -- a challenge with it is refused, and stays due: the next one with the salt of the keys logs in
-abbrev pub OtherKeysLogInLater : Type 0
-OtherKeysLogInLater = ClientHistory with_keys (event_of client_bytes offers ∷ asks other_salt ∷ is_served)
-    (starts ∷ Refused OtherKeys ∷ logs_in)
+abbrev pub StaleKeysLogInLater : Type 0
+StaleKeysLogInLater = ClientHistory with_keys (event_of client_bytes offers ∷ asks other_salt ∷ is_served)
+    (starts ∷ Refused StaleKeys ∷ logs_in)
 
 -- ---- a floor
 
 abbrev pub with_floor : Login
-with_floor = changed login.secret (record { least = 10000; most = no_limit }) None
+with_floor = changed login.secret (record { min_iterations = 10000; max_iterations = no_limit }) None
 
 -- a challenge with the count 4096 is refused
 abbrev pub FloorsRefuse : Type 0

@@ -7,17 +7,17 @@ use Rattle.fe2o3_sasl_wire.specs.SaslFrames as frames
 use Rattle.fe2o3_scram.specs.declared.hmac.ScramVersion.TheVariants.{Sha256}
 use Rattle.fe2o3_scram.specs.Texts.{base64_text, joined}
 use Rattle.fe2o3_scram.specs.ClientSecret.{Password, no_limit, up_to}
-use Rattle.fe2o3_scram.specs.declared.scram_messages.gs2_header.Gs2Header.TheVariants.{Unsupported}
+use Rattle.fe2o3_scram.specs.declared.scram_messages.channel_binding_flag.ChannelBindingFlag.TheVariants.{NotSupported}
 use Rattle.fe2o3_scram.specs.Passwords.{Typed}
 use Rattle.fe2o3_scram.specs.Credentials.{Record, Provider, record_of}
-use Rattle.fe2o3_sasl_runs.specs.ClientHistory.{Answering, answer_at, OpenAnswer}
-use Rattle.fe2o3_sasl_runs.specs.Events.{Given, Login, IsLogin, IsRecord, Challenged, Concluded, Failed, Started, Answered, Reported, Refused}
-use Rattle.fe2o3_sasl_runs.specs.Bodies.{carried}
-use Rattle.fe2o3_sasl_runs.specs.ServerHistory.{Challenging, Accepted, full_nonce}
-use Rattle.fe2o3_sasl_runs.specs.TwoSides.{Sides, Histories, Takes, Shows, HasParts, proof_at}
-use Rattle.fe2o3_sasl_runs.specs.Verdicts.{Agreed, JudgesVerifier, JudgesProof}
-use Rattle.fe2o3_sasl_runs.specs.UnalteredRuns.{UnalteredRun, Suffices, HoldsLogin}
-use Rattle.fe2o3_sasl_runs.specs.declared.sasl_profile.error.ProfileError.TheVariants.{Frame}
+use Rattle.fe2o3_sasl_core.specs.ClientHistory.{Answering, answer_at, OpenAnswer}
+use Rattle.fe2o3_sasl_core.specs.Events.{Given, Login, IsLogin, IsRecord, Challenged, Concluded, Failed, Started, Answered, Reported, Refused}
+use Rattle.fe2o3_sasl_core.specs.Bodies.{carried}
+use Rattle.fe2o3_sasl_core.specs.ServerHistory.{Challenging, Accepted, full_nonce}
+use Rattle.fe2o3_sasl_core.specs.TwoSides.{Sides, Histories, Takes, Shows, HasParts, proof_at}
+use Rattle.fe2o3_sasl_core.specs.Verdicts.{Agreed, JudgesVerifier, JudgesProof}
+use Rattle.fe2o3_sasl_core.specs.UnalteredRuns.{UnalteredRun, Suffices, HoldsLogin}
+use Rattle.fe2o3_sasl_core.specs.declared.sasl_profile.error.ProfileError.TheVariants.{Frame}
 
 -- ---- the client and the server
 
@@ -61,7 +61,7 @@ stored = record_of Sha256 (codes "pencil") salt 4096
 
 -- a provider with that record alone
 abbrev pub provider : Provider
-provider = record { version = Sha256; records = (codes "user", stored) ∷ []; unbound = false }
+provider = record { version = Sha256; records = (codes "user", stored) ∷ []; cbind_flag_y = false }
 
 -- ---- messages
 
@@ -93,7 +93,7 @@ answering text nonce = record {
 -- what the server makes of a client-first message
 abbrev pub challenging : List ℕ → Challenging
 challenging bare = record {
-  client = record { header = Unsupported; user = codes "user"; nonce = client_nonce; bare = bare };
+  client = record { header = NotSupported; user = codes "user"; nonce = client_nonce; bare = bare };
   nonce =
       server_nonce;
   stored = stored;
@@ -247,7 +247,7 @@ refused_sides = record {
   client_events = event_of client_bytes offers ∷ event_of client_bytes sends_auth ∷ silent client_bytes ∷ [];
   client_replies = Started (body_of (sends_init (joined (names (codes "user"))))) ∷ Reported outcomes.Auth None
       ∷ Refused (Frame (fault_of [])) ∷ [];
-  provider = record { version = Sha256; records = []; unbound = false };
+  provider = record { version = Sha256; records = []; cbind_flag_y = false };
   server_events = event_of server_bytes (sends_init (joined (names (codes "user")))) ∷ silent server_bytes ∷ [];
   server_replies = Concluded outcomes.Auth (body_of sends_auth) ∷ Failed (fault_of []) ∷ [];
 }

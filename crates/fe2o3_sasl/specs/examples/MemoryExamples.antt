@@ -12,12 +12,12 @@ use Rattle.fe2o3_scram.specs.ScramClient as client_states
 use Rattle.fe2o3_scram.specs.ScramClient.{ClientSide}
 use Rattle.fe2o3_scram.specs.ScramServer as server_states
 use Rattle.fe2o3_scram.specs.ScramServer.{ServerState}
-use Rattle.fe2o3_sasl_runs.specs.ClientHistory.{ClientAllocates}
-use Rattle.fe2o3_sasl_runs.specs.Events.{Login}
-use Rattle.fe2o3_sasl_runs.specs.Laws.{WantsAtServer}
-use Rattle.fe2o3_sasl_runs.specs.Profiles.{Profile, ScramProfile, PlainProfile, FrameAllocates}
-use Rattle.fe2o3_sasl_runs.specs.SaslAcceptor.{ScramAcceptor, PlainAcceptor, AnonymousAcceptor, acceptor_allocates}
-use Rattle.fe2o3_sasl_runs.specs.ServerHistory.{ServerAllocates}
+use Rattle.fe2o3_sasl_core.specs.ClientHistory.{ClientAllocates}
+use Rattle.fe2o3_sasl_core.specs.Events.{Login}
+use Rattle.fe2o3_sasl_core.specs.Laws.{WantsAtServer}
+use Rattle.fe2o3_sasl_core.specs.Profiles.{Profile, ScramProfile, PlainProfile, FrameAllocates}
+use Rattle.fe2o3_sasl_core.specs.SaslAcceptor.{ScramAcceptor, PlainAcceptor, AnonymousAcceptor, acceptor_allocates}
+use Rattle.fe2o3_sasl_core.specs.ServerHistory.{ServerAllocates}
 
 -- SCRAM's acceptor asks for none at an init of another mechanism, at one without a text, and at a response where no
 -- challenge is open; that of PLAIN and that of ANONYMOUS at no frame

@@ -7,13 +7,13 @@ use Rattle.fe2o3_sasl_wire.specs.SaslFrames as frames
 use Rattle.fe2o3_scram.specs.ClientKeys.{ClientKeys, keys_of}
 use Rattle.fe2o3_scram.specs.ServerFirst.{ServerFirst, ReadsServerFirst}
 use Rattle.fe2o3_scram.specs.Texts.{Part, base64_text}
-use Rattle.fe2o3_sasl_runs.specs.ClientHistory.{is_start, is_answer, ends_answer}
+use Rattle.fe2o3_sasl_core.specs.ClientHistory.{is_start, is_answer, ends_answer}
 use Rattle.fe2o3_sasl.specs.declared.audit.client_receipts.Words.{Words}
-use Rattle.fe2o3_sasl_runs.specs.Events.{Given, Login, ClientSays, Started, Answered, Reported, Refused}
-use Rattle.fe2o3_sasl_runs.specs.Positions.{IsLastOpen}
-use Rattle.fe2o3_sasl_runs.specs.Runs.{login_of}
-use Rattle.fe2o3_sasl_runs.specs.Bodies.{SpellsBody}
-use Rattle.fe2o3_sasl_runs.specs.TwoSides.{proof_at}
+use Rattle.fe2o3_sasl_core.specs.Events.{Given, Login, ClientSays, Started, Answered, Reported, Refused}
+use Rattle.fe2o3_sasl_core.specs.Positions.{IsLastOpen}
+use Rattle.fe2o3_sasl_core.specs.Runs.{login_of}
+use Rattle.fe2o3_sasl_core.specs.Bodies.{SpellsBody}
+use Rattle.fe2o3_sasl_core.specs.TwoSides.{proof_at}
 use Rattle.fe2o3_sasl.specs.private.Receipts.{ClientReceipt, OfAnswer, Covers, IsShownReceipt, IsTakenReceipt, RespondsAt, ReportsAt}
 
 -- what is known at position i: the receipts so far, the last start that a challenge can answer, and the answer

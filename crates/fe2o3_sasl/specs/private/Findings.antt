@@ -8,7 +8,7 @@ use Rattle.std.specs.Option.{option_map_or}
 use Rattle.std.specs.Ordering.{nat_cmp}
 use Rattle.std.specs.declared.alloc.Global.{Global}
 use Rattle.fe2o3_scram.specs.Hmac.{digest_bytes}
-use Rattle.fe2o3_sasl_runs.specs.Verdicts.{Verdict, Agreed, SameMac, SameHash, OtherKey, FindingKind, OfVerifier, OfProof, Finding}
+use Rattle.fe2o3_sasl_core.specs.Verdicts.{Verdict, Agreed, SameMac, SameHash, OtherKey, FindingKind, OfVerifier, OfProof, Finding}
 use Rattle.fe2o3_sasl.specs.Audit.{parameters_of}
 use Rattle.fe2o3_sasl.specs.declared.audit.receipts.ClientReceipt as code_client
 use Rattle.fe2o3_sasl.specs.declared.audit.receipts.ServerReceipt as code_server

@@ -5,11 +5,11 @@ use Rattle.fe2o3_sasl_wire.specs.declared.amqp_types.SaslCode.TheVariants as out
 use Rattle.fe2o3_scram.specs.Credentials.{Provider}
 use Rattle.fe2o3_scram.specs.Hmac.{digest}
 use Rattle.fe2o3_scram.specs.Texts.{Part}
-use Rattle.fe2o3_sasl_runs.specs.Verdicts.{Parameters, AreParameters, recovered_at}
-use Rattle.fe2o3_sasl_runs.specs.ClientHistory.{Answering, AnswersAt, OpenAnswer}
-use Rattle.fe2o3_sasl_runs.specs.Events.{Given, Login, IsRecord, ServerSays, Concluded, ClientSays, Answered, Reported}
-use Rattle.fe2o3_sasl_runs.specs.ServerHistory.{Accepted, AcceptsAt, final_message}
-use Rattle.fe2o3_sasl_runs.specs.TwoSides.{client_message, server_message, keys_at, proof_at}
+use Rattle.fe2o3_sasl_core.specs.Verdicts.{Parameters, AreParameters, recovered_at}
+use Rattle.fe2o3_sasl_core.specs.ClientHistory.{Answering, AnswersAt, OpenAnswer}
+use Rattle.fe2o3_sasl_core.specs.Events.{Given, Login, IsRecord, ServerSays, Concluded, ClientSays, Answered, Reported}
+use Rattle.fe2o3_sasl_core.specs.ServerHistory.{Accepted, AcceptsAt, final_message}
+use Rattle.fe2o3_sasl_core.specs.TwoSides.{client_message, server_message, keys_at, proof_at}
 
 -- of a position of the client: what it showed or took there, and the AuthMessage and the keys of its answer
 pub record ClientReceipt : Type 0 where

@@ -9,10 +9,10 @@ use Rattle.fe2o3_scram.specs.Credentials.{Provider, record_at, kept}
 use Rattle.fe2o3_scram.specs.ServerFirst.{challenge_of, challenge_values}
 use Rattle.fe2o3_scram.specs.Texts.{base64_text}
 use Rattle.fe2o3_sasl.specs.declared.audit.server_receipts.challenges.Opened.{Opened}
-use Rattle.fe2o3_sasl_runs.specs.Events.{Given, ServerSays, Challenged, Concluded, Failed}
-use Rattle.fe2o3_sasl_runs.specs.Positions.{IsLastOpen}
-use Rattle.fe2o3_sasl_runs.specs.Bodies.{SpellsBody}
-use Rattle.fe2o3_sasl_runs.specs.ServerHistory.{Challenging, is_challenge, is_ok}
+use Rattle.fe2o3_sasl_core.specs.Events.{Given, ServerSays, Challenged, Concluded, Failed}
+use Rattle.fe2o3_sasl_core.specs.Positions.{IsLastOpen}
+use Rattle.fe2o3_sasl_core.specs.Bodies.{SpellsBody}
+use Rattle.fe2o3_sasl_core.specs.ServerHistory.{Challenging, is_challenge, is_ok}
 use Rattle.fe2o3_sasl.specs.private.Receipts.{ServerReceipt, OfAccepted, Covers, IsOkReceipt, ConcludesAt}
 
 -- memory was wanting
@@ -45,7 +45,7 @@ pub record OpenedFor (provider : Provider) (init : Given) (challenge : Challengi
   pub text : List ℕ
   pub hostname : Option (List ℕ)
   pub spells : SpellsBody init.body (Ok (frames.Init mechanism (Some text) hostname))
-  pub reads : ReadsClientFirst provider.unbound text (Ok challenge.client)
+  pub reads : ReadsClientFirst provider.cbind_flag_y text (Ok challenge.client)
   pub known : record_at provider.records challenge.client.user ≡ Some challenge.stored
   pub nonce : challenge.nonce ≡ base64_text init.nonce
 

@@ -1,7 +1,7 @@
 //! What is kept of the positions of two runs.
 
 use crate::audit::Parameters;
-use fe2o3_scram::client_keys::ScramClientKeys;
+use fe2o3_scram::cached_keys::CachedKeys;
 use fe2o3_scram::hmac::DigestBytes;
 
 /// Of a position of the client: the proof that it showed there or the verifier that it took, and
@@ -11,7 +11,7 @@ pub(crate) struct ClientReceipt {
     pub place: usize,
     pub shown: Vec<u8>,
     pub message: Vec<u8>,
-    pub keys: ScramClientKeys,
+    pub keys: CachedKeys,
     pub stored_key: DigestBytes,
 }
 

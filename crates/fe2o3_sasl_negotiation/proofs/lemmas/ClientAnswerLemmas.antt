@@ -1,34 +1,34 @@
 -- What a client answers.
 use Rattle.std.proofs.Common.{◌≡◌, ℕ, Option, Some, None, List, ◌++◌, drop, refl, ap, inl, inr, Result, Ok, Err, IfOk}
-use Rattle.fe2o3_sasl_runs.specs.Costs.{ProfileStepCosts}
-use Rattle.fe2o3_sasl_runs.specs.Events.{Given, ClientSays, Refused}
-use Rattle.fe2o3_sasl_runs.specs.Profiles.{Profile}
-use Rattle.fe2o3_sasl_runs.specs.Runs.{ProfileSteps}
-use Rattle.fe2o3_sasl_runs.specs.declared.events.ClientReply.{ClientReply}
-use Rattle.fe2o3_sasl_runs.specs.declared.sasl_profile.error.ProfileError.{ProfileError}
+use Rattle.fe2o3_sasl_core.specs.Costs.{ProfileStepCosts}
+use Rattle.fe2o3_sasl_core.specs.Events.{Given, ClientSays, Refused}
+use Rattle.fe2o3_sasl_core.specs.Profiles.{Profile}
+use Rattle.fe2o3_sasl_core.specs.Runs.{ProfileSteps}
+use Rattle.fe2o3_sasl_core.specs.declared.events.ClientReply.{ClientReply}
+use Rattle.fe2o3_sasl_core.specs.declared.sasl_profile.error.ProfileError.{ProfileError}
 use Rattle.fe2o3_sasl_negotiation.specs.declared.framing.Arrived.TheVariants.{Whole}
 use Rattle.fe2o3_sasl_negotiation.specs.declared.framing.Step.{Step}
-use Rattle.fe2o3_sasl_negotiation.specs.declared.standing.ClosedBecause.{ClosedBecause}
-use Rattle.fe2o3_sasl_negotiation.specs.declared.standing.Due.{Due}
-use Rattle.fe2o3_sasl_negotiation.specs.declared.standing.Due.TheVariants.{Header, Frame}
-use Rattle.fe2o3_sasl_negotiation.specs.declared.standing.Standing.{Standing}
-use Rattle.fe2o3_sasl_negotiation.specs.declared.standing.Standing.TheVariants.{Wanting}
-use Rattle.fe2o3_sasl_negotiation.specs.declared.standing.Turn.{Turn}
+use Rattle.fe2o3_sasl_negotiation.specs.declared.progress.CloseReason.{CloseReason}
+use Rattle.fe2o3_sasl_negotiation.specs.declared.progress.Expected.{Expected}
+use Rattle.fe2o3_sasl_negotiation.specs.declared.progress.Expected.TheVariants.{Header, Frame}
+use Rattle.fe2o3_sasl_negotiation.specs.declared.progress.Progress.{Progress}
+use Rattle.fe2o3_sasl_negotiation.specs.declared.progress.Progress.TheVariants.{InProgress}
+use Rattle.fe2o3_sasl_negotiation.specs.declared.progress.FrameKind.{FrameKind}
 use Rattle.fe2o3_sasl_negotiation.specs.Negotiations.{closes}
 use Rattle.fe2o3_sasl_negotiation.specs.ClientNegotiation.{ClientOutputs, ClientReplies, ClientReplyCosts, ClientUnitCosts, ClientCosts}
 use Rattle.fe2o3_sasl_negotiation.specs.private.Units.{Appends, Screens, TakesUnit}
 
 -- what closes before the profile is asked
-pub screened : (hostname : Option (List ℕ)) (turn : Turn) (state : Profile)
-    (event : Given) (why : ClosedBecause) → Screens turn event.body (Some why)
+pub screened : (hostname : Option (List ℕ)) (turn : FrameKind) (state : Profile)
+    (event : Given) (why : CloseReason) → Screens turn event.body (Some why)
     → ClientReplies hostname turn state event (closes why (Frame turn)) state
 screened hostname turn state event why (inl (fault, spells, is)) =
-    (Err fault, spells, (ap (λ (w : ClosedBecause). closes w (Frame turn)) is, refl))
+    (Err fault, spells, (ap (λ (w : CloseReason). closes w (Frame turn)) is, refl))
 screened hostname turn state event why (inr (frame, spells, out, is)) =
-    (Ok frame, spells, inl (out, ap (λ (w : ClosedBecause). closes w (Frame turn)) is, refl))
+    (Ok frame, spells, inl (out, ap (λ (w : CloseReason). closes w (Frame turn)) is, refl))
 
 -- what the profile says
-pub asked : (hostname : Option (List ℕ)) (turn : Turn) (state next : Profile)
+pub asked : (hostname : Option (List ℕ)) (turn : FrameKind) (state next : Profile)
     (event : Given) (says : ClientSays) (old new : List ℕ) (step : Step) → Screens turn event.body None
     → ProfileSteps hostname state event says next → Appends (ClientOutputs says turn) old new step
     → Appends (λ answer. ClientReplies hostname turn state event answer next) old new step
@@ -36,7 +36,7 @@ asked hostname turn state next event says old new step (frame, spells, in_turn) 
     (sent, appended, (Ok frame, spells, inr (in_turn, (says, steps, holds))))
 
 -- and what it refuses
-pub asked_in_vain : {E : Type 0} (hostname : Option (List ℕ)) (turn : Turn)
+pub asked_in_vain : {E : Type 0} (hostname : Option (List ℕ)) (turn : FrameKind)
     (state next : Profile) (event : Given) (fault : ProfileError) (old : List ℕ) (result : Result Step E)
     → Screens turn event.body None → ProfileSteps hostname state event (Refused fault) next
     → IfOk result (λ step. (out : List ℕ) → Appends (ClientOutputs (Refused fault) turn) out out step)
@@ -46,7 +46,7 @@ asked_in_vain hostname turn state next event fault old (Ok step) screens steps s
 asked_in_vain hostname turn state next event fault old (Err failed) screens steps says = tt
 
 -- what the profile's step costs
-pub asked_costs : (turn : Turn) (state : Profile) (event : Given)
+pub asked_costs : (turn : FrameKind) (state : Profile) (event : Given)
     (reply : Result ClientReply ProfileError) (before after : ℕ) → Screens turn event.body None
     → ProfileStepCosts state event reply before after
     → ClientReplyCosts turn state event before after
@@ -54,11 +54,11 @@ asked_costs turn state event reply before after (frame, spells, in_turn) costs =
     inr (frame, reply, spells, in_turn, costs)
 
 -- what an answer to a unit costs, the call costs that completes it
-pub unit_costs : (standing : Standing) (due : Due) (limit : ℕ)
-    (held bytes nonce kept : List ℕ) (state : Profile) (before after : ℕ) → standing ≡ Wanting
-    → TakesUnit due limit (held ++ bytes) Whole kept → ClientUnitCosts due state nonce kept before after
-    → ClientCosts (record { standing = standing; due = due; limit = limit; held = held; state = state }) bytes nonce
+pub unit_costs : (progress : Progress) (expected : Expected) (limit : ℕ)
+    (held bytes nonce kept : List ℕ) (state : Profile) (before after : ℕ) → progress ≡ InProgress
+    → TakesUnit expected limit (held ++ bytes) Whole kept → ClientUnitCosts expected state nonce kept before after
+    → ClientCosts (record { progress = progress; expected = expected; limit = limit; held = held; state = state }) bytes nonce
     before after
-unit_costs standing Header limit held bytes nonce kept state before after wanting takes costs = inl costs
-unit_costs standing (Frame turn) limit held bytes nonce kept state before after wanting takes costs =
+unit_costs progress Header limit held bytes nonce kept state before after wanting takes costs = inl costs
+unit_costs progress (Frame turn) limit held bytes nonce kept state before after wanting takes costs =
     inr (turn, drop 4 kept, (wanting, refl, takes.0, ap (drop 4) takes.1), costs)

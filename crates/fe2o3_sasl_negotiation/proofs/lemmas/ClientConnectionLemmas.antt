@@ -4,30 +4,30 @@ use Rattle.std.proofs.lemmas.List.{length-take-le, take_all}
 use Rattle.bytes.proofs.Ranges.{take-append_past}
 use Rattle.fe2o3_sasl_wire.specs.declared.amqp_types.SaslCode.TheVariants as outcomes
 use Rattle.fe2o3_sasl_wire.specs.SaslFrames.{IsBytes}
-use Rattle.fe2o3_sasl_runs.specs.Events.{ClientSays, Started, Answered, Reported, Refused as ClientRefused}
-use Rattle.fe2o3_sasl_runs.specs.Profiles.{Profile}
-use Rattle.fe2o3_sasl_runs.specs.Runs.{ProfileSteps}
-use Rattle.fe2o3_sasl_negotiation.specs.declared.standing.ClosedBecause.TheVariants.{OtherHeader}
-use Rattle.fe2o3_sasl_negotiation.specs.declared.standing.Due.TheVariants.{Frame}
-use Rattle.fe2o3_sasl_negotiation.specs.declared.standing.Standing.{Standing}
-use Rattle.fe2o3_sasl_negotiation.specs.declared.standing.Standing.TheVariants.{Wanting, LoggedIn, Closed}
-use Rattle.fe2o3_sasl_negotiation.specs.declared.standing.Turn.{Turn}
-use Rattle.fe2o3_sasl_negotiation.specs.declared.standing.Turn.TheVariants as turns
+use Rattle.fe2o3_sasl_core.specs.Events.{ClientSays, Started, Answered, Reported, Refused as ClientRefused}
+use Rattle.fe2o3_sasl_core.specs.Profiles.{Profile}
+use Rattle.fe2o3_sasl_core.specs.Runs.{ProfileSteps}
+use Rattle.fe2o3_sasl_negotiation.specs.declared.progress.CloseReason.TheVariants.{ProtocolHeaderMismatch}
+use Rattle.fe2o3_sasl_negotiation.specs.declared.progress.Expected.TheVariants.{Frame}
+use Rattle.fe2o3_sasl_negotiation.specs.declared.progress.Progress.{Progress}
+use Rattle.fe2o3_sasl_negotiation.specs.declared.progress.Progress.TheVariants.{InProgress, Authenticated, Failed}
+use Rattle.fe2o3_sasl_negotiation.specs.declared.progress.FrameKind.{FrameKind}
+use Rattle.fe2o3_sasl_negotiation.specs.declared.progress.FrameKind.TheVariants as turns
 use Rattle.fe2o3_sasl_negotiation.specs.ClientNegotiation.{ClientOpens, ClientOutputs, ClientSideAnswers, ClientReceives}
 use Rattle.fe2o3_sasl_negotiation.specs.Connections.{Piece, ClientConnection, ClientsConnect, fresh}
 use Rattle.fe2o3_sasl_negotiation.specs.Negotiations.{Side, SideOutput, Receives, ReceivesAt}
 use Rattle.fe2o3_sasl_negotiation.specs.private.Pieces.{NextNonces}
 use Rattle.fe2o3_sasl_negotiation.proofs.lemmas.ConnectionLemmas.{closed_is_not_wanting, logged_in_is_not_wanting, opened, negotiated_call, negotiated_more, rests_there, connected}
-use Rattle.fe2o3_sasl_negotiation.proofs.lemmas.KindLemmas.{standing_of, closes_waits_not, sends_goes_on}
-use Rattle.fe2o3_sasl_runs.specs.declared.sasl_profile.error.ProfileError.TheVariants.{NotImplemented, Scram, OtherKeys, Frame as FrameFault, OutOfMemory}
+use Rattle.fe2o3_sasl_negotiation.proofs.lemmas.KindLemmas.{progress_of, closes_waits_not, sends_goes_on}
+use Rattle.fe2o3_sasl_core.specs.declared.sasl_profile.error.ProfileError.TheVariants.{NotImplemented, Scram, StaleKeys, Frame as FrameFault, OutOfMemory}
 
 -- an init leaves a client waiting for a challenge, and a response for an outcome
-says_first : (says : ClientSays) (answer : SideOutput) → ClientOutputs says turns.Mechanisms answer → answer.standing ≡ Wanting
-    → answer.due ≡ Frame turns.Challenge
+says_first : (says : ClientSays) (answer : SideOutput) → ClientOutputs says turns.Mechanisms answer → answer.progress ≡ InProgress
+    → answer.expected ≡ Frame turns.Challenge
 says_first (Started body) answer sends waits = sends_goes_on body turns.Challenge answer sends waits
 says_first (Answered body) answer is waits = absurd (closes_waits_not _ _ answer is waits)
 says_first (Reported outcomes.Ok more) answer is waits =
-    absurd (logged_in_is_not_wanting (sym (standing_of answer _ is) ∙ waits))
+    absurd (logged_in_is_not_wanting (sym (progress_of answer _ is) ∙ waits))
 says_first (Reported outcomes.Auth more) answer is waits = absurd (closes_waits_not _ _ answer is waits)
 says_first (Reported outcomes.Sys more) answer is waits = absurd (closes_waits_not _ _ answer is waits)
 says_first (Reported outcomes.SysPerm more) answer is waits = absurd (closes_waits_not _ _ answer is waits)
@@ -35,15 +35,15 @@ says_first (Reported outcomes.SysTemp more) answer is waits = absurd (closes_wai
 says_first (ClientRefused OutOfMemory) answer never waits = absurd never
 says_first (ClientRefused NotImplemented) answer closed waits = absurd (closes_waits_not _ _ answer closed waits)
 says_first (ClientRefused (Scram fault)) answer closed waits = absurd (closes_waits_not _ _ answer closed waits)
-says_first (ClientRefused OtherKeys) answer closed waits = absurd (closes_waits_not _ _ answer closed waits)
+says_first (ClientRefused StaleKeys) answer closed waits = absurd (closes_waits_not _ _ answer closed waits)
 says_first (ClientRefused (FrameFault fault)) answer closed waits = absurd (closes_waits_not _ _ answer closed waits)
 
-says_next : (says : ClientSays) (answer : SideOutput) → ClientOutputs says turns.Challenge answer → answer.standing ≡ Wanting
-    → answer.due ≡ Frame turns.Outcome
+says_next : (says : ClientSays) (answer : SideOutput) → ClientOutputs says turns.Challenge answer → answer.progress ≡ InProgress
+    → answer.expected ≡ Frame turns.Outcome
 says_next (Started body) answer is waits = absurd (closes_waits_not _ _ answer is waits)
 says_next (Answered body) answer sends waits = sends_goes_on body turns.Outcome answer sends waits
 says_next (Reported outcomes.Ok more) answer is waits =
-    absurd (logged_in_is_not_wanting (sym (standing_of answer _ is) ∙ waits))
+    absurd (logged_in_is_not_wanting (sym (progress_of answer _ is) ∙ waits))
 says_next (Reported outcomes.Auth more) answer is waits = absurd (closes_waits_not _ _ answer is waits)
 says_next (Reported outcomes.Sys more) answer is waits = absurd (closes_waits_not _ _ answer is waits)
 says_next (Reported outcomes.SysPerm more) answer is waits = absurd (closes_waits_not _ _ answer is waits)
@@ -51,14 +51,14 @@ says_next (Reported outcomes.SysTemp more) answer is waits = absurd (closes_wait
 says_next (ClientRefused OutOfMemory) answer never waits = absurd never
 says_next (ClientRefused NotImplemented) answer closed waits = absurd (closes_waits_not _ _ answer closed waits)
 says_next (ClientRefused (Scram fault)) answer closed waits = absurd (closes_waits_not _ _ answer closed waits)
-says_next (ClientRefused OtherKeys) answer closed waits = absurd (closes_waits_not _ _ answer closed waits)
+says_next (ClientRefused StaleKeys) answer closed waits = absurd (closes_waits_not _ _ answer closed waits)
 says_next (ClientRefused (FrameFault fault)) answer closed waits = absurd (closes_waits_not _ _ answer closed waits)
 
-says_last : (says : ClientSays) (answer : SideOutput) → ClientOutputs says turns.Outcome answer → answer.standing ≢ Wanting
+says_last : (says : ClientSays) (answer : SideOutput) → ClientOutputs says turns.Outcome answer → answer.progress ≢ InProgress
 says_last (Started body) answer is waits = closes_waits_not _ _ answer is waits
 says_last (Answered body) answer is waits = closes_waits_not _ _ answer is waits
 says_last (Reported outcomes.Ok more) answer is waits =
-    logged_in_is_not_wanting (sym (standing_of answer _ is) ∙ waits)
+    logged_in_is_not_wanting (sym (progress_of answer _ is) ∙ waits)
 says_last (Reported outcomes.Auth more) answer is waits = closes_waits_not _ _ answer is waits
 says_last (Reported outcomes.Sys more) answer is waits = closes_waits_not _ _ answer is waits
 says_last (Reported outcomes.SysPerm more) answer is waits = closes_waits_not _ _ answer is waits
@@ -66,18 +66,18 @@ says_last (Reported outcomes.SysTemp more) answer is waits = closes_waits_not _ 
 says_last (ClientRefused OutOfMemory) answer never waits = never
 says_last (ClientRefused NotImplemented) answer closed waits = closes_waits_not _ _ answer closed waits
 says_last (ClientRefused (Scram fault)) answer closed waits = closes_waits_not _ _ answer closed waits
-says_last (ClientRefused OtherKeys) answer closed waits = closes_waits_not _ _ answer closed waits
+says_last (ClientRefused StaleKeys) answer closed waits = closes_waits_not _ _ answer closed waits
 says_last (ClientRefused (FrameFault fault)) answer closed waits = closes_waits_not _ _ answer closed waits
 
 module _ (hostname : Option (List ℕ)) (limit : ℕ) (profile : Profile) (pieces : List Piece) where
   abbrev Is : List ℕ → List ℕ → Side Profile → Type 0
   Is taken sent last = ClientConnection (ProfileSteps hostname) limit profile pieces taken sent last
 
-  abbrev seen : List Turn
+  abbrev seen : List FrameKind
   seen = turns.Mechanisms ∷ turns.Challenge ∷ turns.Outcome ∷ []
 
   header_call : (taken bytes nonce first : List ℕ) (k : ℕ) (next : Side Profile) → length taken < 8
-      → ReceivesAt Wanting (ClientSideAnswers hostname) (record (fresh limit profile) { held = taken }) bytes nonce k first
+      → ReceivesAt InProgress (ClientSideAnswers hostname) (record (fresh limit profile) { held = taken }) bytes nonce k first
       next → Is (taken ++ take k bytes) first next
   header_call taken bytes nonce first k next few (inl (part, waits)) =
       let all : k ≡ length bytes = waits.0 in
@@ -96,7 +96,7 @@ module _ (hostname : Option (List ℕ)) (limit : ℕ) (profile : Profile) (piece
         (
           ap length come ∙ length-take-le 8 (taken ++ bytes) whole,
           (λ header. other.0 (sym come ∙ header)),
-          ap (λ (s : Side Profile). s.standing) ends.2 ∙ standing_of answer _ other.1,
+          ap (λ (s : Side Profile). s.progress) ends.2 ∙ progress_of answer _ other.1,
           ap (λ (s : Side Profile). s.state) ends.2 ∙ answers.1,
         ),
         ends.1 ∙ ap (λ (a : SideOutput). a.sent) other.1,
@@ -108,35 +108,35 @@ module _ (hostname : Option (List ℕ)) (limit : ℕ) (profile : Profile) (piece
           (λ turn s n nonce unit a h. h) limit profile pieces (taken ++ take k bytes) turns.Mechanisms
           (turns.Challenge ∷ turns.Outcome ∷ []) next refl (come ∙ opens.0)
           (ends.2 ∙ (ap (λ (a : SideOutput). record {
-            standing = a.standing;
-            due = a.due;
+            progress = a.progress;
+            expected = a.expected;
             limit = limit;
             held = [];
             state = moved;
           }) opens.1 ∙ ap (λ (p : Profile). record {
-            standing = Wanting;
-            due = Frame turns.Mechanisms;
+            progress = InProgress;
+            expected = Frame turns.Mechanisms;
             limit = limit;
             held = [];
             state = p;
           }) answers.1)))))
 
-  call_at : (standing : Standing) (taken sent : List ℕ) (side next : Side Profile) (bytes nonce first : List ℕ) (k : ℕ)
-      → side.standing ≡ standing → Is taken sent side → IsBytes (taken ++ bytes)
+  call_at : (progress : Progress) (taken sent : List ℕ) (side next : Side Profile) (bytes nonce first : List ℕ) (k : ℕ)
+      → side.progress ≡ progress → Is taken sent side → IsBytes (taken ++ bytes)
       → NextNonces pieces (length taken) k nonce
-      → ReceivesAt standing (ClientSideAnswers hostname) side bytes nonce k first next
+      → ReceivesAt progress (ClientSideAnswers hostname) side bytes nonce k first next
       → Is (taken ++ take k bytes) (sent ++ first) next
-  call_at LoggedIn taken sent side next bytes nonce first k at is are_bytes nonces rests =
+  call_at Authenticated taken sent side next bytes nonce first k at is are_bytes nonces rests =
       rests_there Is taken sent bytes first k side next is rests
-  call_at (Closed why) taken sent side next bytes nonce first k at is are_bytes nonces rests =
+  call_at (Failed why) taken sent side next bytes nonce first k at is are_bytes nonces rests =
       rests_there Is taken sent bytes first k side next is rests
-  call_at Wanting taken sent side next bytes nonce first k at (inl (few, nothing, same)) are_bytes nonces receives =
+  call_at InProgress taken sent side next bytes nonce first k at (inl (few, nothing, same)) are_bytes nonces receives =
       subst (λ (l : List ℕ). Is (taken ++ take k bytes) (l ++ first) next) (sym nothing)
       (header_call taken bytes nonce first k next few
-      (subst (λ (s : Side Profile). ReceivesAt Wanting (ClientSideAnswers hostname) s bytes nonce k first next) same receives))
-  call_at Wanting taken sent side next bytes nonce first k at (inr (inl other)) are_bytes nonces receives =
-      absurd (closed_is_not_wanting OtherHeader (sym other.0.2 ∙ at))
-  call_at Wanting taken sent side next bytes nonce first k at (inr (inr negotiated)) are_bytes nonces receives =
+      (subst (λ (s : Side Profile). ReceivesAt InProgress (ClientSideAnswers hostname) s bytes nonce k first next) same receives))
+  call_at InProgress taken sent side next bytes nonce first k at (inr (inl other)) are_bytes nonces receives =
+      absurd (closed_is_not_wanting ProtocolHeaderMismatch (sym other.0.2 ∙ at))
+  call_at InProgress taken sent side next bytes nonce first k at (inr (inr negotiated)) are_bytes nonces receives =
       inr (inr (negotiated_call (ClientSideAnswers hostname) (ProfileSteps hostname) ClientOutputs seen
       (says_first, (says_next, says_last)) (λ turn s n nonce unit a h. h) limit profile pieces taken sent side next bytes
       nonce first k negotiated at are_bytes nonces receives))
@@ -146,7 +146,7 @@ module _ (hostname : Option (List ℕ)) (limit : ℕ) (profile : Profile) (piece
       → Receives (ClientSideAnswers hostname) side bytes nonce k first next
       → Is (taken ++ take k bytes) (sent ++ first) next
   client_call taken sent side next bytes nonce first k is are_bytes nonces receives =
-      call_at side.standing taken sent side next bytes nonce first k refl is are_bytes nonces receives
+      call_at side.progress taken sent side next bytes nonce first k refl is are_bytes nonces receives
 
   pub client_fresh : Is [] [] (fresh limit profile)
   client_fresh = inl (omega arith, refl, refl)

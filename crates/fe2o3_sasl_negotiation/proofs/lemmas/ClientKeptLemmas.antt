@@ -1,4 +1,4 @@
--- A client's standing and what is due to it, after an answer to a unit.
+-- A client's progress and what is expected to it, after an answer to a unit.
 use Rattle.std.proofs.Common.{◌≡◌, ◌≢◌, ℕ, Option, Some, None, List, [], drop, IsTrue, refl, sym, ◌∙◌, subst, inl, inr, Result, Ok, Err}
 use Rattle.fe2o3_sasl_wire.specs.declared.amqp_types.SaslCode.{SaslCode}
 use Rattle.fe2o3_sasl_wire.specs.declared.amqp_types.SaslCode.TheVariants as outcomes
@@ -6,41 +6,41 @@ use Rattle.fe2o3_sasl_wire.specs.declared.sasl_frames.error.Error.{Error}
 use Rattle.fe2o3_sasl_wire.specs.declared.sasl_frames.error.Error.TheVariants as faults
 use Rattle.fe2o3_sasl_wire.specs.SaslFrames.{SaslFrame, canonical}
 use Rattle.fe2o3_sasl_wire.specs.SaslFrames as frames
-use Rattle.fe2o3_sasl_runs.specs.Bodies.{SpellsBody, carried}
-use Rattle.fe2o3_sasl_runs.specs.Events.{Given, ClientSays, Started, Answered, Reported, Refused as ClientRefused}
-use Rattle.fe2o3_sasl_runs.specs.Profiles.{Profile}
-use Rattle.fe2o3_sasl_runs.specs.Runs.{ProfileSteps, ProfileGives, Replies as ProfileSays}
-use Rattle.fe2o3_sasl_runs.specs.declared.sasl_profile.error.ProfileError.{ProfileError}
-use Rattle.fe2o3_sasl_runs.proofs.lemmas.frames.SpellingLemmas.{one_spelling}
+use Rattle.fe2o3_sasl_core.specs.Bodies.{SpellsBody, carried}
+use Rattle.fe2o3_sasl_core.specs.Events.{Given, ClientSays, Started, Answered, Reported, Refused as ClientRefused}
+use Rattle.fe2o3_sasl_core.specs.Profiles.{Profile}
+use Rattle.fe2o3_sasl_core.specs.Runs.{ProfileSteps, ProfileGives, Replies as ProfileSays}
+use Rattle.fe2o3_sasl_core.specs.declared.sasl_profile.error.ProfileError.{ProfileError}
+use Rattle.fe2o3_sasl_core.proofs.lemmas.frames.SpellingLemmas.{one_spelling}
 use Rattle.fe2o3_sasl_negotiation.specs.declared.framing.Step.{Step}
-use Rattle.fe2o3_sasl_negotiation.specs.declared.standing.ClosedBecause.TheVariants.{OtherHeader, OutOfTurn, ReplyTooLarge, Unread, Refused, Profile as ProfileRefused}
-use Rattle.fe2o3_sasl_negotiation.specs.declared.standing.Due.{Due}
-use Rattle.fe2o3_sasl_negotiation.specs.declared.standing.Due.TheVariants.{Header, Frame}
-use Rattle.fe2o3_sasl_negotiation.specs.declared.standing.Standing.{Standing}
-use Rattle.fe2o3_sasl_negotiation.specs.declared.standing.Standing.TheVariants.{Wanting, LoggedIn, Closed}
-use Rattle.fe2o3_sasl_negotiation.specs.declared.standing.Turn.{Turn}
-use Rattle.fe2o3_sasl_negotiation.specs.declared.standing.Turn.TheVariants as turns
+use Rattle.fe2o3_sasl_negotiation.specs.declared.progress.CloseReason.TheVariants.{ProtocolHeaderMismatch, UnexpectedFrame, ReplyTooLarge, MalformedFrame, Refused, Mechanism as ProfileRefused}
+use Rattle.fe2o3_sasl_negotiation.specs.declared.progress.Expected.{Expected}
+use Rattle.fe2o3_sasl_negotiation.specs.declared.progress.Expected.TheVariants.{Header, Frame}
+use Rattle.fe2o3_sasl_negotiation.specs.declared.progress.Progress.{Progress}
+use Rattle.fe2o3_sasl_negotiation.specs.declared.progress.Progress.TheVariants.{InProgress, Authenticated, Failed}
+use Rattle.fe2o3_sasl_negotiation.specs.declared.progress.FrameKind.{FrameKind}
+use Rattle.fe2o3_sasl_negotiation.specs.declared.progress.FrameKind.TheVariants as turns
 use Rattle.fe2o3_sasl_negotiation.specs.Negotiations.{SideOutput, closes, Sends, IsInTurn}
 use Rattle.fe2o3_sasl_negotiation.specs.ClientNegotiation.{ClientOutputs, ClientReplies, ClientSideAnswers}
-use Rattle.fe2o3_sasl_negotiation.specs.SetDown.{client_due, outcome_due, client_fits}
+use Rattle.fe2o3_sasl_negotiation.specs.Snapshot.{client_due, outcome_due, client_fits}
 use Rattle.fe2o3_sasl_negotiation.specs.private.Units.{Appends}
 use Rattle.fe2o3_sasl_negotiation.proofs.lemmas.KeptLemmas.{unread_is_no_memory}
-use Rattle.fe2o3_sasl_runs.specs.declared.sasl_profile.error.ProfileError.TheVariants.{NotImplemented, Scram, OtherKeys, Frame as FrameFault, OutOfMemory}
+use Rattle.fe2o3_sasl_core.specs.declared.sasl_profile.error.ProfileError.TheVariants.{NotImplemented, Scram, StaleKeys, Frame as FrameFault, OutOfMemory}
 
 -- where an answer is this one
-at_client : (answer other : SideOutput) → answer ≡ other → IsTrue (client_fits other.standing other.due)
-    → IsTrue (client_fits answer.standing answer.due)
-at_client answer other is holds = subst (λ (a : SideOutput). IsTrue (client_fits a.standing a.due)) (sym is) holds
+at_client : (answer other : SideOutput) → answer ≡ other → IsTrue (client_fits other.progress other.expected)
+    → IsTrue (client_fits answer.progress answer.expected)
+at_client answer other is holds = subst (λ (a : SideOutput). IsTrue (client_fits a.progress a.expected)) (sym is) holds
 
-sent_at_client : (body : List ℕ) (due : Due) (answer : SideOutput) → IsTrue (client_due due) → IsTrue (outcome_due due)
-    → Sends body Wanting due answer → IsTrue (client_fits answer.standing answer.due)
-sent_at_client body due answer holds after (inl (fits, is)) =
-    at_client answer (record { sent = _; standing = Wanting; due = due }) is holds
-sent_at_client body due answer holds after (inr (long, is)) = at_client answer (closes ReplyTooLarge due) is after
+sent_at_client : (body : List ℕ) (expected : Expected) (answer : SideOutput) → IsTrue (client_due expected) → IsTrue (outcome_due expected)
+    → Sends body InProgress expected answer → IsTrue (client_fits answer.progress answer.expected)
+sent_at_client body expected answer holds after (inl (fits, is)) =
+    at_client answer (record { sent = _; progress = InProgress; expected = expected }) is holds
+sent_at_client body expected answer holds after (inr (long, is)) = at_client answer (closes ReplyTooLarge expected) is after
 
 -- a client that closes at a frame for a fault of its body
-unread_at_client : (fault : Error) (turn : Turn) → fault ≢ faults.OutOfMemory → IsTrue (client_due (Frame turn))
-    → IsTrue (client_fits (Closed (Unread fault)) (Frame turn))
+unread_at_client : (fault : Error) (turn : FrameKind) → fault ≢ faults.OutOfMemory → IsTrue (client_due (Frame turn))
+    → IsTrue (client_fits (Failed (MalformedFrame fault)) (Frame turn))
 unread_at_client faults.DecodeError turn other unit = unit
 unread_at_client faults.NotImplemented turn other unit = unit
 unread_at_client faults.TooLarge turn other unit = unit
@@ -69,7 +69,7 @@ no_report hostname profile next event names code more spells (spelled, other, gi
         next) is says).0 in absurd (cc)
 
 -- so an outcome comes after the mechanisms
-after_mechanisms : (hostname : Option (List ℕ)) (turn : Turn) (profile next : Profile) (event : Given)
+after_mechanisms : (hostname : Option (List ℕ)) (turn : FrameKind) (profile next : Profile) (event : Given)
     (frame : SaslFrame) (code : SaslCode) (more : Option (List ℕ)) → IsTrue (client_due (Frame turn))
     → SpellsBody event.body (Ok frame) → IsInTurn turn frame
     → ProfileSteps hostname profile event (Reported code more) next → IsTrue (outcome_due (Frame turn))
@@ -88,39 +88,39 @@ after_mechanisms hostname turns.Mechanisms profile next event (frames.Response t
 after_mechanisms hostname turns.Mechanisms profile next event (frames.Outcome other extra) code more unit spells in_turn
     steps = absurd in_turn
 
-refused_at_client : (fault : ProfileError) (turn : Turn) (answer : SideOutput) → IsTrue (client_due (Frame turn))
-    → ClientOutputs (ClientRefused fault) turn answer → IsTrue (client_fits answer.standing answer.due)
+refused_at_client : (fault : ProfileError) (turn : FrameKind) (answer : SideOutput) → IsTrue (client_due (Frame turn))
+    → ClientOutputs (ClientRefused fault) turn answer → IsTrue (client_fits answer.progress answer.expected)
 refused_at_client OutOfMemory turn answer unit says = absurd says
 refused_at_client NotImplemented turn answer unit is =
     at_client answer (closes (ProfileRefused NotImplemented) (Frame turn)) is unit
 refused_at_client (Scram why) turn answer unit is =
     at_client answer (closes (ProfileRefused (Scram why)) (Frame turn)) is unit
-refused_at_client OtherKeys turn answer unit is =
-    at_client answer (closes (ProfileRefused OtherKeys) (Frame turn)) is unit
+refused_at_client StaleKeys turn answer unit is =
+    at_client answer (closes (ProfileRefused StaleKeys) (Frame turn)) is unit
 refused_at_client (FrameFault fault) turn answer unit is =
     at_client answer (closes (ProfileRefused (FrameFault fault)) (Frame turn)) is unit
 
-says_at_client : (says : ClientSays) (turn : Turn) (answer : SideOutput) → IsTrue (client_due (Frame turn))
+says_at_client : (says : ClientSays) (turn : FrameKind) (answer : SideOutput) → IsTrue (client_due (Frame turn))
     → ((code : SaslCode) (more : Option (List ℕ)) → says ≡ Reported code more → IsTrue (outcome_due (Frame turn)))
-    → ClientOutputs says turn answer → IsTrue (client_fits answer.standing answer.due)
+    → ClientOutputs says turn answer → IsTrue (client_fits answer.progress answer.expected)
 says_at_client (Started body) turns.Mechanisms answer unit reports says =
     sent_at_client body (Frame turns.Challenge) answer refl refl says
 says_at_client (Started body) turns.Challenge answer unit reports says =
-    at_client answer (closes OutOfTurn (Frame turns.Challenge)) says refl
+    at_client answer (closes UnexpectedFrame (Frame turns.Challenge)) says refl
 says_at_client (Started body) turns.Outcome answer unit reports says =
-    at_client answer (closes OutOfTurn (Frame turns.Outcome)) says refl
+    at_client answer (closes UnexpectedFrame (Frame turns.Outcome)) says refl
 says_at_client (Started body) turns.Init answer unit reports says = absurd (cc)
 says_at_client (Started body) turns.Response answer unit reports says = absurd (cc)
 says_at_client (Answered body) turns.Challenge answer unit reports says =
     sent_at_client body (Frame turns.Outcome) answer refl refl says
 says_at_client (Answered body) turns.Mechanisms answer unit reports says =
-    at_client answer (closes OutOfTurn (Frame turns.Mechanisms)) says refl
+    at_client answer (closes UnexpectedFrame (Frame turns.Mechanisms)) says refl
 says_at_client (Answered body) turns.Outcome answer unit reports says =
-    at_client answer (closes OutOfTurn (Frame turns.Outcome)) says refl
+    at_client answer (closes UnexpectedFrame (Frame turns.Outcome)) says refl
 says_at_client (Answered body) turns.Init answer unit reports says = absurd (cc)
 says_at_client (Answered body) turns.Response answer unit reports says = absurd (cc)
 says_at_client (Reported outcomes.Ok more) turn answer unit reports says =
-    at_client answer (record { sent = []; standing = LoggedIn; due = Frame turn }) says (reports outcomes.Ok more refl)
+    at_client answer (record { sent = []; progress = Authenticated; expected = Frame turn }) says (reports outcomes.Ok more refl)
 says_at_client (Reported outcomes.Auth more) turn answer unit reports says =
     at_client answer (closes (Refused outcomes.Auth) (Frame turn)) says (reports outcomes.Auth more refl)
 says_at_client (Reported outcomes.Sys more) turn answer unit reports says =
@@ -132,36 +132,36 @@ says_at_client (Reported outcomes.SysTemp more) turn answer unit reports says =
 says_at_client (ClientRefused fault) turn answer unit reports says = refused_at_client fault turn answer unit says
 
 module _ (hostname : Option (List ℕ)) where
-  replied_at_client : (turn : Turn) (profile next : Profile) (event : Given) (answer : SideOutput)
+  replied_at_client : (turn : FrameKind) (profile next : Profile) (event : Given) (answer : SideOutput)
       → IsTrue (client_due (Frame turn)) → ClientReplies hostname turn profile event answer next
-      → IsTrue (client_fits answer.standing answer.due)
+      → IsTrue (client_fits answer.progress answer.expected)
   replied_at_client turn profile next event answer unit (Err fault, spells, (is, same)) =
-      at_client answer (closes (Unread fault) (Frame turn)) is
+      at_client answer (closes (MalformedFrame fault) (Frame turn)) is
       (unread_at_client fault turn (λ wants. unread_is_no_memory event.body (sym spells.0 ∙ wants)) unit)
   replied_at_client turn profile next event answer unit (Ok frame, spells, inl (out, is, same)) =
-      at_client answer (closes OutOfTurn (Frame turn)) is unit
+      at_client answer (closes UnexpectedFrame (Frame turn)) is unit
   replied_at_client turn profile next event answer unit (Ok frame, spells, inr (in_turn, (says, steps, holds))) =
       says_at_client says turn answer unit
       (λ code more is. after_mechanisms hostname turn profile next event frame code more unit spells in_turn
       (subst (λ (s : ClientSays). ProfileSteps hostname profile event s next) is steps)) holds
 
   -- what a client answers to a unit leaves it as a client can be
-  answered_at_client : (due : Due) (profile next : Profile) (nonce unit : List ℕ) (answer : SideOutput)
-      → IsTrue (client_due due) → ClientSideAnswers hostname due profile nonce unit answer next
-      → IsTrue (client_fits answer.standing answer.due)
+  answered_at_client : (expected : Expected) (profile next : Profile) (nonce unit : List ℕ) (answer : SideOutput)
+      → IsTrue (client_due expected) → ClientSideAnswers hostname expected profile nonce unit answer next
+      → IsTrue (client_fits answer.progress answer.expected)
   answered_at_client Header profile next nonce unit answer is (inl (other, same), after) =
-      at_client answer (closes OtherHeader Header) same refl
+      at_client answer (closes ProtocolHeaderMismatch Header) same refl
   answered_at_client Header profile next nonce unit answer is (inr (sasl, same), after) =
-      at_client answer (record { sent = []; standing = Wanting; due = Frame turns.Mechanisms }) same refl
+      at_client answer (record { sent = []; progress = InProgress; expected = Frame turns.Mechanisms }) same refl
   answered_at_client (Frame turn) profile next nonce unit answer is answers =
       replied_at_client turn profile next (record { body = drop 4 unit; nonce = nonce }) answer is answers
 
   -- and so does what it appends
-  pub client_stays : (standing : Standing) (due : Due) (profile next : Profile) (nonce unit old new : List ℕ)
-      (step : Step) → standing ≡ Wanting → IsTrue (client_fits standing due)
-      → Appends (λ answer. ClientSideAnswers hostname due profile nonce unit answer next) old new step
-      → IsTrue (client_fits step.standing step.due)
-  client_stays standing due profile next nonce unit old new step wanting holds (sent, appended, answers) =
-      answered_at_client due profile next nonce unit
-      (record { sent = sent; standing = step.standing; due = step.due })
-      (subst (λ (s : Standing). IsTrue (client_fits s due)) wanting holds) answers
+  pub client_stays : (progress : Progress) (expected : Expected) (profile next : Profile) (nonce unit old new : List ℕ)
+      (step : Step) → progress ≡ InProgress → IsTrue (client_fits progress expected)
+      → Appends (λ answer. ClientSideAnswers hostname expected profile nonce unit answer next) old new step
+      → IsTrue (client_fits step.progress step.expected)
+  client_stays progress expected profile next nonce unit old new step wanting holds (sent, appended, answers) =
+      answered_at_client expected profile next nonce unit
+      (record { sent = sent; progress = step.progress; expected = step.expected })
+      (subst (λ (s : Progress). IsTrue (client_fits s expected)) wanting holds) answers

@@ -7,16 +7,16 @@ use Rattle.bytes.proofs.Ranges.{take-append_past}
 use Rattle.fe2o3_sasl_wire.specs.declared.sasl_frames.error.Error.{Error}
 use Rattle.fe2o3_sasl_wire.specs.SaslFrames.{SaslFrame, IsBytes}
 use Rattle.fe2o3_sasl_wire.proofs.lemmas.reading.StepLemmas.{IsBytes-take, IsBytes-drop}
-use Rattle.fe2o3_sasl_runs.specs.Bodies.{SpellsBody}
-use Rattle.fe2o3_sasl_runs.specs.Events.{Given}
-use Rattle.fe2o3_sasl_runs.specs.Runs.{Runs}
-use Rattle.fe2o3_sasl_negotiation.specs.declared.standing.ClosedBecause.{ClosedBecause}
-use Rattle.fe2o3_sasl_negotiation.specs.declared.standing.ClosedBecause.TheVariants.{FrameSize, OutOfTurn, Unread}
-use Rattle.fe2o3_sasl_negotiation.specs.declared.standing.Due.{Due}
-use Rattle.fe2o3_sasl_negotiation.specs.declared.standing.Due.TheVariants.{Frame}
-use Rattle.fe2o3_sasl_negotiation.specs.declared.standing.Standing.{Standing}
-use Rattle.fe2o3_sasl_negotiation.specs.declared.standing.Standing.TheVariants.{Wanting, LoggedIn, Closed}
-use Rattle.fe2o3_sasl_negotiation.specs.declared.standing.Turn.{Turn}
+use Rattle.fe2o3_sasl_core.specs.Bodies.{SpellsBody}
+use Rattle.fe2o3_sasl_core.specs.Events.{Given}
+use Rattle.fe2o3_sasl_core.specs.Runs.{Runs}
+use Rattle.fe2o3_sasl_negotiation.specs.declared.progress.CloseReason.{CloseReason}
+use Rattle.fe2o3_sasl_negotiation.specs.declared.progress.CloseReason.TheVariants.{FrameSize, UnexpectedFrame, MalformedFrame}
+use Rattle.fe2o3_sasl_negotiation.specs.declared.progress.Expected.{Expected}
+use Rattle.fe2o3_sasl_negotiation.specs.declared.progress.Expected.TheVariants.{Frame}
+use Rattle.fe2o3_sasl_negotiation.specs.declared.progress.Progress.{Progress}
+use Rattle.fe2o3_sasl_negotiation.specs.declared.progress.Progress.TheVariants.{InProgress, Authenticated, Failed}
+use Rattle.fe2o3_sasl_negotiation.specs.declared.progress.FrameKind.{FrameKind}
 use Rattle.fe2o3_sasl_negotiation.specs.Connections.{Piece, bytes_of, PieceNonceAt, frames_of, SpellsTurn, AreFrames, LeftOver, Unanswered, Replied, Negotiated, ArePieces}
 use Rattle.fe2o3_sasl_negotiation.specs.Framing.{sasl_header, framed, size_of, Fits, unit_size, IsPart, IsRefused, IsWhole}
 use Rattle.fe2o3_sasl_negotiation.specs.Laws.{Call, Calls}
@@ -26,46 +26,46 @@ use Rattle.fe2o3_sasl_negotiation.proofs.lemmas.CutLemmas.{nothing_is_part, refu
 use Rattle.fe2o3_sasl_negotiation.proofs.lemmas.FramingLemmas.{size_of-append, part_is_shorter, refused_is_short}
 use Rattle.fe2o3_sasl_negotiation.proofs.lemmas.PieceLemmas.{nonce_of_piece, is_framed, frames_of-more, frames_of_more, one_frame_more, IsChain, due_after, one_reply_more, as_many, one_step_more}
 
--- the three standings are three
-pub logged_in_is_not_wanting : LoggedIn ≢ Wanting
+-- the three progresses are three
+pub logged_in_is_not_wanting : Authenticated ≢ InProgress
 logged_in_is_not_wanting same = cc
 
-pub closed_is_not_wanting : (why : ClosedBecause) → Closed why ≢ Wanting
+pub closed_is_not_wanting : (why : CloseReason) → Failed why ≢ InProgress
 closed_is_not_wanting why same = cc
 
-pub closed_is_not_logged_in : (why : ClosedBecause) → Closed why ≢ LoggedIn
+pub closed_is_not_logged_in : (why : CloseReason) → Failed why ≢ Authenticated
 closed_is_not_logged_in why same = cc
 
 -- a side that waits for a frame of this turn, of which these bytes have come
-abbrev pub holding : {S : Type 0} → Turn → ℕ → List ℕ → S → Side S
+abbrev pub holding : {S : Type 0} → FrameKind → ℕ → List ℕ → S → Side S
 holding turn limit tail state =
-    record { standing = Wanting; due = Frame turn; limit = limit; held = tail; state = state }
+    record { progress = InProgress; expected = Frame turn; limit = limit; held = tail; state = state }
 
 -- the body of the frame with which these bytes begin
 abbrev pub first_body : List ℕ → List ℕ
 first_body come = drop 4 (take (size_of come) come)
 
-module _ {S A : Type 0} (Answers : Due → S → List ℕ → List ℕ → SideOutput → S → Type 0) (Steps : S → Given → A → S → Type 0)
-    (Says : A → Turn → SideOutput → Type 0) (turns : List Turn) (chain : IsChain Says turns)
-    (asks : (turn : Turn) (state next : S) (nonce unit : List ℕ) (answer : SideOutput)
+module _ {S A : Type 0} (Answers : Expected → S → List ℕ → List ℕ → SideOutput → S → Type 0) (Steps : S → Given → A → S → Type 0)
+    (Says : A → FrameKind → SideOutput → Type 0) (turns : List FrameKind) (chain : IsChain Says turns)
+    (asks : (turn : FrameKind) (state next : S) (nonce unit : List ℕ) (answer : SideOutput)
     → Answers (Frame turn) state nonce unit answer next
     → (spelled : Result SaslFrame Error) × SpellsBody (drop 4 unit) spelled
     × AnswersTo (λ (a : SideOutput) (s : S). (says : A) × Steps state (record { body = drop 4 unit; nonce = nonce }) says s
     × Says says turn a) turn state spelled answer next) where
   module _ (limit : ℕ) (state mid : S) (pieces : List Piece) (taken sent tail : List ℕ) (events : List Given)
-      (replies : List A) (before : SideOutput) (turn : Turn)
+      (replies : List A) (before : SideOutput) (turn : FrameKind)
       (carried : taken ≡ sasl_header ++ (frames_of events ++ tail)) (frames : AreFrames pieces limit 8 turns events)
       (run : Runs Steps state events replies mid) (replied : Replied Says turns replies before)
-      (sends : sent ≡ before.sent) (wants : before.standing ≡ Wanting) (due : before.due ≡ Frame turn)
+      (sends : sent ≡ before.sent) (wants : before.progress ≡ InProgress) (expected : before.expected ≡ Frame turn)
       (part : IsPart (Frame turn) limit tail) where
     abbrev Goes : List ℕ → List ℕ → Side S → Type 0
     Goes more first next = Negotiated Steps Says turns limit state pieces (taken ++ more) (sent ++ first) next
 
     -- nothing more is answered
-    stays : (more : List ℕ) (next : Side S) → LeftOver turn limit (tail ++ more) next.standing → next.state ≡ mid
-        → (next.standing ≡ Wanting → next ≡ record {
-          standing = Wanting;
-          due = before.due;
+    stays : (more : List ℕ) (next : Side S) → LeftOver turn limit (tail ++ more) next.progress → next.state ≡ mid
+        → (next.progress ≡ InProgress → next ≡ record {
+          progress = InProgress;
+          expected = before.expected;
           limit = limit;
           held = tail ++ more;
           state = next.state;
@@ -81,16 +81,16 @@ module _ {S A : Type 0} (Answers : Due → S → List ℕ → List ℕ → SideO
       run = subst (λ (s : S). Runs Steps state events replies s) (sym same) run;
       replied = replied;
       sends = append-nil sent ∙ sends;
-      ends = inl (turn, wants, due, left);
+      ends = inl (turn, wants, expected, left);
       waits = waits;
     }
 
-    closes_here : (more first : List ℕ) (next : Side S) (why : ClosedBecause) → first ≡ []
-        → next.standing ≡ Closed why → next.state ≡ mid → LeftOver turn limit (tail ++ more) (Closed why)
+    closes_here : (more first : List ℕ) (next : Side S) (why : CloseReason) → first ≡ []
+        → next.progress ≡ Failed why → next.state ≡ mid → LeftOver turn limit (tail ++ more) (Failed why)
         → Goes more first next
     closes_here more first next why nothing closed same left =
         subst (λ (l : List ℕ). Goes more l next) (sym nothing)
-        (stays more next (subst (λ (s : Standing). LeftOver turn limit (tail ++ more) s) (sym closed) left) same
+        (stays more next (subst (λ (s : Progress). LeftOver turn limit (tail ++ more) s) (sym closed) left) same
         (λ waits. absurd (closed_is_not_wanting why (sym closed ∙ waits))))
 
     -- the bytes that complete n of a unit
@@ -104,20 +104,20 @@ module _ {S A : Type 0} (Answers : Due → S → List ℕ → List ℕ → SideO
     part_call bytes first k next is_part (all, nothing, same) =
         subst (λ (l : List ℕ). Goes l first next) (sym (take_all k bytes (omega (arith, all))))
         (subst (λ (l : List ℕ). Goes bytes l next) (sym nothing)
-        (stays bytes next (inl (is_part, ap (λ (s : Side S). s.standing) same)) (ap (λ (s : Side S). s.state) same)
+        (stays bytes next (inl (is_part, ap (λ (s : Side S). s.progress) same)) (ap (λ (s : Side S). s.state) same)
         (λ _. subst (λ (s : Side S). s ≡ record {
-          standing = Wanting;
-          due = before.due;
+          progress = InProgress;
+          expected = before.expected;
           limit = limit;
           held = tail ++ bytes;
           state = s.state;
-        }) (sym same) (ap (λ (d : Due). record {
-          standing = Wanting;
-          due = d;
+        }) (sym same) (ap (λ (d : Expected). record {
+          progress = InProgress;
+          expected = d;
           limit = limit;
           held = tail ++ bytes;
           state = mid;
-        }) (sym due)))))
+        }) (sym expected)))))
 
     -- a size that no frame may have
     refused_call : (bytes first : List ℕ) (k : ℕ) (next : Side S) → IsRefused (Frame turn) limit (tail ++ bytes)
@@ -130,7 +130,7 @@ module _ {S A : Type 0} (Answers : Due → S → List ℕ → List ℕ → SideO
         sym (size_of-append (take 4 (tail ++ bytes)) (drop 4 (tail ++ bytes)) (omega (arith, four)))
         ∙ ap size_of (take-append-drop 4 (tail ++ bytes)) in
         let come = completes bytes 4 k (omega (arith, few)) all in
-        closes_here (take k bytes) first next FrameSize nothing (ap (λ (s : Side S). s.standing) same)
+        closes_here (take k bytes) first next FrameSize nothing (ap (λ (s : Side S). s.progress) same)
         (ap (λ (s : Side S). s.state) same)
         (inr (inl (
           ap length come ∙ four,
@@ -184,11 +184,11 @@ module _ {S A : Type 0} (Answers : Due → S → List ℕ → List ℕ → SideO
       fits = subst (λ (n : ℕ). Fits limit n) (sym body_count) whole.0
 
       -- which is not answered
-      not_answered : (spelled : Result SaslFrame Error) (why : ClosedBecause) → SpellsBody (drop 4 unit) spelled
+      not_answered : (spelled : Result SaslFrame Error) (why : CloseReason) → SpellsBody (drop 4 unit) spelled
           → Unanswered turn spelled why → answer ≡ closes why (Frame turn) → moved ≡ mid → Goes (take k bytes) first next
       not_answered spelled why spells unanswered closed kept =
           closes_here (take k bytes) first next why (ends.1 ∙ ap (λ (a : SideOutput). a.sent) closed)
-          (ap (λ (s : Side S). s.standing) ends.2 ∙ ap (λ (a : SideOutput). a.standing) closed)
+          (ap (λ (s : Side S). s.progress) ends.2 ∙ ap (λ (a : SideOutput). a.progress) closed)
           (ap (λ (s : Side S). s.state) ends.2 ∙ kept)
           (inr (inr (drop 4 unit, spelled, why, come ∙ is, fits, spells, unanswered, refl)))
 
@@ -228,48 +228,48 @@ module _ {S A : Type 0} (Answers : Due → S → List ℕ → List ℕ → SideO
             (one_step_more Steps state events replies mid event says moved run steps);
         replied = more;
         sends = ap (λ l. l ++ first) sends ∙ ap (λ l. before.sent ++ l) ends.1;
-        ends = go answer.standing refl;
+        ends = go answer.progress refl;
         waits = λ waiting. ap (λ (s : Side S). record s { state = next.state }) ends.2
-            ∙ ap (λ (s : Standing). record {
-              standing = s;
-              due = answer.due;
+            ∙ ap (λ (s : Progress). record {
+              progress = s;
+              expected = answer.expected;
               limit = limit;
               held = [];
               state = next.state;
-            }) (sym standing_is ∙ waiting);
+            }) (sym progress_is ∙ waiting);
       }
         where
           after : SideOutput
           after = record answer { sent = before.sent ++ answer.sent }
 
           more : Replied Says turns (replies ++ says ∷ []) (record answer { sent = before.sent ++ answer.sent })
-          more = one_reply_more Says turns replies before answer turn says chain replied wants due said
+          more = one_reply_more Says turns replies before answer turn says chain replied wants expected said
 
           at : slice_get turns (length events) ≡ Some turn
           at =
               let (other, same, here) = due_after Says turns replies before chain replied wants in
-              let one : other ≡ turn = (let two : Frame other ≡ Frame turn = sym same ∙ due in cc) in
+              let one : other ≡ turn = (let two : Frame other ≡ Frame turn = sym same ∙ expected in cc) in
               subst (λ (n : ℕ). slice_get turns n ≡ Some turn) (as_many Steps state mid events replies run)
-              (subst (λ (t : Turn). slice_get turns (length replies) ≡ Some t) one here)
+              (subst (λ (t : FrameKind). slice_get turns (length replies) ≡ Some t) one here)
 
-          standing_is : next.standing ≡ answer.standing
-          standing_is = ap (λ (s : Side S). s.standing) ends.2
+          progress_is : next.progress ≡ answer.progress
+          progress_is = ap (λ (s : Side S). s.progress) ends.2
 
-          go : (standing : Standing) → answer.standing ≡ standing
-              → ((turn : Turn) × (answer.standing ≡ Wanting) × (answer.due ≡ Frame turn)
-              × LeftOver turn limit [] next.standing)
-              ⊎ ((answer.standing ≢ Wanting) × (next.standing ≡ answer.standing) × (◌≡◌ {A = List ℕ} [] []))
-          go Wanting w =
+          go : (progress : Progress) → answer.progress ≡ progress
+              → ((turn : FrameKind) × (answer.progress ≡ InProgress) × (answer.expected ≡ Frame turn)
+              × LeftOver turn limit [] next.progress)
+              ⊎ ((answer.progress ≢ InProgress) × (next.progress ≡ answer.progress) × (◌≡◌ {A = List ℕ} [] []))
+          go InProgress w =
               let (other, same, here) = due_after Says turns (replies ++ says ∷ [])
               (record answer { sent = before.sent ++ answer.sent }) chain more w in
-              inl (other, w, same, inl (nothing_is_part (Frame other) limit, standing_is ∙ w))
-          go LoggedIn w = inr ((λ waits. logged_in_is_not_wanting (sym w ∙ waits)), standing_is, refl)
-          go (Closed why) w = inr ((λ waits. closed_is_not_wanting why (sym w ∙ waits)), standing_is, refl)
+              inl (other, w, same, inl (nothing_is_part (Frame other) limit, progress_is ∙ w))
+          go Authenticated w = inr ((λ waits. logged_in_is_not_wanting (sym w ∙ waits)), progress_is, refl)
+          go (Failed why) w = inr ((λ waits. closed_is_not_wanting why (sym w ∙ waits)), progress_is, refl)
 
     -- a call
     pub one_call : (bytes nonce first : List ℕ) (k : ℕ) (next : Side S) → IsBytes (tail ++ bytes)
         → NextNonces pieces (length taken) k nonce
-        → ReceivesAt Wanting Answers (holding turn limit tail mid) bytes nonce k first next
+        → ReceivesAt InProgress Answers (holding turn limit tail mid) bytes nonce k first next
         → Goes (take k bytes) first next
     one_call bytes nonce first k next are_bytes nonces (inl (is_part, waits)) = part_call bytes first k next is_part waits
     one_call bytes nonce first k next are_bytes nonces (inr (inl (refused, ends))) =
@@ -282,39 +282,39 @@ module _ {S A : Type 0} (Answers : Due → S → List ℕ → List ℕ → SideO
             × Steps mid (record { body = first_body (tail ++ bytes); nonce = nonce }) says s
             × Says says turn a) turn mid spelled answer moved → Goes (take k bytes) first next
         go (Err fault, spells, closed) =
-            not_answered bytes nonce first k next answer moved are_bytes nonces whole ends (Err fault) (Unread fault)
+            not_answered bytes nonce first k next answer moved are_bytes nonces whole ends (Err fault) (MalformedFrame fault)
             spells refl closed.0 closed.1
         go (Ok frame, spells, inl out) =
-            not_answered bytes nonce first k next answer moved are_bytes nonces whole ends (Ok frame) OutOfTurn spells
+            not_answered bytes nonce first k next answer moved are_bytes nonces whole ends (Ok frame) UnexpectedFrame spells
             (out.0, refl) out.1 out.2
         go (Ok frame, spells, inr asked) =
             answered bytes nonce first k next answer moved are_bytes nonces whole ends frame asked.1.0 spells
             (frame, spells, asked.0) asked.1.1 asked.1.2
 
   -- a side that waits for a header has seen the one of SASL
-  pub opened : (limit : ℕ) (state : S) (pieces : List Piece) (taken : List ℕ) (turn : Turn) (others : List Turn)
+  pub opened : (limit : ℕ) (state : S) (pieces : List Piece) (taken : List ℕ) (turn : FrameKind) (others : List FrameKind)
       (next : Side S) → turns ≡ turn ∷ others → taken ≡ sasl_header → next ≡ holding turn limit [] state
       → Negotiated Steps Says turns limit state pieces taken [] next
   opened limit state pieces taken turn others next are header same = record {
     events = [];
     replies = [];
-    answer = record { sent = []; standing = Wanting; due = Frame turn };
+    answer = record { sent = []; progress = InProgress; expected = Frame turn };
     tail = [];
     carried = header;
     frames = tt;
     run = (refl, ap (λ (s : Side S). s.state) same);
-    replied = subst (λ (t : List Turn). Replied Says t [] (record { sent = []; standing = Wanting; due = Frame turn }))
+    replied = subst (λ (t : List FrameKind). Replied Says t [] (record { sent = []; progress = InProgress; expected = Frame turn }))
         (sym are) refl;
     sends = refl;
-    ends = inl (turn, refl, refl, inl (nothing_is_part (Frame turn) limit, ap (λ (s : Side S). s.standing) same));
+    ends = inl (turn, refl, refl, inl (nothing_is_part (Frame turn) limit, ap (λ (s : Side S). s.progress) same));
     waits = λ _. subst (λ (s : Side S). s ≡ holding turn limit [] s.state) (sym same) refl;
   }
 
   -- a call to a side that has seen it
   pub negotiated_call : (limit : ℕ) (state : S) (pieces : List Piece) (taken sent : List ℕ) (side next : Side S)
       (bytes nonce first : List ℕ) (k : ℕ) → Negotiated Steps Says turns limit state pieces taken sent side
-      → side.standing ≡ Wanting → IsBytes (taken ++ bytes) → NextNonces pieces (length taken) k nonce
-      → ReceivesAt Wanting Answers side bytes nonce k first next
+      → side.progress ≡ InProgress → IsBytes (taken ++ bytes) → NextNonces pieces (length taken) k nonce
+      → ReceivesAt InProgress Answers side bytes nonce k first next
       → Negotiated Steps Says turns limit state pieces (taken ++ take k bytes) (sent ++ first) next
   negotiated_call limit state pieces taken sent side next bytes nonce first k n waits are_bytes nonces receives =
       go n.ends
@@ -328,28 +328,28 @@ module _ {S A : Type 0} (Answers : Due → S → List ℕ → List ℕ → SideO
           subst (λ (l : List ℕ). IsBytes l) (drop_at front (n.tail ++ bytes) (length front) refl)
           (IsBytes-drop (length front) (front ++ (n.tail ++ bytes)) (subst (λ (l : List ℕ). IsBytes l) same are_bytes))
 
-      at : (turn : Turn) → n.answer.due ≡ Frame turn → side ≡ holding turn limit n.tail side.state
-      at turn due = n.waits waits ∙ ap (λ (d : Due). record {
-        standing = Wanting;
-        due = d;
+      at : (turn : FrameKind) → n.answer.expected ≡ Frame turn → side ≡ holding turn limit n.tail side.state
+      at turn expected = n.waits waits ∙ ap (λ (d : Expected). record {
+        progress = InProgress;
+        expected = d;
         limit = limit;
         held = n.tail;
         state = side.state;
-      }) due
+      }) expected
 
-      left : (turn : Turn) → n.answer.standing ≡ Wanting → n.answer.due ≡ Frame turn
-          → LeftOver turn limit n.tail side.standing
+      left : (turn : FrameKind) → n.answer.progress ≡ InProgress → n.answer.expected ≡ Frame turn
+          → LeftOver turn limit n.tail side.progress
           → Negotiated Steps Says turns limit state pieces (taken ++ take k bytes) (sent ++ first) next
-      left turn wants due (inl part) =
+      left turn wants expected (inl part) =
           one_call limit state side.state pieces taken sent n.tail n.events n.replies n.answer turn n.carried n.frames
-          n.run n.replied n.sends wants due part.0 bytes nonce first k next left_bytes nonces
-          (subst (λ (s : Side S). ReceivesAt Wanting Answers s bytes nonce k first next) (at turn due) receives)
-      left turn wants due (inr (inl size)) = absurd (closed_is_not_wanting FrameSize (sym size.2 ∙ waits))
-      left turn wants due (inr (inr frame)) = absurd (closed_is_not_wanting frame.2 (sym frame.7 ∙ waits))
+          n.run n.replied n.sends wants expected part.0 bytes nonce first k next left_bytes nonces
+          (subst (λ (s : Side S). ReceivesAt InProgress Answers s bytes nonce k first next) (at turn expected) receives)
+      left turn wants expected (inr (inl size)) = absurd (closed_is_not_wanting FrameSize (sym size.2 ∙ waits))
+      left turn wants expected (inr (inr frame)) = absurd (closed_is_not_wanting frame.2 (sym frame.7 ∙ waits))
 
-      go : ((turn : Turn) × (n.answer.standing ≡ Wanting) × (n.answer.due ≡ Frame turn)
-          × LeftOver turn limit n.tail side.standing)
-          ⊎ ((n.answer.standing ≢ Wanting) × (side.standing ≡ n.answer.standing) × (n.tail ≡ []))
+      go : ((turn : FrameKind) × (n.answer.progress ≡ InProgress) × (n.answer.expected ≡ Frame turn)
+          × LeftOver turn limit n.tail side.progress)
+          ⊎ ((n.answer.progress ≢ InProgress) × (side.progress ≡ n.answer.progress) × (n.tail ≡ []))
           → Negotiated Steps Says turns limit state pieces (taken ++ take k bytes) (sent ++ first) next
       go (inl waiting) = left waiting.0 waiting.1 waiting.2 waiting.3
       go (inr ended) = absurd (ended.0 (sym ended.1 ∙ waits))
@@ -375,21 +375,21 @@ module _ {S A : Type 0} (Answers : Due → S → List ℕ → List ℕ → SideO
 -- ---- calls
 
 -- a call takes no more than it is handed
-taken_within : {S : Type 0} (Answers : Due → S → List ℕ → List ℕ → SideOutput → S → Type 0) (side next : Side S)
-    (bytes nonce first : List ℕ) (k : ℕ) (standing : Standing)
-    → ReceivesAt standing Answers side bytes nonce k first next → k ≤ length bytes
-taken_within Answers side next bytes nonce first k Wanting (inl waits) =
+taken_within : {S : Type 0} (Answers : Expected → S → List ℕ → List ℕ → SideOutput → S → Type 0) (side next : Side S)
+    (bytes nonce first : List ℕ) (k : ℕ) (progress : Progress)
+    → ReceivesAt progress Answers side bytes nonce k first next → k ≤ length bytes
+taken_within Answers side next bytes nonce first k InProgress (inl waits) =
     let all : k ≡ length bytes = waits.1.0 in omega (arith, all)
-taken_within Answers side next bytes nonce first k Wanting (inr (inl refused)) =
-    let four = refused_long side.due side.limit (side.held ++ bytes) refused.0 in
+taken_within Answers side next bytes nonce first k InProgress (inr (inl refused)) =
+    let four = refused_long side.expected side.limit (side.held ++ bytes) refused.0 in
     let is : k ≡ 4 - length side.held = refused.1.0 in
     omega (arith, four, is, length-append side.held bytes)
-taken_within Answers side next bytes nonce first k Wanting (inr (inr whole)) =
-    let long = whole_long side.due side.limit (side.held ++ bytes) whole.2 in
-    let is : k ≡ unit_size side.due (side.held ++ bytes) - length side.held = whole.4.0 in
+taken_within Answers side next bytes nonce first k InProgress (inr (inr whole)) =
+    let long = whole_long side.expected side.limit (side.held ++ bytes) whole.2 in
+    let is : k ≡ unit_size side.expected (side.held ++ bytes) - length side.held = whole.4.0 in
     omega (arith, long, is, length-append side.held bytes)
-taken_within Answers side next bytes nonce first k LoggedIn rests = let is : k ≡ 0 = rests.0 in omega (arith, is)
-taken_within Answers side next bytes nonce first k (Closed why) rests = let is : k ≡ 0 = rests.0 in omega (arith, is)
+taken_within Answers side next bytes nonce first k Authenticated rests = let is : k ≡ 0 = rests.0 in omega (arith, is)
+taken_within Answers side next bytes nonce first k (Failed why) rests = let is : k ≡ 0 = rests.0 in omega (arith, is)
 
 -- a call to a side at its end
 pub rests_there : {S : Type 0} (Is : List ℕ → List ℕ → Side S → Type 0) (taken sent bytes first : List ℕ) (k : ℕ)
@@ -405,7 +405,7 @@ bytes_of-more : (pieces : List Piece) (piece : Piece) → bytes_of (pieces ++ pi
 bytes_of-more pieces piece =
     flat_map-append (λ (p : Piece). p.bytes) pieces (piece ∷ []) ∙ ap (λ l. bytes_of pieces ++ l) (append-nil piece.bytes)
 
-module _ {S : Type 0} (Answers : Due → S → List ℕ → List ℕ → SideOutput → S → Type 0)
+module _ {S : Type 0} (Answers : Expected → S → List ℕ → List ℕ → SideOutput → S → Type 0)
     (Is : List Piece → List ℕ → List ℕ → Side S → Type 0)
     (one_more : (pieces : List Piece) (taken sent : List ℕ) (side next : Side S) (bytes nonce first : List ℕ) (k : ℕ)
     → Is pieces taken sent side → IsBytes (taken ++ bytes) → NextNonces pieces (length taken) k nonce
@@ -428,7 +428,7 @@ module _ {S : Type 0} (Answers : Due → S → List ℕ → List ℕ → SideOut
   in_calls (call ∷ calls) done side last stream before sent rest is are_bytes
       (k, first, next, behind, receives, more, all) =
       let handed = take call.handed stream in
-      let within : k ≤ length handed = taken_within Answers side next handed call.nonce first k side.standing receives in
+      let within : k ≤ length handed = taken_within Answers side next handed call.nonce first k side.progress receives in
       let few : k ≤ call.handed = omega (arith, within, length-take call.handed stream) in
       let piece : Piece = record { bytes = take k handed; nonce = call.nonce } in
       let front : take k handed ≡ take k stream = take-take k call.handed stream few in

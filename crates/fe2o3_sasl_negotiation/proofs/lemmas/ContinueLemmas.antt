@@ -5,14 +5,14 @@ use Rattle.std.proofs.lemmas.List.{append-nil, length-map, length-take-le, take-
 use Rattle.bytes.proofs.Ranges.{take-append_past}
 use Rattle.fe2o3_sasl_wire.specs.SaslFrames.{IsBytes}
 use Rattle.fe2o3_sasl_wire.proofs.lemmas.reading.StepLemmas.{IsBytes-take}
-use Rattle.fe2o3_sasl_negotiation.specs.declared.standing.Due.{Due}
+use Rattle.fe2o3_sasl_negotiation.specs.declared.progress.Expected.{Expected}
 use Rattle.fe2o3_sasl_negotiation.specs.Connections.{Piece, PieceNonceAt, bytes_of}
 use Rattle.fe2o3_sasl_negotiation.specs.Negotiations.{Side, SideOutput, Receives}
 use Rattle.fe2o3_sasl_negotiation.specs.Pieces.{first_bytes}
 use Rattle.fe2o3_sasl_negotiation.specs.private.Pieces.{NextNonces, Continues}
 use Rattle.fe2o3_sasl_negotiation.proofs.lemmas.PieceLemmas.{nonce_of_piece}
 
-module _ {S : Type 0} (Answers : Due → S → List ℕ → List ℕ → SideOutput → S → Type 0)
+module _ {S : Type 0} (Answers : Expected → S → List ℕ → List ℕ → SideOutput → S → Type 0)
     (Is : List Piece → List ℕ → List ℕ → Side S → Type 0)
     (one_more : (pieces : List Piece) (taken sent : List ℕ) (side next : Side S) (bytes nonce first : List ℕ) (k : ℕ)
     → Is pieces taken sent side → IsBytes (taken ++ bytes) → NextNonces pieces (length taken) k nonce

@@ -1,10 +1,10 @@
 -- What calls cost in sum: one of them at most is of a cost, and behind it none is.
 use Rattle.std.proofs.Common.{◌≡◌, ◌⊎◌, ℕ, ◌+◌, ◌<◌, ◌≤◌, List, [], ◌∷◌, ◌++◌, length, take, drop, refl, ap, ◌∙◌, subst, sym, inl, inr, arith}
-use Rattle.fe2o3_sasl_negotiation.specs.declared.standing.Due.{Due}
-use Rattle.fe2o3_sasl_negotiation.specs.declared.standing.Due.TheVariants.{Frame}
-use Rattle.fe2o3_sasl_negotiation.specs.declared.standing.Standing.{Standing}
-use Rattle.fe2o3_sasl_negotiation.specs.declared.standing.Standing.TheVariants.{Wanting, LoggedIn, Closed}
-use Rattle.fe2o3_sasl_negotiation.specs.declared.standing.Turn.{Turn}
+use Rattle.fe2o3_sasl_negotiation.specs.declared.progress.Expected.{Expected}
+use Rattle.fe2o3_sasl_negotiation.specs.declared.progress.Expected.TheVariants.{Frame}
+use Rattle.fe2o3_sasl_negotiation.specs.declared.progress.Progress.{Progress}
+use Rattle.fe2o3_sasl_negotiation.specs.declared.progress.Progress.TheVariants.{InProgress, Authenticated, Failed}
+use Rattle.fe2o3_sasl_negotiation.specs.declared.progress.FrameKind.{FrameKind}
 use Rattle.fe2o3_sasl_negotiation.specs.CostLaws.{MeteredCalls}
 use Rattle.fe2o3_sasl_negotiation.specs.Framing.{size_of, unit_size, IsPart, IsRefused, IsWhole}
 use Rattle.fe2o3_sasl_negotiation.specs.Laws.{Call}
@@ -17,7 +17,7 @@ none before after most same = (omega (arith, same), omega (arith, same))
 pub same_of : (before after : ℕ) → before ≤ after → after ≤ before + 0 → after ≡ before
 same_of before after least most = omega (arith, least, most)
 
-module _ {S : Type 0} (Answers : Due → S → List ℕ → List ℕ → SideOutput → S → Type 0)
+module _ {S : Type 0} (Answers : Expected → S → List ℕ → List ℕ → SideOutput → S → Type 0)
     (Costs : Side S → List ℕ → List ℕ → ℕ → ℕ → Type 0) (most : ℕ) (Open Done : Side S → Type 0) where
   -- a call to an open side costs nothing and leaves it open, or costs what it may and is the last that does
   abbrev pub OpenSteps : Type 0
@@ -61,56 +61,56 @@ module _ {S : Type 0} (Answers : Due → S → List ℕ → List ℕ → SideOut
           let rest : after ≡ between = done_calls ends calls next (drop taken stream) between after done others in
           (omega (arith, least, rest), omega (arith, bound, rest))
 
-module _ {S : Type 0} (Answers : Due → S → List ℕ → List ℕ → SideOutput → S → Type 0) where
+module _ {S : Type 0} (Answers : Expected → S → List ℕ → List ℕ → SideOutput → S → Type 0) where
   -- a side at its end rests
-  pub rests : (standing : Standing) (side next : Side S) (bytes nonce sent : List ℕ) (taken : ℕ)
-      → (standing ≡ Wanting → ⊥) → ReceivesAt standing Answers side bytes nonce taken sent next → next ≡ side
-  rests Wanting side next bytes nonce sent taken ended holds = absurd (ended refl)
-  rests LoggedIn side next bytes nonce sent taken ended holds = holds.2
-  rests (Closed why) side next bytes nonce sent taken ended holds = holds.2
+  pub rests : (progress : Progress) (side next : Side S) (bytes nonce sent : List ℕ) (taken : ℕ)
+      → (progress ≡ InProgress → ⊥) → ReceivesAt progress Answers side bytes nonce taken sent next → next ≡ side
+  rests InProgress side next bytes nonce sent taken ended holds = absurd (ended refl)
+  rests Authenticated side next bytes nonce sent taken ended holds = holds.2
+  rests (Failed why) side next bytes nonce sent taken ended holds = holds.2
 
-  -- a call leaves the state, the unit that is due and how the side stands, or closes, or answers a whole unit
+  -- a call leaves the state, the unit that is expected and how the side stands, or closes, or answers a whole unit
   abbrev pub Left : Side S → List ℕ → List ℕ → Side S → Type 0
   Left side bytes nonce next =
-      ((next.standing ≡ side.standing) × (next.due ≡ side.due) × (next.state ≡ side.state))
-      ⊎ (((next.standing ≡ Wanting → ⊥) × (next.state ≡ side.state))
-      ⊎ ((answer : SideOutput) × (unit : List ℕ) × Answers side.due side.state nonce unit answer next.state
-      × (next.standing ≡ answer.standing) × (next.due ≡ answer.due)))
+      ((next.progress ≡ side.progress) × (next.expected ≡ side.expected) × (next.state ≡ side.state))
+      ⊎ (((next.progress ≡ InProgress → ⊥) × (next.state ≡ side.state))
+      ⊎ ((answer : SideOutput) × (unit : List ℕ) × Answers side.expected side.state nonce unit answer next.state
+      × (next.progress ≡ answer.progress) × (next.expected ≡ answer.expected)))
 
-  pub leaves : (standing : Standing) (side next : Side S) (bytes nonce sent : List ℕ) (taken : ℕ)
-      → ReceivesAt standing Answers side bytes nonce taken sent next
+  pub leaves : (progress : Progress) (side next : Side S) (bytes nonce sent : List ℕ) (taken : ℕ)
+      → ReceivesAt progress Answers side bytes nonce taken sent next
       → Left side bytes nonce next
-  leaves Wanting side next bytes nonce sent taken (inl waits) = inl (
-    ap (λ (s : Side S). s.standing) waits.1.2,
-    ap (λ (s : Side S). s.due) waits.1.2,
+  leaves InProgress side next bytes nonce sent taken (inl waits) = inl (
+    ap (λ (s : Side S). s.progress) waits.1.2,
+    ap (λ (s : Side S). s.expected) waits.1.2,
     ap (λ (s : Side S). s.state) waits.1.2,
   )
-  leaves Wanting side next bytes nonce sent taken (inr (inl refused)) =
-      let closed = ap (λ (s : Side S). s.standing) refused.1.2 in
+  leaves InProgress side next bytes nonce sent taken (inr (inl refused)) =
+      let closed = ap (λ (s : Side S). s.progress) refused.1.2 in
       inr (inl ((λ wants. let apart = sym closed ∙ wants in absurd (cc)), ap (λ (s : Side S). s.state) refused.1.2))
-  leaves Wanting side next bytes nonce sent taken (inr (inr whole)) =
+  leaves InProgress side next bytes nonce sent taken (inr (inr whole)) =
       let state = ap (λ (s : Side S). s.state) whole.4.2 in
       inr (inr (
         whole.0,
-        take (unit_size side.due (side.held ++ bytes)) (side.held ++ bytes),
-        subst (λ (s : S). Answers side.due side.state nonce
-            (take (unit_size side.due (side.held ++ bytes)) (side.held ++ bytes)) whole.0 s) (sym state) whole.3,
-        ap (λ (s : Side S). s.standing) whole.4.2,
-        ap (λ (s : Side S). s.due) whole.4.2,
+        take (unit_size side.expected (side.held ++ bytes)) (side.held ++ bytes),
+        subst (λ (s : S). Answers side.expected side.state nonce
+            (take (unit_size side.expected (side.held ++ bytes)) (side.held ++ bytes)) whole.0 s) (sym state) whole.3,
+        ap (λ (s : Side S). s.progress) whole.4.2,
+        ap (λ (s : Side S). s.expected) whole.4.2,
       ))
-  leaves LoggedIn side next bytes nonce sent taken holds = inl (
-    ap (λ (s : Side S). s.standing) holds.2,
-    ap (λ (s : Side S). s.due) holds.2,
+  leaves Authenticated side next bytes nonce sent taken holds = inl (
+    ap (λ (s : Side S). s.progress) holds.2,
+    ap (λ (s : Side S). s.expected) holds.2,
     ap (λ (s : Side S). s.state) holds.2,
   )
-  leaves (Closed why) side next bytes nonce sent taken holds = inl (
-    ap (λ (s : Side S). s.standing) holds.2,
-    ap (λ (s : Side S). s.due) holds.2,
+  leaves (Failed why) side next bytes nonce sent taken holds = inl (
+    ap (λ (s : Side S). s.progress) holds.2,
+    ap (λ (s : Side S). s.expected) holds.2,
     ap (λ (s : Side S). s.state) holds.2,
   )
 
   -- less than a whole frame is no whole frame
-  no_part : (turn : Turn) (limit : ℕ) (come : List ℕ) → IsWhole (Frame turn) limit come
+  no_part : (turn : FrameKind) (limit : ℕ) (come : List ℕ) → IsWhole (Frame turn) limit come
       → IsPart (Frame turn) limit come → ⊥
   no_part turn limit come whole part =
       let long : 8 ≤ size_of come = whole.0.0 in
@@ -119,30 +119,30 @@ module _ {S : Type 0} (Answers : Due → S → List ℕ → List ℕ → SideOut
       omega (arith, there, short)
 
   -- a call that completes a frame answers it
-  pub answers_whole : (side next : Side S) (turn : Turn) (bytes nonce sent : List ℕ) (taken : ℕ)
-      → side.standing ≡ Wanting → side.due ≡ Frame turn → IsWhole (Frame turn) side.limit (side.held ++ bytes)
+  pub answers_whole : (side next : Side S) (turn : FrameKind) (bytes nonce sent : List ℕ) (taken : ℕ)
+      → side.progress ≡ InProgress → side.expected ≡ Frame turn → IsWhole (Frame turn) side.limit (side.held ++ bytes)
       → Receives Answers side bytes nonce taken sent next
       → (answer : SideOutput) × Answers (Frame turn) side.state nonce (take (size_of (side.held ++ bytes)) (side.held ++ bytes))
-      answer next.state × (next.standing ≡ answer.standing) × (next.due ≡ answer.due)
-  answers_whole side next turn bytes nonce sent taken wanting due whole receives =
-      go (subst (λ (s : Standing). ReceivesAt s Answers side bytes nonce taken sent next) wanting receives)
+      answer next.state × (next.progress ≡ answer.progress) × (next.expected ≡ answer.expected)
+  answers_whole side next turn bytes nonce sent taken wanting expected whole receives =
+      go (subst (λ (s : Progress). ReceivesAt s Answers side bytes nonce taken sent next) wanting receives)
     where
-      go : ReceivesAt Wanting Answers side bytes nonce taken sent next
+      go : ReceivesAt InProgress Answers side bytes nonce taken sent next
           → (answer : SideOutput) × Answers (Frame turn) side.state nonce
           (take (size_of (side.held ++ bytes)) (side.held ++ bytes)) answer next.state
-          × (next.standing ≡ answer.standing) × (next.due ≡ answer.due)
+          × (next.progress ≡ answer.progress) × (next.expected ≡ answer.expected)
       go (inl waits) =
           absurd (no_part turn side.limit (side.held ++ bytes) whole
-          (subst (λ (d : Due). IsPart d side.limit (side.held ++ bytes)) due waits.0))
+          (subst (λ (d : Expected). IsPart d side.limit (side.held ++ bytes)) expected waits.0))
       go (inr (inl refused)) =
-          absurd ((subst (λ (d : Due). IsRefused d side.limit (side.held ++ bytes)) due refused.0).1 whole.0)
+          absurd ((subst (λ (d : Expected). IsRefused d side.limit (side.held ++ bytes)) expected refused.0).1 whole.0)
       go (inr (inr holds)) =
           let state = ap (λ (s : Side S). s.state) holds.4.2 in (
             holds.0,
             subst (λ (s : S). Answers (Frame turn) side.state nonce
                 (take (size_of (side.held ++ bytes)) (side.held ++ bytes)) holds.0 s) (sym state)
-                (subst (λ (d : Due). Answers d side.state nonce
-                (take (unit_size d (side.held ++ bytes)) (side.held ++ bytes)) holds.0 holds.1) due holds.3),
-            ap (λ (s : Side S). s.standing) holds.4.2,
-            ap (λ (s : Side S). s.due) holds.4.2,
+                (subst (λ (d : Expected). Answers d side.state nonce
+                (take (unit_size d (side.held ++ bytes)) (side.held ++ bytes)) holds.0 holds.1) expected holds.3),
+            ap (λ (s : Side S). s.progress) holds.4.2,
+            ap (λ (s : Side S). s.expected) holds.4.2,
           )

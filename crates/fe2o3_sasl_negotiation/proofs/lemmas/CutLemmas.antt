@@ -3,24 +3,24 @@ use Rattle.std.proofs.Common.{◌≡◌, ◌≢◌, ◌⊎◌, ℕ, ◌+◌, ◌
 use Rattle.std.proofs.lemmas.List.{append-nil, length-take, length-take-le, take-take, take_at, take-append-drop, drop_at, drop_min}
 use Rattle.std.proofs.Math.Seq.{drop-append-add}
 use Rattle.bytes.proofs.Ranges.{take-append_past}
-use Rattle.fe2o3_sasl_negotiation.specs.declared.standing.Due.{Due}
-use Rattle.fe2o3_sasl_negotiation.specs.declared.standing.Due.TheVariants.{Header, Frame}
-use Rattle.fe2o3_sasl_negotiation.specs.declared.standing.Standing.{Standing}
-use Rattle.fe2o3_sasl_negotiation.specs.declared.standing.Standing.TheVariants.{Wanting, LoggedIn, Closed}
-use Rattle.fe2o3_sasl_negotiation.specs.declared.standing.ClosedBecause.TheVariants.{FrameSize}
+use Rattle.fe2o3_sasl_negotiation.specs.declared.progress.Expected.{Expected}
+use Rattle.fe2o3_sasl_negotiation.specs.declared.progress.Expected.TheVariants.{Header, Frame}
+use Rattle.fe2o3_sasl_negotiation.specs.declared.progress.Progress.{Progress}
+use Rattle.fe2o3_sasl_negotiation.specs.declared.progress.Progress.TheVariants.{InProgress, Authenticated, Failed}
+use Rattle.fe2o3_sasl_negotiation.specs.declared.progress.CloseReason.TheVariants.{FrameSize}
 use Rattle.fe2o3_sasl_negotiation.specs.Framing.{size_of, Fits, unit_size, IsPart, IsRefused, IsWhole}
 use Rattle.fe2o3_sasl_negotiation.specs.Laws.{Call, Calls, Stops, Negotiates, NoncesOf, CutsDoNotMatter}
 use Rattle.fe2o3_sasl_negotiation.specs.Negotiations.{Side, SideOutput, closes, Ends, Rests, Receives, ReceivesAt}
 use Rattle.fe2o3_sasl_negotiation.proofs.lemmas.FramingLemmas.{size_of-append, part_is_short, refused_is_short}
 
 -- nothing is less than a whole unit
-pub nothing_is_part : (due : Due) (limit : ℕ) → IsPart due limit []
+pub nothing_is_part : (expected : Expected) (limit : ℕ) → IsPart expected limit []
 nothing_is_part Header limit = omega arith
 nothing_is_part (Frame turn) limit = λ (four : 4 ≤ 0). absurd (omega (arith, four))
 
 -- a whole unit is one whatever follows it
-pub whole_unit_size : (due : Due) (limit : ℕ) (come more : List ℕ) → IsWhole due limit come
-    → unit_size due (take (unit_size due come) come ++ more) ≡ unit_size due come
+pub whole_unit_size : (expected : Expected) (limit : ℕ) (come more : List ℕ) → IsWhole expected limit come
+    → unit_size expected (take (unit_size expected come) come ++ more) ≡ unit_size expected come
 whole_unit_size Header limit come more whole = refl
 whole_unit_size (Frame turn) limit come more whole =
     let eight : 8 ≤ size_of come = whole.0.0 in
@@ -30,8 +30,8 @@ whole_unit_size (Frame turn) limit come more whole =
     ∙ (sym (size_of-append (take (size_of come) come) (drop (size_of come) come) long)
     ∙ ap size_of (take-append-drop (size_of come) come))
 
-pub whole_stays : (due : Due) (limit : ℕ) (come more : List ℕ) → IsWhole due limit come
-    → IsWhole due limit (take (unit_size due come) come ++ more)
+pub whole_stays : (expected : Expected) (limit : ℕ) (come more : List ℕ) → IsWhole expected limit come
+    → IsWhole expected limit (take (unit_size expected come) come ++ more)
 whole_stays Header limit come more whole =
     let long : length (take 8 come ++ more) ≡ min 8 (length come) + length more = simp (length-append, length-take) refl in
     omega arith
@@ -44,21 +44,21 @@ whole_stays (Frame turn) limit come more whole =
       omega arith,
     )
 
-pub whole_is_taken : (due : Due) (limit : ℕ) (come more : List ℕ) → IsWhole due limit come
-    → take (unit_size due (take (unit_size due come) come ++ more)) (take (unit_size due come) come ++ more)
-    ≡ take (unit_size due come) come
-whole_is_taken due limit come more whole =
-    ap (λ n. take n (take (unit_size due come) come ++ more)) (whole_unit_size due limit come more whole)
-    ∙ take_at (take (unit_size due come) come) more (unit_size due come)
-    (length-take-le (unit_size due come) come (whole_within due limit come whole))
+pub whole_is_taken : (expected : Expected) (limit : ℕ) (come more : List ℕ) → IsWhole expected limit come
+    → take (unit_size expected (take (unit_size expected come) come ++ more)) (take (unit_size expected come) come ++ more)
+    ≡ take (unit_size expected come) come
+whole_is_taken expected limit come more whole =
+    ap (λ n. take n (take (unit_size expected come) come ++ more)) (whole_unit_size expected limit come more whole)
+    ∙ take_at (take (unit_size expected come) come) more (unit_size expected come)
+    (length-take-le (unit_size expected come) come (whole_within expected limit come whole))
   where
-    whole_within : (due : Due) (limit : ℕ) (come : List ℕ) → IsWhole due limit come → unit_size due come ≤ length come
+    whole_within : (expected : Expected) (limit : ℕ) (come : List ℕ) → IsWhole expected limit come → unit_size expected come ≤ length come
     whole_within Header limit come whole = whole
     whole_within (Frame turn) limit come whole = whole.1
 
 -- and so is a refused size
-pub refused_stays : (due : Due) (limit : ℕ) (come more : List ℕ) → IsRefused due limit come
-    → IsRefused due limit (take 4 come ++ more)
+pub refused_stays : (expected : Expected) (limit : ℕ) (come more : List ℕ) → IsRefused expected limit come
+    → IsRefused expected limit (take 4 come ++ more)
 refused_stays Header limit come more refused = refused
 refused_stays (Frame turn) limit come more refused =
     let four : length (take 4 come) ≡ 4 = length-take-le 4 come refused.0 in
@@ -71,7 +71,7 @@ refused_stays (Frame turn) limit come more refused =
     )
 
 -- neither a whole unit nor a refused size is less than a unit
-pub whole_is_no_part : (due : Due) (limit : ℕ) (come : List ℕ) → IsWhole due limit come → ¬ IsPart due limit come
+pub whole_is_no_part : (expected : Expected) (limit : ℕ) (come : List ℕ) → IsWhole expected limit come → ¬ IsPart expected limit come
 whole_is_no_part Header limit come whole part = omega (arith, whole, part)
 whole_is_no_part (Frame turn) limit come whole part =
     let eight : 8 ≤ size_of come = whole.0.0 in
@@ -79,94 +79,94 @@ whole_is_no_part (Frame turn) limit come whole part =
     let short : length come < size_of come = (part (omega arith)).1 in
     omega arith
 
-pub refused_is_no_part : (due : Due) (limit : ℕ) (come : List ℕ) → IsRefused due limit come → ¬ IsPart due limit come
+pub refused_is_no_part : (expected : Expected) (limit : ℕ) (come : List ℕ) → IsRefused expected limit come → ¬ IsPart expected limit come
 refused_is_no_part Header limit come refused part = refused
 refused_is_no_part (Frame turn) limit come refused part = refused.1 (part refused.0).0
 
-pub refused_long : (due : Due) (limit : ℕ) (come : List ℕ) → IsRefused due limit come → 4 ≤ length come
+pub refused_long : (expected : Expected) (limit : ℕ) (come : List ℕ) → IsRefused expected limit come → 4 ≤ length come
 refused_long Header limit come refused = absurd refused
 refused_long (Frame turn) limit come refused = refused.0
 
-pub whole_long : (due : Due) (limit : ℕ) (come : List ℕ) → IsWhole due limit come → unit_size due come ≤ length come
+pub whole_long : (expected : Expected) (limit : ℕ) (come : List ℕ) → IsWhole expected limit come → unit_size expected come ≤ length come
 whole_long Header limit come whole = whole
 whole_long (Frame turn) limit come whole = whole.1
 
-module _ {S : Type 0} (Answers : Due → S → List ℕ → List ℕ → SideOutput → S → Type 0) where
+module _ {S : Type 0} (Answers : Expected → S → List ℕ → List ℕ → SideOutput → S → Type 0) where
   -- what has come ends a unit of n bytes
   abbrev pub EndsUnit : Side S → List ℕ → List ℕ → ℕ → ℕ → List ℕ → Side S → Type 0
   EndsUnit side come nonce n taken sent next =
-      (IsRefused side.due side.limit come × (n ≡ 4) × Ends side 4 (closes FrameSize side.due) side.state taken sent next)
-      ⊎ ((answer : SideOutput) × (state : S) × IsWhole side.due side.limit come × (n ≡ unit_size side.due come)
-      × Answers side.due side.state nonce (take n come) answer state × Ends side n answer state taken sent next)
+      (IsRefused side.expected side.limit come × (n ≡ 4) × Ends side 4 (closes FrameSize side.expected) side.state taken sent next)
+      ⊎ ((answer : SideOutput) × (state : S) × IsWhole side.expected side.limit come × (n ≡ unit_size side.expected come)
+      × Answers side.expected side.state nonce (take n come) answer state × Ends side n answer state taken sent next)
 
   -- a side at its end stays there
-  pub ended_stays : (side last : Side S) (nonces : List (List ℕ)) (bytes sent : List ℕ) (standing : Standing)
-      → side.standing ≡ standing → standing ≢ Wanting → Negotiates Answers side nonces bytes sent last → last ≡ side
-  ended_stays side last [] bytes sent standing is ended (nothing, inl stops) = absurd (ended (sym is ∙ stops.0))
-  ended_stays side last [] bytes sent standing is ended (nothing, inr stops) = stops.2
-  ended_stays side last (nonce ∷ nonces) bytes sent standing is ended
+  pub ended_stays : (side last : Side S) (nonces : List (List ℕ)) (bytes sent : List ℕ) (progress : Progress)
+      → side.progress ≡ progress → progress ≢ InProgress → Negotiates Answers side nonces bytes sent last → last ≡ side
+  ended_stays side last [] bytes sent progress is ended (nothing, inl stops) = absurd (ended (sym is ∙ stops.0))
+  ended_stays side last [] bytes sent progress is ended (nothing, inr stops) = stops.2
+  ended_stays side last (nonce ∷ nonces) bytes sent progress is ended
       (taken, first, next, behind, wants, no_part, receives, more, all) = absurd (ended (sym is ∙ wants))
 
-  wanting_receives : (side next : Side S) (bytes nonce sent : List ℕ) (taken : ℕ) → side.standing ≡ Wanting
+  wanting_receives : (side next : Side S) (bytes nonce sent : List ℕ) (taken : ℕ) → side.progress ≡ InProgress
       → Receives Answers side bytes nonce taken sent next
-      → ReceivesAt Wanting Answers side bytes nonce taken sent next
+      → ReceivesAt InProgress Answers side bytes nonce taken sent next
   wanting_receives side next bytes nonce sent taken wanting receives =
-      subst (λ (s : Standing). ReceivesAt s Answers side bytes nonce taken sent next) wanting receives
+      subst (λ (s : Progress). ReceivesAt s Answers side bytes nonce taken sent next) wanting receives
 
   -- a call that does not wait ends a unit
-  pub unit_of_call : (side next : Side S) (bytes nonce sent : List ℕ) (taken : ℕ) → side.standing ≡ Wanting
-      → ¬ IsPart side.due side.limit (side.held ++ bytes) → Receives Answers side bytes nonce taken sent next
+  pub unit_of_call : (side next : Side S) (bytes nonce sent : List ℕ) (taken : ℕ) → side.progress ≡ InProgress
+      → ¬ IsPart side.expected side.limit (side.held ++ bytes) → Receives Answers side bytes nonce taken sent next
       → (n : ℕ) × EndsUnit side (side.held ++ bytes) nonce n taken sent next
   unit_of_call side next bytes nonce sent taken wanting no_part receives =
       go (wanting_receives side next bytes nonce sent taken wanting receives)
     where
-      go : ReceivesAt Wanting Answers side bytes nonce taken sent next
+      go : ReceivesAt InProgress Answers side bytes nonce taken sent next
           → (n : ℕ) × EndsUnit side (side.held ++ bytes) nonce n taken sent next
       go (inl waits) = absurd (no_part waits.0)
       go (inr (inl refused)) = (4, inl (refused.0, refl, refused.1))
       go (inr (inr whole)) = (
-        unit_size side.due (side.held ++ bytes),
+        unit_size side.expected (side.held ++ bytes),
         inr (whole.0, whole.1, whole.2, refl, whole.3, whole.4),
       )
 
-  call_of_unit : (side next : Side S) (bytes nonce sent : List ℕ) (n taken : ℕ) → side.standing ≡ Wanting
+  call_of_unit : (side next : Side S) (bytes nonce sent : List ℕ) (n taken : ℕ) → side.progress ≡ InProgress
       → EndsUnit side (side.held ++ bytes) nonce n taken sent next → Receives Answers side bytes nonce taken sent next
   call_of_unit side next bytes nonce sent n taken wanting ends =
-      subst (λ (s : Standing). ReceivesAt s Answers side bytes nonce taken sent next) (sym wanting) (go ends)
+      subst (λ (s : Progress). ReceivesAt s Answers side bytes nonce taken sent next) (sym wanting) (go ends)
     where
       go : EndsUnit side (side.held ++ bytes) nonce n taken sent next
-          → ReceivesAt Wanting Answers side bytes nonce taken sent next
+          → ReceivesAt InProgress Answers side bytes nonce taken sent next
       go (inl refused) = inr (inl (refused.0, refused.2))
       go (inr whole) = inr (inr (
         whole.0,
         whole.1,
         whole.2,
-        subst (λ (k : ℕ). Answers side.due side.state nonce (take k (side.held ++ bytes)) whole.0 whole.1) whole.3
+        subst (λ (k : ℕ). Answers side.expected side.state nonce (take k (side.held ++ bytes)) whole.0 whole.1) whole.3
             whole.4,
         subst (λ (k : ℕ). Ends side k whole.0 whole.1 taken sent next) whole.3 whole.5,
       ))
 
   unit_is_no_part : (side next : Side S) (come nonce sent : List ℕ) (n taken : ℕ)
-      → EndsUnit side come nonce n taken sent next → ¬ IsPart side.due side.limit come
+      → EndsUnit side come nonce n taken sent next → ¬ IsPart side.expected side.limit come
   unit_is_no_part side next come nonce sent n taken (inl refused) =
-      refused_is_no_part side.due side.limit come refused.0
-  unit_is_no_part side next come nonce sent n taken (inr whole) = whole_is_no_part side.due side.limit come whole.2
+      refused_is_no_part side.expected side.limit come refused.0
+  unit_is_no_part side next come nonce sent n taken (inr whole) = whole_is_no_part side.expected side.limit come whole.2
 
   -- the unit stands in what has come, and in front of it what was held
-  pub unit_within : (side next : Side S) (bytes nonce sent : List ℕ) (n taken : ℕ) → IsPart side.due side.limit side.held
+  pub unit_within : (side next : Side S) (bytes nonce sent : List ℕ) (n taken : ℕ) → IsPart side.expected side.limit side.held
       → EndsUnit side (side.held ++ bytes) nonce n taken sent next
       → (length side.held ≤ n) × (n ≤ length (side.held ++ bytes)) × (taken ≡ n - length side.held)
   unit_within side next bytes nonce sent n taken part (inl refused) =
-      let few : length side.held < 4 = refused_is_short side.due side.limit side.held bytes part refused.0 in
+      let few : length side.held < 4 = refused_is_short side.expected side.limit side.held bytes part refused.0 in
       let many : 4 ≤ length (side.held ++ bytes) =
-      refused_long side.due side.limit (side.held ++ bytes) refused.0 in (
+      refused_long side.expected side.limit (side.held ++ bytes) refused.0 in (
         omega (arith, few, refused.1),
         omega (arith, many, refused.1),
         refused.2.0 ∙ ap (λ k. k - length side.held) (sym refused.1),
       )
   unit_within side next bytes nonce sent n taken part (inr whole) =
-      let few = part_is_short side.due side.limit side.held bytes part whole.2 in
-      let many = whole_long side.due side.limit (side.held ++ bytes) whole.2 in
+      let few = part_is_short side.expected side.limit side.held bytes part whole.2 in
+      let many = whole_long side.expected side.limit (side.held ++ bytes) whole.2 in
       (omega (arith, few, whole.3), omega (arith, many, whole.3), whole.5.0)
 
   -- and is one whatever follows it
@@ -174,18 +174,18 @@ module _ {S : Type 0} (Answers : Due → S → List ℕ → List ℕ → SideOut
       → EndsUnit side come nonce n taken sent next → EndsUnit side (take n come ++ more) nonce n taken sent next
   unit_stays side next come more nonce sent n taken (inl refused) =
       subst (λ (k : ℕ). EndsUnit side (take k come ++ more) nonce n taken sent next) (sym refused.1)
-      (inl (refused_stays side.due side.limit come more refused.0, refused.1, refused.2))
+      (inl (refused_stays side.expected side.limit come more refused.0, refused.1, refused.2))
   unit_stays side next come more nonce sent n taken (inr whole) =
-      let u = unit_size side.due come in
-      let same = whole_unit_size side.due side.limit come more whole.2 in
+      let u = unit_size side.expected come in
+      let same = whole_unit_size side.expected side.limit come more whole.2 in
       subst (λ (k : ℕ). EndsUnit side (take k come ++ more) nonce n taken sent next) (sym whole.3)
       (inr (
         whole.0,
         whole.1,
-        whole_stays side.due side.limit come more whole.2,
+        whole_stays side.expected side.limit come more whole.2,
         whole.3 ∙ sym same,
-        subst (λ (l : List ℕ). Answers side.due side.state nonce l whole.0 whole.1)
-            (ap (λ k. take k come) whole.3 ∙ (sym (whole_is_taken side.due side.limit come more whole.2)
+        subst (λ (l : List ℕ). Answers side.expected side.state nonce l whole.0 whole.1)
+            (ap (λ k. take k come) whole.3 ∙ (sym (whole_is_taken side.expected side.limit come more whole.2)
             ∙ ap (λ k. take k (take u come ++ more)) (same ∙ sym whole.3))) whole.4,
         whole.5,
       ))
@@ -208,14 +208,14 @@ module _ {S : Type 0} (Answers : Due → S → List ℕ → List ℕ → SideOut
 
   -- what is kept of a piece counts as one with what follows it
   shift : (side : Side S) (piece : List ℕ) (nonces : List (List ℕ)) (bytes sent : List ℕ) (last : Side S)
-      → side.standing ≡ Wanting → IsPart side.due side.limit (side.held ++ piece)
+      → side.progress ≡ InProgress → IsPart side.expected side.limit (side.held ++ piece)
       → Negotiates Answers (held_more side piece) nonces bytes sent last
       → Negotiates Answers side nonces (piece ++ bytes) sent last
   shift side piece [] bytes sent last wanting part (nothing, inl stops) = (
     nothing,
     inl (
       wanting,
-      subst (λ (l : List ℕ). IsPart side.due side.limit l) (append_assoc side.held piece bytes) stops.1,
+      subst (λ (l : List ℕ). IsPart side.expected side.limit l) (append_assoc side.held piece bytes) stops.1,
       stops.2 ∙ ap (λ (l : List ℕ). record side { held = l }) (append_assoc side.held piece bytes),
     ),
   )
@@ -242,14 +242,14 @@ module _ {S : Type 0} (Answers : Due → S → List ℕ → List ℕ → SideOut
 
   -- what these calls do, is done with what they take as a whole
   abbrev AreCut : List Call → Type 0
-  AreCut calls = (side last : Side S) (stream sent rest : List ℕ) → IsPart side.due side.limit side.held
+  AreCut calls = (side last : Side S) (stream sent rest : List ℕ) → IsPart side.expected side.limit side.held
       → Calls (Receives Answers) side calls stream sent last rest
       → (taken : List ℕ) × (nonces : List (List ℕ)) × (stream ≡ taken ++ rest)
       × Negotiates Answers side nonces taken sent last × NoncesOf calls nonces
 
   -- a call that keeps all it is handed
   kept_call : (calls : List Call) → AreCut calls → (side last : Side S) (call : Call) (stream behind rest : List ℕ)
-      → side.standing ≡ Wanting → IsPart side.due side.limit (side.held ++ take call.handed stream)
+      → side.progress ≡ InProgress → IsPart side.expected side.limit (side.held ++ take call.handed stream)
       → Calls (Receives Answers) (held_more side (take call.handed stream)) calls
       (drop (length (take call.handed stream)) stream) behind last rest
       → (taken : List ℕ) × (nonces : List (List ℕ)) × (stream ≡ taken ++ rest)
@@ -270,8 +270,8 @@ module _ {S : Type 0} (Answers : Due → S → List ℕ → List ℕ → SideOut
 
   -- a call that ends a unit
   unit_call : (calls : List Call) → AreCut calls → (side last next : Side S) (call : Call)
-      (stream first behind rest : List ℕ) (n taken : ℕ) → side.standing ≡ Wanting
-      → IsPart side.due side.limit side.held → IsPart next.due next.limit next.held
+      (stream first behind rest : List ℕ) (n taken : ℕ) → side.progress ≡ InProgress
+      → IsPart side.expected side.limit side.held → IsPart next.expected next.limit next.held
       → EndsUnit side (side.held ++ take call.handed stream) call.nonce n taken first next
       → Calls (Receives Answers) next calls (drop taken stream) behind last rest
       → (all : List ℕ) × (nonces : List (List ℕ)) × (stream ≡ all ++ rest)
@@ -313,7 +313,7 @@ module _ {S : Type 0} (Answers : Due → S → List ℕ → List ℕ → SideOut
 
   -- a call to a side at its end
   ended_call : (calls : List Call) → AreCut calls → (side last next : Side S) (stream first behind sent rest : List ℕ)
-      (taken : ℕ) → IsPart side.due side.limit side.held → Rests side taken first next
+      (taken : ℕ) → IsPart side.expected side.limit side.held → Rests side taken first next
       → Calls (Receives Answers) next calls (drop taken stream) behind last rest → sent ≡ first ++ behind
       → (all : List ℕ) × (nonces : List (List ℕ)) × (stream ≡ all ++ rest)
       × Negotiates Answers side nonces all sent last × NoncesOf calls nonces
@@ -331,19 +331,19 @@ module _ {S : Type 0} (Answers : Due → S → List ℕ → List ℕ → SideOut
 
   -- the calls of a list that begins with this one
   first_call : (calls : List Call) → AreCut calls → (side last next : Side S) (call : Call)
-      (stream first behind sent rest : List ℕ) (taken : ℕ) (standing : Standing) → side.standing ≡ standing
-      → IsPart side.due side.limit side.held
-      → ReceivesAt standing Answers side (take call.handed stream) call.nonce taken first next
+      (stream first behind sent rest : List ℕ) (taken : ℕ) (progress : Progress) → side.progress ≡ progress
+      → IsPart side.expected side.limit side.held
+      → ReceivesAt progress Answers side (take call.handed stream) call.nonce taken first next
       → Calls (Receives Answers) next calls (drop taken stream) behind last rest → sent ≡ first ++ behind
       → (all : List ℕ) × (nonces : List (List ℕ)) × (stream ≡ all ++ rest)
       × Negotiates Answers side nonces all sent last × NoncesOf (call ∷ calls) nonces
-  first_call calls others side last next call stream first behind sent rest taken LoggedIn is part rests more all =
+  first_call calls others side last next call stream first behind sent rest taken Authenticated is part rests more all =
       let cut = ended_call calls others side last next stream first behind sent rest taken part rests more all in
       (cut.0, cut.1, cut.2, cut.3, inl cut.4)
-  first_call calls others side last next call stream first behind sent rest taken (Closed why) is part rests more all =
+  first_call calls others side last next call stream first behind sent rest taken (Failed why) is part rests more all =
       let cut = ended_call calls others side last next stream first behind sent rest taken part rests more all in
       (cut.0, cut.1, cut.2, cut.3, inl cut.4)
-  first_call calls others side last next call stream first behind sent rest taken Wanting is part (inl waits) more all =
+  first_call calls others side last next call stream first behind sent rest taken InProgress is part (inl waits) more all =
       let piece = take call.handed stream in
       let again = subst (λ (s : Side S). Calls (Receives Answers) s calls (drop (length piece) stream) behind last rest) waits.1.2
       (subst (λ (k : ℕ). Calls (Receives Answers) next calls (drop k stream) behind last rest) waits.1.0 more) in
@@ -355,10 +355,10 @@ module _ {S : Type 0} (Answers : Due → S → List ℕ → List ℕ → SideOut
         subst (λ (l : List ℕ). Negotiates Answers side cut.1 cut.0 l last) (sym one) cut.3,
         inl cut.4,
       )
-  first_call calls others side last next call stream first behind sent rest taken Wanting is part (inr (inl refused)) more
+  first_call calls others side last next call stream first behind sent rest taken InProgress is part (inr (inl refused)) more
       all =
-      let empty = subst (λ (s : Side S). IsPart s.due s.limit s.held) (sym refused.1.2)
-      (nothing_is_part side.due side.limit) in
+      let empty = subst (λ (s : Side S). IsPart s.expected s.limit s.held) (sym refused.1.2)
+      (nothing_is_part side.expected side.limit) in
       let cut = unit_call calls others side last next call stream first behind rest 4 taken is part empty
       (inl (refused.0, refl, refused.1)) more in (
         cut.0,
@@ -367,12 +367,12 @@ module _ {S : Type 0} (Answers : Due → S → List ℕ → List ℕ → SideOut
         subst (λ (l : List ℕ). Negotiates Answers side cut.1 cut.0 l last) (sym all) cut.3,
         cut.4,
       )
-  first_call calls others side last next call stream first behind sent rest taken Wanting is part (inr (inr whole)) more
+  first_call calls others side last next call stream first behind sent rest taken InProgress is part (inr (inr whole)) more
       all =
       let answer = whole.0 in
-      let empty = subst (λ (s : Side S). IsPart s.due s.limit s.held) (sym whole.4.2)
-      (nothing_is_part answer.due side.limit) in
-      let n = unit_size side.due (side.held ++ take call.handed stream) in
+      let empty = subst (λ (s : Side S). IsPart s.expected s.limit s.held) (sym whole.4.2)
+      (nothing_is_part answer.expected side.limit) in
+      let n = unit_size side.expected (side.held ++ take call.handed stream) in
       let cut = unit_call calls others side last next call stream first behind rest n taken is part empty
       (inr (answer, whole.1, whole.2, refl, whole.3, whole.4)) more in (
         cut.0,
@@ -383,42 +383,42 @@ module _ {S : Type 0} (Answers : Due → S → List ℕ → List ℕ → SideOut
       )
 
   -- no call at all
-  no_call : (side last : Side S) (sent : List ℕ) (standing : Standing) → side.standing ≡ standing
-      → IsPart side.due side.limit side.held → sent ≡ [] → last ≡ side → Stops side [] sent last
-  no_call side last sent Wanting is part nothing same = (
+  no_call : (side last : Side S) (sent : List ℕ) (progress : Progress) → side.progress ≡ progress
+      → IsPart side.expected side.limit side.held → sent ≡ [] → last ≡ side → Stops side [] sent last
+  no_call side last sent InProgress is part nothing same = (
     nothing,
     inl (
       is,
-      subst (λ (l : List ℕ). IsPart side.due side.limit l) (sym (append-nil side.held)) part,
+      subst (λ (l : List ℕ). IsPart side.expected side.limit l) (sym (append-nil side.held)) part,
       same ∙ ap (λ (l : List ℕ). record side { held = l }) (sym (append-nil side.held)),
     ),
   )
-  no_call side last sent LoggedIn is part nothing same = (nothing, inr (λ wants. apart (sym is ∙ wants), refl, same))
+  no_call side last sent Authenticated is part nothing same = (nothing, inr (λ wants. apart (sym is ∙ wants), refl, same))
     where
-      apart : LoggedIn ≡ Wanting → ⊥
+      apart : Authenticated ≡ InProgress → ⊥
       apart same = cc
-  no_call side last sent (Closed why) is part nothing same =
+  no_call side last sent (Failed why) is part nothing same =
       (nothing, inr (λ wants. apart (sym is ∙ wants), refl, same))
     where
-      apart : Closed why ≡ Wanting → ⊥
+      apart : Failed why ≡ InProgress → ⊥
       apart same = cc
 
   pub cuts : (calls : List Call) → AreCut calls
   cuts [] side last stream sent rest part (nothing, same, left) =
-      ([], [], sym left, no_call side last sent side.standing refl part nothing same, refl)
+      ([], [], sym left, no_call side last sent side.progress refl part nothing same, refl)
   cuts (call ∷ calls) side last stream sent rest part (taken, first, next, behind, receives, more, all) =
-      first_call calls (cuts calls) side last next call stream first behind sent rest taken side.standing refl part
+      first_call calls (cuts calls) side last next call stream first behind sent rest taken side.progress refl part
       receives more all
 
 -- the law
-pub cuts_with_nonces : {S : Type 0} (Answers : Due → S → List ℕ → List ℕ → SideOutput → S → Type 0)
+pub cuts_with_nonces : {S : Type 0} (Answers : Expected → S → List ℕ → List ℕ → SideOutput → S → Type 0)
     → CutsDoNotMatter Answers
 cuts_with_nonces Answers side last calls stream sent rest part made =
     cuts Answers calls side last stream sent rest part made
 
 -- without the nonces
-pub cuts_do_not_matter : {S : Type 0} (Answers : Due → S → List ℕ → List ℕ → SideOutput → S → Type 0) (side last : Side S)
-    (calls : List Call) (stream sent rest : List ℕ) → IsPart side.due side.limit side.held
+pub cuts_do_not_matter : {S : Type 0} (Answers : Expected → S → List ℕ → List ℕ → SideOutput → S → Type 0) (side last : Side S)
+    (calls : List Call) (stream sent rest : List ℕ) → IsPart side.expected side.limit side.held
     → Calls (Receives Answers) side calls stream sent last rest
     → (taken : List ℕ) × (nonces : List (List ℕ)) × (stream ≡ taken ++ rest)
     × Negotiates Answers side nonces taken sent last

@@ -4,8 +4,8 @@ use Rattle.std.proofs.lemmas.List.{length-take, take_min, take_rest, drop_min, t
 use Rattle.std.proofs.lemmas.Bool.{cases_lt}
 use Rattle.std.specs.Int.{w32, from_be_bytes}
 use Rattle.bytes.proofs.Ranges.{take-append_past}
-use Rattle.fe2o3_sasl_negotiation.specs.declared.standing.Due.{Due}
-use Rattle.fe2o3_sasl_negotiation.specs.declared.standing.Due.TheVariants.{Header, Frame}
+use Rattle.fe2o3_sasl_negotiation.specs.declared.progress.Expected.{Expected}
+use Rattle.fe2o3_sasl_negotiation.specs.declared.progress.Expected.TheVariants.{Header, Frame}
 use Rattle.fe2o3_sasl_negotiation.specs.Framing.{size_of, Fits, unit_size, IsPart, IsRefused, IsWhole}
 
 -- as many bytes are kept as are missing
@@ -40,8 +40,8 @@ unfolding size_of
 size_of-append xs ys four = ap (from_be_bytes w32) (take-append-le 4 xs ys four)
 
 -- less than a unit is shorter than the unit that it grows to
-pub part_is_shorter : (due : Due) (limit : ℕ) (part rest : List ℕ) → IsPart due limit part
-    → IsWhole due limit (part ++ rest) → length part < unit_size due (part ++ rest)
+pub part_is_shorter : (expected : Expected) (limit : ℕ) (part rest : List ℕ) → IsPart expected limit part
+    → IsWhole expected limit (part ++ rest) → length part < unit_size expected (part ++ rest)
 part_is_shorter Header limit part rest less whole = omega arith
 part_is_shorter (Frame turn) limit part rest less whole = go (cases_lt (length part) 4)
   where
@@ -50,14 +50,14 @@ part_is_shorter (Frame turn) limit part rest less whole = go (cases_lt (length p
     go (inr four) = let few : length part < size_of part = (less four).1 in
         let same = size_of-append part rest four in omega arith
 
-pub part_is_short : (due : Due) (limit : ℕ) (part rest : List ℕ) → IsPart due limit part
-    → IsWhole due limit (part ++ rest) → length part ≤ unit_size due (part ++ rest)
-part_is_short due limit part rest less whole =
-    let short = part_is_shorter due limit part rest less whole in omega arith
+pub part_is_short : (expected : Expected) (limit : ℕ) (part rest : List ℕ) → IsPart expected limit part
+    → IsWhole expected limit (part ++ rest) → length part ≤ unit_size expected (part ++ rest)
+part_is_short expected limit part rest less whole =
+    let short = part_is_shorter expected limit part rest less whole in omega arith
 
 -- and less than four bytes where a size is refused
-pub refused_is_short : (due : Due) (limit : ℕ) (part rest : List ℕ) → IsPart due limit part
-    → IsRefused due limit (part ++ rest) → length part < 4
+pub refused_is_short : (expected : Expected) (limit : ℕ) (part rest : List ℕ) → IsPart expected limit part
+    → IsRefused expected limit (part ++ rest) → length part < 4
 refused_is_short Header limit part rest less refused = absurd refused
 refused_is_short (Frame turn) limit part rest less refused = go (cases_lt (length part) 4)
   where

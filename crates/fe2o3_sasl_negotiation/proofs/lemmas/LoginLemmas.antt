@@ -5,54 +5,54 @@ use Rattle.fe2o3_sasl_wire.specs.declared.sasl_frames.error.Error.{Error}
 use Rattle.fe2o3_sasl_wire.specs.declared.sasl_frames.error.Error.TheVariants as faults
 use Rattle.fe2o3_sasl_wire.specs.SaslFrames.{SaslFrame}
 use Rattle.fe2o3_scram.specs.ScramServer.{Initial}
-use Rattle.fe2o3_sasl_runs.specs.Events.{Given, ServerSays, Challenged, Concluded, Failed, ClientSays, Started, Answered, Reported, Refused as ClientRefused}
-use Rattle.fe2o3_sasl_runs.specs.Profiles.{scram_profile}
-use Rattle.fe2o3_sasl_runs.specs.Runs.{AcceptorSteps, ProfileSteps}
-use Rattle.fe2o3_sasl_runs.specs.SaslAcceptor.{ScramAcceptor, acceptor_machine, acceptor_user}
-use Rattle.fe2o3_sasl_runs.proofs.lemmas.two_sides.HeadlineLemmas.{answers_ok_exactly, reports_ok_exactly, taken_verifiers_agree}
-use Rattle.fe2o3_sasl_runs.proofs.lemmas.machines.ClientMachineLemmas.{profile_runs_are_histories}
-use Rattle.fe2o3_sasl_runs.proofs.lemmas.machines.ServerMachineLemmas.{acceptor_runs_are_histories, acceptor_runs_name_users}
-use Rattle.fe2o3_sasl_negotiation.specs.declared.standing.ClosedBecause.{ClosedBecause}
-use Rattle.fe2o3_sasl_negotiation.specs.declared.standing.ClosedBecause.TheVariants.{FrameSize, OutOfTurn, ReplyTooLarge, Refused}
-use Rattle.fe2o3_sasl_negotiation.specs.declared.standing.Due.{Due}
-use Rattle.fe2o3_sasl_negotiation.specs.declared.standing.Due.TheVariants.{Frame}
-use Rattle.fe2o3_sasl_negotiation.specs.declared.standing.Standing.{Standing}
-use Rattle.fe2o3_sasl_negotiation.specs.declared.standing.Standing.TheVariants.{Wanting, LoggedIn}
-use Rattle.fe2o3_sasl_negotiation.specs.declared.standing.Turn.{Turn}
-use Rattle.fe2o3_sasl_negotiation.specs.declared.standing.Turn.TheVariants as turns
+use Rattle.fe2o3_sasl_core.specs.Events.{Given, ServerSays, Challenged, Concluded, Failed, ClientSays, Started, Answered, Reported, Refused as ClientRefused}
+use Rattle.fe2o3_sasl_core.specs.Profiles.{scram_profile}
+use Rattle.fe2o3_sasl_core.specs.Runs.{AcceptorSteps, ProfileSteps}
+use Rattle.fe2o3_sasl_core.specs.SaslAcceptor.{ScramAcceptor, acceptor_machine, acceptor_user}
+use Rattle.fe2o3_sasl_core.proofs.lemmas.two_sides.HeadlineLemmas.{answers_ok_exactly, reports_ok_exactly, taken_verifiers_agree}
+use Rattle.fe2o3_sasl_core.proofs.lemmas.machines.ClientMachineLemmas.{profile_runs_are_histories}
+use Rattle.fe2o3_sasl_core.proofs.lemmas.machines.ServerMachineLemmas.{acceptor_runs_are_histories, acceptor_runs_name_users}
+use Rattle.fe2o3_sasl_negotiation.specs.declared.progress.CloseReason.{CloseReason}
+use Rattle.fe2o3_sasl_negotiation.specs.declared.progress.CloseReason.TheVariants.{FrameSize, UnexpectedFrame, ReplyTooLarge, Refused}
+use Rattle.fe2o3_sasl_negotiation.specs.declared.progress.Expected.{Expected}
+use Rattle.fe2o3_sasl_negotiation.specs.declared.progress.Expected.TheVariants.{Frame}
+use Rattle.fe2o3_sasl_negotiation.specs.declared.progress.Progress.{Progress}
+use Rattle.fe2o3_sasl_negotiation.specs.declared.progress.Progress.TheVariants.{InProgress, Authenticated}
+use Rattle.fe2o3_sasl_negotiation.specs.declared.progress.FrameKind.{FrameKind}
+use Rattle.fe2o3_sasl_negotiation.specs.declared.progress.FrameKind.TheVariants as turns
 use Rattle.fe2o3_sasl_negotiation.specs.ClientNegotiation as of_client
 use Rattle.fe2o3_sasl_negotiation.specs.Connections.{Piece, LeftOver, Replied, Negotiated, LastReply, IsOkSent, IsOkReported, ServerConnectionsLogIn, ClientConnectionsLogIn}
 use Rattle.fe2o3_sasl_negotiation.specs.Negotiations.{Side, SideOutput, Sends, closes}
 use Rattle.fe2o3_sasl_negotiation.specs.ScramConnections.{ScramServersServe, ScramClientsReport}
 use Rattle.fe2o3_sasl_negotiation.specs.ServerNegotiation as of_server
 use Rattle.fe2o3_sasl_negotiation.proofs.lemmas.ConnectionLemmas.{closed_is_not_logged_in}
-use Rattle.fe2o3_sasl_negotiation.proofs.lemmas.KindLemmas.{standing_of}
-use Rattle.fe2o3_sasl_runs.specs.declared.sasl_profile.error.ProfileError.{ProfileError}
-use Rattle.fe2o3_sasl_runs.specs.declared.sasl_profile.error.ProfileError.TheVariants.{NotImplemented, Scram, OtherKeys, Frame as FrameFault, OutOfMemory}
+use Rattle.fe2o3_sasl_negotiation.proofs.lemmas.KindLemmas.{progress_of}
+use Rattle.fe2o3_sasl_core.specs.declared.sasl_profile.error.ProfileError.{ProfileError}
+use Rattle.fe2o3_sasl_core.specs.declared.sasl_profile.error.ProfileError.TheVariants.{NotImplemented, Scram, StaleKeys, Frame as FrameFault, OutOfMemory}
 
 -- an answer has logged in, and that exactly on an Ok
 abbrev Kind : Type 0 → SideOutput → Type 0
-Kind Is answer = ((answer.standing ≡ LoggedIn) × Is) ⊎ ((answer.standing ≢ LoggedIn) × ¬ Is)
+Kind Is answer = ((answer.progress ≡ Authenticated) × Is) ⊎ ((answer.progress ≢ Authenticated) × ¬ Is)
 
-not_in : (answer : SideOutput) (standing : Standing) (Is : Type 0) → standing ≢ LoggedIn → answer.standing ≡ standing → ¬ Is
+not_in : (answer : SideOutput) (progress : Progress) (Is : Type 0) → progress ≢ Authenticated → answer.progress ≡ progress → ¬ Is
     → Kind Is answer
-not_in answer standing Is out at other = inr ((λ logged. out (sym at ∙ logged)), other)
+not_in answer progress Is out at other = inr ((λ logged. out (sym at ∙ logged)), other)
 
-wanting_is_not_logged_in : Wanting ≢ LoggedIn
+wanting_is_not_logged_in : InProgress ≢ Authenticated
 wanting_is_not_logged_in same = cc
 
 -- what is sent and is no Ok
-sends_kind : (body : List ℕ) (standing : Standing) (due : Due) (answer : SideOutput) (Is : Type 0) → standing ≢ LoggedIn
-    → ¬ Is → Sends body standing due answer → Kind Is answer
-sends_kind body standing due answer Is out other (inl (fits, same)) =
-    not_in answer standing Is out (standing_of answer _ same) other
-sends_kind body standing due answer Is out other (inr (long, same)) =
-    not_in answer _ Is (closed_is_not_logged_in ReplyTooLarge) (standing_of answer _ same) other
+sends_kind : (body : List ℕ) (progress : Progress) (expected : Expected) (answer : SideOutput) (Is : Type 0) → progress ≢ Authenticated
+    → ¬ Is → Sends body progress expected answer → Kind Is answer
+sends_kind body progress expected answer Is out other (inl (fits, same)) =
+    not_in answer progress Is out (progress_of answer _ same) other
+sends_kind body progress expected answer Is out other (inr (long, same)) =
+    not_in answer _ Is (closed_is_not_logged_in ReplyTooLarge) (progress_of answer _ same) other
 
-closes_kind : (why : ClosedBecause) (due : Due) (answer : SideOutput) (Is : Type 0) → ¬ Is → answer ≡ closes why due
+closes_kind : (why : CloseReason) (expected : Expected) (answer : SideOutput) (Is : Type 0) → ¬ Is → answer ≡ closes why expected
     → Kind Is answer
-closes_kind why due answer Is other same =
-    not_in answer _ Is (closed_is_not_logged_in why) (standing_of answer _ same) other
+closes_kind why expected answer Is other same =
+    not_in answer _ Is (closed_is_not_logged_in why) (progress_of answer _ same) other
 
 -- ---- replies of a server
 
@@ -62,22 +62,22 @@ challenge_is_no_ok body (other, same, fits) = cc
 fault_is_no_ok : (fault : Error) → ¬ IsOkSent (Failed fault)
 fault_is_no_ok fault (other, same, fits) = cc
 
-challenge_kind : (body : List ℕ) (turn : Turn) (answer : SideOutput) → of_server.ServerOutputs (Challenged body) turn answer
+challenge_kind : (body : List ℕ) (turn : FrameKind) (answer : SideOutput) → of_server.ServerOutputs (Challenged body) turn answer
     → Kind (IsOkSent (Challenged body)) answer
 challenge_kind body turns.Init answer sends =
-    sends_kind body Wanting (Frame turns.Response) answer _ wanting_is_not_logged_in (challenge_is_no_ok body) sends
-challenge_kind body turns.Mechanisms answer is = closes_kind OutOfTurn _ answer _ (challenge_is_no_ok body) is
-challenge_kind body turns.Challenge answer is = closes_kind OutOfTurn _ answer _ (challenge_is_no_ok body) is
-challenge_kind body turns.Response answer is = closes_kind OutOfTurn _ answer _ (challenge_is_no_ok body) is
-challenge_kind body turns.Outcome answer is = closes_kind OutOfTurn _ answer _ (challenge_is_no_ok body) is
+    sends_kind body InProgress (Frame turns.Response) answer _ wanting_is_not_logged_in (challenge_is_no_ok body) sends
+challenge_kind body turns.Mechanisms answer is = closes_kind UnexpectedFrame _ answer _ (challenge_is_no_ok body) is
+challenge_kind body turns.Challenge answer is = closes_kind UnexpectedFrame _ answer _ (challenge_is_no_ok body) is
+challenge_kind body turns.Response answer is = closes_kind UnexpectedFrame _ answer _ (challenge_is_no_ok body) is
+challenge_kind body turns.Outcome answer is = closes_kind UnexpectedFrame _ answer _ (challenge_is_no_ok body) is
 
-server_kind : (says : ServerSays) (turn : Turn) (answer : SideOutput) → of_server.ServerOutputs says turn answer
+server_kind : (says : ServerSays) (turn : FrameKind) (answer : SideOutput) → of_server.ServerOutputs says turn answer
     → Kind (IsOkSent says) answer
 server_kind (Challenged body) turn answer said = challenge_kind body turn answer said
 server_kind (Concluded outcomes.Ok body) turn answer (inl (fits, same)) =
-    inl (standing_of answer _ same, (body, refl, fits))
+    inl (progress_of answer _ same, (body, refl, fits))
 server_kind (Concluded outcomes.Ok body) turn answer (inr (long, same)) =
-    not_in answer _ _ (closed_is_not_logged_in ReplyTooLarge) (standing_of answer _ same)
+    not_in answer _ _ (closed_is_not_logged_in ReplyTooLarge) (progress_of answer _ same)
     (λ ok. too_long body ok.0 ok.1 ok.2 long)
   where
     too_long : (body other : List ℕ) → Concluded outcomes.Ok body ≡ Concluded outcomes.Ok other
@@ -113,29 +113,29 @@ answered_is_no_ok body (more, same) = cc
 refused_is_no_ok : (fault : ProfileError) → ¬ IsOkReported (ClientRefused fault)
 refused_is_no_ok fault (more, same) = cc
 
-started_kind : (body : List ℕ) (turn : Turn) (answer : SideOutput) → of_client.ClientOutputs (Started body) turn answer
+started_kind : (body : List ℕ) (turn : FrameKind) (answer : SideOutput) → of_client.ClientOutputs (Started body) turn answer
     → Kind (IsOkReported (Started body)) answer
 started_kind body turns.Mechanisms answer sends =
-    sends_kind body Wanting (Frame turns.Challenge) answer _ wanting_is_not_logged_in (started_is_no_ok body) sends
-started_kind body turns.Init answer is = closes_kind OutOfTurn _ answer _ (started_is_no_ok body) is
-started_kind body turns.Challenge answer is = closes_kind OutOfTurn _ answer _ (started_is_no_ok body) is
-started_kind body turns.Response answer is = closes_kind OutOfTurn _ answer _ (started_is_no_ok body) is
-started_kind body turns.Outcome answer is = closes_kind OutOfTurn _ answer _ (started_is_no_ok body) is
+    sends_kind body InProgress (Frame turns.Challenge) answer _ wanting_is_not_logged_in (started_is_no_ok body) sends
+started_kind body turns.Init answer is = closes_kind UnexpectedFrame _ answer _ (started_is_no_ok body) is
+started_kind body turns.Challenge answer is = closes_kind UnexpectedFrame _ answer _ (started_is_no_ok body) is
+started_kind body turns.Response answer is = closes_kind UnexpectedFrame _ answer _ (started_is_no_ok body) is
+started_kind body turns.Outcome answer is = closes_kind UnexpectedFrame _ answer _ (started_is_no_ok body) is
 
-answered_kind : (body : List ℕ) (turn : Turn) (answer : SideOutput) → of_client.ClientOutputs (Answered body) turn answer
+answered_kind : (body : List ℕ) (turn : FrameKind) (answer : SideOutput) → of_client.ClientOutputs (Answered body) turn answer
     → Kind (IsOkReported (Answered body)) answer
 answered_kind body turns.Challenge answer sends =
-    sends_kind body Wanting (Frame turns.Outcome) answer _ wanting_is_not_logged_in (answered_is_no_ok body) sends
-answered_kind body turns.Mechanisms answer is = closes_kind OutOfTurn _ answer _ (answered_is_no_ok body) is
-answered_kind body turns.Init answer is = closes_kind OutOfTurn _ answer _ (answered_is_no_ok body) is
-answered_kind body turns.Response answer is = closes_kind OutOfTurn _ answer _ (answered_is_no_ok body) is
-answered_kind body turns.Outcome answer is = closes_kind OutOfTurn _ answer _ (answered_is_no_ok body) is
+    sends_kind body InProgress (Frame turns.Outcome) answer _ wanting_is_not_logged_in (answered_is_no_ok body) sends
+answered_kind body turns.Mechanisms answer is = closes_kind UnexpectedFrame _ answer _ (answered_is_no_ok body) is
+answered_kind body turns.Init answer is = closes_kind UnexpectedFrame _ answer _ (answered_is_no_ok body) is
+answered_kind body turns.Response answer is = closes_kind UnexpectedFrame _ answer _ (answered_is_no_ok body) is
+answered_kind body turns.Outcome answer is = closes_kind UnexpectedFrame _ answer _ (answered_is_no_ok body) is
 
-client_kind : (says : ClientSays) (turn : Turn) (answer : SideOutput) → of_client.ClientOutputs says turn answer
+client_kind : (says : ClientSays) (turn : FrameKind) (answer : SideOutput) → of_client.ClientOutputs says turn answer
     → Kind (IsOkReported says) answer
 client_kind (Started body) turn answer said = started_kind body turn answer said
 client_kind (Answered body) turn answer said = answered_kind body turn answer said
-client_kind (Reported outcomes.Ok more) turn answer same = inl (standing_of answer _ same, (more, refl))
+client_kind (Reported outcomes.Ok more) turn answer same = inl (progress_of answer _ same, (more, refl))
 client_kind (Reported outcomes.Auth more) turn answer same =
     closes_kind (Refused outcomes.Auth) _ answer _ (λ ok. let apart = ok.1 in absurd (cc)) same
 client_kind (Reported outcomes.Sys more) turn answer same =
@@ -149,48 +149,48 @@ client_kind (ClientRefused NotImplemented) turn answer closed =
     closes_kind _ _ answer _ (refused_is_no_ok NotImplemented) closed
 client_kind (ClientRefused (Scram fault)) turn answer closed =
     closes_kind _ _ answer _ (refused_is_no_ok (Scram fault)) closed
-client_kind (ClientRefused OtherKeys) turn answer closed = closes_kind _ _ answer _ (refused_is_no_ok OtherKeys) closed
+client_kind (ClientRefused StaleKeys) turn answer closed = closes_kind _ _ answer _ (refused_is_no_ok StaleKeys) closed
 client_kind (ClientRefused (FrameFault fault)) turn answer closed =
     closes_kind _ _ answer _ (refused_is_no_ok (FrameFault fault)) closed
 
 -- ---- negotiations
 
-module _ {S A : Type 0} (Steps : S → Given → A → S → Type 0) (Says : A → Turn → SideOutput → Type 0) (Is : A → Type 0)
-    (kind : (says : A) (turn : Turn) (answer : SideOutput) → Says says turn answer → Kind (Is says) answer) where
-  by_last : (turns : List Turn) (replies : List A) (answer : SideOutput) → Replied Says turns replies answer
-      → (answer.standing ≡ LoggedIn) ↔ LastReply Is replies
+module _ {S A : Type 0} (Steps : S → Given → A → S → Type 0) (Says : A → FrameKind → SideOutput → Type 0) (Is : A → Type 0)
+    (kind : (says : A) (turn : FrameKind) (answer : SideOutput) → Says says turn answer → Kind (Is says) answer) where
+  by_last : (turns : List FrameKind) (replies : List A) (answer : SideOutput) → Replied Says turns replies answer
+      → (answer.progress ≡ Authenticated) ↔ LastReply Is replies
   by_last [] replies answer replied = absurd replied
   by_last (turn ∷ turns) [] answer replied = (
-    (λ logged. wanting_is_not_logged_in (sym (ap (λ (a : SideOutput). a.standing) replied) ∙ logged)),
+    (λ logged. wanting_is_not_logged_in (sym (ap (λ (a : SideOutput). a.progress) replied) ∙ logged)),
     (λ none. absurd none),
   )
   by_last (turn ∷ turns) (says ∷ []) answer said = go (kind says turn answer said)
     where
-      go : Kind (Is says) answer → (answer.standing ≡ LoggedIn) ↔ Is says
+      go : Kind (Is says) answer → (answer.progress ≡ Authenticated) ↔ Is says
       go (inl both) = ((λ _. both.1), (λ _. both.0))
       go (inr neither) = ((λ logged. absurd (neither.0 logged)), (λ ok. absurd (neither.1 ok)))
   by_last (turn ∷ turns) (says ∷ next ∷ replies) answer (first, rest, said, went, replied, is) =
       let others = by_last turns (next ∷ replies) rest replied in
-      let at : answer.standing ≡ rest.standing = ap (λ (a : SideOutput). a.standing) is in
+      let at : answer.progress ≡ rest.progress = ap (λ (a : SideOutput). a.progress) is in
       ((λ logged. others.0 (sym at ∙ logged)), (λ ok. at ∙ others.1 ok))
 
-  logs_in : (turns : List Turn) (limit : ℕ) (state : S) (pieces : List Piece) (taken sent : List ℕ) (last : Side S)
+  logs_in : (turns : List FrameKind) (limit : ℕ) (state : S) (pieces : List Piece) (taken sent : List ℕ) (last : Side S)
       (n : Negotiated Steps Says turns limit state pieces taken sent last)
-      → (last.standing ≡ LoggedIn) ↔ LastReply Is n.replies
+      → (last.progress ≡ Authenticated) ↔ LastReply Is n.replies
   logs_in turns limit state pieces taken sent last n = go n.ends
     where
-      both : (n.answer.standing ≡ LoggedIn) ↔ LastReply Is n.replies
+      both : (n.answer.progress ≡ Authenticated) ↔ LastReply Is n.replies
       both = by_last turns n.replies n.answer n.replied
 
-      out : (turn : Turn) → LeftOver turn limit n.tail last.standing → last.standing ≢ LoggedIn
+      out : (turn : FrameKind) → LeftOver turn limit n.tail last.progress → last.progress ≢ Authenticated
       out turn (inl part) logged = wanting_is_not_logged_in (sym part.1 ∙ logged)
       out turn (inr (inl size)) logged = closed_is_not_logged_in FrameSize (sym size.2 ∙ logged)
       out turn (inr (inr frame)) logged = closed_is_not_logged_in frame.2 (sym frame.7 ∙ logged)
 
-      go : ((turn : Turn) × (n.answer.standing ≡ Wanting) × (n.answer.due ≡ Frame turn)
-          × LeftOver turn limit n.tail last.standing)
-          ⊎ ((n.answer.standing ≢ Wanting) × (last.standing ≡ n.answer.standing) × (n.tail ≡ []))
-          → (last.standing ≡ LoggedIn) ↔ LastReply Is n.replies
+      go : ((turn : FrameKind) × (n.answer.progress ≡ InProgress) × (n.answer.expected ≡ Frame turn)
+          × LeftOver turn limit n.tail last.progress)
+          ⊎ ((n.answer.progress ≢ InProgress) × (last.progress ≡ n.answer.progress) × (n.tail ≡ []))
+          → (last.progress ≡ Authenticated) ↔ LastReply Is n.replies
       go (inl waiting) = (
         (λ logged. absurd (out waiting.0 waiting.3 logged)),
         (λ ok. absurd (wanting_is_not_logged_in (sym waiting.1 ∙ both.1 ok))),

@@ -5,21 +5,21 @@ use Rattle.fe2o3_sasl_wire.specs.declared.sasl_frames.error.Error.{Error}
 use Rattle.fe2o3_sasl_wire.specs.declared.sasl_frames.error.Error.TheVariants as faults
 use Rattle.fe2o3_sasl_wire.specs.SaslFrames as frames
 use Rattle.fe2o3_sasl_wire.specs.SaslFrames.{SaslFrame, canonical}
-use Rattle.fe2o3_sasl_runs.specs.Bodies.{SpellsBody, carried, server_says}
-use Rattle.fe2o3_sasl_runs.specs.Events.{Given, ServerSays, Challenged, Concluded, Failed}
-use Rattle.fe2o3_sasl_runs.specs.OneOf.{BothStates, PartReplies, part_for, part_with, one_of_machine}
-use Rattle.fe2o3_sasl_runs.specs.OneOfLaws.{IsRefusal}
-use Rattle.fe2o3_sasl_runs.specs.Runs.{Runs, AcceptorSteps, AcceptorAnswers}
-use Rattle.fe2o3_sasl_runs.specs.SaslAcceptor.{ends_with}
-use Rattle.fe2o3_sasl_runs.specs.declared.one_of.Part.{Part}
-use Rattle.fe2o3_sasl_runs.specs.declared.one_of.Part.TheVariants.{First, Second}
-use Rattle.fe2o3_sasl_runs.proofs.lemmas.frames.SpellingLemmas.{one_spelling}
-use Rattle.fe2o3_sasl_negotiation.specs.declared.standing.ClosedBecause.TheVariants.{Refused}
-use Rattle.fe2o3_sasl_negotiation.specs.declared.standing.Due.TheVariants.{Frame}
-use Rattle.fe2o3_sasl_negotiation.specs.declared.standing.Standing.TheVariants.{Wanting}
-use Rattle.fe2o3_sasl_negotiation.specs.declared.standing.Turn.TheVariants as turns
+use Rattle.fe2o3_sasl_core.specs.Bodies.{SpellsBody, carried, server_says}
+use Rattle.fe2o3_sasl_core.specs.Events.{Given, ServerSays, Challenged, Concluded, Failed}
+use Rattle.fe2o3_sasl_core.specs.AnyMechanism.{BothStates, PartReplies, part_for, part_with, any_mechanism_machine}
+use Rattle.fe2o3_sasl_core.specs.AnyMechanismLaws.{IsRefusal}
+use Rattle.fe2o3_sasl_core.specs.Runs.{Runs, AcceptorSteps, AcceptorAnswers}
+use Rattle.fe2o3_sasl_core.specs.SaslAcceptor.{ends_with}
+use Rattle.fe2o3_sasl_core.specs.declared.any_mechanism.Selected.{Selected}
+use Rattle.fe2o3_sasl_core.specs.declared.any_mechanism.Selected.TheVariants.{First, Second}
+use Rattle.fe2o3_sasl_core.proofs.lemmas.frames.SpellingLemmas.{one_spelling}
+use Rattle.fe2o3_sasl_negotiation.specs.declared.progress.CloseReason.TheVariants.{Refused}
+use Rattle.fe2o3_sasl_negotiation.specs.declared.progress.Expected.TheVariants.{Frame}
+use Rattle.fe2o3_sasl_negotiation.specs.declared.progress.Progress.TheVariants.{InProgress}
+use Rattle.fe2o3_sasl_negotiation.specs.declared.progress.FrameKind.TheVariants as turns
 use Rattle.fe2o3_sasl_negotiation.specs.Connections.{Piece, SpellsTurn, AreFrames, Replied, LastReply, IsOkSent}
-use Rattle.fe2o3_sasl_negotiation.specs.NamedUsers.{PartSteps, OneOfLogsIn, OneOfServersLogIn, OneOfStepsLogIn}
+use Rattle.fe2o3_sasl_negotiation.specs.NamedUsers.{PartSteps, AnyMechanismLogsIn, AnyMechanismServersLogIn, AnyMechanismStepsLogIn}
 use Rattle.fe2o3_sasl_negotiation.specs.Negotiations.{SideOutput}
 use Rattle.fe2o3_sasl_negotiation.specs.ServerNegotiation.{ServerOutputs}
 use Rattle.fe2o3_sasl_negotiation.proofs.lemmas.ConnectionLemmas.{closed_is_not_wanting}
@@ -58,7 +58,7 @@ response_of body frame (frames.Outcome code more, spells, in_turn) spelled = abs
 
 -- what leaves a server waiting is no refusal
 goes_on_is_no_refusal : (says : ServerSays) (answer : SideOutput) → ServerOutputs says turns.Init answer
-    → answer.standing ≡ Wanting → ¬ IsRefusal says
+    → answer.progress ≡ InProgress → ¬ IsRefusal says
 goes_on_is_no_refusal (Challenged body) answer said waits refused = refused
 goes_on_is_no_refusal (Concluded outcomes.Auth body) answer sends waits refused =
     sends_ends body _ (Frame turns.Init) answer (closed_is_not_wanting (Refused outcomes.Auth)) sends waits
@@ -75,16 +75,16 @@ module _ {S T : Type 0} (names : S → List (List ℕ)) (others : T → List (Li
     (machine : S → List ℕ → SaslFrame → SaslFrame → S → Type 0)
     (other : T → List ℕ → SaslFrame → SaslFrame → T → Type 0) where
   -- an answer of a part
-  abbrev PartAnswers : Part → BothStates S T → List ℕ → SaslFrame → ServerSays → BothStates S T → Type 0
+  abbrev PartAnswers : Selected → BothStates S T → List ℕ → SaslFrame → ServerSays → BothStates S T → Type 0
   PartAnswers First parts nonce frame says next = AcceptorAnswers machine parts.first nonce frame says next.first
   PartAnswers Second parts nonce frame says next = AcceptorAnswers other parts.second nonce frame says next.second
 
   -- an answer that is sent
-  sent_by : (asked : Option Part) (parts next moved : BothStates S T) (nonce : List ℕ) (frame reply : SaslFrame)
+  sent_by : (asked : Option Selected) (parts next moved : BothStates S T) (nonce : List ℕ) (frame reply : SaslFrame)
       (says : ServerSays) (body : Option (List ℕ)) → ¬ IsRefusal says
       → PartReplies machine other parts asked nonce frame reply moved → canonical reply ≡ body
       → says ≡ carried (Failed faults.TooLarge) (server_says reply) body → next ≡ carried parts (λ _. moved) body
-      → (part : Part) × (asked ≡ Some part) × (next.asked ≡ Some part) × PartAnswers part parts nonce frame says next
+      → (part : Selected) × (asked ≡ Some part) × (next.selected ≡ Some part) × PartAnswers part parts nonce frame says next
   sent_by asked parts next moved nonce frame reply says None kept replies none is same =
       absurd (kept (subst IsRefusal (sym is) tt))
   sent_by None parts next moved nonce frame reply says (Some body) kept replies some is same =
@@ -95,7 +95,7 @@ module _ {S T : Type 0} (names : S → List (List ℕ)) (others : T → List (Li
       let after = same ∙ now in (
         First,
         refl,
-        ap (λ (p : BothStates S T). p.asked) after,
+        ap (λ (p : BothStates S T). p.selected) after,
         inr (
           reply,
           state,
@@ -110,7 +110,7 @@ module _ {S T : Type 0} (names : S → List (List ℕ)) (others : T → List (Li
       let after = same ∙ now in (
         Second,
         refl,
-        ap (λ (p : BothStates S T). p.asked) after,
+        ap (λ (p : BothStates S T). p.selected) after,
         inr (
           reply,
           state,
@@ -123,15 +123,15 @@ module _ {S T : Type 0} (names : S → List (List ℕ)) (others : T → List (Li
       )
 
   answered_by : (parts next : BothStates S T) (nonce : List ℕ) (frame : SaslFrame) (says : ServerSays) → ¬ IsRefusal says
-      → AcceptorAnswers (one_of_machine names others machine other) parts nonce frame says next
-      → (part : Part) × (part_for names others parts frame ≡ Some part) × (next.asked ≡ Some part)
+      → AcceptorAnswers (any_mechanism_machine names others machine other) parts nonce frame says next
+      → (part : Selected) × (part_for names others parts frame ≡ Some part) × (next.selected ≡ Some part)
       × PartAnswers part parts nonce frame says next
   answered_by parts next nonce frame says kept (inl memory) = absurd (kept (subst IsRefusal (sym memory.0) tt))
   answered_by parts next nonce frame says kept (inr (reply, moved, replies, sends)) =
       sent_by (part_for names others parts frame) parts next moved nonce frame reply says (canonical reply) kept replies
       refl sends.0 sends.1
 
-  steps_of_init : (event : Given) (mechanism : List ℕ) (response hostname : Option (List ℕ)) (part : Part)
+  steps_of_init : (event : Given) (mechanism : List ℕ) (response hostname : Option (List ℕ)) (part : Selected)
       (parts next : BothStates S T) (says : ServerSays)
       → SpellsBody event.body (Ok (frames.Init mechanism response hostname))
       → PartAnswers part parts event.nonce (frames.Init mechanism response hostname) says next
@@ -141,7 +141,7 @@ module _ {S T : Type 0} (names : S → List (List ℕ)) (others : T → List (Li
   steps_of_init event mechanism response hostname Second parts next says spells answers =
       (Ok (frames.Init mechanism response hostname), spells, answers)
 
-  steps_of_response : (event : Given) (text : List ℕ) (part : Part) (parts next : BothStates S T) (says : ServerSays)
+  steps_of_response : (event : Given) (text : List ℕ) (part : Selected) (parts next : BothStates S T) (says : ServerSays)
       → SpellsBody event.body (Ok (frames.Response text))
       → PartAnswers part parts event.nonce (frames.Response text) says next
       → PartSteps machine other part parts event says next
@@ -151,14 +151,14 @@ module _ {S T : Type 0} (names : S → List (List ℕ)) (others : T → List (Li
   -- a step that does not refuse is one of the part that the frame goes to
   abbrev Kept : BothStates S T → Given → ServerSays → BothStates S T → Type 0
   Kept parts event says next = (frame : SaslFrame) × SpellsBody event.body (Ok frame)
-      × ((part : Part) × (part_for names others parts frame ≡ Some part) × (next.asked ≡ Some part)
+      × ((part : Selected) × (part_for names others parts frame ≡ Some part) × (next.selected ≡ Some part)
       × PartSteps machine other part parts event says next)
 
   refuses : (says : ServerSays) (fault : Error) → says ≡ Failed fault → IsRefusal says
   refuses says fault is = subst IsRefusal (sym is) tt
 
   one_step : (parts next : BothStates S T) (event : Given) (says : ServerSays) → ¬ IsRefusal says
-      → AcceptorSteps (one_of_machine names others machine other) parts event says next → Kept parts event says next
+      → AcceptorSteps (any_mechanism_machine names others machine other) parts event says next → Kept parts event says next
   one_step parts next event says kept (Err fault, spells, gives) = absurd (kept (refuses says fault gives.0))
   one_step parts next event says kept (Ok (frames.Mechanisms list), spells, gives) =
       absurd (kept (refuses says faults.NotImplemented gives.0))
@@ -185,8 +185,8 @@ module _ {S T : Type 0} (names : S → List (List ℕ)) (others : T → List (Li
         (part, is, asked, steps_of_response event text part parts next says spells answers),
       )
 
-  pub one_of_steps_log_in : OneOfStepsLogIn names others machine other
-  one_of_steps_log_in before after event body step =
+  pub any_mechanism_steps_log_in : AnyMechanismStepsLogIn names others machine other
+  any_mechanism_steps_log_in before after event body step =
       let (frame, spells, (part, is, asked, steps)) =
       one_step before after event (Concluded outcomes.Ok body) (λ never. never) step in
       (part, asked, steps)
@@ -194,14 +194,14 @@ module _ {S T : Type 0} (names : S → List (List ℕ)) (others : T → List (Li
   -- ---- a negotiation
 
   abbrev Steps : BothStates S T → Given → ServerSays → BothStates S T → Type 0
-  Steps = AcceptorSteps (one_of_machine names others machine other)
+  Steps = AcceptorSteps (any_mechanism_machine names others machine other)
 
   -- the part that an init goes to
   part_of_init : (parts next : BothStates S T) (event : Given) (says : ServerSays) → SpellsTurn turns.Init event.body
       → Kept parts event says next
-      → (mechanism : List ℕ) × (response : Option (List ℕ)) × (hostname : Option (List ℕ)) × (part : Part)
+      → (mechanism : List ℕ) × (response : Option (List ℕ)) × (hostname : Option (List ℕ)) × (part : Selected)
       × SpellsBody event.body (Ok (frames.Init mechanism response hostname))
-      × (part_with (names parts.first) (others parts.second) mechanism ≡ Some part) × (next.asked ≡ Some part)
+      × (part_with (names parts.first) (others parts.second) mechanism ≡ Some part) × (next.selected ≡ Some part)
       × PartSteps machine other part parts event says next
   part_of_init parts next event says in_turn (frame, spells, (part, is, asked, steps)) =
       let (mechanism, response, hostname, same) = init_of event.body frame in_turn spells in (
@@ -218,7 +218,7 @@ module _ {S T : Type 0} (names : S → List (List ℕ)) (others : T → List (Li
   by_frames : (pieces : List Piece) (limit : ℕ) (events : List Given) (replies : List ServerSays) (answer : SideOutput)
       (state last : BothStates S T) → AreFrames pieces limit 8 (turns.Init ∷ turns.Response ∷ []) events
       → Runs Steps state events replies last → Replied ServerOutputs (turns.Init ∷ turns.Response ∷ []) replies answer
-      → LastReply IsOkSent replies → OneOfLogsIn names others machine other events state last
+      → LastReply IsOkSent replies → AnyMechanismLogsIn names others machine other events state last
   by_frames pieces limit [] replies answer state last frames run replied ok =
       absurd (subst (λ (l : List ServerSays). LastReply IsOkSent l) run.0 ok)
   by_frames pieces limit (event ∷ []) replies answer state last frames
@@ -270,17 +270,17 @@ module _ {S T : Type 0} (names : S → List (List ℕ)) (others : T → List (Li
         event = second;
         ended = (event ∷ [], refl);
         body = body;
-        answers = subst (λ (p : Part). PartSteps machine other p mid second (Concluded outcomes.Ok body) last) one
+        answers = subst (λ (p : Selected). PartSteps machine other p mid second (Concluded outcomes.Ok body) last) one
             steps_then;
-        named = asked_then ∙ ap (λ (p : Part). Some p) one;
+        named = asked_then ∙ ap (λ (p : Selected). Some p) one;
       }
     where
-      same_part : (one two : Part) → Some one ≡ Some two → one ≡ two
+      same_part : (one two : Selected) → Some one ≡ Some two → one ≡ two
       same_part one two same = cc
   by_frames pieces limit (event ∷ second ∷ third ∷ events) replies answer state last frames run replied ok =
       absurd frames.3.3
 
-  pub one_of_servers_log_in : OneOfServersLogIn names others machine other
-  one_of_servers_log_in limit state pieces taken sent last n logged =
+  pub any_mechanism_servers_log_in : AnyMechanismServersLogIn names others machine other
+  any_mechanism_servers_log_in limit state pieces taken sent last n logged =
       by_frames pieces limit n.events n.replies n.answer state last.state n.frames n.run n.replied
-      ((servers_log_in (one_of_machine names others machine other) limit state pieces taken sent last n).0 logged)
+      ((servers_log_in (any_mechanism_machine names others machine other) limit state pieces taken sent last n).0 logged)

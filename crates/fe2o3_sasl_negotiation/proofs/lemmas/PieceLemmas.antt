@@ -7,12 +7,12 @@ use Rattle.std.proofs.lemmas.List.{append-nil, length-take-le, take-append-drop}
 use Rattle.std.proofs.lemmas.Nat.{be_bytes_4}
 use Rattle.fe2o3_sasl_wire.specs.SaslFrames.{IsBytes}
 use Rattle.fe2o3_sasl_wire.proofs.lemmas.reading.StepLemmas.{IsBytes-take}
-use Rattle.fe2o3_sasl_runs.specs.Events.{Given}
-use Rattle.fe2o3_sasl_runs.specs.Runs.{Runs}
-use Rattle.fe2o3_sasl_negotiation.specs.declared.standing.Due.{Due}
-use Rattle.fe2o3_sasl_negotiation.specs.declared.standing.Due.TheVariants.{Frame}
-use Rattle.fe2o3_sasl_negotiation.specs.declared.standing.Standing.TheVariants.{Wanting}
-use Rattle.fe2o3_sasl_negotiation.specs.declared.standing.Turn.{Turn}
+use Rattle.fe2o3_sasl_core.specs.Events.{Given}
+use Rattle.fe2o3_sasl_core.specs.Runs.{Runs}
+use Rattle.fe2o3_sasl_negotiation.specs.declared.progress.Expected.{Expected}
+use Rattle.fe2o3_sasl_negotiation.specs.declared.progress.Expected.TheVariants.{Frame}
+use Rattle.fe2o3_sasl_negotiation.specs.declared.progress.Progress.TheVariants.{InProgress}
+use Rattle.fe2o3_sasl_negotiation.specs.declared.progress.FrameKind.{FrameKind}
 use Rattle.fe2o3_sasl_negotiation.specs.Connections.{Piece, bytes_of, PieceNonceAt, frames_of, SpellsTurn, AreFrames, Replied}
 use Rattle.fe2o3_sasl_negotiation.specs.Framing.{framed, size_of, Fits}
 use Rattle.fe2o3_sasl_negotiation.specs.Negotiations.{SideOutput}
@@ -112,7 +112,7 @@ frames_of-more events event =
     ∙ ap (λ l. frames_of events ++ l) (append-nil (framed event.body))
 
 -- frames of more pieces
-pub frames_of_more : (pieces more : List Piece) (limit at : ℕ) (turns : List Turn) (events : List Given)
+pub frames_of_more : (pieces more : List Piece) (limit at : ℕ) (turns : List FrameKind) (events : List Given)
     → AreFrames pieces limit at turns events → AreFrames (pieces ++ more) limit at turns events
 frames_of_more pieces more limit at turns [] are = tt
 frames_of_more pieces more limit at [] (event ∷ events) are = are
@@ -124,29 +124,29 @@ frames_of_more pieces more limit at (turn ∷ turns) (event ∷ events) (fits, s
 )
 
 -- one frame more
-pub one_frame_more : (pieces : List Piece) (limit at : ℕ) (turns : List Turn) (events : List Given) (turn : Turn)
+pub one_frame_more : (pieces : List Piece) (limit at : ℕ) (turns : List FrameKind) (events : List Given) (turn : FrameKind)
     (event : Given) → AreFrames pieces limit at turns events → slice_get turns (length events) ≡ Some turn
     → Fits limit (length event.body + 4) → SpellsTurn turn event.body
     → PieceNonceAt pieces (at + (length (frames_of events) + (length event.body + 3))) event.nonce
     → AreFrames pieces limit at turns (events ++ event ∷ [])
-one_frame_more pieces limit at [] [] turn event are due fits spells nonce = absurd (none due)
+one_frame_more pieces limit at [] [] turn event are expected fits spells nonce = absurd (none expected)
   where
-    none : slice_get {X = Turn} [] 0 ≡ Some turn → ⊥
-    none due = cc
-one_frame_more pieces limit at [] (first ∷ events) turn event are due fits spells nonce = are
-one_frame_more pieces limit at (first ∷ turns) [] turn event are due fits spells nonce =
+    none : slice_get {X = FrameKind} [] 0 ≡ Some turn → ⊥
+    none expected = cc
+one_frame_more pieces limit at [] (first ∷ events) turn event are expected fits spells nonce = are
+one_frame_more pieces limit at (first ∷ turns) [] turn event are expected fits spells nonce =
     let same : turn ≡ first = cc in (
       fits,
-      subst (λ (t : Turn). SpellsTurn t event.body) same spells,
+      subst (λ (t : FrameKind). SpellsTurn t event.body) same spells,
       subst (λ n. PieceNonceAt pieces n event.nonce) (omega arith) nonce,
       tt,
     )
 one_frame_more pieces limit at (first ∷ turns) (other ∷ events) turn event (fits_first, spells_first, nonce_first, others)
-    due fits spells nonce = (
+    expected fits spells nonce = (
       fits_first,
       spells_first,
       nonce_first,
-      one_frame_more pieces limit (at + (length other.body + 4)) turns events turn event others due fits spells
+      one_frame_more pieces limit (at + (length other.body + 4)) turns events turn event others expected fits spells
           (subst (λ n. PieceNonceAt pieces n event.nonce) (place (length-frames_of other events)) nonce),
     )
   where
@@ -157,59 +157,59 @@ one_frame_more pieces limit at (first ∷ turns) (other ∷ events) turn event (
 
 -- ---- replies
 
--- what a reply leaves due is the next turn
-abbrev pub IsChain : {A : Type 0} → (A → Turn → SideOutput → Type 0) → List Turn → Type 0
+-- what a reply leaves expected is the next turn
+abbrev pub IsChain : {A : Type 0} → (A → FrameKind → SideOutput → Type 0) → List FrameKind → Type 0
 IsChain Says [] = Unit {0}
-IsChain {A} Says (turn ∷ []) = (says : A) (answer : SideOutput) → Says says turn answer → answer.standing ≢ Wanting
+IsChain {A} Says (turn ∷ []) = (says : A) (answer : SideOutput) → Says says turn answer → answer.progress ≢ InProgress
 IsChain {A} Says (turn ∷ next ∷ turns) =
-    ((says : A) (answer : SideOutput) → Says says turn answer → answer.standing ≡ Wanting → answer.due ≡ Frame next)
+    ((says : A) (answer : SideOutput) → Says says turn answer → answer.progress ≡ InProgress → answer.expected ≡ Frame next)
     × IsChain Says (next ∷ turns)
 
-frame_turn : (turn other : Turn) (due : Due) → due ≡ Frame turn → due ≡ Frame other → turn ≡ other
-frame_turn turn other due one two = let same : Frame turn ≡ Frame other = sym one ∙ two in cc
+frame_turn : (turn other : FrameKind) (expected : Expected) → expected ≡ Frame turn → expected ≡ Frame other → turn ≡ other
+frame_turn turn other expected one two = let same : Frame turn ≡ Frame other = sym one ∙ two in cc
 
-module _ {A : Type 0} (Says : A → Turn → SideOutput → Type 0) where
-  -- where a side waits after its replies, a turn is due
-  pub due_after : (turns : List Turn) (replies : List A) (answer : SideOutput) → IsChain Says turns
-      → Replied Says turns replies answer → answer.standing ≡ Wanting
-      → (turn : Turn) × (answer.due ≡ Frame turn) × (slice_get turns (length replies) ≡ Some turn)
+module _ {A : Type 0} (Says : A → FrameKind → SideOutput → Type 0) where
+  -- where a side waits after its replies, a turn is expected
+  pub due_after : (turns : List FrameKind) (replies : List A) (answer : SideOutput) → IsChain Says turns
+      → Replied Says turns replies answer → answer.progress ≡ InProgress
+      → (turn : FrameKind) × (answer.expected ≡ Frame turn) × (slice_get turns (length replies) ≡ Some turn)
   due_after [] replies answer chain replied waits = absurd replied
-  due_after (turn ∷ turns) [] answer chain replied waits = (turn, ap (λ (a : SideOutput). a.due) replied, refl)
+  due_after (turn ∷ turns) [] answer chain replied waits = (turn, ap (λ (a : SideOutput). a.expected) replied, refl)
   due_after (turn ∷ []) (says ∷ []) answer chain replied waits = absurd (chain says answer replied waits)
   due_after (turn ∷ next ∷ turns) (says ∷ []) answer chain replied waits =
       (next, chain.0 says answer replied waits, refl)
   due_after (turn ∷ []) (says ∷ more ∷ replies) answer chain (first, rest, _, _, replied, _) waits = absurd replied
   due_after (turn ∷ next ∷ turns) (says ∷ more ∷ replies) answer chain (first, rest, _, _, replied, is) waits =
-      let (due, same, at) = due_after (next ∷ turns) (more ∷ replies) rest chain.1 replied
-      (sym (ap (λ (a : SideOutput). a.standing) is) ∙ waits) in
-      (due, ap (λ (a : SideOutput). a.due) is ∙ same, at)
+      let (expected, same, at) = due_after (next ∷ turns) (more ∷ replies) rest chain.1 replied
+      (sym (ap (λ (a : SideOutput). a.progress) is) ∙ waits) in
+      (expected, ap (λ (a : SideOutput). a.expected) is ∙ same, at)
 
   -- one reply more
-  pub one_reply_more : (turns : List Turn) (replies : List A) (before after : SideOutput) (turn : Turn) (says : A)
-      → IsChain Says turns → Replied Says turns replies before → before.standing ≡ Wanting → before.due ≡ Frame turn
+  pub one_reply_more : (turns : List FrameKind) (replies : List A) (before after : SideOutput) (turn : FrameKind) (says : A)
+      → IsChain Says turns → Replied Says turns replies before → before.progress ≡ InProgress → before.expected ≡ Frame turn
       → Says says turn after
       → Replied Says turns (replies ++ says ∷ []) (record after { sent = before.sent ++ after.sent })
-  one_reply_more [] replies before after turn says chain replied waits due more = absurd replied
-  one_reply_more (first ∷ turns) [] before after turn says chain replied waits due more =
-      let same : turn ≡ first = frame_turn turn first before.due due (ap (λ (a : SideOutput). a.due) replied) in
+  one_reply_more [] replies before after turn says chain replied waits expected more = absurd replied
+  one_reply_more (first ∷ turns) [] before after turn says chain replied waits expected more =
+      let same : turn ≡ first = frame_turn turn first before.expected expected (ap (λ (a : SideOutput). a.expected) replied) in
       let nothing : before.sent ≡ [] = ap (λ (a : SideOutput). a.sent) replied in
       subst (λ (l : List ℕ). Says says first (record after { sent = l ++ after.sent })) (sym nothing)
-      (subst (λ (t : Turn). Says says t after) same more)
-  one_reply_more (first ∷ []) (one ∷ []) before after turn says chain replied waits due more =
+      (subst (λ (t : FrameKind). Says says t after) same more)
+  one_reply_more (first ∷ []) (one ∷ []) before after turn says chain replied waits expected more =
       absurd (chain one before replied waits)
-  one_reply_more (first ∷ next ∷ turns) (one ∷ []) before after turn says chain replied waits due more =
-      let same : turn ≡ next = frame_turn turn next before.due due (chain.0 one before replied waits) in
-      (before, after, replied, waits, subst (λ (t : Turn). Says says t after) same more, refl)
-  one_reply_more (first ∷ []) (one ∷ other ∷ replies) before after turn says chain (start, rest, _, _, replied, _) waits due
+  one_reply_more (first ∷ next ∷ turns) (one ∷ []) before after turn says chain replied waits expected more =
+      let same : turn ≡ next = frame_turn turn next before.expected expected (chain.0 one before replied waits) in
+      (before, after, replied, waits, subst (λ (t : FrameKind). Says says t after) same more, refl)
+  one_reply_more (first ∷ []) (one ∷ other ∷ replies) before after turn says chain (start, rest, _, _, replied, _) waits expected
       more = absurd replied
   one_reply_more (first ∷ next ∷ turns) (one ∷ other ∷ replies) before after turn says chain
-      (start, rest, said, went, replied, is) waits due more = (
+      (start, rest, said, went, replied, is) waits expected more = (
         start,
         record after { sent = rest.sent ++ after.sent },
         said,
         went,
         one_reply_more (next ∷ turns) (other ∷ replies) rest after turn says chain.1 replied
-            (sym (ap (λ (a : SideOutput). a.standing) is) ∙ waits) (sym (ap (λ (a : SideOutput). a.due) is) ∙ due) more,
+            (sym (ap (λ (a : SideOutput). a.progress) is) ∙ waits) (sym (ap (λ (a : SideOutput). a.expected) is) ∙ expected) more,
         ap (λ (l : List ℕ). record after { sent = l })
             (ap (λ (a : SideOutput). a.sent ++ after.sent) is ∙ append_assoc start.sent rest.sent after.sent),
       )

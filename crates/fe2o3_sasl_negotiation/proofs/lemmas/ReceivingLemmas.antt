@@ -3,67 +3,67 @@ use Rattle.std.proofs.Common.{◌≡◌, ℕ, ◌-◌, ◌<◌, ◌≤◌, List,
 use Rattle.std.proofs.lemmas.List.{append-nil, length-take-le, take-take, take_at}
 use Rattle.fe2o3_sasl_negotiation.specs.declared.framing.Arrived.TheVariants.{Part, Refused, Whole}
 use Rattle.fe2o3_sasl_negotiation.specs.declared.framing.Step.{Step}
-use Rattle.fe2o3_sasl_negotiation.specs.declared.standing.ClosedBecause.{ClosedBecause}
-use Rattle.fe2o3_sasl_negotiation.specs.declared.standing.ClosedBecause.TheVariants.{FrameSize}
-use Rattle.fe2o3_sasl_negotiation.specs.declared.standing.Due.{Due}
-use Rattle.fe2o3_sasl_negotiation.specs.declared.standing.Due.TheVariants.{Header, Frame}
-use Rattle.fe2o3_sasl_negotiation.specs.declared.standing.Received.{Received}
-use Rattle.fe2o3_sasl_negotiation.specs.declared.standing.Standing.{Standing}
-use Rattle.fe2o3_sasl_negotiation.specs.declared.standing.Standing.TheVariants.{Wanting, LoggedIn, Closed}
+use Rattle.fe2o3_sasl_negotiation.specs.declared.progress.CloseReason.{CloseReason}
+use Rattle.fe2o3_sasl_negotiation.specs.declared.progress.CloseReason.TheVariants.{FrameSize}
+use Rattle.fe2o3_sasl_negotiation.specs.declared.progress.Expected.{Expected}
+use Rattle.fe2o3_sasl_negotiation.specs.declared.progress.Expected.TheVariants.{Header, Frame}
+use Rattle.fe2o3_sasl_negotiation.specs.declared.progress.Received.{Received}
+use Rattle.fe2o3_sasl_negotiation.specs.declared.progress.Progress.{Progress}
+use Rattle.fe2o3_sasl_negotiation.specs.declared.progress.Progress.TheVariants.{InProgress, Authenticated, Failed}
 use Rattle.fe2o3_sasl_negotiation.specs.Framing.{unit_size, IsPart, IsRefused, IsWhole}
 use Rattle.fe2o3_sasl_negotiation.specs.Negotiations.{Side, SideOutput, closes, Receives, ReceivesAt}
 use Rattle.fe2o3_sasl_negotiation.specs.private.Units.{TakesUnit, Appends}
 use Rattle.fe2o3_sasl_negotiation.proofs.lemmas.FramingLemmas.{part_is_short, part_is_shorter, refused_is_short}
 
 -- nothing is sent where a side closes
-pub closed_appends : (Answers : SideOutput → Type 0) (out : List ℕ) (why : ClosedBecause) (due : Due) (step : Step)
-    → step ≡ record { standing = Closed why; due = due } → Answers (closes why due) → Appends Answers out out step
-closed_appends Answers out why due step is holds = (
+pub closed_appends : (Answers : SideOutput → Type 0) (out : List ℕ) (why : CloseReason) (expected : Expected) (step : Step)
+    → step ≡ record { progress = Failed why; expected = expected } → Answers (closes why expected) → Appends Answers out out step
+closed_appends Answers out why expected step is holds = (
   [],
   sym (append-nil out),
-  subst (λ (s : Step). Answers (record { sent = []; standing = s.standing; due = s.due })) (sym is) holds,
+  subst (λ (s : Step). Answers (record { sent = []; progress = s.progress; expected = s.expected })) (sym is) holds,
 )
 
 -- a whole unit has come
-whole_within : (due : Due) (limit : ℕ) (come : List ℕ) → IsWhole due limit come → unit_size due come ≤ length come
+whole_within : (expected : Expected) (limit : ℕ) (come : List ℕ) → IsWhole expected limit come → unit_size expected come ≤ length come
 whole_within Header limit come whole = whole
 whole_within (Frame turn) limit come whole = whole.1
 
-refused_four : (due : Due) (limit : ℕ) (come : List ℕ) → IsRefused due limit come → 4 ≤ length come
+refused_four : (expected : Expected) (limit : ℕ) (come : List ℕ) → IsRefused expected limit come → 4 ≤ length come
 refused_four Header limit come refused = absurd refused
 refused_four (Frame turn) limit come refused = refused.0
 
-module _ {S : Type 0} (Answers : Due → S → List ℕ → List ℕ → SideOutput → S → Type 0) (side : Side S) (bytes nonce : List ℕ)
-    (wanting : side.standing ≡ Wanting) where
+module _ {S : Type 0} (Answers : Expected → S → List ℕ → List ℕ → SideOutput → S → Type 0) (side : Side S) (bytes nonce : List ℕ)
+    (wanting : side.progress ≡ InProgress) where
   -- what holds of a side that wants bytes
-  wants : (taken : ℕ) (sent : List ℕ) (next : Side S) → ReceivesAt Wanting Answers side bytes nonce taken sent next
+  wants : (taken : ℕ) (sent : List ℕ) (next : Side S) → ReceivesAt InProgress Answers side bytes nonce taken sent next
       → Receives Answers side bytes nonce taken sent next
   wants taken sent next holds =
-      subst (λ (s : Standing). ReceivesAt s Answers side bytes nonce taken sent next) (sym wanting) holds
+      subst (λ (s : Progress). ReceivesAt s Answers side bytes nonce taken sent next) (sym wanting) holds
 
   -- less than the whole is kept
-  pub part_is_kept : (kept : List ℕ) → TakesUnit side.due side.limit (side.held ++ bytes) Part kept
+  pub part_is_kept : (kept : List ℕ) → TakesUnit side.expected side.limit (side.held ++ bytes) Part kept
       → Receives Answers side bytes nonce (length bytes) [] (record side { held = kept })
   part_is_kept kept takes = wants (length bytes) [] (record side { held = kept })
       (inl (takes.0, (refl, refl, ap (λ (h : List ℕ). record side { held = h }) takes.1)))
 
   -- a size is refused
-  pub size_is_refused : (kept left : List ℕ) (taken : ℕ) → TakesUnit side.due side.limit (side.held ++ bytes) Refused kept
+  pub size_is_refused : (kept left : List ℕ) (taken : ℕ) → TakesUnit side.expected side.limit (side.held ++ bytes) Refused kept
       → taken ≡ length kept - length side.held → left ≡ []
       → Receives Answers side bytes nonce taken []
-      (record { standing = Closed FrameSize; due = side.due; limit = side.limit; held = left; state = side.state })
+      (record { progress = Failed FrameSize; expected = side.expected; limit = side.limit; held = left; state = side.state })
   size_is_refused kept left taken takes is empty =
       wants taken []
-      (record { standing = Closed FrameSize; due = side.due; limit = side.limit; held = left; state = side.state })
+      (record { progress = Failed FrameSize; expected = side.expected; limit = side.limit; held = left; state = side.state })
       (inr (inl (
         takes.0,
         (
           is ∙ ap (λ n. n - length side.held) (ap length takes.1
-              ∙ length-take-le 4 (side.held ++ bytes) (refused_four side.due side.limit (side.held ++ bytes) takes.0)),
+              ∙ length-take-le 4 (side.held ++ bytes) (refused_four side.expected side.limit (side.held ++ bytes) takes.0)),
           refl,
           ap (λ (h : List ℕ). record {
-            standing = Closed FrameSize;
-            due = side.due;
+            progress = Failed FrameSize;
+            expected = side.expected;
             limit = side.limit;
             held = h;
             state = side.state;
@@ -73,29 +73,29 @@ module _ {S : Type 0} (Answers : Due → S → List ℕ → List ℕ → SideOut
 
   -- a whole unit is answered
   pub unit_is_answered : (kept left sent : List ℕ) (taken : ℕ) (step : Step) (state : S)
-      → TakesUnit side.due side.limit (side.held ++ bytes) Whole kept
-      → Answers side.due side.state nonce kept
-      (record { sent = sent; standing = step.standing; due = step.due }) state
+      → TakesUnit side.expected side.limit (side.held ++ bytes) Whole kept
+      → Answers side.expected side.state nonce kept
+      (record { sent = sent; progress = step.progress; expected = step.expected }) state
       → taken ≡ length kept - length side.held → left ≡ []
       → Receives Answers side bytes nonce taken sent
-      (record { standing = step.standing; due = step.due; limit = side.limit; held = left; state = state })
+      (record { progress = step.progress; expected = step.expected; limit = side.limit; held = left; state = state })
   unit_is_answered kept left sent taken step state takes answers is empty =
       let come = side.held ++ bytes in
       wants taken sent
-      (record { standing = step.standing; due = step.due; limit = side.limit; held = left; state = state })
+      (record { progress = step.progress; expected = step.expected; limit = side.limit; held = left; state = state })
       (inr (inr (
-        record { sent = sent; standing = step.standing; due = step.due },
+        record { sent = sent; progress = step.progress; expected = step.expected },
         state,
         takes.0,
-        subst (λ (u : List ℕ). Answers side.due side.state nonce u
-            (record { sent = sent; standing = step.standing; due = step.due }) state) takes.1 answers,
+        subst (λ (u : List ℕ). Answers side.expected side.state nonce u
+            (record { sent = sent; progress = step.progress; expected = step.expected }) state) takes.1 answers,
         (
-          is ∙ ap (λ n. n - length side.held) (ap length takes.1 ∙ length-take-le (unit_size side.due come) come
-              (whole_within side.due side.limit come takes.0)),
+          is ∙ ap (λ n. n - length side.held) (ap length takes.1 ∙ length-take-le (unit_size side.expected come) come
+              (whole_within side.expected side.limit come takes.0)),
           refl,
           ap (λ (h : List ℕ). record {
-            standing = step.standing;
-            due = step.due;
+            progress = step.progress;
+            expected = step.expected;
             limit = side.limit;
             held = h;
             state = state;
@@ -104,56 +104,56 @@ module _ {S : Type 0} (Answers : Due → S → List ℕ → List ℕ → SideOut
       )))
 
 -- a side at its end rests
-pub ended_rests : {S : Type 0} (Answers : Due → S → List ℕ → List ℕ → SideOutput → S → Type 0) (side : Side S)
-    (bytes nonce : List ℕ) (standing : Standing) → side.standing ≡ standing → (standing ≡ Wanting → ⊥)
+pub ended_rests : {S : Type 0} (Answers : Expected → S → List ℕ → List ℕ → SideOutput → S → Type 0) (side : Side S)
+    (bytes nonce : List ℕ) (progress : Progress) → side.progress ≡ progress → (progress ≡ InProgress → ⊥)
     → Receives Answers side bytes nonce 0 [] side
-ended_rests Answers side bytes nonce standing is ended =
-    subst (λ (s : Standing). ReceivesAt s Answers side bytes nonce 0 [] side) (sym is) (go standing ended)
+ended_rests Answers side bytes nonce progress is ended =
+    subst (λ (s : Progress). ReceivesAt s Answers side bytes nonce 0 [] side) (sym is) (go progress ended)
   where
-    go : (s : Standing) → (s ≡ Wanting → ⊥) → ReceivesAt s Answers side bytes nonce 0 [] side
-    go Wanting ended = absurd (ended refl)
-    go LoggedIn ended = (refl, refl, refl)
-    go (Closed why) ended = (refl, refl, refl)
+    go : (s : Progress) → (s ≡ InProgress → ⊥) → ReceivesAt s Answers side bytes nonce 0 [] side
+    go InProgress ended = absurd (ended refl)
+    go Authenticated ended = (refl, refl, refl)
+    go (Failed why) ended = (refl, refl, refl)
 
 -- what was held before a unit was whole is found in front of it
-pub held_before_unit : (due : Due) (limit : ℕ) (old bytes kept : List ℕ) (had : ℕ) → IsPart due limit old
-    → TakesUnit due limit (old ++ bytes) Whole kept → had ≡ length old → take had kept ≡ old
-held_before_unit due limit old bytes kept had part takes is =
+pub held_before_unit : (expected : Expected) (limit : ℕ) (old bytes kept : List ℕ) (had : ℕ) → IsPart expected limit old
+    → TakesUnit expected limit (old ++ bytes) Whole kept → had ≡ length old → take had kept ≡ old
+held_before_unit expected limit old bytes kept had part takes is =
     let come = old ++ bytes in
-    let short : length old ≤ unit_size due come = part_is_short due limit old bytes part takes.0 in
+    let short : length old ≤ unit_size expected come = part_is_short expected limit old bytes part takes.0 in
     ap (take had) takes.1
-    ∙ (take-take had (unit_size due come) come (omega (arith, short, is)) ∙ take_at old bytes had (sym is))
+    ∙ (take-take had (unit_size expected come) come (omega (arith, short, is)) ∙ take_at old bytes had (sym is))
 
 -- sides of one state that hold the same are one
-pub same_side : {S : Type 0} (standing : Standing) (due : Due) (limit : ℕ) {held old : List ℕ} {state before : S}
+pub same_side : {S : Type 0} (progress : Progress) (expected : Expected) (limit : ℕ) {held old : List ℕ} {state before : S}
     → held ≡ old → state ≡ before
-    → ◌≡◌ {A = Side S} (record { standing = standing; due = due; limit = limit; held = held; state = state })
-    (record { standing = standing; due = due; limit = limit; held = old; state = before })
-same_side standing due limit same kept = λ i.
-    record { standing = standing; due = due; limit = limit; held = same i; state = kept i }
+    → ◌≡◌ {A = Side S} (record { progress = progress; expected = expected; limit = limit; held = held; state = state })
+    (record { progress = progress; expected = expected; limit = limit; held = old; state = before })
+same_side progress expected limit same kept = λ i.
+    record { progress = progress; expected = expected; limit = limit; held = same i; state = kept i }
 
 -- a call to a side that wants bytes takes one at least
-pub moves : {S : Type 0} (Answers : Due → S → List ℕ → List ℕ → SideOutput → S → Type 0) (side next : Side S)
-    (bytes nonce sent : List ℕ) (taken : ℕ) → IsPart side.due side.limit side.held → 0 < length bytes
-    → ReceivesAt Wanting Answers side bytes nonce taken sent next → 0 < taken
+pub moves : {S : Type 0} (Answers : Expected → S → List ℕ → List ℕ → SideOutput → S → Type 0) (side next : Side S)
+    (bytes nonce sent : List ℕ) (taken : ℕ) → IsPart side.expected side.limit side.held → 0 < length bytes
+    → ReceivesAt InProgress Answers side bytes nonce taken sent next → 0 < taken
 moves Answers side next bytes nonce sent taken part some (inl waits) =
     let all : taken ≡ length bytes = waits.1.0 in omega (arith, all, some)
 moves Answers side next bytes nonce sent taken part some (inr (inl refused)) =
-    let few = refused_is_short side.due side.limit side.held bytes part refused.0 in
+    let few = refused_is_short side.expected side.limit side.held bytes part refused.0 in
     let all : taken ≡ 4 - length side.held = refused.1.0 in omega (arith, few, all)
 moves Answers side next bytes nonce sent taken part some (inr (inr whole)) =
-    let short : length side.held < unit_size side.due (side.held ++ bytes) =
-    part_is_shorter side.due side.limit side.held bytes part whole.2 in
-    let all : taken ≡ unit_size side.due (side.held ++ bytes) - length side.held = whole.4.0 in
+    let short : length side.held < unit_size side.expected (side.held ++ bytes) =
+    part_is_shorter side.expected side.limit side.held bytes part whole.2 in
+    let all : taken ≡ unit_size side.expected (side.held ++ bytes) - length side.held = whole.4.0 in
     omega (arith, short, all)
 
 -- the same of what a call answers
-pub moves_on : {S E : Type 0} (Answers : Due → S → List ℕ → List ℕ → SideOutput → S → Type 0) (side next : Side S)
-    (bytes nonce old new : List ℕ) (result : Result Received E) → IsPart side.due side.limit side.held
+pub moves_on : {S E : Type 0} (Answers : Expected → S → List ℕ → List ℕ → SideOutput → S → Type 0) (side next : Side S)
+    (bytes nonce old new : List ℕ) (result : Result Received E) → IsPart side.expected side.limit side.held
     → IfOk result (λ received. (sent : List ℕ) × (new ≡ old ++ sent)
     × Receives Answers side bytes nonce received.taken sent next)
-    → IfOk result (λ received. side.standing ≡ Wanting → 0 < length bytes → 0 < received.taken)
+    → IfOk result (λ received. side.progress ≡ InProgress → 0 < length bytes → 0 < received.taken)
 moves_on Answers side next bytes nonce old new (Ok received) part (sent, appended, receives) = λ wants some.
     moves Answers side next bytes nonce sent received.taken part some
-    (subst (λ (s : Standing). ReceivesAt s Answers side bytes nonce received.taken sent next) wants receives)
+    (subst (λ (s : Progress). ReceivesAt s Answers side bytes nonce received.taken sent next) wants receives)
 moves_on Answers side next bytes nonce old new (Err fault) part receives = tt

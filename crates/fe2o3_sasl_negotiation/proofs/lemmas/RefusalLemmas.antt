@@ -5,13 +5,13 @@ use Rattle.fe2o3_sasl_wire.specs.declared.sasl_frames.error.Error.TheVariants as
 use Rattle.fe2o3_sasl_wire.specs.SaslFrames.{canonical, SaslFrame}
 use Rattle.fe2o3_sasl_wire.specs.SaslFrames as frames
 use Rattle.fe2o3_scram.specs.declared.scram_messages.error.ScramErrorKind.{ScramErrorKind}
-use Rattle.fe2o3_scram.specs.ScramClient.{ClientSide, ClientState, AnswersIn, BelievesIn}
+use Rattle.fe2o3_scram.specs.ScramClient.{ClientSide, ClientState, AnswersIn, VerifiesIn}
 use Rattle.fe2o3_scram.specs.ScramClient as client_states
-use Rattle.fe2o3_sasl_runs.specs.Events.{Given, ClientSays, Started, Answered, Refused}
-use Rattle.fe2o3_sasl_runs.specs.Profiles.{Profile, ScramProfile, PlainProfile, AnonymousProfile, ExternalProfile, client_frame, profile_machine}
-use Rattle.fe2o3_sasl_runs.specs.Runs.{SendsCanonical, Replies, ProfileSteps}
-use Rattle.fe2o3_sasl_runs.specs.declared.sasl_profile.error.ProfileError.{ProfileError}
-use Rattle.fe2o3_sasl_runs.specs.declared.sasl_profile.error.ProfileError.TheVariants.{Frame}
+use Rattle.fe2o3_sasl_core.specs.Events.{Given, ClientSays, Started, Answered, Refused}
+use Rattle.fe2o3_sasl_core.specs.Profiles.{Profile, ScramProfile, PlainProfile, AnonymousProfile, ExternalProfile, client_frame, profile_machine}
+use Rattle.fe2o3_sasl_core.specs.Runs.{SendsCanonical, Replies, ProfileSteps}
+use Rattle.fe2o3_sasl_core.specs.declared.sasl_profile.error.ProfileError.{ProfileError}
+use Rattle.fe2o3_sasl_core.specs.declared.sasl_profile.error.ProfileError.TheVariants.{Frame}
 
 answer_refused : (state : ClientState) (side after : ClientSide) (text : List ℕ) (kind : ScramErrorKind)
     → AnswersIn state side text (Err kind) after → after ≡ side
@@ -20,12 +20,12 @@ answer_refused (client_states.ClientFirstSent nonce bare) side after text kind r
 answer_refused (client_states.ClientFinalSent signature keys) side after text kind refused = refused.1
 answer_refused (client_states.Complete keys) side after text kind refused = refused.1
 
-belief_refused : (state : ClientState) (side after : ClientSide) (text : List ℕ) (kind : ScramErrorKind)
-    → BelievesIn state side text (Err kind) after → after ≡ side
-belief_refused client_states.ClientInitial side after text kind refused = refused.1
-belief_refused (client_states.ClientFirstSent nonce bare) side after text kind refused = refused.1
-belief_refused (client_states.ClientFinalSent signature keys) side after text kind refused = refused.1
-belief_refused (client_states.Complete keys) side after text kind refused = refused.1
+verification_refused : (state : ClientState) (side after : ClientSide) (text : List ℕ) (kind : ScramErrorKind)
+    → VerifiesIn state side text (Err kind) after → after ≡ side
+verification_refused client_states.ClientInitial side after text kind refused = refused.1
+verification_refused (client_states.ClientFirstSent nonce bare) side after text kind refused = refused.1
+verification_refused (client_states.ClientFinalSent signature keys) side after text kind refused = refused.1
+verification_refused (client_states.Complete keys) side after text kind refused = refused.1
 
 machine_refused : (profile : Profile) (hostname : Option (List ℕ)) (nonce : List ℕ) (frame : SaslFrame)
     (reply : Result SaslFrame ProfileError) (fault : ProfileError) (moved : Profile) → reply ≡ Err fault
@@ -48,12 +48,12 @@ machine_refused (ScramProfile client) hostname nonce (frames.Outcome outcomes.Ok
     go m.0 m.1 m.2 m.3 m.4
   where
     go : (answer : Result (Unit {0}) ScramErrorKind) (after : ClientSide)
-        → BelievesIn client.state client text answer after
-        → reply ≡ client_frame (λ believed. frames.Outcome outcomes.Ok (Some text)) answer
+        → VerifiesIn client.state client text answer after
+        → reply ≡ client_frame (λ verified. frames.Outcome outcomes.Ok (Some text)) answer
         → moved ≡ ScramProfile after → moved ≡ ScramProfile client
-    go (Ok believed) after from apart to = absurd (cc)
+    go (Ok verified) after from apart to = absurd (cc)
     go (Err kind) after from same to =
-        to ∙ ap (λ (c : ClientSide). ScramProfile c) (belief_refused client.state client after text kind from)
+        to ∙ ap (λ (c : ClientSide). ScramProfile c) (verification_refused client.state client after text kind from)
 machine_refused (ScramProfile client) hostname nonce (frames.Outcome outcomes.Auth more) reply fault moved is m = m.1
 machine_refused (ScramProfile client) hostname nonce (frames.Outcome outcomes.Sys more) reply fault moved is m = m.1
 machine_refused (ScramProfile client) hostname nonce (frames.Outcome outcomes.SysPerm more) reply fault moved is m =

@@ -1,13 +1,13 @@
 -- What calls cost in sum of which some run out of memory.
 use Rattle.std.proofs.Common.{◌≡◌, ◌⊎◌, ℕ, ◌+◌, ◌*◌, ◌≤◌, List, [], ◌∷◌, take, drop, ap, ◌∙◌, inl, inr, arith}
 use Rattle.std.proofs.Math.Nat.{suc-mul}
-use Rattle.fe2o3_sasl_negotiation.specs.declared.standing.Due.{Due}
+use Rattle.fe2o3_sasl_negotiation.specs.declared.progress.Expected.{Expected}
 use Rattle.fe2o3_sasl_negotiation.specs.Laws.{Call}
 use Rattle.fe2o3_sasl_negotiation.specs.Negotiations.{Side, SideOutput}
 use Rattle.fe2o3_sasl_negotiation.specs.Retries.{RetriedCalls}
 use Rattle.fe2o3_sasl_negotiation.proofs.lemmas.CostLemmas.{OpenSteps, DoneSteps}
 
-module _ {S : Type 0} (Answers : Due → S → List ℕ → List ℕ → SideOutput → S → Type 0)
+module _ {S : Type 0} (Answers : Expected → S → List ℕ → List ℕ → SideOutput → S → Type 0)
     (Costs : Side S → List ℕ → List ℕ → ℕ → ℕ → Type 0) (most : ℕ) (Open Done : Side S → Type 0)
     (open_steps : OpenSteps Answers Costs most Open Done) (done_steps : DoneSteps Answers Costs most Open Done)
     (open_tries : (side : Side S) (bytes nonce : List ℕ) (before after : ℕ) → Open side

@@ -2,18 +2,18 @@
 use Rattle.std.proofs.Common.{◌≡◌, ℕ, Option, Some, None, List, ◌++◌, drop, refl, ap, ◌∙◌, subst, inl, inr, append_assoc, Result, Ok, Err, IfOk}
 use Rattle.fe2o3_sasl_wire.specs.declared.sasl_frames.error.Error.{Error}
 use Rattle.fe2o3_sasl_wire.specs.SaslFrames.{SaslFrame}
-use Rattle.fe2o3_sasl_runs.specs.Costs.{AcceptorStepCosts}
-use Rattle.fe2o3_sasl_runs.specs.Events.{Given, ServerSays, Failed}
-use Rattle.fe2o3_sasl_runs.specs.Runs.{AcceptorSteps}
+use Rattle.fe2o3_sasl_core.specs.Costs.{AcceptorStepCosts}
+use Rattle.fe2o3_sasl_core.specs.Events.{Given, ServerSays, Failed}
+use Rattle.fe2o3_sasl_core.specs.Runs.{AcceptorSteps}
 use Rattle.fe2o3_sasl_negotiation.specs.declared.framing.Arrived.TheVariants.{Whole}
 use Rattle.fe2o3_sasl_negotiation.specs.declared.framing.Step.{Step}
-use Rattle.fe2o3_sasl_negotiation.specs.declared.standing.ClosedBecause.{ClosedBecause}
-use Rattle.fe2o3_sasl_negotiation.specs.declared.standing.Due.{Due}
-use Rattle.fe2o3_sasl_negotiation.specs.declared.standing.Due.TheVariants.{Header, Frame}
-use Rattle.fe2o3_sasl_negotiation.specs.declared.standing.Standing.{Standing}
-use Rattle.fe2o3_sasl_negotiation.specs.declared.standing.Standing.TheVariants.{Wanting}
-use Rattle.fe2o3_sasl_negotiation.specs.declared.standing.Turn.{Turn}
-use Rattle.fe2o3_sasl_negotiation.specs.declared.standing.Turn.TheVariants as turns
+use Rattle.fe2o3_sasl_negotiation.specs.declared.progress.CloseReason.{CloseReason}
+use Rattle.fe2o3_sasl_negotiation.specs.declared.progress.Expected.{Expected}
+use Rattle.fe2o3_sasl_negotiation.specs.declared.progress.Expected.TheVariants.{Header, Frame}
+use Rattle.fe2o3_sasl_negotiation.specs.declared.progress.Progress.{Progress}
+use Rattle.fe2o3_sasl_negotiation.specs.declared.progress.Progress.TheVariants.{InProgress}
+use Rattle.fe2o3_sasl_negotiation.specs.declared.progress.FrameKind.{FrameKind}
+use Rattle.fe2o3_sasl_negotiation.specs.declared.progress.FrameKind.TheVariants as turns
 use Rattle.fe2o3_sasl_negotiation.specs.Framing.{sasl_header}
 use Rattle.fe2o3_sasl_negotiation.specs.Negotiations.{closes, Sends}
 use Rattle.fe2o3_sasl_negotiation.specs.ServerNegotiation.{offer_body, ServerOpens, Offers, ServerOutputs, ServerReplies, ServerReplyCosts, ServerUnitCosts, ServerCosts}
@@ -26,26 +26,26 @@ pub opened : (names : List (List ℕ)) (header out mid new : List ℕ) (step : S
 opened names header out mid new step is opens (sent, appended, offers) = (
   sasl_header ++ sent,
   appended ∙ (ap (λ l. l ++ sent) opens ∙ append_assoc out sasl_header sent),
-  inr (is, (record { sent = sent; standing = step.standing; due = step.due }, offers, refl)),
+  inr (is, (record { sent = sent; progress = step.progress; expected = step.expected }, offers, refl)),
 )
 
 -- and that is the body of its mechanisms
 pub offered : (names : List (List ℕ)) (body mid new : List ℕ) (step : Step) → Some body ≡ offer_body names
-    → Appends (Sends body Wanting (Frame turns.Init)) mid new step → Appends (Offers (offer_body names)) mid new step
+    → Appends (Sends body InProgress (Frame turns.Init)) mid new step → Appends (Offers (offer_body names)) mid new step
 offered names body mid new step is sends =
     subst (λ (o : Option (List ℕ)). Appends (Offers o) mid new step) is sends
 
 -- what closes before the acceptor is asked
-pub screened : {S : Type 0} (machine : S → List ℕ → SaslFrame → SaslFrame → S → Type 0) (turn : Turn) (state : S)
-    (event : Given) (why : ClosedBecause) → Screens turn event.body (Some why)
+pub screened : {S : Type 0} (machine : S → List ℕ → SaslFrame → SaslFrame → S → Type 0) (turn : FrameKind) (state : S)
+    (event : Given) (why : CloseReason) → Screens turn event.body (Some why)
     → ServerReplies machine turn state event (closes why (Frame turn)) state
 screened machine turn state event why (inl (fault, spells, is)) =
-    (Err fault, spells, (ap (λ (w : ClosedBecause). closes w (Frame turn)) is, refl))
+    (Err fault, spells, (ap (λ (w : CloseReason). closes w (Frame turn)) is, refl))
 screened machine turn state event why (inr (frame, spells, out, is)) =
-    (Ok frame, spells, inl (out, ap (λ (w : ClosedBecause). closes w (Frame turn)) is, refl))
+    (Ok frame, spells, inl (out, ap (λ (w : CloseReason). closes w (Frame turn)) is, refl))
 
 -- what the acceptor says
-pub asked : {S : Type 0} (machine : S → List ℕ → SaslFrame → SaslFrame → S → Type 0) (turn : Turn) (state next : S)
+pub asked : {S : Type 0} (machine : S → List ℕ → SaslFrame → SaslFrame → S → Type 0) (turn : FrameKind) (state next : S)
     (event : Given) (says : ServerSays) (old new : List ℕ) (step : Step) → Screens turn event.body None
     → AcceptorSteps machine state event says next → Appends (ServerOutputs says turn) old new step
     → Appends (λ answer. ServerReplies machine turn state event answer next) old new step
@@ -53,7 +53,7 @@ asked machine turn state next event says old new step (frame, spells, in_turn) s
     (sent, appended, (Ok frame, spells, inr (in_turn, (says, steps, holds))))
 
 -- and a fault of its step
-pub asked_in_vain : {S E : Type 0} (machine : S → List ℕ → SaslFrame → SaslFrame → S → Type 0) (turn : Turn)
+pub asked_in_vain : {S E : Type 0} (machine : S → List ℕ → SaslFrame → SaslFrame → S → Type 0) (turn : FrameKind)
     (state next : S) (event : Given) (fault : Error) (old : List ℕ) (result : Result Step E)
     → Screens turn event.body None → AcceptorSteps machine state event (Failed fault) next
     → IfOk result (λ step. (out : List ℕ) → Appends (ServerOutputs (Failed fault) turn) out out step)
@@ -63,17 +63,17 @@ asked_in_vain machine turn state next event fault old (Ok step) screens steps sa
 asked_in_vain machine turn state next event fault old (Err failed) screens steps says = tt
 
 -- what the acceptor's step costs
-pub asked_costs : {S : Type 0} (hmacs : S → SaslFrame → ℕ → Type 0) (turn : Turn) (state : S) (event : Given)
+pub asked_costs : {S : Type 0} (hmacs : S → SaslFrame → ℕ → Type 0) (turn : FrameKind) (state : S) (event : Given)
     (before after : ℕ) → Screens turn event.body None → AcceptorStepCosts hmacs state event before after
     → ServerReplyCosts hmacs turn state event before after
 asked_costs hmacs turn state event before after (frame, spells, in_turn) costs = inr (frame, spells, in_turn, costs)
 
 -- what an answer to a unit costs, the call costs that completes it
-pub unit_costs : {S : Type 0} (hmacs : S → SaslFrame → ℕ → Type 0) (standing : Standing) (due : Due) (limit : ℕ)
-    (held bytes nonce kept : List ℕ) (state : S) (before after : ℕ) → standing ≡ Wanting
-    → TakesUnit due limit (held ++ bytes) Whole kept → ServerUnitCosts hmacs due state nonce kept before after
-    → ServerCosts hmacs (record { standing = standing; due = due; limit = limit; held = held; state = state }) bytes
+pub unit_costs : {S : Type 0} (hmacs : S → SaslFrame → ℕ → Type 0) (progress : Progress) (expected : Expected) (limit : ℕ)
+    (held bytes nonce kept : List ℕ) (state : S) (before after : ℕ) → progress ≡ InProgress
+    → TakesUnit expected limit (held ++ bytes) Whole kept → ServerUnitCosts hmacs expected state nonce kept before after
+    → ServerCosts hmacs (record { progress = progress; expected = expected; limit = limit; held = held; state = state }) bytes
     nonce before after
-unit_costs hmacs standing Header limit held bytes nonce kept state before after wanting takes costs = inl costs
-unit_costs hmacs standing (Frame turn) limit held bytes nonce kept state before after wanting takes costs =
+unit_costs hmacs progress Header limit held bytes nonce kept state before after wanting takes costs = inl costs
+unit_costs hmacs progress (Frame turn) limit held bytes nonce kept state before after wanting takes costs =
     inr (turn, drop 4 kept, (wanting, refl, takes.0, ap (drop 4) takes.1), costs)

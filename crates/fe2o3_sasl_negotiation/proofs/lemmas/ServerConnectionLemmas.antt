@@ -5,29 +5,29 @@ use Rattle.bytes.proofs.Ranges.{take-append_past}
 use Rattle.fe2o3_sasl_wire.specs.declared.amqp_types.SaslCode.TheVariants as outcomes
 use Rattle.fe2o3_sasl_wire.specs.declared.sasl_frames.error.Error.TheVariants as faults
 use Rattle.fe2o3_sasl_wire.specs.SaslFrames.{SaslFrame, IsBytes}
-use Rattle.fe2o3_sasl_runs.specs.Events.{ServerSays, Challenged, Concluded, Failed}
-use Rattle.fe2o3_sasl_runs.specs.Runs.{AcceptorSteps}
-use Rattle.fe2o3_sasl_negotiation.specs.declared.standing.ClosedBecause.TheVariants.{OtherHeader, ReplyTooLarge, Refused}
-use Rattle.fe2o3_sasl_negotiation.specs.declared.standing.Due.{Due}
-use Rattle.fe2o3_sasl_negotiation.specs.declared.standing.Due.TheVariants.{Header, Frame}
-use Rattle.fe2o3_sasl_negotiation.specs.declared.standing.Standing.{Standing}
-use Rattle.fe2o3_sasl_negotiation.specs.declared.standing.Standing.TheVariants.{Wanting, LoggedIn, Closed}
-use Rattle.fe2o3_sasl_negotiation.specs.declared.standing.Turn.{Turn}
-use Rattle.fe2o3_sasl_negotiation.specs.declared.standing.Turn.TheVariants as turns
+use Rattle.fe2o3_sasl_core.specs.Events.{ServerSays, Challenged, Concluded, Failed}
+use Rattle.fe2o3_sasl_core.specs.Runs.{AcceptorSteps}
+use Rattle.fe2o3_sasl_negotiation.specs.declared.progress.CloseReason.TheVariants.{ProtocolHeaderMismatch, ReplyTooLarge, Refused}
+use Rattle.fe2o3_sasl_negotiation.specs.declared.progress.Expected.{Expected}
+use Rattle.fe2o3_sasl_negotiation.specs.declared.progress.Expected.TheVariants.{Header, Frame}
+use Rattle.fe2o3_sasl_negotiation.specs.declared.progress.Progress.{Progress}
+use Rattle.fe2o3_sasl_negotiation.specs.declared.progress.Progress.TheVariants.{InProgress, Authenticated, Failed as HasFailed}
+use Rattle.fe2o3_sasl_negotiation.specs.declared.progress.FrameKind.{FrameKind}
+use Rattle.fe2o3_sasl_negotiation.specs.declared.progress.FrameKind.TheVariants as turns
 use Rattle.fe2o3_sasl_negotiation.specs.Connections.{Piece, OffersNone, ServerConnection, ServersConnect, fresh}
 use Rattle.fe2o3_sasl_negotiation.specs.Framing.{sasl_header, framed}
 use Rattle.fe2o3_sasl_negotiation.specs.Negotiations.{Side, SideOutput, Receives, ReceivesAt}
 use Rattle.fe2o3_sasl_negotiation.specs.ServerNegotiation.{offer_body, Offers, ServerOpens, ServerOutputs, ServerSideAnswers, ServerReceives}
 use Rattle.fe2o3_sasl_negotiation.specs.private.Pieces.{NextNonces}
 use Rattle.fe2o3_sasl_negotiation.proofs.lemmas.ConnectionLemmas.{closed_is_not_wanting, logged_in_is_not_wanting, opened, negotiated_call, negotiated_more, rests_there, connected}
-use Rattle.fe2o3_sasl_negotiation.proofs.lemmas.KindLemmas.{standing_of, closes_waits_not, sends_goes_on, sends_ends}
+use Rattle.fe2o3_sasl_negotiation.proofs.lemmas.KindLemmas.{progress_of, closes_waits_not, sends_goes_on, sends_ends}
 
 -- a challenge leaves a server waiting for a response, and no other reply leaves it waiting
-says_next : (says : ServerSays) (answer : SideOutput) → ServerOutputs says turns.Init answer → answer.standing ≡ Wanting
-    → answer.due ≡ Frame turns.Response
+says_next : (says : ServerSays) (answer : SideOutput) → ServerOutputs says turns.Init answer → answer.progress ≡ InProgress
+    → answer.expected ≡ Frame turns.Response
 says_next (Challenged body) answer sends waits = sends_goes_on body turns.Response answer sends waits
 says_next (Concluded outcomes.Ok body) answer sends waits =
-    absurd (sends_ends body LoggedIn (Frame turns.Init) answer logged_in_is_not_wanting sends waits)
+    absurd (sends_ends body Authenticated (Frame turns.Init) answer logged_in_is_not_wanting sends waits)
 says_next (Concluded outcomes.Auth body) answer sends waits =
     absurd (sends_ends body _ (Frame turns.Init) answer (closed_is_not_wanting (Refused outcomes.Auth)) sends waits)
 says_next (Concluded outcomes.Sys body) answer sends waits =
@@ -41,10 +41,10 @@ says_next (Failed faults.DecodeError) answer is waits = absurd (closes_waits_not
 says_next (Failed faults.NotImplemented) answer is waits = absurd (closes_waits_not _ _ answer is waits)
 says_next (Failed faults.TooLarge) answer is waits = absurd (closes_waits_not _ _ answer is waits)
 
-says_last : (says : ServerSays) (answer : SideOutput) → ServerOutputs says turns.Response answer → answer.standing ≢ Wanting
+says_last : (says : ServerSays) (answer : SideOutput) → ServerOutputs says turns.Response answer → answer.progress ≢ InProgress
 says_last (Challenged body) answer is waits = closes_waits_not _ _ answer is waits
 says_last (Concluded outcomes.Ok body) answer sends waits =
-    sends_ends body LoggedIn (Frame turns.Response) answer logged_in_is_not_wanting sends waits
+    sends_ends body Authenticated (Frame turns.Response) answer logged_in_is_not_wanting sends waits
 says_last (Concluded outcomes.Auth body) answer sends waits =
     sends_ends body _ (Frame turns.Response) answer (closed_is_not_wanting (Refused outcomes.Auth)) sends waits
 says_last (Concluded outcomes.Sys body) answer sends waits =
@@ -63,7 +63,7 @@ module _ {S : Type 0} (names : S → List (List ℕ)) (machine : S → List ℕ 
   abbrev Is : List ℕ → List ℕ → Side S → Type 0
   Is taken sent last = ServerConnection names machine limit state pieces taken sent last
 
-  abbrev seen : List Turn
+  abbrev seen : List FrameKind
   seen = turns.Init ∷ turns.Response ∷ []
 
   -- ---- the header
@@ -71,32 +71,32 @@ module _ {S : Type 0} (names : S → List (List ℕ)) (machine : S → List ℕ 
   module _ (taken bytes first : List ℕ) (k : ℕ) (next : Side S) (answer : SideOutput) (moved : S)
       (come : taken ++ take k bytes ≡ take 8 (taken ++ bytes)) (whole : 8 ≤ length (taken ++ bytes))
       (kept : moved ≡ state) (sends : first ≡ answer.sent)
-      (same : next ≡ record { standing = answer.standing; due = answer.due; limit = limit; held = []; state = moved }) where
+      (same : next ≡ record { progress = answer.progress; expected = answer.expected; limit = limit; held = []; state = moved }) where
     state_is : next.state ≡ state
     state_is = ap (λ (s : Side S). s.state) same ∙ kept
 
     other_header : take 8 (taken ++ bytes) ≢ sasl_header
-        → answer ≡ record { sent = sasl_header ++ []; standing = Closed OtherHeader; due = Header }
+        → answer ≡ record { sent = sasl_header ++ []; progress = HasFailed ProtocolHeaderMismatch; expected = Header }
         → Is (taken ++ take k bytes) first next
     other_header other is = inr (inl (
       (
         ap length come ∙ length-take-le 8 (taken ++ bytes) whole,
         (λ header. other (sym come ∙ header)),
-        ap (λ (s : Side S). s.standing) same ∙ standing_of answer _ is,
+        ap (λ (s : Side S). s.progress) same ∙ progress_of answer _ is,
         state_is,
       ),
       sends ∙ (ap (λ (a : SideOutput). a.sent) is ∙ append-nil sasl_header),
     ))
 
     -- no frame for the mechanisms
-    offers_none : (due : Due) → take 8 (taken ++ bytes) ≡ sasl_header → OffersNone (names state)
-        → answer ≡ record { sent = sasl_header ++ []; standing = Closed ReplyTooLarge; due = due }
+    offers_none : (expected : Expected) → take 8 (taken ++ bytes) ≡ sasl_header → OffersNone (names state)
+        → answer ≡ record { sent = sasl_header ++ []; progress = HasFailed ReplyTooLarge; expected = expected }
         → Is (taken ++ take k bytes) first next
-    offers_none due header none is = inr (inr (inl (
+    offers_none expected header none is = inr (inr (inl (
       come ∙ header,
       none,
       sends ∙ (ap (λ (a : SideOutput). a.sent) is ∙ append-nil sasl_header),
-      ap (λ (s : Side S). s.standing) same ∙ standing_of answer _ is,
+      ap (λ (s : Side S). s.progress) same ∙ progress_of answer _ is,
       state_is,
     )))
 
@@ -119,7 +119,7 @@ module _ {S : Type 0} (names : S → List (List ℕ)) (machine : S → List ℕ 
         one_body : (other : List ℕ) → Some body ≡ Some other → body ≡ other
         one_body other same = cc
     offers (Some body) one is header (inl (fits, opens)) all =
-        let here : answer ≡ record { sent = sasl_header ++ framed body; standing = Wanting; due = Frame turns.Init } =
+        let here : answer ≡ record { sent = sasl_header ++ framed body; progress = InProgress; expected = Frame turns.Init } =
         all ∙ ap (λ (a : SideOutput). record a { sent = sasl_header ++ a.sent }) opens in
         inr (inr (inr (
           body,
@@ -131,14 +131,14 @@ module _ {S : Type 0} (names : S → List (List ℕ)) (machine : S → List ℕ 
               (λ turn s n nonce unit a h. h) limit state pieces (taken ++ take k bytes) turns.Init (turns.Response ∷ [])
               next refl (come ∙ header)
               (same ∙ (ap (λ (a : SideOutput). record {
-                standing = a.standing;
-                due = a.due;
+                progress = a.progress;
+                expected = a.expected;
                 limit = limit;
                 held = [];
                 state = moved;
               }) here ∙ ap (λ (s : S). record {
-                standing = Wanting;
-                due = Frame turns.Init;
+                progress = InProgress;
+                expected = Frame turns.Init;
                 limit = limit;
                 held = [];
                 state = s;
@@ -146,7 +146,7 @@ module _ {S : Type 0} (names : S → List (List ℕ)) (machine : S → List ℕ 
         )))
 
   header_call : (taken bytes nonce first : List ℕ) (k : ℕ) (next : Side S) → length taken < 8
-      → ReceivesAt Wanting (ServerSideAnswers names machine) (record (fresh limit state) { held = taken }) bytes nonce k first
+      → ReceivesAt InProgress (ServerSideAnswers names machine) (record (fresh limit state) { held = taken }) bytes nonce k first
       next → Is (taken ++ take k bytes) first next
   header_call taken bytes nonce first k next few (inl (part, waits)) =
       let all : k ≡ length bytes = waits.0 in
@@ -169,24 +169,24 @@ module _ {S : Type 0} (names : S → List (List ℕ)) (machine : S → List ℕ 
 
   -- ---- a call
 
-  call_at : (standing : Standing) (taken sent : List ℕ) (side next : Side S) (bytes nonce first : List ℕ) (k : ℕ)
-      → side.standing ≡ standing → Is taken sent side → IsBytes (taken ++ bytes)
+  call_at : (progress : Progress) (taken sent : List ℕ) (side next : Side S) (bytes nonce first : List ℕ) (k : ℕ)
+      → side.progress ≡ progress → Is taken sent side → IsBytes (taken ++ bytes)
       → NextNonces pieces (length taken) k nonce
-      → ReceivesAt standing (ServerSideAnswers names machine) side bytes nonce k first next
+      → ReceivesAt progress (ServerSideAnswers names machine) side bytes nonce k first next
       → Is (taken ++ take k bytes) (sent ++ first) next
-  call_at LoggedIn taken sent side next bytes nonce first k at is are_bytes nonces rests =
+  call_at Authenticated taken sent side next bytes nonce first k at is are_bytes nonces rests =
       rests_there Is taken sent bytes first k side next is rests
-  call_at (Closed why) taken sent side next bytes nonce first k at is are_bytes nonces rests =
+  call_at (HasFailed why) taken sent side next bytes nonce first k at is are_bytes nonces rests =
       rests_there Is taken sent bytes first k side next is rests
-  call_at Wanting taken sent side next bytes nonce first k at (inl (few, nothing, same)) are_bytes nonces receives =
+  call_at InProgress taken sent side next bytes nonce first k at (inl (few, nothing, same)) are_bytes nonces receives =
       subst (λ (l : List ℕ). Is (taken ++ take k bytes) (l ++ first) next) (sym nothing)
       (header_call taken bytes nonce first k next few
-      (subst (λ (s : Side S). ReceivesAt Wanting (ServerSideAnswers names machine) s bytes nonce k first next) same receives))
-  call_at Wanting taken sent side next bytes nonce first k at (inr (inl other)) are_bytes nonces receives =
-      absurd (closed_is_not_wanting OtherHeader (sym other.0.2 ∙ at))
-  call_at Wanting taken sent side next bytes nonce first k at (inr (inr (inl none))) are_bytes nonces receives =
+      (subst (λ (s : Side S). ReceivesAt InProgress (ServerSideAnswers names machine) s bytes nonce k first next) same receives))
+  call_at InProgress taken sent side next bytes nonce first k at (inr (inl other)) are_bytes nonces receives =
+      absurd (closed_is_not_wanting ProtocolHeaderMismatch (sym other.0.2 ∙ at))
+  call_at InProgress taken sent side next bytes nonce first k at (inr (inr (inl none))) are_bytes nonces receives =
       absurd (closed_is_not_wanting ReplyTooLarge (sym none.3 ∙ at))
-  call_at Wanting taken sent side next bytes nonce first k at
+  call_at InProgress taken sent side next bytes nonce first k at
       (inr (inr (inr (offer, out, is, fits, all, negotiated)))) are_bytes nonces receives =
       inr (inr (inr (
         offer,
@@ -205,7 +205,7 @@ module _ {S : Type 0} (names : S → List (List ℕ)) (machine : S → List ℕ 
       → Receives (ServerSideAnswers names machine) side bytes nonce k first next
       → Is (taken ++ take k bytes) (sent ++ first) next
   server_call taken sent side next bytes nonce first k is are_bytes nonces receives =
-      call_at side.standing taken sent side next bytes nonce first k refl is are_bytes nonces receives
+      call_at side.progress taken sent side next bytes nonce first k refl is are_bytes nonces receives
 
   pub server_fresh : Is [] [] (fresh limit state)
   server_fresh = inl (omega arith, refl, refl)

@@ -7,21 +7,21 @@ use Rattle.fe2o3_sasl_wire.specs.SaslFrames as frames
 use Rattle.fe2o3_sasl_wire.specs.SaslFrames.{SaslFrame}
 use Rattle.fe2o3_scram.specs.Credentials.{Provider}
 use Rattle.fe2o3_scram.specs.ScramServer.{ServerState}
-use Rattle.fe2o3_sasl_runs.specs.Bodies.{SpellsBody}
-use Rattle.fe2o3_sasl_runs.specs.Costs.{acceptor_hmacs, CostsAtMost, AcceptorCostsOf, AcceptorStepCosts}
-use Rattle.fe2o3_sasl_runs.specs.Events.{Given, ServerSays, Challenged, Concluded, Failed}
-use Rattle.fe2o3_sasl_runs.specs.Runs.{AcceptorSteps}
-use Rattle.fe2o3_sasl_runs.specs.SaslAcceptor.{Acceptor, ScramAcceptor, acceptor_names, acceptor_machine}
-use Rattle.fe2o3_sasl_runs.proofs.lemmas.frames.SpellingLemmas.{one_spelling}
-use Rattle.fe2o3_sasl_runs.proofs.lemmas.machines.RunCostLemmas.{server_runs_cost}
-use Rattle.fe2o3_sasl_runs.proofs.lemmas.machines.ServerMachineLemmas.{gives_back}
-use Rattle.fe2o3_sasl_negotiation.specs.declared.standing.ClosedBecause.{ClosedBecause}
-use Rattle.fe2o3_sasl_negotiation.specs.declared.standing.Due.{Due}
-use Rattle.fe2o3_sasl_negotiation.specs.declared.standing.Due.TheVariants.{Header, Frame}
-use Rattle.fe2o3_sasl_negotiation.specs.declared.standing.Standing.{Standing}
-use Rattle.fe2o3_sasl_negotiation.specs.declared.standing.Standing.TheVariants.{Wanting, LoggedIn, Closed}
-use Rattle.fe2o3_sasl_negotiation.specs.declared.standing.Turn.{Turn}
-use Rattle.fe2o3_sasl_negotiation.specs.declared.standing.Turn.TheVariants as turns
+use Rattle.fe2o3_sasl_core.specs.Bodies.{SpellsBody}
+use Rattle.fe2o3_sasl_core.specs.Costs.{acceptor_hmacs, CostsAtMost, AcceptorCostsOf, AcceptorStepCosts}
+use Rattle.fe2o3_sasl_core.specs.Events.{Given, ServerSays, Challenged, Concluded, Failed}
+use Rattle.fe2o3_sasl_core.specs.Runs.{AcceptorSteps}
+use Rattle.fe2o3_sasl_core.specs.SaslAcceptor.{Acceptor, ScramAcceptor, acceptor_names, acceptor_machine}
+use Rattle.fe2o3_sasl_core.proofs.lemmas.frames.SpellingLemmas.{one_spelling}
+use Rattle.fe2o3_sasl_core.proofs.lemmas.machines.RunCostLemmas.{server_runs_cost}
+use Rattle.fe2o3_sasl_core.proofs.lemmas.machines.ServerMachineLemmas.{gives_back}
+use Rattle.fe2o3_sasl_negotiation.specs.declared.progress.CloseReason.{CloseReason}
+use Rattle.fe2o3_sasl_negotiation.specs.declared.progress.Expected.{Expected}
+use Rattle.fe2o3_sasl_negotiation.specs.declared.progress.Expected.TheVariants.{Header, Frame}
+use Rattle.fe2o3_sasl_negotiation.specs.declared.progress.Progress.{Progress}
+use Rattle.fe2o3_sasl_negotiation.specs.declared.progress.Progress.TheVariants.{InProgress, Authenticated, Failed as HasFailed}
+use Rattle.fe2o3_sasl_negotiation.specs.declared.progress.FrameKind.{FrameKind}
+use Rattle.fe2o3_sasl_negotiation.specs.declared.progress.FrameKind.TheVariants as turns
 use Rattle.fe2o3_sasl_negotiation.specs.CostLaws.{ServersCost}
 use Rattle.fe2o3_sasl_negotiation.specs.Connections.{fresh}
 use Rattle.fe2o3_sasl_negotiation.specs.Framing.{size_of}
@@ -30,7 +30,7 @@ use Rattle.fe2o3_sasl_negotiation.specs.ServerNegotiation.{ServerOutputs, Server
 use Rattle.fe2o3_sasl_negotiation.specs.Retries.{ServersRetry}
 use Rattle.fe2o3_sasl_negotiation.proofs.lemmas.CostLemmas.{none, same_of, open_calls, rests, Left, leaves, answers_whole}
 use Rattle.fe2o3_sasl_negotiation.proofs.lemmas.RetryLemmas.{open_retried}
-use Rattle.fe2o3_sasl_negotiation.proofs.lemmas.KindLemmas.{standing_of}
+use Rattle.fe2o3_sasl_negotiation.proofs.lemmas.KindLemmas.{progress_of}
 
 -- the acceptor is of SCRAM still, over the same records
 abbrev pub IsScram : Provider → Acceptor → Type 0
@@ -40,7 +40,7 @@ abbrev pub Open : Provider → Side Acceptor → Type 0
 Open provider side = IsScram provider side.state
 
 abbrev pub Done : {S : Type 0} → Side S → Type 0
-Done side = side.standing ≡ Wanting → ⊥
+Done side = side.progress ≡ InProgress → ⊥
 
 -- a step leaves it so
 step_keeps : (provider : Provider) (acceptor next : Acceptor) (event : Given) (says : ServerSays)
@@ -50,9 +50,9 @@ step_keeps provider acceptor next event says (state, is) steps =
     let back = gives_back provider state event spelled says next gives in
     (back.0, back.1)
 
-answer_keeps : (provider : Provider) (due : Due) (acceptor next : Acceptor) (nonce unit : List ℕ) (answer : SideOutput)
+answer_keeps : (provider : Provider) (expected : Expected) (acceptor next : Acceptor) (nonce unit : List ℕ) (answer : SideOutput)
     → IsScram provider acceptor
-    → ServerSideAnswers acceptor_names acceptor_machine due acceptor nonce unit answer next → IsScram provider next
+    → ServerSideAnswers acceptor_names acceptor_machine expected acceptor nonce unit answer next → IsScram provider next
 answer_keeps provider Header acceptor next nonce unit answer is answers = (is.0, answers.1 ∙ is.1)
 answer_keeps provider (Frame turn) acceptor next nonce unit answer is (Err fault, spells, closed) =
     (is.0, closed.1 ∙ is.1)
@@ -66,42 +66,42 @@ keeps : (provider : Provider) (side next : Side Acceptor) (bytes nonce : List �
 keeps provider side next bytes nonce early (inl waits) = (early.0, waits.2 ∙ early.1)
 keeps provider side next bytes nonce early (inr (inl closed)) = (early.0, closed.1 ∙ early.1)
 keeps provider side next bytes nonce early (inr (inr whole)) =
-    answer_keeps provider side.due side.state next.state nonce whole.1 whole.0 early whole.2
+    answer_keeps provider side.expected side.state next.state nonce whole.1 whole.0 early whole.2
 
 -- how an answer to a response stands: it ends
-closed_ends : (why : ClosedBecause) (standing : Standing) → standing ≡ Closed why → standing ≡ Wanting → ⊥
-closed_ends why standing closed wants = let apart = sym closed ∙ wants in absurd (cc)
+closed_ends : (why : CloseReason) (progress : Progress) → progress ≡ HasFailed why → progress ≡ InProgress → ⊥
+closed_ends why progress closed wants = let apart = sym closed ∙ wants in absurd (cc)
 
-logged_ends : (standing : Standing) → standing ≡ LoggedIn → standing ≡ Wanting → ⊥
-logged_ends standing logged wants = let apart = sym logged ∙ wants in absurd (cc)
+logged_ends : (progress : Progress) → progress ≡ Authenticated → progress ≡ InProgress → ⊥
+logged_ends progress logged wants = let apart = sym logged ∙ wants in absurd (cc)
 
-sends_closed : (why : ClosedBecause) (body : List ℕ) (due : Due) (answer : SideOutput)
-    → Sends body (Closed why) due answer → answer.standing ≡ Wanting → ⊥
-sends_closed why body due answer (inl (fits, same)) = closed_ends _ answer.standing (standing_of answer _ same)
-sends_closed why body due answer (inr (long, same)) = closed_ends _ answer.standing (standing_of answer _ same)
+sends_closed : (why : CloseReason) (body : List ℕ) (expected : Expected) (answer : SideOutput)
+    → Sends body (HasFailed why) expected answer → answer.progress ≡ InProgress → ⊥
+sends_closed why body expected answer (inl (fits, same)) = closed_ends _ answer.progress (progress_of answer _ same)
+sends_closed why body expected answer (inr (long, same)) = closed_ends _ answer.progress (progress_of answer _ same)
 
-said_ends : (says : ServerSays) (answer : SideOutput) → ServerOutputs says turns.Response answer → answer.standing ≡ Wanting → ⊥
-said_ends (Challenged body) answer is = closed_ends _ answer.standing (standing_of answer _ is)
+said_ends : (says : ServerSays) (answer : SideOutput) → ServerOutputs says turns.Response answer → answer.progress ≡ InProgress → ⊥
+said_ends (Challenged body) answer is = closed_ends _ answer.progress (progress_of answer _ is)
 said_ends (Concluded outcomes.Ok body) answer (inl (fits, same)) =
-    logged_ends answer.standing (standing_of answer _ same)
+    logged_ends answer.progress (progress_of answer _ same)
 said_ends (Concluded outcomes.Ok body) answer (inr (long, same)) =
-    closed_ends _ answer.standing (standing_of answer _ same)
+    closed_ends _ answer.progress (progress_of answer _ same)
 said_ends (Concluded outcomes.Auth body) answer sends = sends_closed _ body _ answer sends
 said_ends (Concluded outcomes.Sys body) answer sends = sends_closed _ body _ answer sends
 said_ends (Concluded outcomes.SysPerm body) answer sends = sends_closed _ body _ answer sends
 said_ends (Concluded outcomes.SysTemp body) answer sends = sends_closed _ body _ answer sends
 said_ends (Failed faults.OutOfMemory) answer never = absurd never
-said_ends (Failed faults.DecodeError) answer is = closed_ends _ answer.standing (standing_of answer _ is)
-said_ends (Failed faults.NotImplemented) answer is = closed_ends _ answer.standing (standing_of answer _ is)
-said_ends (Failed faults.TooLarge) answer is = closed_ends _ answer.standing (standing_of answer _ is)
+said_ends (Failed faults.DecodeError) answer is = closed_ends _ answer.progress (progress_of answer _ is)
+said_ends (Failed faults.NotImplemented) answer is = closed_ends _ answer.progress (progress_of answer _ is)
+said_ends (Failed faults.TooLarge) answer is = closed_ends _ answer.progress (progress_of answer _ is)
 
 response_ends : (acceptor next : Acceptor) (nonce unit : List ℕ) (answer : SideOutput)
     → ServerSideAnswers acceptor_names acceptor_machine (Frame turns.Response) acceptor nonce unit answer next
-    → answer.standing ≡ Wanting → ⊥
+    → answer.progress ≡ InProgress → ⊥
 response_ends acceptor next nonce unit answer (Err fault, spells, closed) =
-    closed_ends _ answer.standing (standing_of answer _ closed.0)
+    closed_ends _ answer.progress (progress_of answer _ closed.0)
 response_ends acceptor next nonce unit answer (Ok frame, spells, inl out) =
-    closed_ends _ answer.standing (standing_of answer _ out.1)
+    closed_ends _ answer.progress (progress_of answer _ out.1)
 response_ends acceptor next nonce unit answer (Ok frame, spells, inr asks) = said_ends asks.1.0 answer asks.1.2
 
 -- what a frame costs in its turn: a response two at most, all else none
@@ -121,7 +121,7 @@ two provider state event text before after spells costs =
     )
     (Ok (frames.Response text), 0, spells, refl, refl)
 
-in_turn_costs : (provider : Provider) (state : ServerState) (turn : Turn) (event : Given) (frame : SaslFrame)
+in_turn_costs : (provider : Provider) (state : ServerState) (turn : FrameKind) (event : Given) (frame : SaslFrame)
     (before after : ℕ) → SpellsBody event.body (Ok frame) → IsInTurn turn frame
     → CostsAtMost acceptor_hmacs (ScramAcceptor provider state) frame before after
     → (after ≡ before) ⊎ ((turn ≡ turns.Response) × ((before ≤ after) × (after ≤ before + 2)))
@@ -143,7 +143,7 @@ in_turn_costs provider state turns.Challenge event (frames.Response text) before
 in_turn_costs provider state turns.Outcome event (frames.Response text) before after spells in_turn costs =
     absurd in_turn
 
-step_costs : (provider : Provider) (acceptor : Acceptor) (turn : Turn) (event : Given) (frame : SaslFrame)
+step_costs : (provider : Provider) (acceptor : Acceptor) (turn : FrameKind) (event : Given) (frame : SaslFrame)
     (before after : ℕ) → IsScram provider acceptor → SpellsBody event.body (Ok frame) → IsInTurn turn frame
     → AcceptorStepCosts acceptor_hmacs acceptor event before after
     → (after ≡ before) ⊎ ((turn ≡ turns.Response) × ((before ≤ after) × (after ≤ before + 2)))
@@ -157,7 +157,7 @@ module _ (provider : Provider) (side next : Side Acceptor) (bytes nonce sent : L
     (receives : Receives (ServerSideAnswers acceptor_names acceptor_machine) side bytes nonce taken sent next) where
   stays : Open provider side → Open provider next
   stays early = keeps provider side next bytes nonce early
-      (leaves (ServerSideAnswers acceptor_names acceptor_machine) side.standing side next bytes nonce sent taken receives)
+      (leaves (ServerSideAnswers acceptor_names acceptor_machine) side.progress side next bytes nonce sent taken receives)
 
   open_step : Open provider side → ServerCosts acceptor_hmacs side bytes nonce before after
       → ((after ≡ before) × Open provider next) ⊎ ((before ≤ after) × (after ≤ before + 2) × Done next)
@@ -171,7 +171,7 @@ module _ (provider : Provider) (side next : Side Acceptor) (bytes nonce sent : L
       ends is =
           let whole = answers_whole (ServerSideAnswers acceptor_names acceptor_machine) side next turn bytes nonce sent taken
           completes.0 completes.1 completes.2 receives in
-          let answers = subst (λ (t : Turn). ServerSideAnswers acceptor_names acceptor_machine (Frame t) side.state nonce
+          let answers = subst (λ (t : FrameKind). ServerSideAnswers acceptor_names acceptor_machine (Frame t) side.state nonce
           (take (size_of (side.held ++ bytes)) (side.held ++ bytes)) whole.0 next.state) is whole.1 in
           λ wants. response_ends side.state next.state nonce
           (take (size_of (side.held ++ bytes)) (side.held ++ bytes)) whole.0 answers (sym whole.2 ∙ wants)
@@ -183,9 +183,9 @@ module _ (provider : Provider) (side next : Side Acceptor) (bytes nonce sent : L
 
   done_step : Done side → ServerCosts acceptor_hmacs side bytes nonce before after → (after ≡ before) × Done next
   done_step done (inl same) =
-      let still = rests (ServerSideAnswers acceptor_names acceptor_machine) side.standing side next bytes nonce sent taken
+      let still = rests (ServerSideAnswers acceptor_names acceptor_machine) side.progress side next bytes nonce sent taken
       done receives in
-      (same, λ wants. done (ap (λ (s : Side Acceptor). s.standing) (sym still) ∙ wants))
+      (same, λ wants. done (ap (λ (s : Side Acceptor). s.progress) (sym still) ∙ wants))
   done_step done (inr (turn, body, completes, costs)) = absurd (done completes.0)
 
 pub servers_cost : ServersCost

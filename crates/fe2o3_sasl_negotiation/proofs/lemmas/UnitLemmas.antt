@@ -4,11 +4,11 @@ use Rattle.std.specs.Int.{w32, to_be_bytes, from_be_bytes}
 use Rattle.std.proofs.lemmas.Bool.{cases_lt}
 use Rattle.std.proofs.lemmas.List.{take_at, drop_at}
 use Rattle.std.proofs.lemmas.Nat.{from_be_bytes-to_be_bytes_4}
-use Rattle.fe2o3_sasl_negotiation.specs.declared.standing.ClosedBecause.TheVariants.{FrameSize}
-use Rattle.fe2o3_sasl_negotiation.specs.declared.standing.Due.{Due}
-use Rattle.fe2o3_sasl_negotiation.specs.declared.standing.Due.TheVariants.{Header, Frame}
-use Rattle.fe2o3_sasl_negotiation.specs.declared.standing.Standing.TheVariants.{Wanting, Closed}
-use Rattle.fe2o3_sasl_negotiation.specs.declared.standing.Turn.{Turn}
+use Rattle.fe2o3_sasl_negotiation.specs.declared.progress.CloseReason.TheVariants.{FrameSize}
+use Rattle.fe2o3_sasl_negotiation.specs.declared.progress.Expected.{Expected}
+use Rattle.fe2o3_sasl_negotiation.specs.declared.progress.Expected.TheVariants.{Header, Frame}
+use Rattle.fe2o3_sasl_negotiation.specs.declared.progress.Progress.TheVariants.{InProgress, Failed}
+use Rattle.fe2o3_sasl_negotiation.specs.declared.progress.FrameKind.{FrameKind}
 use Rattle.fe2o3_sasl_negotiation.specs.Framing.{framed, size_of, Fits, unit_size, IsRefused, IsWhole}
 use Rattle.fe2o3_sasl_negotiation.specs.Laws.{Negotiates}
 use Rattle.fe2o3_sasl_negotiation.specs.Negotiations.{Side, SideOutput}
@@ -35,45 +35,45 @@ pub body_of-framed : (body : List ℕ) → drop 4 (framed body) ≡ body
 body_of-framed body = drop_at (to_be_bytes w32 (length body + 4)) body 4 refl
 
 -- a whole unit is not refused
-whole_is_not_refused : (due : Due) (limit : ℕ) (come : List ℕ) → IsWhole due limit come → ¬ IsRefused due limit come
+whole_is_not_refused : (expected : Expected) (limit : ℕ) (come : List ℕ) → IsWhole expected limit come → ¬ IsRefused expected limit come
 whole_is_not_refused Header limit come whole refused = refused
 whole_is_not_refused (Frame turn) limit come whole refused = refused.1 whole.0
 
 -- a side that wants a unit of which nothing has come
-abbrev pub awaiting : {S : Type 0} → Due → ℕ → S → Side S
-awaiting due limit state = record { standing = Wanting; due = due; limit = limit; held = []; state = state }
+abbrev pub awaiting : {S : Type 0} → Expected → ℕ → S → Side S
+awaiting expected limit state = record { progress = InProgress; expected = expected; limit = limit; held = []; state = state }
 
 -- the side behind an answer
 abbrev pub behind_answer : {S : Type 0} → SideOutput → ℕ → S → Side S
 behind_answer answer limit state =
-    record { standing = answer.standing; due = answer.due; limit = limit; held = []; state = state }
+    record { progress = answer.progress; expected = answer.expected; limit = limit; held = []; state = state }
 
-module _ {S : Type 0} (Answers : Due → S → List ℕ → List ℕ → SideOutput → S → Type 0) where
+module _ {S : Type 0} (Answers : Expected → S → List ℕ → List ℕ → SideOutput → S → Type 0) where
   -- it answers the unit, and goes on with the bytes behind it
-  pub record AnswersUnit (due : Due) (limit : ℕ) (state : S) (unit more sent : List ℕ) (last : Side S) : Type 0 where
+  pub record AnswersUnit (expected : Expected) (limit : ℕ) (state : S) (unit more sent : List ℕ) (last : Side S) : Type 0 where
     pub nonces : List (List ℕ)
     pub nonce : List ℕ
     pub answer : SideOutput
     pub next : S
     pub behind : List ℕ
-    pub answers : Answers due state nonce unit answer next
+    pub answers : Answers expected state nonce unit answer next
     pub goes_on : Negotiates Answers (behind_answer answer limit next) nonces more behind last
     pub all : sent ≡ answer.sent ++ behind
 
-  pub one_unit : (due : Due) (limit : ℕ) (state : S) (nonces : List (List ℕ)) (unit more sent : List ℕ) (last : Side S)
-      → unit_size due (unit ++ more) ≡ length unit → IsWhole due limit (unit ++ more)
-      → Negotiates Answers (awaiting due limit state) nonces (unit ++ more) sent last
-      → AnswersUnit due limit state unit more sent last
-  one_unit due limit state [] unit more sent last size whole (nothing, inl stops) =
-      absurd (whole_is_no_part due limit (unit ++ more) whole stops.1)
-  one_unit due limit state [] unit more sent last size whole (nothing, inr stops) = absurd (stops.0 refl)
-  one_unit due limit state (nonce ∷ nonces) unit more sent last size whole
+  pub one_unit : (expected : Expected) (limit : ℕ) (state : S) (nonces : List (List ℕ)) (unit more sent : List ℕ) (last : Side S)
+      → unit_size expected (unit ++ more) ≡ length unit → IsWhole expected limit (unit ++ more)
+      → Negotiates Answers (awaiting expected limit state) nonces (unit ++ more) sent last
+      → AnswersUnit expected limit state unit more sent last
+  one_unit expected limit state [] unit more sent last size whole (nothing, inl stops) =
+      absurd (whole_is_no_part expected limit (unit ++ more) whole stops.1)
+  one_unit expected limit state [] unit more sent last size whole (nothing, inr stops) = absurd (stops.0 refl)
+  one_unit expected limit state (nonce ∷ nonces) unit more sent last size whole
       (taken, first, next, behind, wants, no_part, receives, rest, all) =
-      go (unit_of_call Answers (awaiting due limit state) next (unit ++ more) nonce first taken refl no_part receives)
+      go (unit_of_call Answers (awaiting expected limit state) next (unit ++ more) nonce first taken refl no_part receives)
     where
-      go : (n : ℕ) × EndsUnit Answers (awaiting due limit state) (unit ++ more) nonce n taken first next
-          → AnswersUnit due limit state unit more sent last
-      go (n, inl refused) = absurd (whole_is_not_refused due limit (unit ++ more) whole refused.0)
+      go : (n : ℕ) × EndsUnit Answers (awaiting expected limit state) (unit ++ more) nonce n taken first next
+          → AnswersUnit expected limit state unit more sent last
+      go (n, inl refused) = absurd (whole_is_not_refused expected limit (unit ++ more) whole refused.0)
       go (n, inr (answer, moved, is, same, answers, ends)) =
           let long : length unit ≡ n = sym size ∙ sym same in
           let count : taken ≡ n - 0 = ends.0 in
@@ -84,7 +84,7 @@ module _ {S : Type 0} (Answers : Due → S → List ℕ → List ℕ → SideOut
             answer = answer;
             next = moved;
             behind = behind;
-            answers = subst (λ (l : List ℕ). Answers due state nonce l answer moved) (take_at unit more n long) answers;
+            answers = subst (λ (l : List ℕ). Answers expected state nonce l answer moved) (take_at unit more n long) answers;
             goes_on = subst (λ (l : List ℕ). Negotiates Answers (behind_answer answer limit moved) nonces l behind last)
                 left (subst (λ (s : Side S). Negotiates Answers s nonces (drop taken (unit ++ more)) behind last)
                 ends.2 rest);
@@ -92,9 +92,9 @@ module _ {S : Type 0} (Answers : Due → S → List ℕ → List ℕ → SideOut
           }
 
   -- a size that is refused closes
-  refused_closes : (turn : Turn) (limit : ℕ) (state : S) (nonces : List (List ℕ)) (come sent : List ℕ) (last : Side S)
+  refused_closes : (turn : FrameKind) (limit : ℕ) (state : S) (nonces : List (List ℕ)) (come sent : List ℕ) (last : Side S)
       → IsRefused (Frame turn) limit come → Negotiates Answers (awaiting (Frame turn) limit state) nonces come sent last
-      → last.standing ≡ Closed FrameSize
+      → last.progress ≡ Failed FrameSize
   refused_closes turn limit state [] come sent last refused (nothing, inl stops) =
       absurd (refused_is_no_part (Frame turn) limit come refused stops.1)
   refused_closes turn limit state [] come sent last refused (nothing, inr stops) = absurd (stops.0 refl)
@@ -103,20 +103,20 @@ module _ {S : Type 0} (Answers : Due → S → List ℕ → List ℕ → SideOut
       go (unit_of_call Answers (awaiting (Frame turn) limit state) next come nonce first taken refl no_part receives)
     where
       go : (n : ℕ) × EndsUnit Answers (awaiting (Frame turn) limit state) come nonce n taken first next
-          → last.standing ≡ Closed FrameSize
+          → last.progress ≡ Failed FrameSize
       go (n, inl ends) =
-          let closed : next.standing ≡ Closed FrameSize = ap (λ (s : Side S). s.standing) ends.2.2 in
-          ap (λ (s : Side S). s.standing)
-          (ended_stays Answers next last nonces (drop taken come) behind next.standing refl
+          let closed : next.progress ≡ Failed FrameSize = ap (λ (s : Side S). s.progress) ends.2.2 in
+          ap (λ (s : Side S). s.progress)
+          (ended_stays Answers next last nonces (drop taken come) behind next.progress refl
           (λ wanting. apart (sym closed ∙ wanting)) rest) ∙ closed
         where
-          apart : Closed FrameSize ≢ Wanting
+          apart : Failed FrameSize ≢ InProgress
           apart same = cc
       go (n, inr whole) = absurd (whole_is_not_refused (Frame turn) limit come whole.2 refused)
 
   -- a frame is answered, unless it is refused for its size
-  pub one_frame : (turn : Turn) (limit : ℕ) (state : S) (nonces : List (List ℕ)) (body more sent : List ℕ)
-      (last : Side S) → length body + 4 ≤ 512 → last.standing ≢ Closed FrameSize
+  pub one_frame : (turn : FrameKind) (limit : ℕ) (state : S) (nonces : List (List ℕ)) (body more sent : List ℕ)
+      (last : Side S) → length body + 4 ≤ 512 → last.progress ≢ Failed FrameSize
       → Negotiates Answers (awaiting (Frame turn) limit state) nonces (framed body ++ more) sent last
       → AnswersUnit (Frame turn) limit state (framed body) more sent last
   one_frame turn limit state nonces body more sent last small passes made =

@@ -1,7 +1,7 @@
 -- Whether a client's secret serves for a message that was read. No public clause cites this file.
 use Rattle.std.specs.Prelude.{◌≡◌, ◌⊎◌, T}
 use Rattle.fe2o3_scram.specs.declared.scram_messages.error.ScramErrorKind.{ScramErrorKind}
-use Rattle.fe2o3_scram.specs.declared.scram_messages.error.ScramErrorKind.TheVariants.{NormalizeError, OtherKeys}
+use Rattle.fe2o3_scram.specs.declared.scram_messages.error.ScramErrorKind.TheVariants.{NormalizeError, StaleKeys}
 use Rattle.fe2o3_scram.specs.ClientFinal.{fit}
 use Rattle.fe2o3_scram.specs.ClientSecret.{Secret, Password, Keys, Both}
 use Rattle.fe2o3_scram.specs.Passwords.{IsNormal}
@@ -16,5 +16,5 @@ Serves (Both password keys) first = T (fit keys first) ⊎ IsNormal password
 -- it does not, with this fault
 abbrev pub ServesNot : Secret → ServerFirst → ScramErrorKind → Type 0
 ServesNot (Password password) first fault = ¬ IsNormal password × (fault ≡ NormalizeError)
-ServesNot (Keys keys) first fault = ¬ T (fit keys first) × (fault ≡ OtherKeys)
+ServesNot (Keys keys) first fault = ¬ T (fit keys first) × (fault ≡ StaleKeys)
 ServesNot (Both password keys) first fault = ¬ T (fit keys first) × ¬ IsNormal password × (fault ≡ NormalizeError)

@@ -6,7 +6,7 @@ use Rattle.fe2o3_scram.specs.declared.scram_messages.error.ScramErrorKind.{Scram
 use Rattle.fe2o3_scram.specs.declared.scram_messages.error.ScramErrorKind.TheVariants as kinds
 use Rattle.fe2o3_scram.specs.declared.scram_messages.error.ServerScramErrorKind.{ServerScramErrorKind}
 use Rattle.fe2o3_scram.specs.declared.scram_messages.error.ServerScramErrorKind.TheVariants as server_kinds
-use Rattle.fe2o3_scram.specs.declared.scram_messages.gs2_header.Gs2Header.{Gs2Header}
+use Rattle.fe2o3_scram.specs.declared.scram_messages.channel_binding_flag.ChannelBindingFlag.{ChannelBindingFlag}
 use Rattle.fe2o3_scram.specs.ClientFinal.{ClientFinal, HasProof}
 use Rattle.fe2o3_scram.specs.ClientFirst.{header_text}
 use Rattle.fe2o3_scram.specs.ServerFirst.{HasCount}
@@ -24,12 +24,12 @@ abbrev pub count_tests : IterationLimits → List ℕ → List (ScramErrorKind �
 count_tests limits text =
     (kinds.IterationCountNotFound, (rest : List ℕ) → ¬ Part text 2 (codes "i=" ++ rest))
     ∷ (kinds.IterationCountParseError, (count : ℕ) → ¬ HasCount text count)
-    ∷ (kinds.IterationCountTooSmall, (count : ℕ) × HasCount text count × (count < limits.least))
-    ∷ (kinds.IterationCountTooLarge, (count : ℕ) × HasCount text count × (limits.most < count))
+    ∷ (kinds.IterationCountTooSmall, (count : ℕ) × HasCount text count × (count < limits.min_iterations))
+    ∷ (kinds.IterationCountTooLarge, (count : ℕ) × HasCount text count × (limits.max_iterations < count))
     ∷ []
 
 -- the server's tests of the channel binding
-abbrev pub binding_tests : Gs2Header → List ℕ → List (ServerScramErrorKind × Type 0)
+abbrev pub binding_tests : ChannelBindingFlag → List ℕ → List (ServerScramErrorKind × Type 0)
 binding_tests header text =
     (server_kinds.CannotParseClientFinalMessage, (rest : List ℕ) → ¬ Part text 0 (codes "c=" ++ rest))
     ∷ (server_kinds.Base64DecodeError, (binding : List ℕ) → ¬ HasBase64 text 0 (codes "c=") binding)

@@ -4,7 +4,7 @@ ghost use Rattle.std.specs.Prelude.{◌≡◌, ◌≢◌, ◌↔◌, ◌⊎◌, 
 ghost use Rattle.std.specs.List.{AllByRecursion};
 ghost use Rattle.fe2o3_scram.specs.Credentials.{Record, VersionedRecord, kept};
 ghost use Rattle.fe2o3_scram.specs.Escape.{escaped};
-ghost use Rattle.fe2o3_scram.specs.MixedLines.{IsMixedReadable, MixedFault, mixed_line};
+ghost use Rattle.fe2o3_scram.specs.MultiRecordLines.{IsMixedReadable, MixedFault, mixed_line};
 ghost use Rattle.fe2o3_scram.specs.RecordLines.{HeadFault, IsLineReadable, IsWritable, LastCut, LineFault, ReachesName, ReachesUser, ReadsUsers, SpellsUsers, UpToLine, UserFault, user_line, users_text};
 ghost use Rattle.fe2o3_scram.specs.RecordText.{ReachesValues, ReadsRecord};
 ghost use Rattle.fe2o3_scram.specs.Texts.{NoComma, Without};
@@ -13,7 +13,7 @@ ghost use Rattle.fe2o3_scram.specs.declared.credentials.record_lines.WriteLinesE
 
 use crate::OutOfMemory;
 use crate::credentials::record_text::{RecordTextError, record_text};
-use crate::credentials::scram_credentials::{AddRecordError, ScramCredentials};
+use crate::credentials::record_store::{AddRecordError, RecordStore};
 use crate::credentials::scram_record::ScramRecord;
 use crate::credentials::users::User;
 use crate::hmac::ScramVersion;
@@ -99,7 +99,7 @@ impl From<AllocError> for WriteLinesError {
     }
 }
 
-impl ScramCredentials {
+impl RecordStore {
     /// Reads a text with a line for each user: the name, with each comma as `=2C` and each equals
     /// sign as `=3D` (RFC 5802, section 5.1), a space, the text of the record (RFC 5803, section 2),
     /// and a line feed. The users stand in the order of their lines. A name may be empty and may

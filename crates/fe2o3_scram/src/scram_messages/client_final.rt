@@ -14,7 +14,7 @@ ghost use Rattle.fe2o3_scram.specs.private.Serving.{Serves};
 use crate::OutOfMemory;
 use crate::client_secret::{ClientSecret, IterationLimits};
 use crate::hmac::{Meter, ScramVersion};
-use crate::keys::{ScramClientKeys, auth_message, auth_pieces};
+use crate::keys::{CachedKeys, auth_message, auth_pieces};
 use crate::scram_messages::attributes::{CHANNEL_BINDING_KEY, GS2_HEADER, NONCE_KEY, PROOF_KEY};
 use crate::scram_messages::error::ScramErrorKind;
 use crate::scram_messages::server_first_reading::ServerFirst;
@@ -36,7 +36,7 @@ pub struct ClientAnswer {
     /// The keys that the answer was made by, with the salt and the iteration count that the server
     /// named. Keep them once the server has shown the signature, and not before: until then anybody may
     /// have named that salt.
-    pub keys: ScramClientKeys,
+    pub keys: CachedKeys,
 }
 
 impl ScramVersion {
@@ -140,7 +140,7 @@ impl ScramVersion {
     ///
     /// Refused are, in this order: what `ServerFirst::parse` refuses up to `IterationCountParseError`;
     /// `IterationCountTooSmall` and `IterationCountTooLarge`; and of the secret `NormalizeError`, where a
-    /// password as it is typed is needed and is not printable ASCII, or `OtherKeys`, where there are keys alone
+    /// password as it is typed is needed and is not printable ASCII, or `StaleKeys`, where there are keys alone
     /// and the message names another salt or another count than they are of. `OutOfMemory` is answered only
     /// where none of those before `Base64DecodeError` holds.
     ///
@@ -183,7 +183,7 @@ impl ScramVersion {
         secret: ClientSecret<'_>,
         first: ServerFirst<'_>,
         meter: &mut Meter,
-    ) -> ScramClientKeys
+    ) -> CachedKeys
         requires some { 1 ≤ first.iterations }
         requires serves { Serves (secret_of secret) (server_first_values first) }
         requires meter { meter.old ≤ 2 ^ 63 }
@@ -208,7 +208,7 @@ impl ScramVersion {
     }
 
     /// The keys of a password with the salt and the count that a message names.
-    fn keys_of(&self, password: &str, first: ServerFirst<'_>, meter: &mut Meter) -> ScramClientKeys
+    fn keys_of(&self, password: &str, first: ServerFirst<'_>, meter: &mut Meter) -> CachedKeys
         requires some { 1 ≤ first.iterations }
         requires meter { meter.old ≤ 2 ^ 63 }
         ensures keys { result ≡ keys_of self.now password.now first.entry.salt.items first.entry.iterations }
@@ -220,7 +220,7 @@ impl ScramVersion {
             first.iterations,
             meter,
         );
-        ScramClientKeys::from_salted_password(
+        CachedKeys::from_salted_password(
             *self,
             first.salt,
             first.iterations,
@@ -230,7 +230,7 @@ impl ScramVersion {
     }
 }
 
-impl ScramClientKeys {
+impl CachedKeys {
     /// The answer by the keys (RFC 5802, section 3), of what stands before the proof: two HMAC values.
     fn answer(
         self,

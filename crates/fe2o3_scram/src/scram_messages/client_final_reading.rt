@@ -9,7 +9,7 @@ ghost use Rattle.fe2o3_scram.specs.Texts.{Part, LastPart, HasBase64};
 
 use crate::scram_messages::attributes::{CHANNEL_BINDING_KEY, NONCE_KEY, PROOF_KEY};
 use crate::scram_messages::error::ServerScramErrorKind;
-use crate::scram_messages::gs2_header::Gs2Header;
+use crate::scram_messages::channel_binding_flag::ChannelBindingFlag;
 use crate::texts::{after, attribute, bytes_of, last_part};
 use std::alloc::Global;
 
@@ -40,17 +40,17 @@ impl<'a> ClientFinal<'a> {
         text: &'a [u8],
     ) -> Result<Self, ServerScramErrorKind>
         ensures { Gives ServerScramErrorKind.OutOfMemory
-            (ReachesBase64 Gs2Header.Unsupported client_server_nonce.now text.now) client_final_values result
-            (ReadsFinalText Gs2Header.Unsupported client_server_nonce.now text.now) }
+            (ReachesBase64 ChannelBindingFlag.NotSupported client_server_nonce.now text.now) client_final_values result
+            (ReadsFinalText ChannelBindingFlag.NotSupported client_server_nonce.now text.now) }
     {
-        ClientFinal::parse_behind(alloc, Gs2Header::Unsupported, client_server_nonce, text)
+        ClientFinal::parse_with_gs2_header(alloc, ChannelBindingFlag::NotSupported, client_server_nonce, text)
     }
 
     /// As `parse`, behind a client-first message with this GS2 header: in place of `biws` the channel
     /// binding has to be the header in base64.
-    pub fn parse_behind(
+    pub fn parse_with_gs2_header(
         alloc: Global,
-        header: Gs2Header,
+        header: ChannelBindingFlag,
         client_server_nonce: &[u8],
         text: &'a [u8],
     ) -> Result<Self, ServerScramErrorKind>
@@ -69,7 +69,7 @@ impl<'a> ClientFinal<'a> {
 /// Tests that the client binds no channel, and repeats its GS2 header.
 fn test_binding(
     alloc: Global,
-    header: Gs2Header,
+    header: ChannelBindingFlag,
     client_final: &str,
 ) -> Result<(), ServerScramErrorKind>
     ensures tested { OnOk result (NoneHolds (binding_tests header client_final.now)) }

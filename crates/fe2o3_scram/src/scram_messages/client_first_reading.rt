@@ -8,7 +8,7 @@ ghost use Rattle.fe2o3_scram.specs.Readings.{Gives};
 use crate::scram_messages::attributes::{NONCE_KEY, USERNAME_KEY};
 use crate::scram_messages::error::ServerScramErrorKind;
 use crate::scram_messages::escape::{UnescapeError, unescape_username};
-use crate::scram_messages::gs2_header::{Gs2Header, cut_header};
+use crate::scram_messages::channel_binding_flag::{ChannelBindingFlag, cut_header};
 use crate::texts::attribute;
 use std::alloc::Global;
 use std::borrow::CowStr;
@@ -17,7 +17,7 @@ use std::borrow::CowStr;
 #[derive(Debug, Drop)]
 pub struct ClientFirst<'a> {
     /// The GS2 header.
-    pub header: Gs2Header,
+    pub header: ChannelBindingFlag,
 
     /// The plain name of the user, as `unescape_username` gives it: borrowed where the client escaped
     /// nothing.
@@ -43,25 +43,25 @@ impl<'a> ClientFirst<'a> {
             result (ReadsClientFirst false text.now) }
         ensures borrowed { IfOk result (λ first. ¬ HasEscapes false text.now → IsBorrowedStr first.username) }
     {
-        ClientFirst::parse_unbound(alloc, text, false)
+        ClientFirst::parse_with_cbind_flag_y(alloc, text, false)
     }
 
-    /// Like `parse`, but with `accepts_unbound` the GS2 header may be `y,,` too: that of a client which
+    /// Like `parse`, but with `accept_cbind_flag_y` the GS2 header may be `y,,` too: that of a client which
     /// supports channel binding and believes that the server does not (RFC 5802, section 6).
-    pub fn parse_unbound(
+    pub fn parse_with_cbind_flag_y(
         alloc: Global,
         text: &'a [u8],
-        accepts_unbound: bool,
+        accept_cbind_flag_y: bool,
     ) -> Result<Self, ServerScramErrorKind>
-        ensures answer { Gives ServerScramErrorKind.OutOfMemory (HasEscapes accepts_unbound text.now)
-            client_first_values result (ReadsClientFirst accepts_unbound text.now) }
-        ensures borrowed { IfOk result (λ first. ¬ HasEscapes accepts_unbound text.now
+        ensures answer { Gives ServerScramErrorKind.OutOfMemory (HasEscapes accept_cbind_flag_y text.now)
+            client_first_values result (ReadsClientFirst accept_cbind_flag_y text.now) }
+        ensures borrowed { IfOk result (λ first. ¬ HasEscapes accept_cbind_flag_y text.now
             → IsBorrowedStr first.username) }
     {
         let Ok(client_first) = str::from_utf8(text) else {
             return Err(ServerScramErrorKind::Utf8Error);
         };
-        let Some((header, client_first_message_bare)) = cut_header(client_first, accepts_unbound)
+        let Some((header, client_first_message_bare)) = cut_header(client_first, accept_cbind_flag_y)
         else {
             return Err(ServerScramErrorKind::CannotParseGs2Header);
         };

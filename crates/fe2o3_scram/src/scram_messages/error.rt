@@ -65,7 +65,7 @@ pub enum ScramErrorKind {
     /// client has no password. Whoever is on the way can bring this about: it is no reason to forget the
     /// keys.
     #[error("The keys are of another salt or iteration count")]
-    OtherKeys,
+    StaleKeys,
 
     /// Never answered, since HMAC takes keys of every length.
     #[error("Invalid length")]

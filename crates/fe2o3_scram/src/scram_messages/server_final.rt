@@ -18,7 +18,7 @@ use crate::provider::StoredPassword;
 use crate::scram_messages::attributes::VERIFIER_KEY;
 use crate::scram_messages::client_final_reading::ClientFinal;
 use crate::scram_messages::error::ServerScramErrorKind;
-use crate::scram_messages::gs2_header::Gs2Header;
+use crate::scram_messages::channel_binding_flag::ChannelBindingFlag;
 use crate::texts::{base64_len, push_base64};
 use std::alloc::Global;
 
@@ -44,9 +44,9 @@ impl ScramVersion {
         stored_password: &StoredPassword<'_>,
     ) -> Result<Vec<u8>, ServerScramErrorKind>
         ensures { Gives ServerScramErrorKind.OutOfMemory
-            (ReachesBase64 Gs2Header.Unsupported client_server_nonce.now client_final.now)
+            (ReachesBase64 ChannelBindingFlag.NotSupported client_server_nonce.now client_final.now)
             (λ message. message.items) result
-            (AnswersClientFinal (server_of self.now Gs2Header.Unsupported client_first_message_bare.now
+            (AnswersClientFinal (server_of self.now ChannelBindingFlag.NotSupported client_first_message_bare.now
             server_first_message.now client_server_nonce.now (kept stored_password.now)) client_final.now) }
     {
         self.compute_server_final_message_metered(
@@ -74,17 +74,17 @@ impl ScramVersion {
     ) -> Result<Vec<u8>, ServerScramErrorKind>
         requires { meter.old ≤ 2 ^ 63 }
         ensures answer { Gives ServerScramErrorKind.OutOfMemory
-            (ReachesBase64 Gs2Header.Unsupported client_server_nonce.now client_final.now)
+            (ReachesBase64 ChannelBindingFlag.NotSupported client_server_nonce.now client_final.now)
             (λ message. message.items) result
-            (AnswersClientFinal (server_of self.now Gs2Header.Unsupported client_first_message_bare.now
+            (AnswersClientFinal (server_of self.now ChannelBindingFlag.NotSupported client_first_message_bare.now
             server_first_message.now client_server_nonce.now (kept stored_password.now)) client_final.now) }
-        ensures cost { FinalCosts (server_of self.now Gs2Header.Unsupported client_first_message_bare.now
+        ensures cost { FinalCosts (server_of self.now ChannelBindingFlag.NotSupported client_first_message_bare.now
             server_first_message.now client_server_nonce.now (kept stored_password.now)) client_final.now result
             meter.old meter.new }
     {
-        self.compute_server_final_message_behind(
+        self.compute_server_final_message_with_gs2_header(
             alloc,
-            Gs2Header::Unsupported,
+            ChannelBindingFlag::NotSupported,
             client_final,
             client_server_nonce,
             client_first_message_bare,
@@ -95,11 +95,11 @@ impl ScramVersion {
     }
 
     /// As `compute_server_final_message_metered`, behind a client-first message with this GS2 header
-    /// (`ClientFinal::parse_behind`).
-    pub fn compute_server_final_message_behind(
+    /// (`ClientFinal::parse_with_gs2_header`).
+    pub fn compute_server_final_message_with_gs2_header(
         &self,
         alloc: Global,
-        header: Gs2Header,
+        header: ChannelBindingFlag,
         client_final: &[u8],
         client_server_nonce: &[u8],
         client_first_message_bare: &[u8],
@@ -116,7 +116,7 @@ impl ScramVersion {
             server_first_message.now client_server_nonce.now (kept stored_password.now)) client_final.now result
             meter.old meter.new }
     {
-        let client_final = ClientFinal::parse_behind(
+        let client_final = ClientFinal::parse_with_gs2_header(
             alloc,
             header,
             client_server_nonce,
@@ -143,7 +143,7 @@ impl ScramVersion {
         meter: &mut Meter,
     ) -> Result<Vec<u8>, ServerScramErrorKind>
         requires { meter.old ≤ 2 ^ 63 }
-        ensures answer { (header : Gs2Header) (nonce : List ℕ) →
+        ensures answer { (header : ChannelBindingFlag) (nonce : List ℕ) →
             let server = server_of self.now header client_first_message_bare.now server_first_message.now nonce
             (kept stored_password.now) in
             Gives ServerScramErrorKind.OutOfMemory (IsMet server (client_final_values client_final.now))

@@ -12,7 +12,7 @@ use crate::provider::{ScramCredentialProvider, StoredPassword};
 use crate::scram_messages::attributes::{ITERATION_COUNT_KEY, NONCE_KEY, SALT_KEY};
 use crate::scram_messages::client_first_reading::ClientFirst;
 use crate::scram_messages::error::ServerScramErrorKind;
-use crate::scram_messages::gs2_header::Gs2Header;
+use crate::scram_messages::channel_binding_flag::ChannelBindingFlag;
 use crate::texts::{base64_len, push_base64};
 use bytes::Bytes;
 use std::alloc::Global;
@@ -28,7 +28,7 @@ pub struct ServerFirstMessage<'a> {
     pub username: CowStr<'a>,
 
     /// The GS2 header of the client-first message.
-    pub header: Gs2Header,
+    pub header: ChannelBindingFlag,
 
     /// The client-first message without its GS2 header.
     pub client_first_message_bare: &'a str,
@@ -64,27 +64,27 @@ impl ScramVersion {
         challenge(alloc, client_first, base64_server_nonce, false, credentials)
     }
 
-    /// As `compute_server_first_message`, and where `accepts_unbound` says so the GS2 header may be `y,,`
-    /// too (`ClientFirst::parse_unbound`).
-    pub fn compute_server_first_message_unbound<'a, C: ScramCredentialProvider>(
+    /// As `compute_server_first_message`, and where `accept_cbind_flag_y` says so the GS2 header may be `y,,`
+    /// too (`ClientFirst::parse_with_cbind_flag_y`).
+    pub fn compute_server_first_message_with_cbind_flag_y<'a, C: ScramCredentialProvider>(
         &self,
         alloc: Global,
         client_first: &'a [u8],
         base64_server_nonce: &str,
-        accepts_unbound: bool,
+        accept_cbind_flag_y: bool,
         credentials: &C,
     ) -> Result<Option<ServerFirstMessage<'a>>, ServerScramErrorKind>
         ensures { Gives ServerScramErrorKind.OutOfMemory
-            (ReachesChallenge (serving accepts_unbound (C.meaning credentials.now)) client_first.now)
+            (ReachesChallenge (serving accept_cbind_flag_y (C.meaning credentials.now)) client_first.now)
             (option_map challenge_values) result
-            (AnswersClientFirst (serving accepts_unbound (C.meaning credentials.now)) base64_server_nonce.now
+            (AnswersClientFirst (serving accept_cbind_flag_y (C.meaning credentials.now)) base64_server_nonce.now
             client_first.now) }
     {
         challenge(
             alloc,
             client_first,
             base64_server_nonce,
-            accepts_unbound,
+            accept_cbind_flag_y,
             credentials,
         )
     }
@@ -95,16 +95,16 @@ pub(crate) fn challenge<'a, C: ScramCredentialProvider>(
     alloc: Global,
     client_first: &'a [u8],
     base64_server_nonce: &str,
-    accepts_unbound: bool,
+    accept_cbind_flag_y: bool,
     credentials: &C,
 ) -> Result<Option<ServerFirstMessage<'a>>, ServerScramErrorKind>
     ensures { Gives ServerScramErrorKind.OutOfMemory
-        (ReachesChallenge (serving accepts_unbound (C.meaning credentials.now)) client_first.now)
+        (ReachesChallenge (serving accept_cbind_flag_y (C.meaning credentials.now)) client_first.now)
         (option_map challenge_values) result
-        (AnswersClientFirst (serving accepts_unbound (C.meaning credentials.now)) base64_server_nonce.now
+        (AnswersClientFirst (serving accept_cbind_flag_y (C.meaning credentials.now)) base64_server_nonce.now
         client_first.now) }
 {
-    let client_first = ClientFirst::parse_unbound(alloc, client_first, accepts_unbound)?;
+    let client_first = ClientFirst::parse_with_cbind_flag_y(alloc, client_first, accept_cbind_flag_y)?;
     let Some(stored_password) = credentials.get_stored_password(&client_first.username) else {
         return Ok(None);
     };

@@ -68,7 +68,7 @@ impl<'a> ServerFirst<'a> {
     ///
     /// Refused are, in this order: what `parse` refuses up to `IterationCountParseError`;
     /// `IterationCountTooSmall` and `IterationCountTooLarge`; and of the secret `NormalizeError` where a
-    /// password as it is typed is needed and is not printable ASCII, or `OtherKeys` where there are keys alone
+    /// password as it is typed is needed and is not printable ASCII, or `StaleKeys` where there are keys alone
     /// and the message names another salt or another count than they are of.
     pub(super) fn read(
         alloc: Global,
@@ -80,7 +80,7 @@ impl<'a> ServerFirst<'a> {
         ensures reads { Gives ScramErrorKind.OutOfMemory (ReachesSalt client_nonce.now text.now)
             server_first_values result
             (ReadsServerFirst client_nonce.now (secret_of secret.entry) limits text.now) }
-        ensures count { IfOk result (λ first. (1 ≤ first.iterations) × (first.iterations ≤ limits.most)) }
+        ensures count { IfOk result (λ first. (1 ≤ first.iterations) × (first.iterations ≤ limits.max_iterations)) }
         ensures serves { IfOk result (λ first. Serves (secret_of secret.entry) (server_first_values first)) }
     {
         let nonce = read_nonce(client_nonce, text)?;
@@ -142,7 +142,7 @@ fn read_salt(alloc: Global, server_first: &str) -> Result<Vec<u8>, ScramErrorKin
 fn read_count(limits: IterationLimits, server_first: &str) -> Result<u32, ScramErrorKind>
     ensures tested { IfOk result (λ _. NoneHolds (count_tests limits server_first.now)) }
     ensures named { IfOk result (HasCount server_first.now) }
-    ensures within { IfOk result (λ count. (1 ≤ count) × (count ≤ limits.most)) }
+    ensures within { IfOk result (λ count. (1 ≤ count) × (count ≤ limits.max_iterations)) }
     ensures err { IfErr result (IsFirst (count_tests limits server_first.now)) }
 {
     let Some(iter_count_str) = attribute(server_first, 2, ITERATION_COUNT_KEY) else {
@@ -151,10 +151,10 @@ fn read_count(limits: IterationLimits, server_first: &str) -> Result<u32, ScramE
     let Some(iterations) = count_of(iter_count_str) else {
         return Err(ScramErrorKind::IterationCountParseError);
     };
-    if iterations < limits.least {
+    if iterations < limits.min_iterations {
         return Err(ScramErrorKind::IterationCountTooSmall);
     }
-    if iterations > limits.most {
+    if iterations > limits.max_iterations {
         return Err(ScramErrorKind::IterationCountTooLarge);
     }
     Ok(iterations)
@@ -172,7 +172,7 @@ fn test_secret(secret: ClientSecret<'_>, first: &ServerFirst<'_>) -> Result<(), 
             if keys.are_of(&first.salt, first.iterations) {
                 Ok(())
             } else {
-                Err(ScramErrorKind::OtherKeys)
+                Err(ScramErrorKind::StaleKeys)
             }
         }
         ClientSecret::Both { password, keys } => {

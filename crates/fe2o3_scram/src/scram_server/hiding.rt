@@ -9,7 +9,7 @@ ghost use Rattle.fe2o3_scram.specs.ServerFirst.{ReachesChallenge};
 ghost use Rattle.fe2o3_scram.specs.private.MadeUp.{mock_store};
 
 use crate::OutOfMemory;
-use crate::credentials::{ScramRecord, StoredScramCredential};
+use crate::credentials::{ScramRecord, UserRecord};
 use crate::hmac::{Meter, ScramVersion};
 use crate::provider::ScramCredentialProvider;
 use crate::scram_messages::ClientFirst;
@@ -33,7 +33,7 @@ const MAX_SALT_LEN: usize = 64;
 pub struct SaltTooLong;
 
 /// A server over a store of credentials that answers an unknown user as a known one, by the mock
-/// record of the name (`ScramRecord::of_nobody`), which no login is known to meet. A client-first
+/// record of the name (`ScramRecord::mock`), which no login is known to meet. A client-first
 /// message opens a challenge, in place of an earlier one, and an accepted client-final message closes
 /// it. A call that returns an error leaves the authenticator unchanged.
 #[derive(Drop)]
@@ -47,15 +47,15 @@ pub struct HidingAuthenticator<C: ScramCredentialProvider> {
 
 impl<C: ScramCredentialProvider> Model for HidingAuthenticator<C> {
     ghost use Rattle.fe2o3_scram.specs.HidingServer.{Hiding};
-    ghost use Rattle.fe2o3_scram.specs.ScramServer.{state_in, provider_in, unbound_in};
+    ghost use Rattle.fe2o3_scram.specs.ScramServer.{state_in, provider_in, cbind_flag_y_in};
     ghost use Rattle.fe2o3_scram.specs.private.MadeUp.{KeepsMadeUp};
 
     ghost Value = { Hiding C };
 
     ghost view = { λ hiding. record {
       credentials = (provider_in hiding.authenticator).credentials;
-      unbound = unbound_in hiding.authenticator;
-      nobody = record {
+      cbind_flag_y = cbind_flag_y_in hiding.authenticator;
+      mock = record {
         version = hiding.scram_version;
         secret = hiding.secret.items;
         salt_len = hiding.salt_len;
@@ -74,7 +74,7 @@ impl<C: ScramCredentialProvider> Model for HidingAuthenticator<C> {
 }
 
 impl<C: ScramCredentialProvider> HidingAuthenticator<C> {
-    /// Returns a server without an open challenge. The secret is that of `ScramRecord::of_nobody`: at
+    /// Returns a server without an open challenge. The secret is that of `ScramRecord::mock`: at
     /// least 32 random bytes, stored beside the records. `salt_len` is the length of the salts of the
     /// store's records, in bytes, and `iterations` their iteration count.
     ///
@@ -87,8 +87,8 @@ impl<C: ScramCredentialProvider> HidingAuthenticator<C> {
     ) -> Result<Self, SaltTooLong>
         ensures { MatchResult result (λ hiding. (salt_len ≤ 64) × (hiding ≡ record {
           credentials = credentials;
-          unbound = false;
-          nobody = record {
+          cbind_flag_y = false;
+          mock = record {
             version = (C.meaning credentials).version;
             secret = secret.items;
             salt_len = salt_len;
@@ -114,15 +114,15 @@ impl<C: ScramCredentialProvider> HidingAuthenticator<C> {
     }
 
     /// Returns this server, but one that accepts the GS2 header `y,,` too, as
-    /// `ScramAuthenticator::accepts_unbound` says.
-    pub fn accepts_unbound(self) -> Self
+    /// `ScramAuthenticator::accept_cbind_flag_y` says.
+    pub fn accept_cbind_flag_y(self) -> Self
         ensures provider { result.credentials ≡ self.credentials }
-        ensures unbound { result.unbound ≡ true }
-        ensures nobody { result.nobody ≡ self.nobody }
+        ensures cbind_flag_y { result.cbind_flag_y ≡ true }
+        ensures mock { result.mock ≡ self.mock }
         ensures state { result.state ≡ self.state }
     {
         Self {
-            authenticator: self.authenticator.accepts_unbound(),
+            authenticator: self.authenticator.accept_cbind_flag_y(),
             scram_version: self.scram_version,
             secret: self.secret,
             salt_len: self.salt_len,
@@ -138,10 +138,10 @@ impl<C: ScramCredentialProvider> HidingAuthenticator<C> {
     }
 
     /// Returns the name of the user who has logged in, like `ScramAuthenticator::user`.
-    pub fn user(&self) -> Option<&str>
+    pub fn authenticated_user(&self) -> Option<&str>
         ensures { option_map (λ user. user.now) result ≡ logged_in self.now.state }
     {
-        self.authenticator.user()
+        self.authenticator.authenticated_user()
     }
 
     /// Answers a client-first message with the server-first message (RFC 5802, sections 5 and 7), for
@@ -156,7 +156,7 @@ impl<C: ScramCredentialProvider> HidingAuthenticator<C> {
         client_first_message: &[u8],
         nonce: &[u8; 32],
     ) -> Result<Option<Vec<u8>>, ServerScramErrorKind>
-        ensures answer { (name : List ℕ) → NamedIn self.old.unbound client_first_message.now name
+        ensures answer { (name : List ℕ) → NamedIn self.old.cbind_flag_y client_first_message.now name
             → Gives ServerScramErrorKind.OutOfMemory
             (ReachesChallenge (hiding_name (hiding_server C.meaning self.old) name) client_first_message.now)
             (option_map (λ message. message.items)) result
@@ -164,8 +164,8 @@ impl<C: ScramCredentialProvider> HidingAuthenticator<C> {
             (hiding_name (hiding_server C.meaning self.old) name) nonce.now client_first_message.now answer
             self.new.state) }
         ensures provider { self.new.credentials ≡ self.old.credentials }
-        ensures unbound { self.new.unbound ≡ self.old.unbound }
-        ensures nobody { self.new.nobody ≡ self.old.nobody }
+        ensures cbind_flag_y { self.new.cbind_flag_y ≡ self.old.cbind_flag_y }
+        ensures mock { self.new.mock ≡ self.old.mock }
         ensures err { OnErr result (self.new.state ≡ self.old.state) }
     {
         self.compute_server_first_message_metered(
@@ -187,7 +187,7 @@ impl<C: ScramCredentialProvider> HidingAuthenticator<C> {
         meter: &mut Meter,
     ) -> Result<Option<Vec<u8>>, ServerScramErrorKind>
         requires { meter.old ≤ 2 ^ 63 }
-        ensures answer { (name : List ℕ) → NamedIn self.old.unbound client_first_message.now name
+        ensures answer { (name : List ℕ) → NamedIn self.old.cbind_flag_y client_first_message.now name
             → Gives ServerScramErrorKind.OutOfMemory
             (ReachesChallenge (hiding_name (hiding_server C.meaning self.old) name) client_first_message.now)
             (option_map (λ message. message.items)) result
@@ -195,20 +195,20 @@ impl<C: ScramCredentialProvider> HidingAuthenticator<C> {
             (hiding_name (hiding_server C.meaning self.old) name) nonce.now client_first_message.now answer
             self.new.state) }
         ensures provider { self.new.credentials ≡ self.old.credentials }
-        ensures unbound { self.new.unbound ≡ self.old.unbound }
-        ensures nobody { self.new.nobody ≡ self.old.nobody }
+        ensures cbind_flag_y { self.new.cbind_flag_y ≡ self.old.cbind_flag_y }
+        ensures mock { self.new.mock ≡ self.old.mock }
         ensures err { OnErr result (self.new.state ≡ self.old.state) }
-        ensures cost { HidingCosts self.old.unbound client_first_message.now result meter.old meter.new }
+        ensures cost { HidingCosts self.old.cbind_flag_y client_first_message.now result meter.old meter.new }
     {
-        // Memory is asked for only by functions that have no store: `parse_unbound` and `mock_of` here,
+        // Memory is asked for only by functions that have no store: `parse_with_cbind_flag_y` and `mock_of` here,
         // `challenge_to` and `opened` in the authenticator. The store's part is one look-up, in
         // `HidingStore`, which finds a record of any name. So known and unknown users make the same
         // requests for memory, and a failed one does not tell them apart.
-        let accepts_unbound = self.authenticator.accepts_unbound;
-        let client_first = ClientFirst::parse_unbound(
+        let accept_cbind_flag_y = self.authenticator.accept_cbind_flag_y;
+        let client_first = ClientFirst::parse_with_cbind_flag_y(
             alloc,
             client_first_message,
-            accepts_unbound,
+            accept_cbind_flag_y,
         )?;
         let made_up = mock_of(
             alloc,
@@ -251,8 +251,8 @@ impl<C: ScramCredentialProvider> HidingAuthenticator<C> {
             (hiding_name (hiding_server C.meaning self.old) name) client_final_message.now answer
             self.new.state) }
         ensures provider { self.new.credentials ≡ self.old.credentials }
-        ensures unbound { self.new.unbound ≡ self.old.unbound }
-        ensures nobody { self.new.nobody ≡ self.old.nobody }
+        ensures cbind_flag_y { self.new.cbind_flag_y ≡ self.old.cbind_flag_y }
+        ensures mock { self.new.mock ≡ self.old.mock }
         ensures err { OnErr result (self.new.state ≡ self.old.state) }
     {
         self.compute_server_final_message_metered(alloc, client_final_message, &mut Meter::new())
@@ -276,8 +276,8 @@ impl<C: ScramCredentialProvider> HidingAuthenticator<C> {
             (hiding_name (hiding_server C.meaning self.old) name) client_final_message.now answer
             self.new.state) }
         ensures provider { self.new.credentials ≡ self.old.credentials }
-        ensures unbound { self.new.unbound ≡ self.old.unbound }
-        ensures nobody { self.new.nobody ≡ self.old.nobody }
+        ensures cbind_flag_y { self.new.cbind_flag_y ≡ self.old.cbind_flag_y }
+        ensures mock { self.new.mock ≡ self.old.mock }
         ensures err { OnErr result (self.new.state ≡ self.old.state) }
         ensures cost { (name : List ℕ) → NamedBy self.old.state name
             → FinalCostsFrom self.old.state (hiding_name (hiding_server C.meaning self.old) name)
@@ -298,7 +298,7 @@ fn mock_of(
     salt_len: usize,
     iterations: u32,
     meter: &mut Meter,
-) -> Result<StoredScramCredential, OutOfMemory>
+) -> Result<UserRecord, OutOfMemory>
     requires { meter.old ≤ 2 ^ 63 }
     ensures mock { IfOk result (λ mock. mock ≡ mock_store (record {
       version = scram_version;
@@ -308,7 +308,7 @@ fn mock_of(
     }) (cow_str_bytes username.entry)) }
     ensures counted { meter.new ≡ meter.old + 3 }
 {
-    let made_up = ScramRecord::of_nobody_metered(
+    let made_up = ScramRecord::mock_metered(
         alloc,
         scram_version,
         secret,
@@ -317,7 +317,7 @@ fn mock_of(
         iterations,
         meter,
     )?;
-    Ok(StoredScramCredential::new(username.into_owned(alloc)?, made_up))
+    Ok(UserRecord::new(username.into_owned(alloc)?, made_up))
 }
 
 impl<C: ScramCredentialProvider> fmt::Debug for HidingAuthenticator<C> {
@@ -333,7 +333,7 @@ impl<C: ScramCredentialProvider> fmt::Debug for HidingAuthenticator<C> {
 
 impl<C: ScramCredentialProvider> Clone for HidingAuthenticator<C> {
     ghost is_clone = { λ hiding copy. C.is_clone hiding.credentials copy.credentials
-        × (copy.unbound ≡ hiding.unbound) × (copy.nobody ≡ hiding.nobody) × (copy.state ≡ hiding.state) };
+        × (copy.cbind_flag_y ≡ hiding.cbind_flag_y) × (copy.mock ≡ hiding.mock) × (copy.state ≡ hiding.state) };
 
     fn clone(&self) -> Result<Self, AllocError> {
         Ok(Self {

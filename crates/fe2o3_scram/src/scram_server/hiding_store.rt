@@ -3,7 +3,7 @@
 ghost use Rattle.std.specs.Prelude.{◌≡◌};
 ghost use Rattle.fe2o3_scram.specs.private.MadeUp.{followed_by};
 
-use crate::credentials::StoredScramCredential;
+use crate::credentials::UserRecord;
 use crate::hmac::ScramVersion;
 use crate::provider::{ScramCredentialProvider, StoredPassword};
 use std::alloc::AllocError;
@@ -12,7 +12,7 @@ use std::alloc::AllocError;
 #[derive(Drop)]
 pub(crate) struct HidingStore<C: ScramCredentialProvider> {
     pub(crate) credentials: C,
-    pub(crate) made_up: Option<StoredScramCredential>,
+    pub(crate) made_up: Option<UserRecord>,
 }
 
 impl<C: ScramCredentialProvider> Clone for HidingStore<C> {

@@ -1,11 +1,11 @@
 //! Saves a server between two messages as plain texts, and restores it.
 
 ghost use Rattle.std.specs.Prelude.{◌≡◌, IfOk, option_map};
-ghost use Rattle.fe2o3_scram.specs.ScramServer.{ServerFinalSent, ServerFirstSent, challenge_kept, open_challenge, provider_in, state_in, unbound_in};
+ghost use Rattle.fe2o3_scram.specs.ScramServer.{ServerFinalSent, ServerFirstSent, challenge_kept, open_challenge, provider_in, state_in, cbind_flag_y_in};
 
 use crate::OutOfMemory;
 use crate::provider::ScramCredentialProvider;
-use crate::scram_messages::Gs2Header;
+use crate::scram_messages::ChannelBindingFlag;
 use crate::scram_server::{ScramAuthenticator, ScramAuthenticatorState};
 use bytes::Bytes;
 use std::alloc::Global;
@@ -18,7 +18,7 @@ pub struct OpenChallenge<'a> {
     pub username: &'a str,
 
     /// The GS2 header of the client-first message.
-    pub header: Gs2Header,
+    pub header: ChannelBindingFlag,
 
     /// The client-first message without its GS2 header.
     pub client_first_message_bare: &'a [u8],
@@ -65,12 +65,12 @@ impl<C: ScramCredentialProvider> ScramAuthenticator<C> {
         challenge: &OpenChallenge<'_>,
     ) -> Result<Self, OutOfMemory>
         ensures { IfOk result (λ server. (provider_in server ≡ provider_in self)
-            × (unbound_in server ≡ unbound_in self) × (state_in server ≡ ServerFirstSent
+            × (cbind_flag_y_in server ≡ cbind_flag_y_in self) × (state_in server ≡ ServerFirstSent
             (challenge_kept challenge.now))) }
     {
         Ok(Self {
             credentials: self.credentials,
-            accepts_unbound: self.accepts_unbound,
+            accept_cbind_flag_y: self.accept_cbind_flag_y,
             state: ScramAuthenticatorState::ServerFirstSent {
                 username: challenge.username.to_string(alloc)?,
                 header: challenge.header,
@@ -92,14 +92,14 @@ impl<C: ScramCredentialProvider> ScramAuthenticator<C> {
     /// saved. No password, key or record is needed beside it.
     ///
     /// `OutOfMemory` is the only error.
-    pub fn restore_logged_in(self, alloc: Global, username: &str) -> Result<Self, OutOfMemory>
+    pub fn restore_authenticated(self, alloc: Global, username: &str) -> Result<Self, OutOfMemory>
         ensures provider { IfOk result (λ server. provider_in server ≡ provider_in self) }
-        ensures unbound { IfOk result (λ server. unbound_in server ≡ unbound_in self) }
+        ensures cbind_flag_y { IfOk result (λ server. cbind_flag_y_in server ≡ cbind_flag_y_in self) }
         ensures state { IfOk result (λ server. state_in server ≡ ServerFinalSent username.now) }
     {
         Ok(Self {
             credentials: self.credentials,
-            accepts_unbound: self.accepts_unbound,
+            accept_cbind_flag_y: self.accept_cbind_flag_y,
             state: ScramAuthenticatorState::ServerFinalSent {
                 username: username.to_string(alloc)?,
             },

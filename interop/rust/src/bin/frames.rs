@@ -9,7 +9,7 @@
 //! The client takes the password from standard input. The server offers the mechanism alone.
 
 use fe2o3_sasl_proved::{
-    ClientNegotiation, Offers, SaslProfile, ScramClient, ScramVersion, ServerNegotiation, Standing,
+    ClientNegotiation, Offers, SaslProfile, ScramClient, ScramVersion, ServerNegotiation, Progress,
 };
 use interop::{password, told, version_of, Failure, Users};
 use std::io::{Read, Write};
@@ -21,7 +21,7 @@ fn profile(mechanism: &str, user: &str) -> Result<SaslProfile, Failure> {
         "ANONYMOUS" => SaslProfile::Anonymous,
         "EXTERNAL" => SaslProfile::External,
         _ => ScramClient::new(user, password()?, version_of(mechanism).ok_or("no such mechanism")?)
-            .with_least_iterations(4096)
+            .with_min_iterations(4096)
             .with_iteration_limit(1_000_000)
             .into(),
     })
@@ -44,9 +44,9 @@ fn came(channel: &mut TcpStream, room: &mut [u8]) -> Result<usize, Failure> {
     }
 }
 
-fn ended(standing: Standing) -> Result<(), Failure> {
-    match standing {
-        Standing::Closed(why) => Err(why.into()),
+fn ended(progress: Progress) -> Result<(), Failure> {
+    match progress {
+        Progress::Closed(why) => Err(why.into()),
         _ => Ok(()),
     }
 }
@@ -56,12 +56,12 @@ fn log_in(host: &str, port: u16, profile: SaslProfile) -> Result<(), Failure> {
     let mut channel = TcpStream::connect((host, port))?;
     let mut room = [0; 4096];
     channel.write_all(&ClientNegotiation::open())?;
-    while side.standing() == Standing::Wanting {
+    while side.progress() == Progress::InProgress {
         let len = came(&mut channel, &mut room)?;
         let received = side.receive(&room[..len])?;
         channel.write_all(&received.sent)?;
     }
-    ended(side.standing())
+    ended(side.progress())
 }
 
 fn run_client(words: &[&str]) -> Result<i32, Failure> {
@@ -72,12 +72,12 @@ fn run_client(words: &[&str]) -> Result<i32, Failure> {
 fn serve(mut channel: TcpStream, users: Users, mechanism: &str) -> Result<String, Failure> {
     let mut side = ServerNegotiation::new(users.authenticator(), offers(mechanism)).with_peer("user");
     let mut room = [0; 4096];
-    while side.standing() == Standing::Wanting {
+    while side.progress() == Progress::InProgress {
         let len = came(&mut channel, &mut room)?;
         let received = side.receive(&room[..len])?;
         channel.write_all(&received.sent)?;
     }
-    ended(side.standing())?;
+    ended(side.progress())?;
     Ok(side.user().unwrap_or_default())
 }
 

@@ -57,7 +57,7 @@ fn run_client(words: &[&str], options: &[&str]) -> Result<i32, Failure> {
     let (least, most) = (words[3].parse()?, words[4].parse()?);
     let version = version_of(words[1]).ok_or("no such mechanism")?;
     let mut client = client_of(user, version, options.contains(&"prepared"))?
-        .with_least_iterations(least)
+        .with_min_iterations(least)
         .with_iteration_limit(most);
     let ended = log_in(port, &mut client);
     let status = told("logged in", &ended);
@@ -74,7 +74,7 @@ fn run_client(words: &[&str], options: &[&str]) -> Result<i32, Failure> {
 fn serve(channel: TcpStream, users: Users, mechanism: &str, unbound: bool) -> Result<String, Failure> {
     let mut server = users.authenticator();
     if unbound {
-        server = server.accepts_unbound();
+        server = server.accept_cbind_flag_y();
     }
     let mut lines = Lines { channel: BufReader::new(channel) };
     if lines.line()? != mechanism {

@@ -1,4 +1,4 @@
-use Rattle.fe2o3_sasl_runs.proofs.lemmas.machines.OneReplyLemmas.{one_acceptor_reply}
+use Rattle.fe2o3_sasl_core.proofs.lemmas.machines.OneReplyLemmas.{one_acceptor_reply}
 use Rattle.connection_laws.proofs.lemmas.FunctionLemmas as lemma
 use Rattle.connection_laws.proofs.cuts.functions.Goals as goal
 
@@ -14,9 +14,9 @@ returns-clause-external g c = lemma.external_is_function
 pub returns-clause-plain : goal.returns-clause-plain
 returns-clause-plain g c = lemma.plain_is_function
 
-pub returns-clause-one_of : goal.returns-clause-one_of
-returns-clause-one_of g c = lemma.one_of_is_function g.A.SaslAcceptor.names g.B.SaslAcceptor.names
+pub returns-clause-any_mechanism : goal.returns-clause-any_mechanism
+returns-clause-any_mechanism g c = lemma.any_mechanism_is_function g.A.SaslAcceptor.names g.B.SaslAcceptor.names
     g.A.SaslAcceptor.machine g.B.SaslAcceptor.machine
 
-pub returns-clause-offers_only : goal.returns-clause-offers_only
-returns-clause-offers_only g c = lemma.offering_is_function g.A.SaslAcceptor.names g.A.SaslAcceptor.machine
+pub returns-clause-restrict_mechanisms : goal.returns-clause-restrict_mechanisms
+returns-clause-restrict_mechanisms g c = lemma.offering_is_function g.A.SaslAcceptor.names g.A.SaslAcceptor.machine

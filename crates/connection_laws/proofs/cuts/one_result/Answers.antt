@@ -1,4 +1,4 @@
-use Rattle.fe2o3_sasl_runs.specs.HidingAcceptor.{hiding_names, hiding_machine}
+use Rattle.fe2o3_sasl_core.specs.HidingAcceptor.{hiding_names, hiding_machine}
 use Rattle.connection_laws.proofs.lemmas.CutCallLemmas.{function_calls_end_equally, server_calls_end_equally, client_calls_end_equally}
 use Rattle.connection_laws.proofs.lemmas.FunctionLemmas.{mock_is_function}
 use Rattle.connection_laws.proofs.cuts.one_result.Goals as goal

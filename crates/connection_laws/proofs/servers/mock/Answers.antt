@@ -1,4 +1,4 @@
-use Rattle.fe2o3_sasl_runs.specs.HidingAcceptor.{hiding_machine}
+use Rattle.fe2o3_sasl_core.specs.HidingAcceptor.{hiding_machine}
 use Rattle.fe2o3_sasl_negotiation.proofs.lemmas.LoginLemmas.{servers_log_in}
 use Rattle.connection_laws.proofs.lemmas.NameLemmas.{negotiations_have_names}
 use Rattle.connection_laws.proofs.lemmas.ServerLemmas.{mock_servers_serve}

@@ -1,4 +1,4 @@
-use Rattle.fe2o3_sasl_runs.proofs.lemmas.two_sides.MeetingSidesLemmas.{equal_messages_agree, no_short_extensions}
+use Rattle.fe2o3_sasl_core.proofs.lemmas.two_sides.MeetingSidesLemmas.{equal_messages_agree, no_short_extensions}
 use Rattle.fe2o3_sasl.proofs.laws.equal_messages.Goals as goal
 
 pub returns-clause-agree : goal.returns-clause-agree

@@ -1,4 +1,4 @@
-use Rattle.fe2o3_sasl_runs.proofs.lemmas.two_sides.HeadlineLemmas.{answers_ok_exactly, reports_ok_exactly, taken_verifiers_agree}
+use Rattle.fe2o3_sasl_core.proofs.lemmas.two_sides.HeadlineLemmas.{answers_ok_exactly, reports_ok_exactly, taken_verifiers_agree}
 use Rattle.fe2o3_sasl.proofs.laws.headline.Goals as goal
 
 pub returns-clause-server : goal.returns-clause-server

@@ -1,4 +1,4 @@
-use Rattle.fe2o3_sasl_runs.proofs.lemmas.steps.HexTextLemmas.{one_bytes_of_hex, hex_is_read_again}
+use Rattle.fe2o3_sasl_core.proofs.lemmas.steps.HexTextLemmas.{one_bytes_of_hex, hex_is_read_again}
 use Rattle.fe2o3_sasl.proofs.laws.hex_texts.Goals as goal
 
 pub returns-clause-one : goal.returns-clause-one

@@ -1,4 +1,4 @@
-use Rattle.fe2o3_sasl_runs.proofs.lemmas.machines.SomeRunLemmas.{some_server_history, some_client_history}
+use Rattle.fe2o3_sasl_core.proofs.lemmas.machines.SomeRunLemmas.{some_server_history, some_client_history}
 use Rattle.fe2o3_sasl.proofs.laws.histories_exist.Goals as goal
 
 pub returns-clause-server : goal.returns-clause-server

@@ -1,5 +1,5 @@
 use Rattle.fe2o3_sasl.proofs.lemmas.machines.MechanismLemmas.{offers_agree, plain_lets_in, plain_refuses, anonymous_lets_in, something_is_offered, names_differ}
-use Rattle.fe2o3_sasl_runs.proofs.lemmas.machines.OneReplyLemmas.{one_acceptor_reply, one_profile_reply}
+use Rattle.fe2o3_sasl_core.proofs.lemmas.machines.OneReplyLemmas.{one_acceptor_reply, one_profile_reply}
 use Rattle.fe2o3_sasl.proofs.laws.mechanisms.Goals as goal
 
 pub returns-clause-one_acceptor_reply : goal.returns-clause-one_acceptor_reply

@@ -1,5 +1,5 @@
-use Rattle.fe2o3_sasl_runs.proofs.lemmas.histories.OneClientHistoryLemmas.{one_client_history}
-use Rattle.fe2o3_sasl_runs.proofs.lemmas.histories.OneServerHistoryLemmas.{one_server_history}
+use Rattle.fe2o3_sasl_core.proofs.lemmas.histories.OneClientHistoryLemmas.{one_client_history}
+use Rattle.fe2o3_sasl_core.proofs.lemmas.histories.OneServerHistoryLemmas.{one_server_history}
 use Rattle.fe2o3_sasl.proofs.laws.one_history_each.Goals as goal
 
 pub returns-clause-server : goal.returns-clause-server

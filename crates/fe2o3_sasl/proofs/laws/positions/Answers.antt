@@ -1,5 +1,5 @@
-use Rattle.fe2o3_sasl_runs.proofs.lemmas.histories.ServerLawLemmas.{refusals_leave_open}
-use Rattle.fe2o3_sasl_runs.proofs.lemmas.positions.PositionLemmas.{positions_are_used_once}
+use Rattle.fe2o3_sasl_core.proofs.lemmas.histories.ServerLawLemmas.{refusals_leave_open}
+use Rattle.fe2o3_sasl_core.proofs.lemmas.positions.PositionLemmas.{positions_are_used_once}
 use Rattle.fe2o3_sasl.proofs.laws.positions.Goals as goal
 
 pub returns-clause-used_once : goal.returns-clause-used_once

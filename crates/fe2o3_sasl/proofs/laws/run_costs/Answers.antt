@@ -1,4 +1,4 @@
-use Rattle.fe2o3_sasl_runs.proofs.lemmas.machines.RunCostLemmas.{server_runs_cost, client_runs_cost}
+use Rattle.fe2o3_sasl_core.proofs.lemmas.machines.RunCostLemmas.{server_runs_cost, client_runs_cost}
 use Rattle.fe2o3_sasl.proofs.laws.run_costs.Goals as goal
 
 pub returns-clause-server : goal.returns-clause-server

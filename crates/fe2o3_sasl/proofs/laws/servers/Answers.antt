@@ -1,4 +1,4 @@
-use Rattle.fe2o3_sasl_runs.proofs.lemmas.histories.ServerLawLemmas.{oks_within_challenges, repeated_responses_are_refused, one_response_one_nonce}
+use Rattle.fe2o3_sasl_core.proofs.lemmas.histories.ServerLawLemmas.{oks_within_challenges, repeated_responses_are_refused, one_response_one_nonce}
 use Rattle.fe2o3_sasl.proofs.laws.servers.Goals as goal
 
 pub returns-clause-oks : goal.returns-clause-oks

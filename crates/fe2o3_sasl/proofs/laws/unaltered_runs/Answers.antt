@@ -1,4 +1,4 @@
-use Rattle.fe2o3_sasl_runs.proofs.lemmas.unaltered.UnalteredRunLemmas.{clients_log_in, servers_log_in}
+use Rattle.fe2o3_sasl_core.proofs.lemmas.unaltered.UnalteredRunLemmas.{clients_log_in, servers_log_in}
 use Rattle.fe2o3_sasl.proofs.laws.unaltered_runs.Goals as goal
 
 pub returns-clause-client : goal.returns-clause-client

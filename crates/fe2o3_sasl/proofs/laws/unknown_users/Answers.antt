@@ -1,4 +1,4 @@
-use Rattle.fe2o3_sasl_runs.proofs.lemmas.machines.UnknownUserLemmas.{salt_texts_differ, unknown_costs_as_mock, unknown_is_mock, unknown_is_mock_in_both}
+use Rattle.fe2o3_sasl_core.proofs.lemmas.machines.UnknownUserLemmas.{salt_texts_differ, unknown_costs_as_mock, unknown_is_mock, unknown_is_mock_in_both}
 use Rattle.fe2o3_sasl.proofs.laws.unknown_users.Goals as goal
 
 pub returns-clause-one : goal.returns-clause-one

@@ -1,5 +1,5 @@
 use Rattle.fe2o3_sasl.proofs.lemmas.audit.RepeatedFindingLemmas.{agreed_users_are_named}
-use Rattle.fe2o3_sasl_runs.proofs.lemmas.machines.ServerMachineLemmas.{acceptor_runs_name_users}
+use Rattle.fe2o3_sasl_core.proofs.lemmas.machines.ServerMachineLemmas.{acceptor_runs_name_users}
 use Rattle.fe2o3_sasl.proofs.lemmas.machines.PlainRunLemmas.{plain_runs_name_users}
 use Rattle.fe2o3_sasl.proofs.laws.users.Goals as goal
 

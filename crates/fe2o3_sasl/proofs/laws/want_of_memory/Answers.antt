@@ -1,4 +1,4 @@
-use Rattle.fe2o3_sasl_runs.proofs.lemmas.machines.MemoryLemmas.{servers_want_memory, clients_want_memory, profiles_want_memory}
+use Rattle.fe2o3_sasl_core.proofs.lemmas.machines.MemoryLemmas.{servers_want_memory, clients_want_memory, profiles_want_memory}
 use Rattle.fe2o3_sasl.proofs.laws.want_of_memory.Goals as goal
 
 pub returns-clause-server : goal.returns-clause-server

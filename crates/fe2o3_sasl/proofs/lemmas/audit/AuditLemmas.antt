@@ -6,12 +6,12 @@ use Rattle.std.proofs.lemmas.Cmp.{nat_list_eq_equiv}
 use Rattle.std.proofs.lemmas.List.{length-map}
 use Rattle.std.proofs.lemmas.Option.{slice_get_within}
 use Rattle.fe2o3_sasl_wire.specs.declared.amqp_types.SaslCode.TheVariants as outcomes
-use Rattle.fe2o3_sasl_runs.specs.Verdicts.{Parameters, Verdict, Agreed, SameMac, SameHash, OtherKey, AreAgreed, JudgesVerifier, JudgesProof, Finding, place_of, IsVerifierFinding, IsProofFinding, Audits, AuditsEvents}
-use Rattle.fe2o3_sasl_runs.specs.ClientHistory.{Answering, AnswersAt, ClientHistory}
-use Rattle.fe2o3_sasl_runs.specs.Complete.{ClientComplete, ServerComplete}
-use Rattle.fe2o3_sasl_runs.specs.Events.{Given, Login, ServerSays, Concluded, ClientSays, Answered, Reported, IsSecret}
-use Rattle.fe2o3_sasl_runs.specs.ServerHistory.{Accepted, AcceptsAt, ServerHistory, final_message}
-use Rattle.fe2o3_sasl_runs.specs.TwoSides.{Sides, Histories, OkAt, Takes, Shows, proof_at}
+use Rattle.fe2o3_sasl_core.specs.Verdicts.{Parameters, Verdict, Agreed, SameMac, SameHash, OtherKey, AreAgreed, JudgesVerifier, JudgesProof, Finding, place_of, IsVerifierFinding, IsProofFinding, Audits, AuditsEvents}
+use Rattle.fe2o3_sasl_core.specs.ClientHistory.{Answering, AnswersAt, ClientHistory}
+use Rattle.fe2o3_sasl_core.specs.Complete.{ClientComplete, ServerComplete}
+use Rattle.fe2o3_sasl_core.specs.Events.{Given, Login, ServerSays, Concluded, ClientSays, Answered, Reported, IsSecret}
+use Rattle.fe2o3_sasl_core.specs.ServerHistory.{Accepted, AcceptsAt, ServerHistory, final_message}
+use Rattle.fe2o3_sasl_core.specs.TwoSides.{Sides, Histories, OkAt, Takes, Shows, proof_at}
 use Rattle.fe2o3_sasl.specs.private.Findings.{same, agreed_on, verifier_verdict, proof_verdict, is_taken, is_shown, verifier_finding, proof_finding, findings_of}
 use Rattle.fe2o3_sasl.specs.private.Receipts.{ClientReceipt, ServerReceipt, OfAnswer, OfAccepted, IsShownReceipt, IsTakenReceipt, IsOkReceipt, RespondsAt, ReportsAt, ConcludesAt, Member, Covers}
 use Rattle.fe2o3_scram.specs.Credentials.{Provider}
@@ -19,8 +19,8 @@ use Rattle.fe2o3_scram.specs.Texts.{Part}
 use Rattle.fe2o3_scram.proofs.lemmas.texts.PartsLemmas.{one_part}
 use Rattle.fe2o3_sasl.proofs.lemmas.audit.FoundLemmas.{each_found, found_pairs}
 use Rattle.fe2o3_sasl.proofs.lemmas.lists.MemberLemmas.{member_each}
-use Rattle.fe2o3_sasl_runs.proofs.lemmas.histories.OneClientHistoryLemmas.{one_answers_at, one_open_answer}
-use Rattle.fe2o3_sasl_runs.proofs.lemmas.histories.OneServerHistoryLemmas.{one_accepted}
+use Rattle.fe2o3_sasl_core.proofs.lemmas.histories.OneClientHistoryLemmas.{one_answers_at, one_open_answer}
+use Rattle.fe2o3_sasl_core.proofs.lemmas.histories.OneServerHistoryLemmas.{one_accepted}
 use Rattle.fe2o3_sasl.proofs.lemmas.two_sides.VerdictLemmas.{one_value, taken_verifiers_are_judged, shown_proofs_are_judged}
 
 same_is : (left right : List ℕ) → same left right ≡ true → left ≡ right

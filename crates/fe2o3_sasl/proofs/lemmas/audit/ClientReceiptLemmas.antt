@@ -10,17 +10,17 @@ use Rattle.fe2o3_sasl_wire.specs.SaslFrames as frames
 use Rattle.fe2o3_scram.specs.ClientFirst.{client_first}
 use Rattle.fe2o3_scram.specs.Hmac.{mechanism_name}
 use Rattle.fe2o3_scram.specs.Texts.{base64_text}
-use Rattle.fe2o3_sasl_runs.specs.ClientHistory.{Answering, AnswersAt, OpenAnswer, IsDue, ClientHistory, ClientAnswers, ClientAllocates, is_start, is_answer, ends_answer}
-use Rattle.fe2o3_sasl_runs.specs.Events.{Given, Login, ClientSays, Started, Answered, Reported, Refused}
-use Rattle.fe2o3_sasl_runs.specs.Positions.{test_at, IsLastOpen}
+use Rattle.fe2o3_sasl_core.specs.ClientHistory.{Answering, AnswersAt, OpenAnswer, IsDue, ClientHistory, ClientAnswers, ClientAllocates, is_start, is_answer, ends_answer}
+use Rattle.fe2o3_sasl_core.specs.Events.{Given, Login, ClientSays, Started, Answered, Reported, Refused}
+use Rattle.fe2o3_sasl_core.specs.Positions.{test_at, IsLastOpen}
 use Rattle.fe2o3_sasl.specs.private.ClientReceipts.{ClientSoFar, ShownFor, TakenFor, ClientKeeps}
 use Rattle.fe2o3_sasl.specs.private.Receipts.{ClientReceipt, OfAnswer, IsShownReceipt, IsTakenReceipt, RespondsAt, ReportsAt, Member}
 use Rattle.fe2o3_sasl.proofs.lemmas.audit.CoverLemmas.{covers_skip, covers_push}
 use Rattle.fe2o3_sasl.proofs.lemmas.lists.MemberLemmas.{member_last, member_each}
-use Rattle.fe2o3_sasl_runs.proofs.lemmas.frames.SpellingLemmas.{carried_not}
-use Rattle.fe2o3_sasl_runs.proofs.lemmas.positions.PositionLemmas.{some_at, opens_here, was_open, one_open}
-use Rattle.fe2o3_sasl_runs.proofs.lemmas.two_sides.HeadlineLemmas.{reports_ok_exactly}
-use Rattle.fe2o3_sasl_runs.specs.declared.sasl_profile.error.ProfileError.TheVariants.{Frame, OutOfMemory}
+use Rattle.fe2o3_sasl_core.proofs.lemmas.frames.SpellingLemmas.{carried_not}
+use Rattle.fe2o3_sasl_core.proofs.lemmas.positions.PositionLemmas.{some_at, opens_here, was_open, one_open}
+use Rattle.fe2o3_sasl_core.proofs.lemmas.two_sides.HeadlineLemmas.{reports_ok_exactly}
+use Rattle.fe2o3_sasl_core.specs.declared.sasl_profile.error.ProfileError.TheVariants.{Frame, OutOfMemory}
 
 -- ---- a response stands on a challenge that is due
 

@@ -5,9 +5,9 @@ use Rattle.std.specs.List.{AllByRecursion}
 use Rattle.std.proofs.lemmas.List.{map-append, take_more}
 use Rattle.std.proofs.lemmas.Option.{same_Some}
 use Rattle.fe2o3_sasl.specs.private.Receipts.{Rising, Covers}
-use Rattle.fe2o3_sasl_runs.proofs.lemmas.lists.EachLemmas.{each_append, each_weaker}
+use Rattle.fe2o3_sasl_core.proofs.lemmas.lists.EachLemmas.{each_append, each_weaker}
 use Rattle.fe2o3_sasl.proofs.lemmas.lists.MemberLemmas.{member_front, member_last}
-use Rattle.fe2o3_sasl_runs.proofs.lemmas.positions.PositionLemmas.{below_or_at}
+use Rattle.fe2o3_sasl_core.proofs.lemmas.positions.PositionLemmas.{below_or_at}
 
 -- ---- one position more
 

@@ -5,8 +5,8 @@ use Rattle.std.proofs.lemmas.Grind.{flat_map-append}
 use Rattle.std.proofs.lemmas.List.{map-append, take_more, append-nil}
 use Rattle.fe2o3_sasl.specs.private.Findings.{found, findings_of}
 use Rattle.fe2o3_sasl.specs.private.Receipts.{Member, Rising}
-use Rattle.fe2o3_sasl_runs.specs.Verdicts.{Before, Ascending, Lists}
-use Rattle.fe2o3_sasl_runs.proofs.lemmas.lists.EachLemmas.{each_append, each_weaker, each_map}
+use Rattle.fe2o3_sasl_core.specs.Verdicts.{Before, Ascending, Lists}
+use Rattle.fe2o3_sasl_core.proofs.lemmas.lists.EachLemmas.{each_append, each_weaker, each_map}
 use Rattle.fe2o3_sasl.proofs.lemmas.lists.MemberLemmas.{member_front, member_behind, member_each, member_contains}
 
 -- ---- pairs of positions

@@ -2,17 +2,17 @@
 use Rattle.std.proofs.Common.{◌≡◌, ◌⊎◌, ℕ, zero, suc, ◌<◌, true, false, Option, Some, None, List, [], ◌∷◌, ◌++◌, refl, sym, ap, subst, arith, inl, inr}
 use Rattle.std.specs.Prelude.{slice_get}
 use Rattle.std.specs.List.{AllByRecursion, Contains}
-use Rattle.fe2o3_sasl_runs.specs.Verdicts.{Parameters, Verdict, Agreed, AreAgreed, JudgesVerifier, JudgesProof, FindingKind, OfVerifier, OfProof, Finding, IsVerifierFinding, IsProofFinding, Audits}
-use Rattle.fe2o3_sasl_runs.specs.ClientHistory.{Answering, OpenAnswer, is_start, is_answer, ends_answer}
-use Rattle.fe2o3_sasl_runs.specs.Events.{IsRecord, ClientSays, Started, Answered, Reported, Refused}
-use Rattle.fe2o3_sasl_runs.specs.Laws.{AgreedUsersAreNamed, Start, FromTwoStarts, FromTwoChallenges, TakesAgreed, ShowsAgreed, HoldsRecords, RepeatedClientFindings, RepeatedServerFindings}
-use Rattle.fe2o3_sasl_runs.specs.Positions.{test_at, IsLastOpen}
-use Rattle.fe2o3_sasl_runs.specs.ServerHistory.{Accepted, LoggedIn, is_challenge, is_ok}
-use Rattle.fe2o3_sasl_runs.specs.TwoSides.{Sides, OkAt, IsPlainInit}
-use Rattle.fe2o3_sasl_runs.proofs.lemmas.positions.PositionLemmas.{opens_here}
-use Rattle.fe2o3_sasl_runs.proofs.lemmas.lists.EachLemmas.{each_append, each_weaker}
+use Rattle.fe2o3_sasl_core.specs.Verdicts.{Parameters, Verdict, Agreed, AreAgreed, JudgesVerifier, JudgesProof, FindingKind, OfVerifier, OfProof, Finding, IsVerifierFinding, IsProofFinding, Audits}
+use Rattle.fe2o3_sasl_core.specs.ClientHistory.{Answering, OpenAnswer, is_start, is_answer, ends_answer}
+use Rattle.fe2o3_sasl_core.specs.Events.{IsRecord, ClientSays, Started, Answered, Reported, Refused}
+use Rattle.fe2o3_sasl_core.specs.Laws.{AgreedUsersAreNamed, Start, FromTwoStarts, FromTwoChallenges, TakesAgreed, ShowsAgreed, HoldsRecords, RepeatedClientFindings, RepeatedServerFindings}
+use Rattle.fe2o3_sasl_core.specs.Positions.{test_at, IsLastOpen}
+use Rattle.fe2o3_sasl_core.specs.ServerHistory.{Accepted, LoggedIn, is_challenge, is_ok}
+use Rattle.fe2o3_sasl_core.specs.TwoSides.{Sides, OkAt, IsPlainInit}
+use Rattle.fe2o3_sasl_core.proofs.lemmas.positions.PositionLemmas.{opens_here}
+use Rattle.fe2o3_sasl_core.proofs.lemmas.lists.EachLemmas.{each_append, each_weaker}
 use Rattle.fe2o3_sasl.proofs.lemmas.histories.RepeatedNonceLemmas.{not_none, repeated_client_positions, repeated_server_positions}
-use Rattle.fe2o3_sasl_runs.proofs.lemmas.two_sides.EqualMessageLemmas.{is_challenging, accepts_open}
+use Rattle.fe2o3_sasl_core.proofs.lemmas.two_sides.EqualMessageLemmas.{is_challenging, accepts_open}
 
 -- ---- what is known of a finding
 

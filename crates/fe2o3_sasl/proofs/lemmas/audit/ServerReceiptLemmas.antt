@@ -6,25 +6,25 @@ use Rattle.fe2o3_sasl_wire.specs.declared.amqp_types.SaslCode.TheVariants as out
 use Rattle.fe2o3_sasl_wire.specs.SaslFrames as frames
 use Rattle.fe2o3_sasl_wire.specs.SaslFrames.{SaslFrame}
 use Rattle.fe2o3_scram.specs.ClientFinal.{ClientFinal, HasProof, ReadsFinalText}
-use Rattle.fe2o3_scram.specs.declared.scram_messages.gs2_header.Gs2Header.{Gs2Header}
+use Rattle.fe2o3_scram.specs.declared.scram_messages.channel_binding_flag.ChannelBindingFlag.{ChannelBindingFlag}
 use Rattle.fe2o3_scram.specs.ClientFirst.{ClientFirst, ReadsClientFirst}
 use Rattle.fe2o3_scram.specs.Credentials.{Provider, Record, Store, record_at, serving}
 use Rattle.fe2o3_scram.specs.ServerFirst.{ServerChallenge, challenge_of, AnswersClientFirst}
 use Rattle.fe2o3_scram.proofs.lemmas.messages.ClientFinalLemmas.{names_final_text, one_proof}
 use Rattle.fe2o3_scram.proofs.lemmas.messages.OneValueLemmas.{one_client_first_value}
 use Rattle.fe2o3_scram.proofs.lemmas.texts.PartsLemmas.{pieces, Parts-pieces, one_list_of_parts}
-use Rattle.fe2o3_sasl_runs.specs.Events.{Given, ServerSays, Challenged, Concluded, Failed}
-use Rattle.fe2o3_sasl_runs.specs.Positions.{test_at, IsLastOpen}
-use Rattle.fe2o3_sasl_runs.specs.Bodies.{SpellsBody}
-use Rattle.fe2o3_sasl_runs.specs.ServerHistory.{Challenging, Accepted, AcceptsAt, FitsAsInit, FitsAt, Open, ServerHistory, is_challenge, is_ok}
-use Rattle.fe2o3_sasl_runs.specs.TwoSides.{HasParts}
+use Rattle.fe2o3_sasl_core.specs.Events.{Given, ServerSays, Challenged, Concluded, Failed}
+use Rattle.fe2o3_sasl_core.specs.Positions.{test_at, IsLastOpen}
+use Rattle.fe2o3_sasl_core.specs.Bodies.{SpellsBody}
+use Rattle.fe2o3_sasl_core.specs.ServerHistory.{Challenging, Accepted, AcceptsAt, FitsAsInit, FitsAt, Open, ServerHistory, is_challenge, is_ok}
+use Rattle.fe2o3_sasl_core.specs.TwoSides.{HasParts}
 use Rattle.fe2o3_sasl.specs.private.Receipts.{ServerReceipt, OfAccepted, IsOkReceipt, ConcludesAt}
 use Rattle.fe2o3_sasl.specs.private.ServerReceipts.{ServerSoFar, OpenedFor, OkFor, ServerKeeps}
 use Rattle.fe2o3_sasl.proofs.lemmas.audit.CoverLemmas.{covers_skip, covers_push}
-use Rattle.fe2o3_sasl_runs.proofs.lemmas.frames.SpellingLemmas.{one_spelled_frame}
-use Rattle.fe2o3_sasl_runs.proofs.lemmas.histories.OneServerHistoryLemmas.{one_fits}
-use Rattle.fe2o3_sasl_runs.proofs.lemmas.histories.ServerLawLemmas.{ok_accepts, accepted_response}
-use Rattle.fe2o3_sasl_runs.proofs.lemmas.positions.PositionLemmas.{opens_here, was_open, one_open}
+use Rattle.fe2o3_sasl_core.proofs.lemmas.frames.SpellingLemmas.{one_spelled_frame}
+use Rattle.fe2o3_sasl_core.proofs.lemmas.histories.OneServerHistoryLemmas.{one_fits}
+use Rattle.fe2o3_sasl_core.proofs.lemmas.histories.ServerLawLemmas.{ok_accepts, accepted_response}
+use Rattle.fe2o3_sasl_core.proofs.lemmas.positions.PositionLemmas.{opens_here, was_open, one_open}
 
 -- ---- a first message of so many parts
 
@@ -40,15 +40,15 @@ HasParts-length text n has =
 -- what is answered to a message that was read, where this is the record of its user
 pub challenge_again : (provider : Provider) (nonce text : List ℕ) (challenge : ServerChallenge) (client : ClientFirst)
     (stored : Record) → AnswersClientFirst provider nonce text (Ok (Some challenge))
-    → ReadsClientFirst provider.unbound text (Ok client) → Some stored ≡ record_at provider.records client.user
+    → ReadsClientFirst provider.cbind_flag_y text (Ok client) → Some stored ≡ record_at provider.records client.user
     → challenge ≡ challenge_of client nonce stored
 challenge_again provider nonce text challenge client stored answers reads known =
-    let one = one_client_first_value provider.unbound text answers.0 client answers.2 reads in
+    let one = one_client_first_value provider.cbind_flag_y text answers.0 client answers.2 reads in
     let same = same_Some answers.1 stored
     (sym answers.3 ∙ (ap (λ (first : ClientFirst). record_at provider.records first.user) one ∙ sym known)) in
     answers.4 ∙ (λ i. challenge_of (one i) nonce (same i))
 
-pub proof_again : (header : Gs2Header) (nonce text : List ℕ) (final : ClientFinal)
+pub proof_again : (header : ChannelBindingFlag) (nonce text : List ℕ) (final : ClientFinal)
     → ReadsFinalText header nonce text (Ok final) → HasProof text final
 proof_again header nonce text final reads = (names_final_text header nonce text final reads).proof
 
@@ -56,17 +56,17 @@ proof_again header nonce text final reads = (names_final_text header nonce text 
 pub receipt_for : {R E : Type 0} (view : R → ServerReceipt) (store : Store) (position : ℕ) (challenge : Challenging)
     (body text : List ℕ) (final : ClientFinal) (result : Result R E) → SpellsBody body (Ok (frames.Response text))
     → HasProof text final → IfOk result (λ receipt. (view receipt).place ≡ position)
-    → IfOk result (λ receipt. (unbound : Bool)
-    → OfAccepted (serving unbound store) (record { challenge = challenge; final = final }) (view receipt))
-    → IfOk result (λ receipt. (unbound : Bool)
-    → OkFor (serving unbound store) position challenge body (view receipt))
-receipt_for view store position challenge body text final (Ok receipt) spells has is accepted = λ unbound. record {
+    → IfOk result (λ receipt. (cbind_flag_y : Bool)
+    → OfAccepted (serving cbind_flag_y store) (record { challenge = challenge; final = final }) (view receipt))
+    → IfOk result (λ receipt. (cbind_flag_y : Bool)
+    → OkFor (serving cbind_flag_y store) position challenge body (view receipt))
+receipt_for view store position challenge body text final (Ok receipt) spells has is accepted = λ cbind_flag_y. record {
   place = is;
   text = text;
   final = final;
   spells = spells;
   proof = has;
-  accepted = accepted unbound;
+  accepted = accepted cbind_flag_y;
 }
 receipt_for view store position challenge body text final (Err fault) spells has is accepted = tt
 

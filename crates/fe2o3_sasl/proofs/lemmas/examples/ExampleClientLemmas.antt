@@ -12,13 +12,13 @@ use Rattle.fe2o3_scram.specs.ServerFirst.{ReadsServerFirst, client_of}
 use Rattle.fe2o3_scram.specs.ServerFinal.{ReadsServerFinal}
 use Rattle.fe2o3_scram.specs.Texts.{joined}
 use Rattle.fe2o3_scram.specs.declared.scram_messages.error.ScramErrorKind.{ScramErrorKind}
-use Rattle.fe2o3_scram.specs.declared.scram_messages.error.ScramErrorKind.TheVariants.{IterationCountTooSmall, OtherKeys as NamesOtherKeys}
-use Rattle.fe2o3_sasl_runs.specs.Bodies.{SpellsBody, carried}
-use Rattle.fe2o3_sasl_runs.specs.ClientHistory.{AnswersAt, IsDue, NonceAt, ReadsChallenge, answer_at, ends_answer, is_answer, is_start, says_answer, says_start}
-use Rattle.fe2o3_sasl_runs.specs.Events.{Answered, ClientSays, Given, Login, Refused, Reported, Started, scram_fault}
-use Rattle.fe2o3_sasl_runs.specs.Positions.{test_at}
-use Rattle.fe2o3_sasl_runs.specs.TwoSides.{client_message, proof_at}
-use Rattle.fe2o3_sasl.specs.examples.ClientExamples.{FloorsRefuse, HostnamesAreSent, KeysLogIn, OtherKeysLogInLater, asks, is_served, logs_in, made, names_host, other_salt, starts, with_floor, with_hostname, with_keys}
+use Rattle.fe2o3_scram.specs.declared.scram_messages.error.ScramErrorKind.TheVariants.{IterationCountTooSmall, StaleKeys as NamesStaleKeys}
+use Rattle.fe2o3_sasl_core.specs.Bodies.{SpellsBody, carried}
+use Rattle.fe2o3_sasl_core.specs.ClientHistory.{AnswersAt, IsDue, NonceAt, ReadsChallenge, answer_at, ends_answer, is_answer, is_start, says_answer, says_start}
+use Rattle.fe2o3_sasl_core.specs.Events.{Answered, ClientSays, Given, Login, Refused, Reported, Started, scram_fault}
+use Rattle.fe2o3_sasl_core.specs.Positions.{test_at}
+use Rattle.fe2o3_sasl_core.specs.TwoSides.{client_message, proof_at}
+use Rattle.fe2o3_sasl.specs.examples.ClientExamples.{FloorsRefuse, HostnamesAreSent, KeysLogIn, StaleKeysLogInLater, asks, is_served, logs_in, made, names_host, other_salt, starts, with_floor, with_hostname, with_keys}
 use Rattle.fe2o3_sasl.specs.examples.Examples.{binds, body_of, both, client_bytes, client_nonce, event_of, login, names, offers, salt, salted, sends_ok, sends_response, server_nonce, unaltered, verifier}
 use Rattle.fe2o3_scram.proofs.lemmas.messages.ServerFirstLemmas.{count_refused, one_has_salt, secret_refused, values_read}
 use Rattle.fe2o3_sasl.proofs.lemmas.examples.ExampleBodyLemmas.{bodied, challenge_bodied, mechanisms_sent, mechanisms_texts, ok_sent, short_joined, short_names, short_salted, short_variable, spells_body}
@@ -26,9 +26,9 @@ use Rattle.fe2o3_sasl.proofs.lemmas.examples.ExampleLemmas.{is_unaltered, short_
 use Rattle.fe2o3_sasl.proofs.lemmas.examples.ExampleLoginLemmas.{answer_said, client_history, start_said}
 use Rattle.fe2o3_sasl.proofs.lemmas.examples.ExampleReadingLemmas.{count_passes, count_small, names_salted, nonce_passes, plain_both, plain_salted, reads_values, salt_bytes, salt_passes, signature_read}
 use Rattle.fe2o3_sasl.proofs.lemmas.examples.ExampleTextLemmas.{IsBytes-replicate, user_text, utf8_joined}
-use Rattle.fe2o3_sasl_runs.proofs.lemmas.histories.LongerClientHistoryLemmas.{SaysAt}
-use Rattle.fe2o3_sasl_runs.proofs.lemmas.positions.PositionLemmas.{opens_here, stays_open}
-use Rattle.fe2o3_sasl_runs.specs.declared.sasl_profile.error.ProfileError.TheVariants.{Frame, OtherKeys}
+use Rattle.fe2o3_sasl_core.proofs.lemmas.histories.LongerClientHistoryLemmas.{SaysAt}
+use Rattle.fe2o3_sasl_core.proofs.lemmas.positions.PositionLemmas.{opens_here, stays_open}
+use Rattle.fe2o3_sasl_core.specs.declared.sasl_profile.error.ProfileError.TheVariants.{Frame, StaleKeys}
 
 -- ---- a challenge
 
@@ -170,22 +170,22 @@ other_bytes : IsBytes other_salt
 other_bytes = IsBytes-replicate 32 4 (omega arith)
 
 others_refused : ReadsServerFirst client_nonce with_keys.secret with_keys.limits (joined (salted other_salt both))
-    (Err NamesOtherKeys)
+    (Err NamesStaleKeys)
 others_refused =
     let text = joined (salted other_salt both) in
     let named = names_salted other_salt other_bytes both server_nonce [] refl plain_both tt in
     let apart : ¬ (other_salt ≡ salt) = λ same. absurd (cc) in
-    secret_refused (client_of client_nonce with_keys.secret with_keys.limits) text NamesOtherKeys
+    secret_refused (client_of client_nonce with_keys.secret with_keys.limits) text NamesStaleKeys
     (nonce_passes other_salt other_bytes both server_nonce [] refl plain_both tt)
     (salt_passes other_salt other_bytes both server_nonce [] refl plain_both tt)
     (count_passes other_salt other_bytes both server_nonce [] refl plain_both tt with_keys.limits (omega arith)
     (omega arith))
     (inl (λ has. apart (one_has_salt text other_salt salt named.salt has.0), refl))
 
-pub other_keys_log_in_later : OtherKeysLogInLater
-other_keys_log_in_later =
+pub stale_keys_log_in_later : StaleKeysLogInLater
+stale_keys_log_in_later =
     let events = event_of client_bytes offers ∷ asks other_salt ∷ is_served in
-    let replies = starts ∷ Refused OtherKeys ∷ logs_in in
+    let replies = starts ∷ Refused StaleKeys ∷ logs_in in
     let first = opens_here is_start is_answer replies 0 refl in
     let at : NonceAt events 0 client_nonce = (event_of client_bytes offers, refl, refl) in
     let due : IsDue events replies 2 client_nonce =
@@ -193,7 +193,7 @@ other_keys_log_in_later =
     client_history with_keys events replies refl (
       keys_start events replies,
       (
-        refuses with_keys events replies 1 other_salt NamesOtherKeys refl (0, first, at) others_refused,
+        refuses with_keys events replies 1 other_salt NamesStaleKeys refl (0, first, at) others_refused,
         (
           answered with_keys refl keys_read events replies 2 due,
           (reported with_keys refl keys_read events replies 2 refl refl due, tt),

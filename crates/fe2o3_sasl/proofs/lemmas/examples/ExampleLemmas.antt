@@ -9,21 +9,21 @@ use Rattle.fe2o3_sasl_wire.specs.declared.sasl_frames.error.Error.TheVariants as
 use Rattle.fe2o3_sasl_wire.specs.SaslFrames as frames
 use Rattle.fe2o3_sasl_wire.specs.SaslFrames.{fault_of, Begins, SaslFrame}
 use Rattle.fe2o3_scram.specs.Texts.{joined, Parts}
-use Rattle.fe2o3_sasl_runs.specs.ClientHistory.{ClientHistory}
-use Rattle.fe2o3_sasl_runs.specs.Events.{Concluded, Failed, Refused}
-use Rattle.fe2o3_sasl_runs.specs.Bodies.{SpellsBody, carried, says_frame}
-use Rattle.fe2o3_sasl_runs.specs.ServerHistory.{ServerHistory}
-use Rattle.fe2o3_sasl_runs.specs.TwoSides.{Agree, IsPlainInit, NoneMisplacedIn}
-use Rattle.fe2o3_sasl_runs.specs.UnalteredRuns.{UnalteredRun, HoldsLogin, Suffices}
+use Rattle.fe2o3_sasl_core.specs.ClientHistory.{ClientHistory}
+use Rattle.fe2o3_sasl_core.specs.Events.{Concluded, Failed, Refused}
+use Rattle.fe2o3_sasl_core.specs.Bodies.{SpellsBody, carried, says_frame}
+use Rattle.fe2o3_sasl_core.specs.ServerHistory.{ServerHistory}
+use Rattle.fe2o3_sasl_core.specs.TwoSides.{Agree, IsPlainInit, NoneMisplacedIn}
+use Rattle.fe2o3_sasl_core.specs.UnalteredRuns.{UnalteredRun, HoldsLogin, Suffices}
 use Rattle.fe2o3_sasl.specs.examples.Examples.{client_bytes, server_bytes, client_nonce, server_nonce, both, salt, login, names, values, binds, sends_init, sends_auth, body_of, told, challenge_text, init_text, answer_to, accepted_with, sides_with, unaltered, PremisesCanBeMet, shifted, ShiftedTextsPass, refused_sides, RefusalsAreUnaltered}
 use Rattle.fe2o3_scram.proofs.lemmas.texts.PartsLemmas.{one_list_of_parts}
 use Rattle.fe2o3_sasl.proofs.lemmas.examples.ExampleBodyLemmas.{Short, auth_bodied, init_texts, length-both, mechanisms_sent, short_binds, short_joined, short_names, short_values, spells_body}
 use Rattle.fe2o3_sasl.proofs.lemmas.examples.ExampleLoginLemmas.{PassesUnseen, client_history, server_history, start_sent, starts, histories, takes, shows, open_two}
 use Rattle.fe2o3_sasl.proofs.lemmas.examples.ExampleReadingLemmas.{is_login, is_record, password_printable, plain_user, plain_both, plain_names, plain_values, plain_binds, client_joined, server_joined}
 use Rattle.fe2o3_sasl.proofs.lemmas.examples.ExampleTextLemmas.{Plain, plain-literal, plain-append, plain-base64_text, parts_joined, length-base64_text, IsBytes-replicate}
-use Rattle.fe2o3_sasl_runs.proofs.lemmas.lists.EachLemmas.{each_append}
-use Rattle.fe2o3_sasl_runs.specs.declared.sasl_profile.error.ProfileError.{ProfileError}
-use Rattle.fe2o3_sasl_runs.specs.declared.sasl_profile.error.ProfileError.TheVariants.{Frame, OutOfMemory}
+use Rattle.fe2o3_sasl_core.proofs.lemmas.lists.EachLemmas.{each_append}
+use Rattle.fe2o3_sasl_core.specs.declared.sasl_profile.error.ProfileError.{ProfileError}
+use Rattle.fe2o3_sasl_core.specs.declared.sasl_profile.error.ProfileError.TheVariants.{Frame, OutOfMemory}
 
 pub short_both : length both ≤ 100
 short_both = omega (arith, length-both)

@@ -13,21 +13,21 @@ use Rattle.fe2o3_scram.specs.ClientFinal.{client_final_of}
 use Rattle.fe2o3_scram.specs.Credentials.{Provider}
 use Rattle.fe2o3_scram.specs.Hmac.{hmac_of}
 use Rattle.fe2o3_scram.specs.Texts.{base64_text, joined, Part}
-use Rattle.fe2o3_sasl_runs.specs.ClientHistory.{Answering, AnswersAt, IsDue, OpenAnswer, ReadsChallenge, ClientHistory, says_start, says_answer, is_start, is_answer, ends_answer}
-use Rattle.fe2o3_sasl_runs.specs.Events.{Given, Login, ServerSays, Challenged, Concluded, Failed, ClientSays, Started, Answered, Refused}
-use Rattle.fe2o3_sasl_runs.specs.Bodies.{SpellsBody, carried, says_frame}
-use Rattle.fe2o3_sasl_runs.specs.ServerHistory.{Accepted, FitsAsInit, FitsAsResponse, Open, ServerHistory, is_challenge, is_ok, says_ok, server_at, first_message}
-use Rattle.fe2o3_sasl_runs.specs.TwoSides.{Histories, OkAt, Shows, Takes, client_message, proof_at, server_message}
+use Rattle.fe2o3_sasl_core.specs.ClientHistory.{Answering, AnswersAt, IsDue, OpenAnswer, ReadsChallenge, ClientHistory, says_start, says_answer, is_start, is_answer, ends_answer}
+use Rattle.fe2o3_sasl_core.specs.Events.{Given, Login, ServerSays, Challenged, Concluded, Failed, ClientSays, Started, Answered, Refused}
+use Rattle.fe2o3_sasl_core.specs.Bodies.{SpellsBody, carried, says_frame}
+use Rattle.fe2o3_sasl_core.specs.ServerHistory.{Accepted, FitsAsInit, FitsAsResponse, Open, ServerHistory, is_challenge, is_ok, says_ok, server_at, first_message}
+use Rattle.fe2o3_sasl_core.specs.TwoSides.{Histories, OkAt, Shows, Takes, client_message, proof_at, server_message}
 use Rattle.fe2o3_sasl.specs.examples.Examples.{Added, client_bytes, server_bytes, both, login, stored, provider, names, values, binds, offers, sends_init, sends_response, sends_ok, verifier, body_of, event_of, told, init_text, challenge_text, response_text, answer_to, accepted_with, sides_with}
 use Rattle.fe2o3_scram.proofs.lemmas.messages.OneValueLemmas.{names_server_final}
 use Rattle.fe2o3_sasl.proofs.lemmas.examples.ExampleBodyLemmas.{challenge_bodied, init_bodied, short_joined, short_names, short_values, short_binds, length-both, response_sent, ok_sent, mechanisms_sent, spells_body, init_texts, mechanisms_texts}
 use Rattle.fe2o3_sasl.proofs.lemmas.examples.ExampleReadingLemmas.{plain_values, plain_user, reads_names, reads_values, first_joined, length-proof, IsBytes-proof, proof_meets, signature_read, reads_final}
 use Rattle.fe2o3_sasl.proofs.lemmas.examples.ExampleTextLemmas.{Plain, utf8_joined, header_text, user_text}
-use Rattle.fe2o3_sasl_runs.proofs.lemmas.histories.LongerClientHistoryLemmas.{SaysAt}
-use Rattle.fe2o3_sasl_runs.proofs.lemmas.histories.LongerServerHistoryLemmas.{Says}
-use Rattle.fe2o3_sasl_runs.proofs.lemmas.positions.PositionLemmas.{opens_here}
-use Rattle.fe2o3_sasl_runs.proofs.lemmas.lists.EachLemmas.{each_append}
-use Rattle.fe2o3_sasl_runs.specs.declared.sasl_profile.error.ProfileError.TheVariants.{Frame}
+use Rattle.fe2o3_sasl_core.proofs.lemmas.histories.LongerClientHistoryLemmas.{SaysAt}
+use Rattle.fe2o3_sasl_core.proofs.lemmas.histories.LongerServerHistoryLemmas.{Says}
+use Rattle.fe2o3_sasl_core.proofs.lemmas.positions.PositionLemmas.{opens_here}
+use Rattle.fe2o3_sasl_core.proofs.lemmas.lists.EachLemmas.{each_append}
+use Rattle.fe2o3_sasl_core.specs.declared.sasl_profile.error.ProfileError.TheVariants.{Frame}
 
 -- ---- histories, reply by reply
 

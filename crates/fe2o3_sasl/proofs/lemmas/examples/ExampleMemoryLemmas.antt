@@ -9,10 +9,10 @@ use Rattle.fe2o3_sasl_wire.specs.SaslFrames as frames
 use Rattle.fe2o3_sasl_wire.specs.SaslFrames.{SaslFrame}
 use Rattle.fe2o3_scram.specs.ScramClient as client_states
 use Rattle.fe2o3_scram.specs.ScramClient.{ClientState, ReachesSaltIn, ReachesVerifierIn}
-use Rattle.fe2o3_sasl_runs.specs.ClientHistory.{ClientAllocates}
-use Rattle.fe2o3_sasl_runs.specs.Events.{Login}
-use Rattle.fe2o3_sasl_runs.specs.Laws.{WantsAtServer}
-use Rattle.fe2o3_sasl_runs.specs.Profiles.{Profile, ScramProfile, PlainProfile, AnonymousProfile, ExternalProfile, FrameAllocates, ViewAllocates, StepAllocates, IsStarted, IsAnswered}
+use Rattle.fe2o3_sasl_core.specs.ClientHistory.{ClientAllocates}
+use Rattle.fe2o3_sasl_core.specs.Events.{Login}
+use Rattle.fe2o3_sasl_core.specs.Laws.{WantsAtServer}
+use Rattle.fe2o3_sasl_core.specs.Profiles.{Profile, ScramProfile, PlainProfile, AnonymousProfile, ExternalProfile, FrameAllocates, ViewAllocates, StepAllocates, IsStarted, IsAnswered}
 use Rattle.fe2o3_sasl.specs.examples.MemoryExamples.{AcceptorsAskForNone, AskForNone, OwnedAskForNone, ServersWantNone, ClientsWantNone}
 use Rattle.fe2o3_sasl.proofs.lemmas.machines.MechanismLemmas.{other_name}
 

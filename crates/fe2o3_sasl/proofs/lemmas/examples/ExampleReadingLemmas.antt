@@ -10,12 +10,12 @@ use Rattle.fe2o3_scram.specs.declared.hmac.ScramVersion.TheVariants.{Sha256}
 use Rattle.fe2o3_scram.specs.Texts.{base64_text, IsCount, Parts, Part, joined, HasBase64}
 use Rattle.fe2o3_scram.specs.ClientFinal.{HasProof, Meets, ReadsClientFinal, Server, without_proof}
 use Rattle.fe2o3_scram.specs.ClientFirst as client_first
-use Rattle.fe2o3_scram.specs.declared.scram_messages.gs2_header.Gs2Header.{Gs2Header}
-use Rattle.fe2o3_scram.specs.declared.scram_messages.gs2_header.Gs2Header.TheVariants.{Unsupported}
+use Rattle.fe2o3_scram.specs.declared.scram_messages.channel_binding_flag.ChannelBindingFlag.{ChannelBindingFlag}
+use Rattle.fe2o3_scram.specs.declared.scram_messages.channel_binding_flag.ChannelBindingFlag.TheVariants.{NotSupported}
 use Rattle.fe2o3_scram.specs.ClientFirst.{ReadsClientFirst}
-use Rattle.fe2o3_sasl_runs.specs.ClientHistory.{answer_at}
+use Rattle.fe2o3_sasl_core.specs.ClientHistory.{answer_at}
 use Rattle.fe2o3_scram.specs.Escape.{escaped}
-use Rattle.fe2o3_sasl_runs.specs.Events.{IsLogin, IsRecord}
+use Rattle.fe2o3_sasl_core.specs.Events.{IsLogin, IsRecord}
 use Rattle.fe2o3_sasl.specs.examples.Examples.{client_bytes, server_bytes, client_nonce, server_nonce, both, salt, login, stored, names, salted, values, binds, answering, challenging}
 use Rattle.fe2o3_scram.specs.Hmac.{digest, digest_len, hmac_of, exclusive_or}
 use Rattle.fe2o3_scram.specs.Keys.{auth_message}
@@ -25,15 +25,15 @@ use Rattle.fe2o3_scram.specs.Readings.{IsFirst, NoneHolds}
 use Rattle.fe2o3_scram.specs.ServerFirst.{NamesServerFirst, ReadsServerFirst, nonce_tests, client_of}
 use Rattle.fe2o3_scram.specs.declared.client_secret.IterationLimits.{IterationLimits}
 use Rattle.fe2o3_scram.specs.declared.scram_messages.error.ScramErrorKind.TheVariants.{IterationCountTooSmall}
-use Rattle.fe2o3_sasl_runs.specs.ServerHistory.{first_message}
-use Rattle.fe2o3_sasl_runs.specs.TwoSides.{keys_at, proof_at, client_message}
+use Rattle.fe2o3_sasl_core.specs.ServerHistory.{first_message}
+use Rattle.fe2o3_sasl_core.specs.TwoSides.{keys_at, proof_at, client_message}
 use Rattle.fe2o3_scram.proofs.lemmas.texts.AsciiLemmas.{IsUtf8-literal}
 use Rattle.fe2o3_scram.proofs.lemmas.messages.ClientFirstLemmas.{named}
 use Rattle.fe2o3_scram.proofs.lemmas.hashes.DigestLemmas.{length-hmac_of, IsBytes-digest, IsBytes-hmac_of}
 use Rattle.fe2o3_sasl.proofs.lemmas.examples.ExampleTextLemmas.{Plain, plain-literal, plain-append, plain-base64_text, parts_joined, utf8_joined, joined-append, header_text, user_text, count_text, IsBytes-replicate}
 use Rattle.fe2o3_scram.proofs.lemmas.messages.ExchangeLemmas.{IsBytes-literal, IsBytes-exclusive_or, length-exclusive_or, exclusive_or-back, IsCount-decimal, not_extended, final_read, reads_signature}
 use Rattle.fe2o3_scram.proofs.lemmas.messages.ServerFirstLemmas.{values_read, same_nonce, not_too_small, not_too_large}
-use Rattle.fe2o3_sasl_runs.proofs.lemmas.lists.EachLemmas.{each_append}
+use Rattle.fe2o3_sasl_core.proofs.lemmas.lists.EachLemmas.{each_append}
 use Rattle.fe2o3_scram.specs.private.Tests.{salt_tests, count_tests}
 
 -- ---- login and record
@@ -90,11 +90,11 @@ plain_binds nonce plain = (plain-literal (codes "c=biws") refl refl, (plain_nonc
 
 pub reads_names : (user : List ℕ) (more : List (List ℕ)) → escaped user ≡ user → Plain user → AllByRecursion Plain more
     → ReadsClientFirst false (codes "n,," ++ joined (names user ++ more))
-    (Ok (record { header = Unsupported; user = user; nonce = client_nonce; bare = joined (names user ++ more) }))
+    (Ok (record { header = NotSupported; user = user; nonce = client_nonce; bare = joined (names user ++ more) }))
 reads_names user more sent plain too =
     let all = each_append Plain (names user) more (plain_names user plain) too in
     let parts = parts_joined (codes "n=" ++ user) ((codes "r=" ++ client_nonce) ∷ more) all in
-    named false Unsupported (codes "n,," ++ joined (names user ++ more)) (joined (names user ++ more))
+    named false NotSupported (codes "n,," ++ joined (names user ++ more)) (joined (names user ++ more))
     (IsUtf8-append (codes "n,,") (joined (names user ++ more)) (IsUtf8-literal (codes "n,,") refl)
     (utf8_joined (names user ++ more) all)) tt refl user user client_nonce
     (names user ++ more, parts, refl) sent (names user ++ more, parts, refl)
@@ -159,21 +159,21 @@ module _ (bytes : List ℕ) (is : IsBytes bytes) (nonce rest : List ℕ) (more :
   pub salt_passes : NoneHolds (salt_tests challenge)
   salt_passes = (λ none. none (base64_text bytes) names_salted.salt.1, (λ none. none bytes names_salted.salt, tt))
 
-  pub count_passes : (limits : IterationLimits) → limits.least ≤ 4096 → 4096 ≤ limits.most
+  pub count_passes : (limits : IterationLimits) → limits.min_iterations ≤ 4096 → 4096 ≤ limits.max_iterations
       → NoneHolds (count_tests limits challenge)
   count_passes limits least most = (
     λ none. none (codes "4096") digits,
     (
       λ none. none 4096 names_salted.count,
       (
-        not_too_small challenge limits.least 4096 names_salted.count least,
-        (not_too_large challenge limits.most 4096 names_salted.count most, tt),
+        not_too_small challenge limits.min_iterations 4096 names_salted.count least,
+        (not_too_large challenge limits.max_iterations 4096 names_salted.count most, tt),
       ),
     ),
   )
 
   -- a floor above it
-  pub count_small : (limits : IterationLimits) → 4096 < limits.least
+  pub count_small : (limits : IterationLimits) → 4096 < limits.min_iterations
       → IsFirst (count_tests limits challenge) IterationCountTooSmall
   count_small limits small = inr (
     λ none. none (codes "4096") digits,
@@ -299,7 +299,7 @@ module _ (more : List (List ℕ)) (too : AllByRecursion Plain more) (proof : Lis
       (record { without = joined (binds both ++ more); proof = proof })
   has_final bytes = (bytes, (plain_last.0, refl))
 
-  pub reads_final : (server : Server) → Unsupported ≡ server.header → server.nonce ≡ both → IsBytes proof
+  pub reads_final : (server : Server) → NotSupported ≡ server.header → server.nonce ≡ both → IsBytes proof
       → length proof ≡ digest_len server.version
       → Meets server (record { without = joined (binds both ++ more); proof = proof })
       → ReadsClientFinal server (final_text more proof) (Ok
@@ -310,7 +310,7 @@ module _ (more : List (List ℕ)) (too : AllByRecursion Plain more) (proof : Lis
       let nonce : Part text 1 (codes "r=" ++ both) = (parts, final_parts, refl) in
       final_read server text (record { without = joined (binds both ++ more); proof = proof }) utf8_final
       (record {
-        binding = subst (λ (own : Gs2Header). HasBase64 text 0 (codes "c=") (client_first.header_text own)) header (
+        binding = subst (λ (own : ChannelBindingFlag). HasBase64 text 0 (codes "c=") (client_first.header_text own)) header (
           IsBytes-literal (codes "n,,") refl,
           subst
               (λ (spelling : List ℕ). Part text 0 (codes "c=" ++ spelling)) (sym header_text) binding,

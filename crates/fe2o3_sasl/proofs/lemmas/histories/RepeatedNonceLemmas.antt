@@ -3,17 +3,17 @@ use Rattle.std.proofs.Common.{◌≡◌, ◌≢◌, ℕ, true, false, Option, So
 use Rattle.std.specs.Prelude.{slice_get}
 use Rattle.std.proofs.lemmas.List.{append_cancel_left}
 use Rattle.fe2o3_scram.specs.Texts.{base64_text}
-use Rattle.fe2o3_sasl_runs.specs.ClientHistory.{Answering, AnswersAt, is_start, is_answer, ends_answer}
-use Rattle.fe2o3_sasl_runs.specs.Events.{Given, AreGiven, IsRecord, ClientSays}
-use Rattle.fe2o3_sasl_runs.specs.Laws.{Start, RepeatsNonce, FromTwoStarts, FromTwoChallenges, RepeatedClientPositions, RepeatedServerPositions, closes_nothing}
-use Rattle.fe2o3_sasl_runs.specs.Positions.{test_at, IsLastOpen}
-use Rattle.fe2o3_sasl_runs.specs.ServerHistory.{Challenging, Accepted, AcceptsAt, is_challenge, is_ok, full_nonce}
-use Rattle.fe2o3_sasl_runs.specs.TwoSides.{Sides, IsPlainInit, client_message, server_message}
+use Rattle.fe2o3_sasl_core.specs.ClientHistory.{Answering, AnswersAt, is_start, is_answer, ends_answer}
+use Rattle.fe2o3_sasl_core.specs.Events.{Given, AreGiven, IsRecord, ClientSays}
+use Rattle.fe2o3_sasl_core.specs.Laws.{Start, RepeatsNonce, FromTwoStarts, FromTwoChallenges, RepeatedClientPositions, RepeatedServerPositions, closes_nothing}
+use Rattle.fe2o3_sasl_core.specs.Positions.{test_at, IsLastOpen}
+use Rattle.fe2o3_sasl_core.specs.ServerHistory.{Challenging, Accepted, AcceptsAt, is_challenge, is_ok, full_nonce}
+use Rattle.fe2o3_sasl_core.specs.TwoSides.{Sides, IsPlainInit, client_message, server_message}
 use Rattle.fe2o3_scram.proofs.lemmas.texts.Base64Lemmas.{one_spelled}
-use Rattle.fe2o3_sasl_runs.proofs.lemmas.histories.OneClientHistoryLemmas.{one_answers_at}
-use Rattle.fe2o3_sasl_runs.proofs.lemmas.positions.PositionLemmas.{one_open, close_apart}
-use Rattle.fe2o3_sasl_runs.proofs.lemmas.two_sides.EqualMessageLemmas.{accepts_open, is_challenging, same_messages}
-use Rattle.fe2o3_sasl_runs.proofs.lemmas.histories.OneServerHistoryLemmas.{one_challenge}
+use Rattle.fe2o3_sasl_core.proofs.lemmas.histories.OneClientHistoryLemmas.{one_answers_at}
+use Rattle.fe2o3_sasl_core.proofs.lemmas.positions.PositionLemmas.{one_open, close_apart}
+use Rattle.fe2o3_sasl_core.proofs.lemmas.two_sides.EqualMessageLemmas.{accepts_open, is_challenging, same_messages}
+use Rattle.fe2o3_sasl_core.proofs.lemmas.histories.OneServerHistoryLemmas.{one_challenge}
 
 -- two positions whose events have one nonce text
 repeats : (events : List Given) (i j : ℕ) (event again : Given) → AreGiven events → i ≢ j

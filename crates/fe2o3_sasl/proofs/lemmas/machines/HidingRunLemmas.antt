@@ -16,52 +16,52 @@ use Rattle.fe2o3_scram.specs.ClientFirst.{ClientFirst, ReadsClientFirst}
 use Rattle.fe2o3_scram.specs.Credentials.{Record, Records, Provider, record_at}
 use Rattle.fe2o3_scram.specs.HidingServer.{HidingServer, NamedBy, NamedIn}
 use Rattle.fe2o3_scram.specs.Hmac.{digest}
-use Rattle.fe2o3_scram.specs.Nobody.{Nobody, nobody_record, with_nobody}
+use Rattle.fe2o3_scram.specs.MockSettings.{MockSettings, mock_record, with_mock}
 use Rattle.fe2o3_scram.specs.ScramServer.{ServerState, Initial, ServerFirstSent, ServerFinalSent, ChallengesFrom, ConcludesFrom}
 use Rattle.fe2o3_scram.specs.ServerFirst.{ServerChallenge}
 use Rattle.fe2o3_scram.proofs.lemmas.providers.HidingLemmas.{record_at-behind}
-use Rattle.fe2o3_sasl_runs.specs.Bodies.{SpellsBody, server_says}
-use Rattle.fe2o3_sasl_runs.specs.Events.{Given, ServerSays, Failed}
-use Rattle.fe2o3_sasl_runs.specs.HidingAcceptor.{NamedAt, hiding_machine}
-use Rattle.fe2o3_sasl_runs.specs.HidingLaws.{HoldsName, HiddenRunsAreRuns, HiddenRunsAreHistories, NobodyIsMet, hiding}
-use Rattle.fe2o3_sasl_runs.specs.Runs.{Runs, AcceptorAnswers, AcceptorGives, AcceptorSteps, SendsCanonical}
-use Rattle.fe2o3_sasl_runs.specs.SaslAcceptor.{Acceptor, ScramAcceptor, acceptor_machine}
-use Rattle.fe2o3_sasl_runs.specs.ServerHistory.{Accepted, Challenging, FitsAsInit, FitsAsResponse, server_at}
-use Rattle.fe2o3_sasl_runs.proofs.lemmas.machines.ServerMachineLemmas.{acceptor_runs_are_histories}
+use Rattle.fe2o3_sasl_core.specs.Bodies.{SpellsBody, server_says}
+use Rattle.fe2o3_sasl_core.specs.Events.{Given, ServerSays, Failed}
+use Rattle.fe2o3_sasl_core.specs.HidingAcceptor.{NamedAt, hiding_machine}
+use Rattle.fe2o3_sasl_core.specs.HidingLaws.{HoldsName, HiddenRunsAreRuns, HiddenRunsAreHistories, MockRecordIsMet, hiding}
+use Rattle.fe2o3_sasl_core.specs.Runs.{Runs, AcceptorAnswers, AcceptorGives, AcceptorSteps, SendsCanonical}
+use Rattle.fe2o3_sasl_core.specs.SaslAcceptor.{Acceptor, ScramAcceptor, acceptor_machine}
+use Rattle.fe2o3_sasl_core.specs.ServerHistory.{Accepted, Challenging, FitsAsInit, FitsAsResponse, server_at}
+use Rattle.fe2o3_sasl_core.proofs.lemmas.machines.ServerMachineLemmas.{acceptor_runs_are_histories}
 
 -- ---- the record of a name
 
 -- among made-up records
-made_up_at : (nobody : Nobody) (names : List (List ℕ)) (name : List ℕ) → Contains names name
-    → record_at (map (λ name. (name, nobody_record nobody name)) names) name ≡ Some (nobody_record nobody name)
-made_up_at nobody [] name (k, below, at) = absurd (omega (below, arith))
-made_up_at nobody (first ∷ names) name (zero, below, at) =
-    subst (λ (user : List ℕ). record_at (map (λ name. (name, nobody_record nobody name)) (user ∷ names)) name
-    ≡ Some (nobody_record nobody name)) (sym at)
-    (cond-true (pointwise nat_eq name name) (Some (nobody_record nobody name)) _ (nat_list_eq_equiv.refl name))
-made_up_at nobody (first ∷ names) name (suc k, below, at) =
-    go (pointwise nat_eq first name) refl (made_up_at nobody names name (k, omega (below, arith), at))
+made_up_at : (mock : MockSettings) (names : List (List ℕ)) (name : List ℕ) → Contains names name
+    → record_at (map (λ name. (name, mock_record mock name)) names) name ≡ Some (mock_record mock name)
+made_up_at mock [] name (k, below, at) = absurd (omega (below, arith))
+made_up_at mock (first ∷ names) name (zero, below, at) =
+    subst (λ (user : List ℕ). record_at (map (λ name. (name, mock_record mock name)) (user ∷ names)) name
+    ≡ Some (mock_record mock name)) (sym at)
+    (cond-true (pointwise nat_eq name name) (Some (mock_record mock name)) _ (nat_list_eq_equiv.refl name))
+made_up_at mock (first ∷ names) name (suc k, below, at) =
+    go (pointwise nat_eq first name) refl (made_up_at mock names name (k, omega (below, arith), at))
   where
     rest : Option Record
-    rest = record_at (map (λ name. (name, nobody_record nobody name)) names) name
+    rest = record_at (map (λ name. (name, mock_record mock name)) names) name
 
-    go : (test : Bool) → pointwise nat_eq first name ≡ test → rest ≡ Some (nobody_record nobody name)
-        → cond test (Some (nobody_record nobody first)) rest ≡ Some (nobody_record nobody name)
+    go : (test : Bool) → pointwise nat_eq first name ≡ test → rest ≡ Some (mock_record mock name)
+        → cond test (Some (mock_record mock first)) rest ≡ Some (mock_record mock name)
     go true is behind =
-        ap (λ (user : List ℕ). Some (nobody_record nobody user)) ((bytes_eq-Decides first name).0 is)
+        ap (λ (user : List ℕ). Some (mock_record mock user)) ((bytes_eq-Decides first name).0 is)
     go false is behind = behind
 
 -- the same behind other records, whichever names there are
-same_record : (provider : Provider) (nobody : Nobody) (names others : List (List ℕ)) (name : List ℕ)
+same_record : (provider : Provider) (mock : MockSettings) (names others : List (List ℕ)) (name : List ℕ)
     → Contains names name → Contains others name
-    → record_at (with_nobody provider nobody names).records name
-    ≡ record_at (with_nobody provider nobody others).records name
-same_record provider nobody names others name has too = go provider.records
+    → record_at (with_mock provider mock names).records name
+    ≡ record_at (with_mock provider mock others).records name
+same_record provider mock names others name has too = go provider.records
   where
     go : (records : Records)
-        → record_at (records ++ map (λ name. (name, nobody_record nobody name)) names) name
-        ≡ record_at (records ++ map (λ name. (name, nobody_record nobody name)) others) name
-    go [] = made_up_at nobody names name has ∙ sym (made_up_at nobody others name too)
+        → record_at (records ++ map (λ name. (name, mock_record mock name)) names) name
+        ≡ record_at (records ++ map (λ name. (name, mock_record mock name)) others) name
+    go [] = made_up_at mock names name has ∙ sym (made_up_at mock others name too)
     go (entry ∷ records) =
         ap (λ (found : Option Record). cond (pointwise nat_eq entry.0 name) (Some entry.1) found) (go records)
 
@@ -69,23 +69,23 @@ same_record provider nobody names others name has too = go provider.records
 itself : (name : List ℕ) → Contains (name ∷ []) name
 itself name = (zero, omega arith, refl)
 
-module _ (provider : Provider) (nobody : Nobody) (names : List (List ℕ)) where
+module _ (provider : Provider) (mock : MockSettings) (names : List (List ℕ)) where
   abbrev all : Provider
-  all = with_nobody provider nobody names
+  all = with_mock provider mock names
 
   abbrev one : List ℕ → Provider
-  one name = with_nobody provider nobody (name ∷ [])
+  one name = with_mock provider mock (name ∷ [])
 
   moves : (name user : List ℕ) → name ≡ user → Contains names user
       → record_at all.records user ≡ record_at (one name).records user
-  moves name user same has = same_record provider nobody names (name ∷ []) user has
+  moves name user same has = same_record provider mock names (name ∷ []) user has
       (subst (λ (only : List ℕ). Contains (only ∷ []) user) (sym same) (itself user))
 
   -- ---- answers
 
   -- the names hold that of a text that is read
   abbrev HoldsText : List ℕ → Type 0
-  HoldsText text = (client : ClientFirst) → ReadsClientFirst provider.unbound text (Ok client)
+  HoldsText text = (client : ClientFirst) → ReadsClientFirst provider.cbind_flag_y text (Ok client)
       → Contains names client.user
 
   -- and that of an open challenge
@@ -94,7 +94,7 @@ module _ (provider : Provider) (nobody : Nobody) (names : List (List ℕ)) where
   HoldsOpen state = Unit {0}
 
   first_alike : (state next : ServerState) (nonce text name : List ℕ)
-      (answer : Result (Option (List ℕ)) ServerScramErrorKind) → NamedIn provider.unbound text name → HoldsText text
+      (answer : Result (Option (List ℕ)) ServerScramErrorKind) → NamedIn provider.cbind_flag_y text name → HoldsText text
       → ChallengesFrom state (one name) nonce text answer next → ChallengesFrom state all nonce text answer next
   first_alike state next nonce text name (Ok (Some message)) named holds
       (challenge, (client, stored, reads, known, is), said, same) = (
@@ -163,7 +163,7 @@ module _ (provider : Provider) (nobody : Nobody) (names : List (List ℕ)) where
   HoldsFrame frame = Unit {0}
 
   machine_alike : (state moved : ServerState) (nonce name : List ℕ) (frame reply : SaslFrame) → HoldsOpen state
-      → HoldsFrame frame → NamedAt (hiding provider nobody state) frame name
+      → HoldsFrame frame → NamedAt (hiding provider mock state) frame name
       → acceptor_machine (ScramAcceptor (one name) state) nonce frame reply (ScramAcceptor (one name) moved)
       → acceptor_machine (ScramAcceptor all state) nonce frame reply (ScramAcceptor all moved) × HoldsOpen moved
   machine_alike state moved nonce name (frames.Init mechanism None hostname) reply opened holds named (is, same) =
@@ -194,12 +194,12 @@ module _ (provider : Provider) (nobody : Nobody) (names : List (List ℕ)) where
 
   -- it ends in a server of the same provider and secret, whose open challenge has its name in the names
   abbrev EndsIn : HidingServer → (ServerState → Type 0) → Type 0
-  EndsIn next Has = (after : ServerState) × (next ≡ hiding provider nobody after) × Has after × HoldsOpen after
+  EndsIn next Has = (after : ServerState) × (next ≡ hiding provider mock after) × Has after × HoldsOpen after
 
   sent_alike : (state moved : ServerState) (next : HidingServer) (reply : SaslFrame) (says : ServerSays)
       (sent : Option (List ℕ)) → HoldsOpen state → HoldsOpen moved
-      → SendsCanonical (Failed faults.TooLarge) (server_says reply) sent (hiding provider nobody state)
-      (hiding provider nobody moved) says next
+      → SendsCanonical (Failed faults.TooLarge) (server_says reply) sent (hiding provider mock state)
+      (hiding provider mock moved) says next
       → EndsIn next (λ after. SendsCanonical (Failed faults.TooLarge) (server_says reply) sent (ScramAcceptor all state)
       (ScramAcceptor all moved) says (ScramAcceptor all after))
   sent_alike state moved next reply says None opened too is = (state, is.1, (is.0, refl), opened)
@@ -207,7 +207,7 @@ module _ (provider : Provider) (nobody : Nobody) (names : List (List ℕ)) where
 
   answers_alike : (state : ServerState) (next : HidingServer) (nonce : List ℕ) (frame : SaslFrame) (says : ServerSays)
       → HoldsOpen state → HoldsFrame frame
-      → AcceptorAnswers hiding_machine (hiding provider nobody state) nonce frame says next
+      → AcceptorAnswers hiding_machine (hiding provider mock state) nonce frame says next
       → EndsIn next (λ after. AcceptorAnswers acceptor_machine (ScramAcceptor all state) nonce frame says
       (ScramAcceptor all after))
   answers_alike state next nonce frame says opened holds (inl is) = (state, is.1, inl (is.0, refl), opened)
@@ -215,12 +215,12 @@ module _ (provider : Provider) (nobody : Nobody) (names : List (List ℕ)) where
       let alike = machine_alike state to nonce name frame reply opened holds named machine in
       let sent = sent_alike state to next reply says (canonical reply) opened alike.1
       (subst (λ (server : HidingServer). SendsCanonical (Failed faults.TooLarge) (server_says reply) (canonical reply)
-      (hiding provider nobody state) server says next) is said) in
+      (hiding provider mock state) server says next) is said) in
       (sent.0, sent.1, inr (reply, ScramAcceptor all to, alike.0, sent.2), sent.3)
 
   gives_alike : (state : ServerState) (next : HidingServer) (event : Given) (spelled : Result SaslFrame Error)
-      (says : ServerSays) → SpellsBody event.body spelled → HoldsOpen state → HoldsName provider.unbound names event
-      → AcceptorGives hiding_machine (hiding provider nobody state) event spelled says next
+      (says : ServerSays) → SpellsBody event.body spelled → HoldsOpen state → HoldsName provider.cbind_flag_y names event
+      → AcceptorGives hiding_machine (hiding provider mock state) event spelled says next
       → EndsIn next (λ after. AcceptorGives acceptor_machine (ScramAcceptor all state) event spelled says
       (ScramAcceptor all after))
   gives_alike state next event (Err fault) says spells opened holds is = (state, is.1, (is.0, refl), opened)
@@ -239,8 +239,8 @@ module _ (provider : Provider) (nobody : Nobody) (names : List (List ℕ)) where
       (λ client reads. holds mechanism text hostname client spells reads) is
 
   runs_alike : (state : ServerState) (events : List Given) (replies : List ServerSays) (last : HidingServer)
-      → HoldsOpen state → AllByRecursion (HoldsName provider.unbound names) events
-      → Runs (AcceptorSteps hiding_machine) (hiding provider nobody state) events replies last
+      → HoldsOpen state → AllByRecursion (HoldsName provider.cbind_flag_y names) events
+      → Runs (AcceptorSteps hiding_machine) (hiding provider mock state) events replies last
       → Runs (AcceptorSteps acceptor_machine) (ScramAcceptor all state) events replies (ScramAcceptor all last.state)
   runs_alike state [] replies last opened holds (none, same) =
       (none, ap (λ (server : HidingServer). ScramAcceptor all server.state) same)
@@ -251,50 +251,50 @@ module _ (provider : Provider) (nobody : Nobody) (names : List (List ℕ)) where
       (says, ScramAcceptor all step.0, others, (spelled, spells, step.2), are, rest)
 
 pub hidden_runs_are_runs : HiddenRunsAreRuns
-hidden_runs_are_runs provider nobody names events replies last holds run =
-    runs_alike provider nobody names Initial events replies last tt holds run
+hidden_runs_are_runs provider mock names events replies last holds run =
+    runs_alike provider mock names Initial events replies last tt holds run
 
 pub hidden_runs_are_histories : HiddenRunsAreHistories
-hidden_runs_are_histories provider nobody names events replies last holds run =
-    acceptor_runs_are_histories (with_nobody provider nobody names) events replies
-    (ScramAcceptor (with_nobody provider nobody names) last.state)
-    (hidden_runs_are_runs provider nobody names events replies last holds run)
+hidden_runs_are_histories provider mock names events replies last holds run =
+    acceptor_runs_are_histories (with_mock provider mock names) events replies
+    (ScramAcceptor (with_mock provider mock names) last.state)
+    (hidden_runs_are_runs provider mock names events replies last holds run)
 
 -- ---- who is unknown
 
 -- a made-up record is that of its name
-made_up_is : (nobody : Nobody) (names : List (List ℕ)) (name : List ℕ) (stored : Record)
-    → record_at (map (λ name. (name, nobody_record nobody name)) names) name ≡ Some stored
-    → stored ≡ nobody_record nobody name
-made_up_is nobody [] name stored is = absurd (cc)
-made_up_is nobody (first ∷ names) name stored is =
-    go (pointwise nat_eq first name) refl is (made_up_is nobody names name stored)
+made_up_is : (mock : MockSettings) (names : List (List ℕ)) (name : List ℕ) (stored : Record)
+    → record_at (map (λ name. (name, mock_record mock name)) names) name ≡ Some stored
+    → stored ≡ mock_record mock name
+made_up_is mock [] name stored is = absurd (cc)
+made_up_is mock (first ∷ names) name stored is =
+    go (pointwise nat_eq first name) refl is (made_up_is mock names name stored)
   where
     rest : Option Record
-    rest = record_at (map (λ name. (name, nobody_record nobody name)) names) name
+    rest = record_at (map (λ name. (name, mock_record mock name)) names) name
 
     go : (test : Bool) → pointwise nat_eq first name ≡ test
-        → cond test (Some (nobody_record nobody first)) rest ≡ Some stored
-        → (rest ≡ Some stored → stored ≡ nobody_record nobody name) → stored ≡ nobody_record nobody name
+        → cond test (Some (mock_record mock first)) rest ≡ Some stored
+        → (rest ≡ Some stored → stored ≡ mock_record mock name) → stored ≡ mock_record mock name
     go true same is behind =
-        let here : stored ≡ nobody_record nobody first = cc in
-        here ∙ ap (λ (user : List ℕ). nobody_record nobody user) ((bytes_eq-Decides first name).0 same)
+        let here : stored ≡ mock_record mock first = cc in
+        here ∙ ap (λ (user : List ℕ). mock_record mock user) ((bytes_eq-Decides first name).0 same)
     go false same is behind = behind is
 
 -- the record of a challenge to somebody unknown
-unknown_stored : (provider : Provider) (nobody : Nobody) (names : List (List ℕ)) (event : Given) (frame : SaslFrame)
+unknown_stored : (provider : Provider) (mock : MockSettings) (names : List (List ℕ)) (event : Given) (frame : SaslFrame)
     (challenge : Challenging) → record_at provider.records challenge.client.user ≡ None
-    → FitsAsInit (with_nobody provider nobody names) event frame challenge
-    → challenge.stored ≡ nobody_record nobody challenge.client.user
-unknown_stored provider nobody names event (frames.Init mechanism (Some text) hostname) challenge none fits =
-    made_up_is nobody names challenge.client.user challenge.stored
-    (sym (record_at-behind provider.records (map (λ name. (name, nobody_record nobody name)) names)
+    → FitsAsInit (with_mock provider mock names) event frame challenge
+    → challenge.stored ≡ mock_record mock challenge.client.user
+unknown_stored provider mock names event (frames.Init mechanism (Some text) hostname) challenge none fits =
+    made_up_is mock names challenge.client.user challenge.stored
+    (sym (record_at-behind provider.records (map (λ name. (name, mock_record mock name)) names)
     challenge.client.user none) ∙ fits.2)
-unknown_stored provider nobody names event (frames.Init mechanism None hostname) challenge none fits = absurd fits
-unknown_stored provider nobody names event (frames.Response text) challenge none fits = absurd fits
-unknown_stored provider nobody names event (frames.Mechanisms list) challenge none fits = absurd fits
-unknown_stored provider nobody names event (frames.Challenge text) challenge none fits = absurd fits
-unknown_stored provider nobody names event (frames.Outcome code more) challenge none fits = absurd fits
+unknown_stored provider mock names event (frames.Init mechanism None hostname) challenge none fits = absurd fits
+unknown_stored provider mock names event (frames.Response text) challenge none fits = absurd fits
+unknown_stored provider mock names event (frames.Mechanisms list) challenge none fits = absurd fits
+unknown_stored provider mock names event (frames.Challenge text) challenge none fits = absurd fits
+unknown_stored provider mock names event (frames.Outcome code more) challenge none fits = absurd fits
 
 meets_stored : (provider : Provider) (IsOpen : Challenging → Type 0) (frame : SaslFrame) (accepted : Accepted)
     → FitsAsResponse provider IsOpen frame accepted
@@ -308,10 +308,10 @@ meets_stored provider IsOpen (frames.Mechanisms list) accepted fits = absurd fit
 meets_stored provider IsOpen (frames.Challenge text) accepted fits = absurd fits
 meets_stored provider IsOpen (frames.Outcome code more) accepted fits = absurd fits
 
-pub nobody_is_met : NobodyIsMet
-nobody_is_met provider nobody names events replies n accepted (event, frame, at, spells, fits) none =
-    let met = meets_stored (with_nobody provider nobody names) _ frame accepted fits in
+pub mock_record_is_met : MockRecordIsMet
+mock_record_is_met provider mock names events replies n accepted (event, frame, at, spells, fits) none =
+    let met = meets_stored (with_mock provider mock names) _ frame accepted fits in
     let opening = met.0.2 in
     met.1
     ∙ ap (λ (stored : Record). stored.stored_key)
-    (unknown_stored provider nobody names opening.0 opening.1 accepted.challenge none opening.4)
+    (unknown_stored provider mock names opening.0 opening.1 accepted.challenge none opening.4)

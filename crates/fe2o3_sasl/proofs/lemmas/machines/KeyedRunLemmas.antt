@@ -15,16 +15,16 @@ use Rattle.fe2o3_scram.specs.ClientKeys.{ClientKeys}
 use Rattle.fe2o3_scram.specs.ClientSecret.{Secret, Password, Keys}
 use Rattle.fe2o3_scram.specs.Laws.{AreKeysOf}
 use Rattle.fe2o3_scram.specs.Passwords.{PasswordText, IsNormal, password_bytes}
-use Rattle.fe2o3_scram.specs.ScramClient.{ClientSide, ClientState, ClientInitial, ClientFirstSent, ClientFinalSent, Complete, AnswersIn, BelievesIn, started}
+use Rattle.fe2o3_scram.specs.ScramClient.{ClientSide, ClientState, ClientInitial, ClientFirstSent, ClientFinalSent, Complete, AnswersIn, VerifiesIn, started}
 use Rattle.fe2o3_scram.proofs.lemmas.messages.KeptKeyLemmas.{keys_stand}
-use Rattle.fe2o3_sasl_runs.specs.Events.{Given, Login, ClientSays, Refused}
-use Rattle.fe2o3_sasl_runs.specs.Laws.{KeysFit, KeyedRunsAreRuns, KeyedRunsAreHistories}
-use Rattle.fe2o3_sasl_runs.specs.Profiles.{Profile, ScramProfile, StepAllocates, client_frame, profile_machine}
-use Rattle.fe2o3_sasl_runs.specs.Runs.{ProfileGives, ProfileReplies, ProfileSteps, Replies, Runs, SendsCanonical}
-use Rattle.fe2o3_sasl_runs.specs.Bodies.{SpellsBody}
-use Rattle.fe2o3_sasl_runs.proofs.lemmas.machines.ClientMachineLemmas.{profile_runs_are_histories}
-use Rattle.fe2o3_sasl_runs.specs.declared.sasl_profile.error.ProfileError.{ProfileError}
-use Rattle.fe2o3_sasl_runs.specs.declared.sasl_profile.error.ProfileError.TheVariants.{OtherKeys}
+use Rattle.fe2o3_sasl_core.specs.Events.{Given, Login, ClientSays, Refused}
+use Rattle.fe2o3_sasl_core.specs.Laws.{KeysFit, KeyedRunsAreRuns, KeyedRunsAreHistories}
+use Rattle.fe2o3_sasl_core.specs.Profiles.{Profile, ScramProfile, StepAllocates, client_frame, profile_machine}
+use Rattle.fe2o3_sasl_core.specs.Runs.{ProfileGives, ProfileReplies, ProfileSteps, Replies, Runs, SendsCanonical}
+use Rattle.fe2o3_sasl_core.specs.Bodies.{SpellsBody}
+use Rattle.fe2o3_sasl_core.proofs.lemmas.machines.ClientMachineLemmas.{profile_runs_are_histories}
+use Rattle.fe2o3_sasl_core.specs.declared.sasl_profile.error.ProfileError.{ProfileError}
+use Rattle.fe2o3_sasl_core.specs.declared.sasl_profile.error.ProfileError.TheVariants.{StaleKeys}
 
 module _ (user : List ℕ) (limits : IterationLimits) (keys : ClientKeys) (password : PasswordText)
     (normal : IsNormal password) (are : AreKeysOf keys (password_bytes password)) where
@@ -50,7 +50,7 @@ module _ (user : List ℕ) (limits : IterationLimits) (keys : ClientKeys) (passw
       × AnswersIn state (side (Password password) own) text answer (side (Password password) after)
 
   answer_alike : (state own : ClientState) (text : List ℕ) (answer : Result (List ℕ) ScramErrorKind)
-      (next : ClientSide) → answer ≢ Err kinds.OtherKeys → AnswersIn state (side (Keys keys) own) text answer next
+      (next : ClientSide) → answer ≢ Err kinds.StaleKeys → AnswersIn state (side (Keys keys) own) text answer next
       → AnswersAlike state own text answer next
   answer_alike (ClientFirstSent nonce bare) own text (Ok message) next fit is = (
     ClientFinalSent is.0.signature (Some is.0.keys),
@@ -60,10 +60,10 @@ module _ (user : List ℕ) (limits : IterationLimits) (keys : ClientKeys) (passw
   answer_alike (ClientFirstSent nonce bare) own text (Err fault) next fit is =
       (own, is.1, (keys_stand keys password nonce bare text limits (Err fault) normal are other is.0, refl))
     where
-      same_fault : ◌≡◌ {A = Result Answer ScramErrorKind} (Err fault) (Err kinds.OtherKeys) → fault ≡ kinds.OtherKeys
+      same_fault : ◌≡◌ {A = Result Answer ScramErrorKind} (Err fault) (Err kinds.StaleKeys) → fault ≡ kinds.StaleKeys
       same_fault e = cc
 
-      other : ◌≢◌ {A = Result Answer ScramErrorKind} (Err fault) (Err kinds.OtherKeys)
+      other : ◌≢◌ {A = Result Answer ScramErrorKind} (Err fault) (Err kinds.StaleKeys)
       other e = fit (ap (λ (kind : ScramErrorKind). Err kind) (same_fault e))
   answer_alike ClientInitial own text (Ok message) next fit none = absurd none
   answer_alike ClientInitial own text (Err fault) next fit is = (own, is.1, (is.0, refl))
@@ -72,24 +72,24 @@ module _ (user : List ℕ) (limits : IterationLimits) (keys : ClientKeys) (passw
   answer_alike (Complete kept) own text (Ok message) next fit none = absurd none
   answer_alike (Complete kept) own text (Err fault) next fit is = (own, is.1, (is.0, refl))
 
-  abbrev BelievesAlike : ClientState → ClientState → List ℕ → Result (Unit {0}) ScramErrorKind → ClientSide → Type 0
-  BelievesAlike state own text answer next = (after : ClientState) × (next ≡ side (Keys keys) after)
-      × BelievesIn state (side (Password password) own) text answer (side (Password password) after)
+  abbrev VerifiesAlike : ClientState → ClientState → List ℕ → Result (Unit {0}) ScramErrorKind → ClientSide → Type 0
+  VerifiesAlike state own text answer next = (after : ClientState) × (next ≡ side (Keys keys) after)
+      × VerifiesIn state (side (Password password) own) text answer (side (Password password) after)
 
-  belief_alike : (state own : ClientState) (text : List ℕ) (answer : Result (Unit {0}) ScramErrorKind)
-      (next : ClientSide) → BelievesIn state (side (Keys keys) own) text answer next
-      → BelievesAlike state own text answer next
-  belief_alike (ClientFinalSent signature kept) own text (Ok believed) next is = (Complete kept, is.1, (is.0, refl))
-  belief_alike (ClientFinalSent signature kept) own text (Err fault) next is = (own, is.1, (is.0, refl))
-  belief_alike ClientInitial own text (Ok believed) next none = absurd none
-  belief_alike ClientInitial own text (Err fault) next is = (own, is.1, (is.0, refl))
-  belief_alike (ClientFirstSent nonce bare) own text (Ok believed) next none = absurd none
-  belief_alike (ClientFirstSent nonce bare) own text (Err fault) next is = (own, is.1, (is.0, refl))
-  belief_alike (Complete kept) own text (Ok believed) next none = absurd none
-  belief_alike (Complete kept) own text (Err fault) next is = (own, is.1, (is.0, refl))
+  verified_alike : (state own : ClientState) (text : List ℕ) (answer : Result (Unit {0}) ScramErrorKind)
+      (next : ClientSide) → VerifiesIn state (side (Keys keys) own) text answer next
+      → VerifiesAlike state own text answer next
+  verified_alike (ClientFinalSent signature kept) own text (Ok verified) next is = (Complete kept, is.1, (is.0, refl))
+  verified_alike (ClientFinalSent signature kept) own text (Err fault) next is = (own, is.1, (is.0, refl))
+  verified_alike ClientInitial own text (Ok verified) next none = absurd none
+  verified_alike ClientInitial own text (Err fault) next is = (own, is.1, (is.0, refl))
+  verified_alike (ClientFirstSent nonce bare) own text (Ok verified) next none = absurd none
+  verified_alike (ClientFirstSent nonce bare) own text (Err fault) next is = (own, is.1, (is.0, refl))
+  verified_alike (Complete kept) own text (Ok verified) next none = absurd none
+  verified_alike (Complete kept) own text (Err fault) next is = (own, is.1, (is.0, refl))
 
   machine_alike : (state : ClientState) (hostname : Option (List ℕ)) (nonce : List ℕ) (frame : SaslFrame)
-      (reply : Result SaslFrame ProfileError) (moved : Profile) → reply ≢ Err OtherKeys
+      (reply : Result SaslFrame ProfileError) (moved : Profile) → reply ≢ Err StaleKeys
       → profile_machine (keyed state) hostname nonce frame reply moved
       → EndsIn moved (λ after. profile_machine (twin state) hostname nonce frame reply (twin after))
   machine_alike state hostname nonce (frames.Mechanisms names) reply moved fit (inl is) =
@@ -99,7 +99,7 @@ module _ (user : List ℕ) (limits : IterationLimits) (keys : ClientKeys) (passw
   machine_alike state hostname nonce (frames.Challenge text) reply moved fit (inl is) =
       (state, is.2, inl (is.0, is.1, refl))
   machine_alike state hostname nonce (frames.Challenge text) reply moved fit (inr is) =
-      let fits : is.1.0 ≢ Err kinds.OtherKeys = λ same. fit (is.1.3
+      let fits : is.1.0 ≢ Err kinds.StaleKeys = λ same. fit (is.1.3
       ∙ ap (λ (answer : Result (List ℕ) ScramErrorKind). client_frame (λ message. frames.Response message) answer) same)
       in
       let turn = answer_alike state state text is.1.0 is.1.1 fits is.1.2 in (
@@ -110,7 +110,7 @@ module _ (user : List ℕ) (limits : IterationLimits) (keys : ClientKeys) (passw
   machine_alike state hostname nonce (frames.Outcome outcomes.Ok None) reply moved fit is =
       (state, is.1, (is.0, refl))
   machine_alike state hostname nonce (frames.Outcome outcomes.Ok (Some text)) reply moved fit is =
-      let turn = belief_alike state state text is.0 is.1 is.2 in (
+      let turn = verified_alike state state text is.0 is.1 is.2 in (
         turn.0,
         is.4 ∙ ap (λ (s : ClientSide). ScramProfile s) turn.1,
         (is.0, side (Password password) turn.0, turn.2, is.3, refl),
@@ -153,14 +153,14 @@ module _ (user : List ℕ) (limits : IterationLimits) (keys : ClientKeys) (passw
 
   -- a refusal by other keys is said
   fits : (state : ClientState) (moved next : Profile) (reply : Result SaslFrame ProfileError) (says : ClientSays)
-      → says ≢ Refused OtherKeys → Replies (keyed state) moved reply says next → reply ≢ Err OtherKeys
+      → says ≢ Refused StaleKeys → Replies (keyed state) moved reply says next → reply ≢ Err StaleKeys
   fits state moved next reply says other is same =
       other (subst (λ (r : Result SaslFrame ProfileError). Replies (keyed state) moved r says next) same is).0
 
   -- ---- one event, and all
 
   replied_alike : (state : ClientState) (hostname : Option (List ℕ)) (nonce : List ℕ) (frame : SaslFrame)
-      (says : ClientSays) (next : Profile) → says ≢ Refused OtherKeys
+      (says : ClientSays) (next : Profile) → says ≢ Refused StaleKeys
       → ProfileReplies hostname (keyed state) nonce frame says next
       → EndsIn next (λ after. ProfileReplies hostname (twin state) nonce frame says (twin after))
   replied_alike state hostname nonce frame says next other (inl is) =
@@ -172,7 +172,7 @@ module _ (user : List ℕ) (limits : IterationLimits) (keys : ClientKeys) (passw
       (said.0, said.1, inr (is.0, twin machine.0, machine.2, said.2))
 
   step_alike : (state : ClientState) (hostname : Option (List ℕ)) (event : Given) (says : ClientSays)
-      (next : Profile) (spelled : Result SaslFrame Error) → says ≢ Refused OtherKeys → SpellsBody event.body spelled
+      (next : Profile) (spelled : Result SaslFrame Error) → says ≢ Refused StaleKeys → SpellsBody event.body spelled
       → ProfileGives hostname (keyed state) event spelled says next
       → EndsIn next (λ after. ProfileSteps hostname (twin state) event says (twin after))
   step_alike state hostname event says next (Err fault) other spells is =
@@ -188,7 +188,7 @@ module _ (user : List ℕ) (limits : IterationLimits) (keys : ClientKeys) (passw
   runs_alike state hostname (event ∷ events) replies last run fit =
       let says = run.0 in
       let others = run.2 in
-      let here : says ≢ Refused OtherKeys = λ same. fit 0 (ap (λ (r : List ClientSays). slice_get r 0) run.4
+      let here : says ≢ Refused StaleKeys = λ same. fit 0 (ap (λ (r : List ClientSays). slice_get r 0) run.4
       ∙ ap (λ (s : ClientSays). Some s) same) in
       let there : KeysFit others = λ k at. fit (suc k) (ap (λ (r : List ClientSays). slice_get r (suc k)) run.4 ∙ at)
       in

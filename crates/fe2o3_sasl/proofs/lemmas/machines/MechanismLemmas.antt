@@ -7,11 +7,11 @@ use Rattle.std.proofs.lemmas.Cmp.{nat_list_eq_equiv}
 use Rattle.fe2o3_scram.specs.declared.hmac.ScramVersion.{ScramVersion}
 use Rattle.fe2o3_scram.specs.declared.hmac.ScramVersion.TheVariants.{Sha1, Sha256, Sha512}
 use Rattle.fe2o3_scram.specs.Hmac.{mechanism_name}
-use Rattle.fe2o3_sasl_runs.specs.MechanismLaws.{PlainLetsIn, PlainRefuses, AnonymousLetsIn, OffersAgree, SomethingIsOffered, NamesDiffer}
-use Rattle.fe2o3_sasl_runs.specs.SaslAcceptor.{ScramAcceptor, PlainAcceptor, AnonymousAcceptor}
-use Rattle.fe2o3_sasl_runs.specs.Profiles.{ScramProfile, PlainProfile, AnonymousProfile, ExternalProfile, initial_response}
+use Rattle.fe2o3_sasl_core.specs.MechanismLaws.{PlainLetsIn, PlainRefuses, AnonymousLetsIn, OffersAgree, SomethingIsOffered, NamesDiffer}
+use Rattle.fe2o3_sasl_core.specs.SaslAcceptor.{ScramAcceptor, PlainAcceptor, AnonymousAcceptor}
+use Rattle.fe2o3_sasl_core.specs.Profiles.{ScramProfile, PlainProfile, AnonymousProfile, ExternalProfile, initial_response}
 use Rattle.fe2o3_sasl_wire.specs.SaslFrames as frames
-use Rattle.fe2o3_sasl_runs.proofs.lemmas.machines.ZeroPartLemmas.{names_both, names_no_other}
+use Rattle.fe2o3_sasl_core.proofs.lemmas.machines.ZeroPartLemmas.{names_both, names_no_other}
 
 -- ---- names
 

@@ -8,11 +8,11 @@ use Rattle.fe2o3_sasl_wire.specs.declared.sasl_frames.error.Error.{Error}
 use Rattle.fe2o3_sasl_wire.specs.declared.sasl_frames.error.Error.TheVariants as faults
 use Rattle.fe2o3_sasl_wire.specs.SaslFrames.{canonical, SaslFrame}
 use Rattle.fe2o3_sasl_wire.specs.SaslFrames as frames
-use Rattle.fe2o3_sasl_runs.specs.Events.{Given, ServerSays, Concluded, Failed}
-use Rattle.fe2o3_sasl_runs.specs.MechanismLaws.{SaysOk, PlainRunsNameUsers}
-use Rattle.fe2o3_sasl_runs.specs.Runs.{Runs, AcceptorGives, AcceptorSteps, SendsCanonical}
-use Rattle.fe2o3_sasl_runs.specs.SaslAcceptor.{Acceptor, PlainAcceptor, acceptor_machine, acceptor_user, ends_with}
-use Rattle.fe2o3_sasl_runs.specs.Bodies.{server_says}
+use Rattle.fe2o3_sasl_core.specs.Events.{Given, ServerSays, Concluded, Failed}
+use Rattle.fe2o3_sasl_core.specs.MechanismLaws.{SaysOk, PlainRunsNameUsers}
+use Rattle.fe2o3_sasl_core.specs.Runs.{Runs, AcceptorGives, AcceptorSteps, SendsCanonical}
+use Rattle.fe2o3_sasl_core.specs.SaslAcceptor.{Acceptor, PlainAcceptor, acceptor_machine, acceptor_user, ends_with}
+use Rattle.fe2o3_sasl_core.specs.Bodies.{server_says}
 
 -- ---- one step
 

@@ -10,21 +10,21 @@ use Rattle.fe2o3_scram.specs.Credentials.{Provider}
 use Rattle.fe2o3_scram.specs.declared.scram_messages.error.ScramErrorKind.{ScramErrorKind}
 use Rattle.fe2o3_scram.specs.declared.scram_messages.error.ServerScramErrorKind.{ServerScramErrorKind}
 use Rattle.fe2o3_scram.specs.HidingServer.{HidingServer, NamedBy, hiding_name}
-use Rattle.fe2o3_scram.specs.ScramClient.{ClientSide, BelievesIn}
+use Rattle.fe2o3_scram.specs.ScramClient.{ClientSide, VerifiesIn}
 use Rattle.fe2o3_scram.specs.ScramServer.{ServerState, ServerFinalSent, ConcludesFrom}
 use Rattle.fe2o3_scram.specs.Logins.{IsSigned}
-use Rattle.fe2o3_scram.proofs.lemmas.messages.LoginLemmas.{accepted_texts_log_in, hidden_text_logs_in, believed_texts_are_signed}
-use Rattle.fe2o3_sasl_runs.specs.Bodies.{SpellsBody, carried, server_says}
-use Rattle.fe2o3_sasl_runs.specs.Events.{Given, ServerSays, Concluded, Failed, ClientSays, Reported, Refused}
-use Rattle.fe2o3_sasl_runs.specs.HidingAcceptor.{with_name}
-use Rattle.fe2o3_sasl_runs.specs.HidingLaws.{HiddenBodyLogsIn, HiddenOksLogIn}
-use Rattle.fe2o3_sasl_runs.specs.PlainAuthenticator.{PlainLogsIn, PlainServer, plain_machine}
-use Rattle.fe2o3_sasl_runs.specs.Profiles.{Profile, ScramProfile, client_frame, profile_machine}
-use Rattle.fe2o3_sasl_runs.specs.Runs.{Replies, SendsCanonical}
-use Rattle.fe2o3_sasl_runs.specs.SaslAcceptor.{Acceptor, AnonymousAcceptor, ScramAcceptor, acceptor_machine, ends_with, server_frame}
-use Rattle.fe2o3_sasl_runs.specs.StepLaws.{BodyLogsIn, OksLogIn, PlainOksLogIn, ReportedOksAreSigned}
-use Rattle.fe2o3_sasl_runs.specs.declared.sasl_profile.error.ProfileError.{ProfileError}
-use Rattle.fe2o3_sasl_runs.specs.declared.sasl_profile.error.ProfileError.TheVariants.{Frame}
+use Rattle.fe2o3_scram.proofs.lemmas.messages.LoginLemmas.{accepted_texts_log_in, hidden_text_logs_in, verified_texts_are_signed}
+use Rattle.fe2o3_sasl_core.specs.Bodies.{SpellsBody, carried, server_says}
+use Rattle.fe2o3_sasl_core.specs.Events.{Given, ServerSays, Concluded, Failed, ClientSays, Reported, Refused}
+use Rattle.fe2o3_sasl_core.specs.HidingAcceptor.{with_name}
+use Rattle.fe2o3_sasl_core.specs.HidingLaws.{HiddenBodyLogsIn, HiddenOksLogIn}
+use Rattle.fe2o3_sasl_core.specs.PlainServer.{PlainLogsIn, PlainState, plain_machine}
+use Rattle.fe2o3_sasl_core.specs.Profiles.{Profile, ScramProfile, client_frame, profile_machine}
+use Rattle.fe2o3_sasl_core.specs.Runs.{Replies, SendsCanonical}
+use Rattle.fe2o3_sasl_core.specs.SaslAcceptor.{Acceptor, AnonymousAcceptor, ScramAcceptor, acceptor_machine, ends_with, server_frame}
+use Rattle.fe2o3_sasl_core.specs.StepLaws.{BodyLogsIn, OksLogIn, PlainOksLogIn, ReportedOksAreSigned}
+use Rattle.fe2o3_sasl_core.specs.declared.sasl_profile.error.ProfileError.{ProfileError}
+use Rattle.fe2o3_sasl_core.specs.declared.sasl_profile.error.ProfileError.TheVariants.{Frame}
 
 -- ---- a server
 
@@ -182,7 +182,7 @@ hidden_oks_log_in server next event body (
 
 -- ---- a server of PLAIN over records
 
-plain_answer_logs_in : (server moved next : PlainServer) (event : Given) (frame reply : SaslFrame) (body : List ℕ)
+plain_answer_logs_in : (server moved next : PlainState) (event : Given) (frame reply : SaslFrame) (body : List ℕ)
     → SpellsBody event.body (Ok frame) → plain_machine server event.nonce frame reply moved
     → SendsCanonical (Failed faults.TooLarge) (server_says reply) (canonical reply) server moved (Concluded outcomes.Ok body) next
     → (frame : SaslFrame) × (user : List ℕ) × SpellsBody event.body (Ok frame)
@@ -236,7 +236,7 @@ init_is_no_report profile moved next reply mechanism response hostname more is s
     (subst (λ (r : Result SaslFrame ProfileError). Reports profile moved r more next) is said).0
   where
     none : (sent : Option (List ℕ)) → Reported outcomes.Ok more
-        ≢ carried (Refused (Frame faults.TooLarge)) (λ body. Rattle.fe2o3_sasl_runs.specs.Events.Started body) sent
+        ≢ carried (Refused (Frame faults.TooLarge)) (λ body. Rattle.fe2o3_sasl_core.specs.Events.Started body) sent
     none None same = absurd (cc)
     none (Some other) same = absurd (cc)
 
@@ -247,7 +247,7 @@ response_is_no_report profile moved next reply text more is said =
     (subst (λ (r : Result SaslFrame ProfileError). Reports profile moved r more next) is said).0
   where
     none : (sent : Option (List ℕ)) → Reported outcomes.Ok more
-        ≢ carried (Refused (Frame faults.TooLarge)) (λ body. Rattle.fe2o3_sasl_runs.specs.Events.Answered body) sent
+        ≢ carried (Refused (Frame faults.TooLarge)) (λ body. Rattle.fe2o3_sasl_core.specs.Events.Answered body) sent
     none None same = absurd (cc)
     none (Some other) same = absurd (cc)
 
@@ -260,15 +260,15 @@ other_code profile moved next reply code shown more is apart said =
     apart (cc)
 
 -- a verifier that is believed
-believed_is_signed : (client after : ClientSide) (event : Given) (text : List ℕ)
+verified_is_signed : (client after : ClientSide) (event : Given) (text : List ℕ)
     (answer : Result (Unit {0}) ScramErrorKind) (reply : Result SaslFrame ProfileError) (moved next : Profile)
-    (more : Option (List ℕ)) → BelievesIn client.state client text answer after
-    → reply ≡ client_frame (λ believed. frames.Outcome outcomes.Ok (Some text)) answer
+    (more : Option (List ℕ)) → VerifiesIn client.state client text answer after
+    → reply ≡ client_frame (λ verified. frames.Outcome outcomes.Ok (Some text)) answer
     → Reports (ScramProfile client) moved reply more next → (more ≡ Some text) × IsSigned client.state text
-believed_is_signed client after event text (Ok tt) reply moved next more from is said =
+verified_is_signed client after event text (Ok tt) reply moved next more from is said =
     let same = (subst (λ (r : Result SaslFrame ProfileError). Reports (ScramProfile client) moved r more next) is
-    said).0 in (cc, believed_texts_are_signed client after text from)
-believed_is_signed client after event text (Err kind) reply moved next more from is said =
+    said).0 in (cc, verified_texts_are_signed client after text from)
+verified_is_signed client after event text (Err kind) reply moved next more from is said =
     absurd (refusal_is_no_report (ScramProfile client) moved next reply _ more is said)
 
 pub reported_oks_are_signed : ReportedOksAreSigned
@@ -298,7 +298,7 @@ reported_oks_are_signed hostname client event more next (Ok frame, spells, inr g
     go (frames.Outcome outcomes.Ok None) reply moved spells m said =
         absurd (refusal_is_no_report (ScramProfile client) moved next reply _ more m.0 said)
     go (frames.Outcome outcomes.Ok (Some text)) reply moved spells m said =
-        let signed = believed_is_signed client m.1 event text m.0 reply moved next more m.2 m.3 said in
+        let signed = verified_is_signed client m.1 event text m.0 reply moved next more m.2 m.3 said in
         (text, signed.0, spells, signed.1)
     go (frames.Outcome outcomes.Auth shown) reply moved spells m said =
         absurd (other_code (ScramProfile client) moved next reply outcomes.Auth shown more m.0 (λ is. absurd (cc)) said)

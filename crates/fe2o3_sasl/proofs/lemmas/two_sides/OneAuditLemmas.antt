@@ -1,14 +1,14 @@
 -- An audit has one answer.
 use Rattle.std.proofs.Common.{◌≡◌, ◌⊎◌, ⊎_elim, ℕ, zero, suc, List, [], ◌∷◌, ◌++◌, map, refl, sym, ap, ◌∙◌, subst, arith, inl, inr}
 use Rattle.std.specs.List.{AllByRecursion, Contains}
-use Rattle.fe2o3_sasl_runs.specs.ClientHistory.{Answering, OpenAnswer, AnswersAt}
-use Rattle.fe2o3_sasl_runs.specs.Events.{ClientSays, ServerSays}
-use Rattle.fe2o3_sasl_runs.specs.Laws.{OneAuditEach}
-use Rattle.fe2o3_sasl_runs.specs.ServerHistory.{Accepted, AcceptsAt}
-use Rattle.fe2o3_sasl_runs.specs.TwoSides.{Sides, sides_of, Takes, Shows}
-use Rattle.fe2o3_sasl_runs.specs.Verdicts.{Verdict, Finding, FindingKind, place_of, Before, Ascending, Lists, IsVerifierFinding, IsProofFinding, Audits, JudgesVerifier, JudgesProof}
-use Rattle.fe2o3_sasl_runs.proofs.lemmas.histories.OneClientHistoryLemmas.{one_open_answer, one_answers_at, one_client_history}
-use Rattle.fe2o3_sasl_runs.proofs.lemmas.histories.OneServerHistoryLemmas.{one_accepted, one_server_history}
+use Rattle.fe2o3_sasl_core.specs.ClientHistory.{Answering, OpenAnswer, AnswersAt}
+use Rattle.fe2o3_sasl_core.specs.Events.{ClientSays, ServerSays}
+use Rattle.fe2o3_sasl_core.specs.Laws.{OneAuditEach}
+use Rattle.fe2o3_sasl_core.specs.ServerHistory.{Accepted, AcceptsAt}
+use Rattle.fe2o3_sasl_core.specs.TwoSides.{Sides, sides_of, Takes, Shows}
+use Rattle.fe2o3_sasl_core.specs.Verdicts.{Verdict, Finding, FindingKind, place_of, Before, Ascending, Lists, IsVerifierFinding, IsProofFinding, Audits, JudgesVerifier, JudgesProof}
+use Rattle.fe2o3_sasl_core.proofs.lemmas.histories.OneClientHistoryLemmas.{one_open_answer, one_answers_at, one_client_history}
+use Rattle.fe2o3_sasl_core.proofs.lemmas.histories.OneServerHistoryLemmas.{one_accepted, one_server_history}
 use Rattle.fe2o3_sasl.proofs.lemmas.two_sides.VerdictLemmas.{one_verdict_each}
 
 -- ---- what a list contains
@@ -167,9 +167,9 @@ one_proof sides finding other places is too =
     λ i. made (kind i) (client i) (server i) (verdict i)
 
 -- two audits of the same replies
-one_of_sides : (sides : Sides) (findings others : List Finding) → Audits sides findings → Audits sides others
+any_mechanism_sides : (sides : Sides) (findings others : List Finding) → Audits sides findings → Audits sides others
     → findings ≡ others
-one_of_sides sides findings others audit again =
+any_mechanism_sides sides findings others audit again =
     let verifiers = one_findings (IsVerifierFinding sides) (one_verifier sides) audit.verifiers again.verifiers
     (one_listing (λ m n. (accepted : Accepted) × Takes sides m n accepted) (map place_of audit.verifiers)
     (map place_of again.verifiers) audit.takes again.takes) audit.verifier_verdicts again.verifier_verdicts in
@@ -191,4 +191,4 @@ one_audit_each login client_events provider server_events findings others first 
     (sides_of login client_events replies provider server_events first.1) others) client
     (subst (λ (replies : List ServerSays). Audits
     (sides_of login client_events again.0 provider server_events replies) others) server other) in
-    one_of_sides (sides_of login client_events first.0 provider server_events first.1) findings others audit moved
+    any_mechanism_sides (sides_of login client_events first.0 provider server_events first.1) findings others audit moved

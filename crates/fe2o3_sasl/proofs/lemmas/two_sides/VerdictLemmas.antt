@@ -1,20 +1,20 @@
 -- Each finding has one verdict.
 use Rattle.std.proofs.Common.{◌≡◌, ◌≢◌, ◌⊎◌, ℕ, Option, Some, None, List, [], ◌∷◌, length, refl, sym, ap, ◌∙◌, arith, inl, inr}
-use Rattle.fe2o3_sasl_runs.specs.ClientHistory.{Answering}
+use Rattle.fe2o3_sasl_core.specs.ClientHistory.{Answering}
 use Rattle.fe2o3_scram.specs.ClientKeys.{AreSized}
 use Rattle.fe2o3_scram.specs.Hmac.{digest, digest_len, hmac_of, exclusive_or}
-use Rattle.fe2o3_sasl_runs.specs.Laws.{TakenVerifiersAreJudged, ShownProofsAreJudged, OneVerdictEach}
-use Rattle.fe2o3_sasl_runs.specs.ServerHistory.{Accepted, full_nonce}
+use Rattle.fe2o3_sasl_core.specs.Laws.{TakenVerifiersAreJudged, ShownProofsAreJudged, OneVerdictEach}
+use Rattle.fe2o3_sasl_core.specs.ServerHistory.{Accepted, full_nonce}
 use Rattle.fe2o3_scram.specs.Texts.{Parts}
-use Rattle.fe2o3_sasl_runs.specs.TwoSides.{Sides, Agree, IsPlainInit, client_message, server_message, keys_at, proof_at}
-use Rattle.fe2o3_sasl_runs.specs.Verdicts.{Parameters, Verdict, Agreed, SameMac, SameHash, OtherKey, AreParameters, AreAgreed, JudgesVerifier, JudgesProof, IsStoredKey, recovered_at}
+use Rattle.fe2o3_sasl_core.specs.TwoSides.{Sides, Agree, IsPlainInit, client_message, server_message, keys_at, proof_at}
+use Rattle.fe2o3_sasl_core.specs.Verdicts.{Parameters, Verdict, Agreed, SameMac, SameHash, OtherKey, AreParameters, AreAgreed, JudgesVerifier, JudgesProof, IsStoredKey, recovered_at}
 use Rattle.fe2o3_scram.proofs.lemmas.hashes.DigestLemmas.{length-hmac_of}
 use Rattle.fe2o3_scram.proofs.lemmas.hashes.OnePadLemmas.{one_pad}
-use Rattle.fe2o3_sasl_runs.proofs.lemmas.two_sides.MeetingSidesLemmas.{Met, met_shown, agree, sized_at}
-use Rattle.fe2o3_sasl_runs.specs.Headline.{VerifierAgrees}
-use Rattle.fe2o3_sasl_runs.proofs.lemmas.two_sides.HeadlineLemmas.{verifier_agrees}
+use Rattle.fe2o3_sasl_core.proofs.lemmas.two_sides.MeetingSidesLemmas.{Met, met_shown, agree, sized_at}
+use Rattle.fe2o3_sasl_core.specs.Headline.{VerifierAgrees}
+use Rattle.fe2o3_sasl_core.proofs.lemmas.two_sides.HeadlineLemmas.{verifier_agrees}
 use Rattle.fe2o3_scram.proofs.lemmas.texts.PartsLemmas.{pieces, Parts-pieces, one_list_of_parts}
-use Rattle.fe2o3_sasl_runs.proofs.lemmas.two_sides.EqualMessageLemmas.{is_accepted}
+use Rattle.fe2o3_sasl_core.proofs.lemmas.two_sides.EqualMessageLemmas.{is_accepted}
 
 -- ---- a verdict
 

@@ -6,12 +6,12 @@ ghost use Rattle.fe2o3_scram.specs.ClientFinal.{ClientFinal as Final, HasProof, 
 ghost use Rattle.fe2o3_scram.specs.Keys.{auth_message as auth_message_of, recovered_client_key, server_signature};
 ghost use Rattle.fe2o3_scram.specs.Texts.{base64_text};
 ghost use Rattle.fe2o3_scram.specs.Credentials.{serving};
-ghost use Rattle.fe2o3_sasl_runs.specs.Verdicts.{AreParameters};
+ghost use Rattle.fe2o3_sasl_core.specs.Verdicts.{AreParameters};
 ghost use Rattle.fe2o3_sasl.specs.Audit.{parameters_of};
-ghost use Rattle.fe2o3_sasl_runs.specs.Events.{IsRecord};
-ghost use Rattle.fe2o3_sasl_runs.specs.Bodies.{SpellsBody};
-ghost use Rattle.fe2o3_sasl_runs.specs.ServerHistory.{first_message};
-ghost use Rattle.fe2o3_sasl_runs.specs.TwoSides.{HasParts};
+ghost use Rattle.fe2o3_sasl_core.specs.Events.{IsRecord};
+ghost use Rattle.fe2o3_sasl_core.specs.Bodies.{SpellsBody};
+ghost use Rattle.fe2o3_sasl_core.specs.ServerHistory.{first_message};
+ghost use Rattle.fe2o3_sasl_core.specs.TwoSides.{HasParts};
 ghost use Rattle.fe2o3_sasl.specs.private.Findings.{server_receipt};
 ghost use Rattle.fe2o3_sasl.specs.private.Receipts.{OfAccepted};
 ghost use Rattle.fe2o3_sasl.specs.private.ServerReceipts.{HoldsMessage, OkFor, opened_challenge};
@@ -25,7 +25,7 @@ use fe2o3_sasl_wire::{FrameView, view_frame};
 use fe2o3_scram::credentials::ScramCredentialProvider;
 use fe2o3_scram::hmac::{Meter, ScramVersion};
 use fe2o3_scram::keys::auth_message;
-use fe2o3_scram::scram_messages::{ClientFinal, Gs2Header};
+use fe2o3_scram::scram_messages::{ClientFinal, ChannelBindingFlag};
 use std::alloc::Global;
 
 /// The receipt of an Ok to the response in this body. The one refusal is `OutOfMemory`, also of a
@@ -38,7 +38,7 @@ pub(crate) fn ok_receipt<C: ScramCredentialProvider>(
     body: &[u8],
 ) -> Result<ServerReceipt, OutOfMemory>
     requires { HoldsMessage opened.now }
-    ensures { IfOk result (λ receipt. (unbound : Bool) → OkFor (serving unbound (C.meaning credentials.now)) place
+    ensures { IfOk result (λ receipt. (cbind_flag_y : Bool) → OkFor (serving cbind_flag_y (C.meaning credentials.now)) place
         (opened_challenge opened.now) body.now (server_receipt receipt)) }
 {
     let client_final = response_again(
@@ -54,7 +54,7 @@ pub(crate) fn ok_receipt<C: ScramCredentialProvider>(
 /// response with this header and this nonce.
 fn response_again<'a>(
     alloc: Global,
-    header: Gs2Header,
+    header: ChannelBindingFlag,
     client_server_nonce: &[u8],
     body: &'a [u8],
 ) -> Result<ClientFinal<'a>, OutOfMemory>
@@ -64,7 +64,7 @@ fn response_again<'a>(
     let Ok((FrameView::Response(text), _)) = view_frame(body) else {
         return Err(OutOfMemory);
     };
-    let Ok(client_final) = ClientFinal::parse_behind(alloc, header, client_server_nonce, text)
+    let Ok(client_final) = ClientFinal::parse_with_gs2_header(alloc, header, client_server_nonce, text)
     else {
         return Err(OutOfMemory);
     };
@@ -81,8 +81,8 @@ fn receipt_of<C: ScramCredentialProvider>(
 ) -> Result<ServerReceipt, OutOfMemory>
     requires { HoldsMessage opened.now }
     ensures place { IfOk result (λ receipt. receipt.place ≡ place) }
-    ensures accepted { IfOk result (λ receipt. (unbound : Bool)
-        → OfAccepted (serving unbound (C.meaning credentials.now)) (record {
+    ensures accepted { IfOk result (λ receipt. (cbind_flag_y : Bool)
+        → OfAccepted (serving cbind_flag_y (C.meaning credentials.now)) (record {
           challenge = opened_challenge opened.now;
           final = client_final_values client_final.entry;
         }) (server_receipt receipt)) }

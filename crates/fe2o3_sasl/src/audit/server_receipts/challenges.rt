@@ -3,13 +3,13 @@
 ghost use Rattle.std.specs.Prelude.{ℕ, List, Option, Some, Ok, IfOk, MatchOption, ⊤};
 ghost use Rattle.fe2o3_sasl_wire.specs.SaslFrames.{Init};
 ghost use Rattle.fe2o3_scram.specs.Credentials.{serving};
-ghost use Rattle.fe2o3_sasl_runs.specs.Runs.{given};
-ghost use Rattle.fe2o3_sasl_runs.specs.Bodies.{SpellsBody};
+ghost use Rattle.fe2o3_sasl_core.specs.Runs.{given};
+ghost use Rattle.fe2o3_sasl_core.specs.Bodies.{SpellsBody};
 ghost use Rattle.fe2o3_sasl.specs.private.ServerReceipts.{HoldsMessage, OpenedFor, opened_challenge};
 
 use crate::OutOfMemory;
 use base64::engine::general_purpose::STANDARD;
-use fe2o3_sasl_runs::events::Event;
+use fe2o3_sasl_core::events::Event;
 use fe2o3_sasl_wire::{FrameView, view_frame};
 use fe2o3_scram::credentials::{ScramCredentialProvider, StoredPassword};
 use fe2o3_scram::scram_messages::{ClientFirst, ServerFirstMessage};
@@ -29,12 +29,12 @@ pub(crate) struct Opened<'a> {
 /// is not answered with a challenge.
 pub(crate) fn opened_again<'a, C: ScramCredentialProvider>(
     alloc: Global,
-    accepts_unbound: bool,
+    accept_cbind_flag_y: bool,
     credentials: &'a C,
     init: &'a Event,
 ) -> Result<Opened<'a>, OutOfMemory>
     ensures opened { IfOk result (λ opened.
-        OpenedFor (serving accepts_unbound (C.meaning credentials.now)) (given init.now) (opened_challenge opened)) }
+        OpenedFor (serving accept_cbind_flag_y (C.meaning credentials.now)) (given init.now) (opened_challenge opened)) }
     ensures message { IfOk result HoldsMessage }
 {
     let Some(text) = initial_response(&init.body) else {
@@ -42,16 +42,16 @@ pub(crate) fn opened_again<'a, C: ScramCredentialProvider>(
     };
     let server_nonce = STANDARD.encode(alloc, &init.nonce)?;
     let version = credentials.scram_version();
-    let Ok(Some(server_first)) = version.compute_server_first_message_unbound(
+    let Ok(Some(server_first)) = version.compute_server_first_message_with_cbind_flag_y(
         alloc,
         text,
         &server_nonce,
-        accepts_unbound,
+        accept_cbind_flag_y,
         credentials,
     ) else {
         return Err(OutOfMemory);
     };
-    let Ok(client_first) = ClientFirst::parse_unbound(alloc, text, accepts_unbound) else {
+    let Ok(client_first) = ClientFirst::parse_with_cbind_flag_y(alloc, text, accept_cbind_flag_y) else {
         return Err(OutOfMemory);
     };
     let Some(stored_password) = credentials.get_stored_password(&client_first.username) else {

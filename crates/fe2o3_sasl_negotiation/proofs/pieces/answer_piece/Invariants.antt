@@ -1,6 +1,6 @@
 use Rattle.std.proofs.Common.{length, ◌-◌, ◌≡◌, ◌≤◌, ◌++◌, List, ℕ}
-use Rattle.fe2o3_sasl_runs.specs.Profiles.{Profile}
-use Rattle.fe2o3_sasl_runs.specs.Runs.{ProfileSteps}
+use Rattle.fe2o3_sasl_core.specs.Profiles.{Profile}
+use Rattle.fe2o3_sasl_core.specs.Runs.{ProfileSteps}
 use Rattle.fe2o3_sasl_negotiation.specs.Connections.{ClientConnection}
 use Rattle.fe2o3_sasl_negotiation.specs.Sides.{client_side, hostname_in}
 use Rattle.fe2o3_sasl_negotiation.specs.private.Pieces.{Continues}

@@ -1,6 +1,6 @@
 use Rattle.std.proofs.Common.{ℕ, ◌+◌, Option, List, map, option_map, string_bytes, sym, ap, ◌∙◌, subst}
-use Rattle.fe2o3_sasl_runs.specs.SaslProfile.{profile_of}
-use Rattle.fe2o3_sasl_runs.specs.Runs.{ProfileSteps}
+use Rattle.fe2o3_sasl_core.specs.SaslProfile.{profile_of}
+use Rattle.fe2o3_sasl_core.specs.Runs.{ProfileSteps}
 use Rattle.fe2o3_sasl_negotiation.specs.Connections.{ClientConnection}
 use Rattle.fe2o3_sasl_negotiation.specs.Pieces.{piece_of, first_bytes}
 use Rattle.fe2o3_sasl_negotiation.specs.Sides.{client_side, hostname_in}

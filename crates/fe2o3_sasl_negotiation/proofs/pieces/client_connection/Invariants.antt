@@ -1,7 +1,7 @@
 use Rattle.std.proofs.Common.{◌≡◌, map, take, option_map, string_bytes}
 use Rattle.fe2o3_sasl_wire.specs.SaslFrames.{IsBytes}
-use Rattle.fe2o3_sasl_runs.specs.SaslProfile.{profile_of}
-use Rattle.fe2o3_sasl_runs.specs.Runs.{ProfileSteps}
+use Rattle.fe2o3_sasl_core.specs.SaslProfile.{profile_of}
+use Rattle.fe2o3_sasl_core.specs.Runs.{ProfileSteps}
 use Rattle.fe2o3_sasl_negotiation.specs.Connections.{ClientConnection, bytes_of}
 use Rattle.fe2o3_sasl_negotiation.specs.Pieces.{piece_of}
 use Rattle.fe2o3_sasl_negotiation.specs.Sides.{client_side, hostname_in}

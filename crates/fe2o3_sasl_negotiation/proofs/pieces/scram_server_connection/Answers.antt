@@ -1,8 +1,8 @@
 use Rattle.std.proofs.Common.{ap, ◌∙◌, map, subst, false}
 use Rattle.fe2o3_scram.specs.Credentials.{serving}
 use Rattle.fe2o3_scram.specs.ScramServer.{Initial, served_by, state_in}
-use Rattle.fe2o3_sasl_runs.specs.SaslAcceptor.{Acceptor, ScramAcceptor, acceptor_machine, acceptor_names}
-use Rattle.fe2o3_sasl_runs.proofs.lemmas.steps.LongerRunLemmas.{if_ok_map}
+use Rattle.fe2o3_sasl_core.specs.SaslAcceptor.{Acceptor, ScramAcceptor, acceptor_machine, acceptor_names}
+use Rattle.fe2o3_sasl_core.proofs.lemmas.steps.LongerRunLemmas.{if_ok_map}
 use Rattle.fe2o3_sasl_negotiation.specs.Connections.{ServerConnection}
 use Rattle.fe2o3_sasl_negotiation.specs.Pieces.{piece_of, first_bytes}
 use Rattle.fe2o3_sasl_negotiation.specs.Sides.{server_side}
@@ -19,7 +19,7 @@ returns-clause-connection g c =
     subst (λ (acceptor : Acceptor). ServerConnection acceptor_names acceptor_machine 512 acceptor
     (map piece_of c.args.pieces.now) (first_bytes (map piece_of c.args.pieces.now) served.pieces served.bytes)
     served.sent.items (server_side (λ server. ScramAcceptor (served_by m.meaning server) (state_in server)) served.side))
-    (λ i. ScramAcceptor (serving (c.new.ensures.unbound i) (made i)) (c.new.ensures.state i)) (holds are_bytes))
+    (λ i. ScramAcceptor (serving (c.new.ensures.cbind_flag_y i) (made i)) (c.new.ensures.state i)) (holds are_bytes))
     c.server_connection.ensures.connection
 
 pub returns-clause-headline : goal.returns-clause-headline

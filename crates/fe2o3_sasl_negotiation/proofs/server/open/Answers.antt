@@ -1,6 +1,6 @@
 use Rattle.std.proofs.Common.{◌≡◌, Option, None, List, ℕ, refl, subst}
-use Rattle.fe2o3_sasl_negotiation.specs.declared.standing.ClosedBecause.TheVariants.{ReplyTooLarge}
-use Rattle.fe2o3_sasl_negotiation.specs.declared.standing.Due.TheVariants.{Header}
+use Rattle.fe2o3_sasl_negotiation.specs.declared.progress.CloseReason.TheVariants.{ReplyTooLarge}
+use Rattle.fe2o3_sasl_negotiation.specs.declared.progress.Expected.TheVariants.{Header}
 use Rattle.fe2o3_sasl_negotiation.specs.Negotiations.{closes}
 use Rattle.fe2o3_sasl_negotiation.specs.ServerNegotiation.{offer_body, Offers}
 use Rattle.fe2o3_sasl_negotiation.proofs.lemmas.ReceivingLemmas.{closed_appends}

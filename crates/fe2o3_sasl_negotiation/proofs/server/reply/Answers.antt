@@ -1,8 +1,8 @@
 use Rattle.std.proofs.Common.{drop, inr}
 use Rattle.std.proofs.lemmas.List.{take_rest}
-use Rattle.fe2o3_sasl_runs.specs.Events.{Given}
-use Rattle.fe2o3_sasl_runs.specs.Runs.{server_reply}
-use Rattle.fe2o3_sasl_negotiation.specs.declared.standing.Due.TheVariants.{Frame}
+use Rattle.fe2o3_sasl_core.specs.Events.{Given}
+use Rattle.fe2o3_sasl_core.specs.Runs.{server_reply}
+use Rattle.fe2o3_sasl_negotiation.specs.declared.progress.Expected.TheVariants.{Frame}
 use Rattle.fe2o3_sasl_negotiation.specs.ServerNegotiation.{ServerReplies}
 use Rattle.fe2o3_sasl_negotiation.proofs.lemmas.ReceivingLemmas.{closed_appends}
 use Rattle.fe2o3_sasl_negotiation.proofs.lemmas.ServerAnswerLemmas.{screened, asked, asked_in_vain}
@@ -38,10 +38,10 @@ returns-in-Err-clause-ok g c =
 
 pub returns-in-Ok-clause-cost : goal.returns-in-Ok-clause-cost
 returns-in-Ok-clause-cost g c =
-    let due = rw take_rest at c.in_default.ensures in
-    inr (due.0, due.1, due.2, rw take_rest at c.acceptor_body_step.ensures.cost)
+    let expected = rw take_rest at c.in_default.ensures in
+    inr (expected.0, expected.1, expected.2, rw take_rest at c.acceptor_body_step.ensures.cost)
 
 pub returns-in-Err-clause-cost : goal.returns-in-Err-clause-cost
 returns-in-Err-clause-cost g c =
-    let due = rw take_rest at c.in_default.ensures in
-    inr (due.0, due.1, due.2, rw take_rest at c.acceptor_body_step.ensures.cost)
+    let expected = rw take_rest at c.in_default.ensures in
+    inr (expected.0, expected.1, expected.2, rw take_rest at c.acceptor_body_step.ensures.cost)

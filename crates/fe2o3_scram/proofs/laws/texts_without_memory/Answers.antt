@@ -13,8 +13,8 @@ returns-clause-unknown_users c = unknown_users_take_none
 pub returns-clause-other_nonces : goal.returns-clause-other_nonces
 returns-clause-other_nonces c = other_nonces_take_none
 
-pub returns-clause-unbound : goal.returns-clause-unbound
-returns-clause-unbound c = unbound_texts_take_none
+pub returns-clause-cbind_flag_y : goal.returns-clause-cbind_flag_y
+returns-clause-cbind_flag_y c = unbound_texts_take_none
 
 pub returns-clause-unknown_mechanisms : goal.returns-clause-unknown_mechanisms
 returns-clause-unknown_mechanisms c = unknown_mechanisms_take_none

@@ -5,9 +5,9 @@ use Rattle.std.specs.Fmt.{decimal}
 use Rattle.std.proofs.lemmas.Option.{same_Some}
 use Rattle.fe2o3_scram.specs.declared.hmac.ScramVersion.{ScramVersion}
 use Rattle.fe2o3_scram.specs.declared.hmac.ScramVersion.TheVariants.{Sha1, Sha256, Sha512}
-use Rattle.fe2o3_scram.specs.declared.scram_messages.gs2_header.Gs2Header.{Gs2Header}
-use Rattle.fe2o3_scram.specs.declared.scram_messages.gs2_header.Gs2Header.TheVariants.{Unsupported, Unoffered}
-use Rattle.fe2o3_scram.specs.Agreement.{TextsAgree, BelievedTextsAgree, ClientKnows, InParts, IsPlain, ServerKnows, challenge_known, client_auth_message, keys_known, server_auth_message}
+use Rattle.fe2o3_scram.specs.declared.scram_messages.channel_binding_flag.ChannelBindingFlag.{ChannelBindingFlag}
+use Rattle.fe2o3_scram.specs.declared.scram_messages.channel_binding_flag.ChannelBindingFlag.TheVariants.{NotSupported, ClientSupports}
+use Rattle.fe2o3_scram.specs.Agreement.{TextsAgree, VerifiedTextsAgree, ClientKnows, InParts, IsPlain, ServerKnows, challenge_known, client_auth_message, keys_known, server_auth_message}
 use Rattle.fe2o3_scram.specs.ClientFinal.{Answer, ClientFinal, answer_of, server_of, without_proof}
 use Rattle.fe2o3_scram.specs.ClientFirst.{ClientFirst, NamesClientFirst, client_first_bare, header_text}
 use Rattle.fe2o3_scram.specs.Credentials.{Provider, Record, record_at}
@@ -16,7 +16,7 @@ use Rattle.fe2o3_scram.specs.Extensions.{NoneMisplaced}
 use Rattle.fe2o3_scram.specs.Hmac.{digest_len, hmac_of}
 use Rattle.fe2o3_scram.specs.Keys.{auth_message}
 use Rattle.fe2o3_scram.specs.Laws.{HoldsBytes}
-use Rattle.fe2o3_scram.specs.ScramClient.{ClientSide, ClientFinalSent, BelievesIn, holding, with_state}
+use Rattle.fe2o3_scram.specs.ScramClient.{ClientSide, ClientFinalSent, VerifiesIn, holding, with_state}
 use Rattle.fe2o3_scram.specs.ScramServer.{ServerState, ServerFirstSent, ConcludesFrom, server_against}
 use Rattle.fe2o3_scram.specs.ServerFinal.{AnswersClientFinal}
 use Rattle.fe2o3_scram.specs.ServerFirst.{ServerChallenge, NamesServerFirst, ServerFirst, challenge_of}
@@ -101,11 +101,11 @@ without_parts without text binding nonce proof bound named plain whole = go (pie
 -- of this record, and then a message that names these
 pub record ServerHas (version : ScramVersion) (client : ClientFirst) (its : List ℕ) (stored : Record)
     (final : ClientFinal) : Type 0 where
-  pub unbound : Bool
+  pub cbind_flag_y : Bool
   pub init : List ℕ
   pub response : List ℕ
   pub plain : NoComma its
-  pub first : NamesClientFirst unbound init client
+  pub first : NamesClientFirst cbind_flag_y init client
   pub names : let challenge = challenge_of client its stored in
       NamesAcceptedFinal (server_of version challenge.header challenge.bare challenge.first challenge.nonce stored)
       response final
@@ -215,7 +215,7 @@ two_extra text p q extra are has none = go extra (ap length (one_list_of_parts t
 -- client-first message had not three parts and not four
 pub record SameLogin (name own text : List ℕ) (first : ServerFirst) (client : ClientFirst) (its : List ℕ)
     (stored : Record) (without : List ℕ) : Type 0 where
-  pub header : NoneMisplaced text client.bare without → Unsupported ≡ client.header
+  pub header : NoneMisplaced text client.bare without → NotSupported ≡ client.header
   pub user : name ≡ client.user
   pub nonce : own ≡ client.nonce
   pub full_nonce : IsPlain client.bare ⊎ NoneMisplaced text client.bare without
@@ -243,9 +243,9 @@ plain_or_none bare p q extra more middle are None none (inl plain) = no_extra ba
 plain_or_none bare p q extra more middle are None none (inr is) = (none is).1
 
 -- headers that are spelled alike are one
-same_header : (header : Gs2Header) → base64_text (codes "n,,") ≡ base64_text (header_text header) → Unsupported ≡ header
-same_header Unsupported same = refl
-same_header Unoffered same =
+same_header : (header : ChannelBindingFlag) → base64_text (codes "n,,") ≡ base64_text (header_text header) → NotSupported ≡ header
+same_header NotSupported same = refl
+same_header ClientSupports same =
     let bytes = one_spelled (base64_text (codes "n,,")) (codes "n,,") (codes "y,,")
     (IsBytes-literal (codes "n,,") refl, refl) (IsBytes-literal (codes "y,,") refl, same) in
     let letter : ◌≡◌ {A = ℕ} 110 121 = ap (λ (text : List ℕ). get_or text 0 0) bytes in
@@ -294,7 +294,7 @@ same_login name own text first version client its stored final holds ours theirs
 -- server-first message had three parts
 pub record SameValues (name own text : List ℕ) (first : ServerFirst) (client : ClientFirst) (its : List ℕ)
     (stored : Record) : Type 0 where
-  pub header : IsPlain client.bare → InParts 3 text → Unsupported ≡ client.header
+  pub header : IsPlain client.bare → InParts 3 text → NotSupported ≡ client.header
   pub user : name ≡ client.user
   pub nonce : own ≡ client.nonce
   pub full_nonce : IsPlain client.bare → first.nonce ≡ (challenge_of client its stored).nonce
@@ -369,11 +369,11 @@ server_has : (provider : Provider) (its init response : List ℕ) (server : Serv
 server_has provider its init response server =
     let challenge = challenge_known server in
     record {
-      unbound = provider.unbound;
+      cbind_flag_y = provider.cbind_flag_y;
       init = init;
       response = response;
       plain = no_comma-base64_text its;
-      first = names_client_first provider.unbound init server.client server.reads_init;
+      first = names_client_first provider.cbind_flag_y init server.client server.reads_init;
       names = names_client_final (server_against provider challenge server.stored) response server.final server.reads;
     }
 
@@ -400,9 +400,9 @@ agree side provider own text its init response client server holds version same 
 -- what a client believed shows the signature of its answer
 shown : (side waiting done : ClientSide) (answer own : Answer) (last : List ℕ) → answer ≡ own
     → waiting ≡ with_state side (ClientFinalSent answer.signature (Some answer.keys))
-    → BelievesIn waiting.state waiting last (Ok tt) done → HasBase64 last 0 (codes "v=") own.signature
-shown side waiting done answer own last same is believes =
-    let reads = subst (λ (at : ClientSide). BelievesIn at.state at last (Ok tt) done) is believes in
+    → VerifiesIn waiting.state waiting last (Ok tt) done → HasBase64 last 0 (codes "v=") own.signature
+shown side waiting done answer own last same is verifies =
+    let reads = subst (λ (at : ClientSide). VerifiesIn at.state at last (Ok tt) done) is verifies in
     subst (λ (made : Answer). HasBase64 last 0 (codes "v=") made.signature) same
     (names_server_final answer.signature last tt reads.0)
 
@@ -420,9 +420,9 @@ concluded provider waiting done challenge client nonce response last stored is s
     subst (λ (kept : Record). AnswersClientFinal (server_against provider own kept) response (Ok last))
     (same_Some at.0 stored (sym at.1 ∙ known)) at.2
 
-pub believed_texts_agree : BelievedTextsAgree
-believed_texts_agree side provider own text last its init response verifier believed accepted part =
-    let answer = believed.answers.1 in
+pub verified_texts_agree : VerifiedTextsAgree
+verified_texts_agree side provider own text last its init response verifier verified accepted part =
+    let answer = verified.answers.1 in
     let client : ClientKnows side own text = record { first = answer.0; reads = answer.1 } in
     let opened = accepted.challenges.1 in
     let final = concluded provider accepted.waiting accepted.done accepted.challenges.0 opened.0 (base64_text its)
@@ -435,9 +435,9 @@ believed_texts_agree side provider own text last its init response verifier beli
       known = opened.3;
       reads = final.1;
     } in
-    let has = shown side believed.waiting believed.done believed.answers.0
+    let has = shown side verified.waiting verified.done verified.answers.0
     (answer_of side.version side.secret (client_first_bare side.user (base64_text own)) text answer.0) last
-    answer.2 believed.answers.3 believed.believes in
+    answer.2 verified.answers.3 verified.verifies in
     let one = one_signature (keys_known client).version provider.version (keys_known client).server_key
     server.stored.server_key (client_auth_message client) (server_auth_message server) last has
     (subst (Part last 0) final.2 part) in (

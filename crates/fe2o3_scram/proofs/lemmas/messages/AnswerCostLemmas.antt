@@ -31,7 +31,7 @@ cost_within (Both password keys) first = go (fit keys first)
 
 pub costs_of_answer : {A : Type 0} (client : Client) (text : List ℕ) (result : Result A ScramErrorKind)
     (first : ServerFirst) (before after : ℕ) → ReadsServerFirst client.nonce client.secret client.limits text (Ok first)
-    → first.count ≤ client.limits.most → OnOk result (after ≡ before + hmac_count client.secret first)
+    → first.count ≤ client.limits.max_iterations → OnOk result (after ≡ before + hmac_count client.secret first)
     → after ≤ before + hmac_count client.secret first → before ≤ after → AnswerCosts client text result before after
 costs_of_answer client text result first before after reads within answered most rises = record {
   refused = λ fault refuses. let both = one_server_first client text (Ok first) (Err fault) reads refuses in

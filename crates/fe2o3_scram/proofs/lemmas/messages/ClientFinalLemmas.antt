@@ -5,8 +5,8 @@ use Rattle.std.specs.Prelude.{IfOk, IfErr}
 use Rattle.base64.specs.GeneralPurpose.{IsBytes}
 use Rattle.fe2o3_scram.specs.declared.scram_messages.error.ServerScramErrorKind.{ServerScramErrorKind}
 use Rattle.fe2o3_scram.specs.declared.scram_messages.error.ServerScramErrorKind.TheVariants.{Utf8Error, AuthenticationFailed, OutOfMemory}
-use Rattle.fe2o3_scram.specs.declared.scram_messages.gs2_header.Gs2Header.{Gs2Header}
-use Rattle.fe2o3_scram.specs.declared.scram_messages.gs2_header.Gs2Header.TheVariants.{Unsupported, Unoffered}
+use Rattle.fe2o3_scram.specs.declared.scram_messages.channel_binding_flag.ChannelBindingFlag.{ChannelBindingFlag}
+use Rattle.fe2o3_scram.specs.declared.scram_messages.channel_binding_flag.ChannelBindingFlag.TheVariants.{NotSupported, ClientSupports}
 use Rattle.fe2o3_scram.specs.ClientFirst.{header_text}
 use Rattle.fe2o3_scram.specs.Texts.{base64_text, IsBase64, Part, LastPart, StartsWith, HasBase64}
 use Rattle.fe2o3_scram.specs.Hmac.{digest_len}
@@ -39,18 +39,18 @@ pub no_binding : (text spelling : List ℕ) → Part text 0 (codes "c=" ++ spell
 no_binding text spelling is none binding has = none binding (binding_spelled text spelling binding is has)
 
 -- a header holds bytes
-header_bytes : (header : Gs2Header) → IsBytes (header_text header)
-header_bytes Unsupported = IsBytes-cons 110 (44 ∷ 44 ∷ []) (omega arith)
+header_bytes : (header : ChannelBindingFlag) → IsBytes (header_text header)
+header_bytes NotSupported = IsBytes-cons 110 (44 ∷ 44 ∷ []) (omega arith)
     (IsBytes-cons 44 (44 ∷ []) (omega arith) (IsBytes-cons 44 [] (omega arith) IsBytes-nil))
-header_bytes Unoffered = IsBytes-cons 121 (44 ∷ 44 ∷ []) (omega arith)
+header_bytes ClientSupports = IsBytes-cons 121 (44 ∷ 44 ∷ []) (omega arith)
     (IsBytes-cons 44 (44 ∷ []) (omega arith) (IsBytes-cons 44 [] (omega arith) IsBytes-nil))
 
-pub this_header : (header : Gs2Header) (text spelling : List ℕ) → Part text 0 (codes "c=" ++ spelling)
+pub this_header : (header : ChannelBindingFlag) (text spelling : List ℕ) → Part text 0 (codes "c=" ++ spelling)
     → spelling ≡ base64_text (header_text header) → HasBase64 text 0 (codes "c=") (header_text header)
 this_header header text spelling is same =
     has_binding text spelling (header_text header) is (header_bytes header, same)
 
-pub other_header : (header : Gs2Header) (text spelling : List ℕ) → Part text 0 (codes "c=" ++ spelling)
+pub other_header : (header : ChannelBindingFlag) (text spelling : List ℕ) → Part text 0 (codes "c=" ++ spelling)
     → spelling ≢ base64_text (header_text header) → ¬ HasBase64 text 0 (codes "c=") (header_text header)
 other_header header text spelling is other has = other (binding_spelled text spelling (header_text header) is has).1
 
@@ -104,12 +104,12 @@ one_proof text final other has too =
 
 -- the tests of the text, in their order
 
-pub not_utf8 : (header : Gs2Header) (nonce text : List ℕ) → ¬ IsUtf8 text → ReadsFinalText header nonce text
+pub not_utf8 : (header : ChannelBindingFlag) (nonce text : List ℕ) → ¬ IsUtf8 text → ReadsFinalText header nonce text
     (Err Utf8Error)
 unfolding ReadsFinalText
 not_utf8 header nonce text fails = inl (fails, refl)
 
-module _ (header : Gs2Header) (nonce text : List ℕ) (utf8 : IsUtf8 text) where
+module _ (header : ChannelBindingFlag) (nonce text : List ℕ) (utf8 : IsUtf8 text) where
   pub binding_refused : (fault : ServerScramErrorKind) → IsFirst (binding_tests header text) fault
       → ReadsFinalText header nonce text (Err fault)
   unfolding ReadsFinalText
@@ -179,13 +179,13 @@ module _ (header : Gs2Header) (nonce text : List ℕ) (utf8 : IsUtf8 text) where
 
 -- the texts of a message that was read
 
-pub names_final_text : (header : Gs2Header) (nonce text : List ℕ) (final : ClientFinal)
+pub names_final_text : (header : ChannelBindingFlag) (nonce text : List ℕ) (final : ClientFinal)
     → ReadsFinalText header nonce text (Ok final)
     → NamesClientFinal header nonce text final
 unfolding ReadsFinalText
 names_final_text header nonce text final reads = reads.1
 
-pub one_final_text : (header : Gs2Header) (nonce text : List ℕ) (answer other : Result ClientFinal ServerScramErrorKind)
+pub one_final_text : (header : ChannelBindingFlag) (nonce text : List ℕ) (answer other : Result ClientFinal ServerScramErrorKind)
     → ReadsFinalText header nonce text answer → ReadsFinalText header nonce text other → answer ≡ other
 unfolding ReadsFinalText
 one_final_text header nonce text answer other reads too =
@@ -193,7 +193,7 @@ one_final_text header nonce text answer other reads too =
     (λ final another names them. one_proof text final another names.proof them.proof) answer other reads too
 
 -- who reads a message came to its proof
-proof_reached : (header : Gs2Header) (nonce text : List ℕ) (final : ClientFinal) → ReadsFinalText header nonce text
+proof_reached : (header : ChannelBindingFlag) (nonce text : List ℕ) (final : ClientFinal) → ReadsFinalText header nonce text
     (Ok final)
     → ReachesBase64 header nonce text
 unfolding ReadsFinalText
@@ -208,7 +208,7 @@ proof_reached header nonce text final reads =
     )
 
 -- no test of the text has the fault of a proof
-not_the_proof : (header : Gs2Header) (nonce text : List ℕ) → ¬ ReadsFinalText header nonce text
+not_the_proof : (header : ChannelBindingFlag) (nonce text : List ℕ) → ¬ ReadsFinalText header nonce text
     (Err AuthenticationFailed)
 unfolding ReadsFinalText
 not_the_proof header nonce text = not_first (final_text_tests header nonce text) AuthenticationFailed (

@@ -3,8 +3,8 @@ use Rattle.std.proofs.Common.{◌≡◌, Bool, arith, ap, get_or, ◌≢◌, ◌
 use Rattle.std.specs.Str.{IsUtf8}
 use Rattle.fe2o3_scram.specs.declared.scram_messages.error.ServerScramErrorKind.{ServerScramErrorKind}
 use Rattle.fe2o3_scram.specs.declared.scram_messages.error.ServerScramErrorKind.TheVariants.{Utf8Error, CannotParseGs2Header, CannotParseUsername, CannotParseClientNonce}
-use Rattle.fe2o3_scram.specs.declared.scram_messages.gs2_header.Gs2Header.{Gs2Header}
-use Rattle.fe2o3_scram.specs.declared.scram_messages.gs2_header.Gs2Header.TheVariants.{Unsupported, Unoffered}
+use Rattle.fe2o3_scram.specs.declared.scram_messages.channel_binding_flag.ChannelBindingFlag.{ChannelBindingFlag}
+use Rattle.fe2o3_scram.specs.declared.scram_messages.channel_binding_flag.ChannelBindingFlag.TheVariants.{NotSupported, ClientSupports}
 use Rattle.fe2o3_scram.specs.ClientFirst.{HasEscapes, ClientFirst, BarePart, NamesClientFirst, ReadsClientFirst, TakesHeader, client_first_tests, header_text}
 use Rattle.fe2o3_scram.specs.declared.scram_messages.escape.UnescapeError.{UnescapeError}
 use Rattle.fe2o3_scram.specs.declared.scram_messages.escape.UnescapeError.TheVariants.{Invalid, OutOfMemory as UnescapeOutOfMemory}
@@ -19,33 +19,33 @@ apart : (bare other : List ℕ) → codes "n,," ++ bare ≡ codes "y,," ++ other
 apart bare other same = let letter : ◌≡◌ {A = ℕ} 110 121 = ap (λ (text : List ℕ). get_or text 0 0) same in
     omega (arith, letter)
 
-pub one_header : (header own : Gs2Header) (text bare other : List ℕ) → text ≡ header_text header ++ bare
+pub one_header : (header own : ChannelBindingFlag) (text bare other : List ℕ) → text ≡ header_text header ++ bare
     → text ≡ header_text own ++ other → (header ≡ own) × (bare ≡ other)
-one_header Unsupported Unsupported text bare other is too =
+one_header NotSupported NotSupported text bare other is too =
     let both : codes "n,," ++ bare ≡ codes "n,," ++ other = sym is ∙ too in (refl, cc)
-one_header Unoffered Unoffered text bare other is too =
+one_header ClientSupports ClientSupports text bare other is too =
     let both : codes "y,," ++ bare ≡ codes "y,," ++ other = sym is ∙ too in (refl, cc)
-one_header Unsupported Unoffered text bare other is too = absurd (apart bare other (sym is ∙ too))
-one_header Unoffered Unsupported text bare other is too = absurd (apart other bare (sym too ∙ is))
+one_header NotSupported ClientSupports text bare other is too = absurd (apart bare other (sym is ∙ too))
+one_header ClientSupports NotSupported text bare other is too = absurd (apart other bare (sym too ∙ is))
 
-part_of_bare : (unbound : Bool) (header : Gs2Header) (text bare part : List ℕ) (k : ℕ)
-    → text ≡ header_text header ++ bare → BarePart unbound text k part → Part bare k part
-part_of_bare unbound header text bare part k is has = subst (λ (behind : List ℕ). Part behind k part)
+part_of_bare : (cbind_flag_y : Bool) (header : ChannelBindingFlag) (text bare part : List ℕ) (k : ℕ)
+    → text ≡ header_text header ++ bare → BarePart cbind_flag_y text k part → Part bare k part
+part_of_bare cbind_flag_y header text bare part k is has = subst (λ (behind : List ℕ). Part behind k part)
     (one_header has.0 header text has.1 bare has.3 is).1 has.4
 
-pub not_utf8 : (unbound : Bool) (text : List ℕ) → ¬ IsUtf8 text → ReadsClientFirst unbound text (Err Utf8Error)
+pub not_utf8 : (cbind_flag_y : Bool) (text : List ℕ) → ¬ IsUtf8 text → ReadsClientFirst cbind_flag_y text (Err Utf8Error)
 unfolding ReadsClientFirst
-not_utf8 unbound text fails = inl (fails, refl)
+not_utf8 cbind_flag_y text fails = inl (fails, refl)
 
-pub no_header : (unbound : Bool) (text : List ℕ) → IsUtf8 text
-    → ((header : Gs2Header) → TakesHeader unbound header → ¬ StartsWith text (header_text header))
-    → ReadsClientFirst unbound text (Err CannotParseGs2Header)
+pub no_header : (cbind_flag_y : Bool) (text : List ℕ) → IsUtf8 text
+    → ((header : ChannelBindingFlag) → TakesHeader cbind_flag_y header → ¬ StartsWith text (header_text header))
+    → ReadsClientFirst cbind_flag_y text (Err CannotParseGs2Header)
 unfolding ReadsClientFirst
-no_header unbound text utf8 none = inr (λ fails. fails utf8, inl (none, refl))
+no_header cbind_flag_y text utf8 none = inr (λ fails. fails utf8, inl (none, refl))
 
-module _ (unbound : Bool) (header : Gs2Header) (text bare : List ℕ) (utf8 : IsUtf8 text)
-    (takes : TakesHeader unbound header) (is : text ≡ header_text header ++ bare) where
-  pub no_name : ((rest : List ℕ) → ¬ Part bare 0 (codes "n=" ++ rest)) → ReadsClientFirst unbound text
+module _ (cbind_flag_y : Bool) (header : ChannelBindingFlag) (text bare : List ℕ) (utf8 : IsUtf8 text)
+    (takes : TakesHeader cbind_flag_y header) (is : text ≡ header_text header ++ bare) where
+  pub no_name : ((rest : List ℕ) → ¬ Part bare 0 (codes "n=" ++ rest)) → ReadsClientFirst cbind_flag_y text
       (Err CannotParseUsername)
   unfolding ReadsClientFirst
   no_name none = inr (
@@ -53,7 +53,7 @@ module _ (unbound : Bool) (header : Gs2Header) (text bare : List ℕ) (utf8 : Is
     inr (
       λ absent. absent header takes (bare, is),
       inl (
-        λ user has. none (escaped user) (part_of_bare unbound header text bare
+        λ user has. none (escaped user) (part_of_bare cbind_flag_y header text bare
             (codes "n=" ++ escaped user) 0 is has),
         refl,
       ),
@@ -61,7 +61,7 @@ module _ (unbound : Bool) (header : Gs2Header) (text bare : List ℕ) (utf8 : Is
   )
 
   pub bad_name : (spelling : List ℕ) → Part bare 0 (codes "n=" ++ spelling)
-      → ((name : List ℕ) → escaped name ≢ spelling) → ReadsClientFirst unbound text (Err CannotParseUsername)
+      → ((name : List ℕ) → escaped name ≢ spelling) → ReadsClientFirst cbind_flag_y text (Err CannotParseUsername)
   unfolding ReadsClientFirst
   bad_name spelling part bad = inr (
     λ fails. fails utf8,
@@ -69,7 +69,7 @@ module _ (unbound : Bool) (header : Gs2Header) (text bare : List ℕ) (utf8 : Is
       λ absent. absent header takes (bare, is),
       inl (
         λ user has. bad user (one_behind bare 0 (codes "n=") (escaped user) spelling
-            (part_of_bare unbound header text bare (codes "n=" ++ escaped user) 0 is has) part),
+            (part_of_bare cbind_flag_y header text bare (codes "n=" ++ escaped user) 0 is has) part),
         refl,
       ),
     ),
@@ -81,7 +81,7 @@ module _ (unbound : Bool) (header : Gs2Header) (text bare : List ℕ) (utf8 : Is
   user_part spelling user part spells = subst (λ (spelt : List ℕ). Part bare 0 (codes "n=" ++ spelt)) (sym spells) part
 
   pub has_escapes : (spelling user : List ℕ) → Part bare 0 (codes "n=" ++ spelling) → escaped user ≡ spelling
-      → ¬ NoEquals spelling → HasEscapes unbound text
+      → ¬ NoEquals spelling → HasEscapes cbind_flag_y text
   has_escapes spelling user part spells some = (
     utf8,
     (
@@ -92,7 +92,7 @@ module _ (unbound : Bool) (header : Gs2Header) (text bare : List ℕ) (utf8 : Is
   )
 
   pub no_nonce : (spelling user : List ℕ) → Part bare 0 (codes "n=" ++ spelling) → escaped user ≡ spelling
-      → ((rest : List ℕ) → ¬ Part bare 1 (codes "r=" ++ rest)) → ReadsClientFirst unbound text
+      → ((rest : List ℕ) → ¬ Part bare 1 (codes "r=" ++ rest)) → ReadsClientFirst cbind_flag_y text
       (Err CannotParseClientNonce)
   unfolding ReadsClientFirst
   no_nonce spelling user part spells none =
@@ -101,14 +101,14 @@ module _ (unbound : Bool) (header : Gs2Header) (text bare : List ℕ) (utf8 : Is
         inr (
           λ absent. absent header takes (bare, is),
           inr (
-            λ nobody. nobody user (header, bare, takes, is, user_part spelling user part spells),
-            inl (λ nonce has. none nonce (part_of_bare unbound header text bare (codes "r=" ++ nonce) 1 is has), refl),
+            λ mock. mock user (header, bare, takes, is, user_part spelling user part spells),
+            inl (λ nonce has. none nonce (part_of_bare cbind_flag_y header text bare (codes "r=" ++ nonce) 1 is has), refl),
           ),
         ),
       )
 
   pub named : (spelling user nonce : List ℕ) → Part bare 0 (codes "n=" ++ spelling) → escaped user ≡ spelling
-      → Part bare 1 (codes "r=" ++ nonce) → ReadsClientFirst unbound text
+      → Part bare 1 (codes "r=" ++ nonce) → ReadsClientFirst cbind_flag_y text
       (Ok (record { header = header; user = user; nonce = nonce; bare = bare }))
   unfolding ReadsClientFirst
   named spelling user nonce first spells has =
@@ -118,7 +118,7 @@ module _ (unbound : Bool) (header : Gs2Header) (text bare : List ℕ) (utf8 : Is
           (
             λ absent. absent header takes (bare, is),
             (
-              λ nobody. nobody user (header, bare, takes, is, part),
+              λ mock. mock user (header, bare, takes, is, part),
               (λ none. none nonce (header, bare, takes, is, has), tt),
             ),
           ),
@@ -126,12 +126,12 @@ module _ (unbound : Bool) (header : Gs2Header) (text bare : List ℕ) (utf8 : Is
         record { header = takes; bare = is; user = part; nonce = has },
       )
 
-abbrev made : Gs2Header → List ℕ → List ℕ → List ℕ → ClientFirst
+abbrev made : ChannelBindingFlag → List ℕ → List ℕ → List ℕ → ClientFirst
 made header user nonce bare = record { header = header; user = user; nonce = nonce; bare = bare }
 
-one_values : (unbound : Bool) (text : List ℕ) (first other : ClientFirst) → NamesClientFirst unbound text first
-    → NamesClientFirst unbound text other → first ≡ other
-one_values unbound text first other names too =
+one_values : (cbind_flag_y : Bool) (text : List ℕ) (first other : ClientFirst) → NamesClientFirst cbind_flag_y text first
+    → NamesClientFirst cbind_flag_y text other → first ≡ other
+one_values cbind_flag_y text first other names too =
     let one = one_header first.header other.header text first.bare other.bare names.bare too.bare in
     let header = one.0 in
     let bare = one.1 in
@@ -142,11 +142,11 @@ one_values unbound text first other names too =
     (subst (λ (behind : List ℕ). Part behind 1 (codes "r=" ++ first.nonce)) bare names.nonce) too.nonce in
     λ i. made (header i) (user i) (nonce i) (bare i)
 
-pub one_client_first : (unbound : Bool) (text : List ℕ) (answer other : Result ClientFirst ServerScramErrorKind)
-    → ReadsClientFirst unbound text answer → ReadsClientFirst unbound text other → answer ≡ other
+pub one_client_first : (cbind_flag_y : Bool) (text : List ℕ) (answer other : Result ClientFirst ServerScramErrorKind)
+    → ReadsClientFirst cbind_flag_y text answer → ReadsClientFirst cbind_flag_y text other → answer ≡ other
 unfolding ReadsClientFirst
-one_client_first unbound text answer other reads too =
-    one_reading (client_first_tests unbound text) (NamesClientFirst unbound text) (one_values unbound text) answer other
+one_client_first cbind_flag_y text answer other reads too =
+    one_reading (client_first_tests cbind_flag_y text) (NamesClientFirst cbind_flag_y text) (one_values cbind_flag_y text) answer other
     reads too
 
 -- the refusal of a text that no name is escaped to

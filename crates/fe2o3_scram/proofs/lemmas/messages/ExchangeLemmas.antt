@@ -12,8 +12,8 @@ use Rattle.std.proofs.lemmas.Str.{IsUtf8-append}
 use Rattle.base64.specs.GeneralPurpose.{IsBytes}
 use Rattle.fe2o3_scram.specs.Texts.{base64_text, IsCount, NoComma, Parts, Part, joined, HasBase64}
 use Rattle.fe2o3_scram.specs.ClientFinal.{Answer, answer_by, fit, keys_for, client_final_of, Server, ClientFinal, Meets, ReadsClientFinal}
-use Rattle.fe2o3_scram.specs.declared.scram_messages.gs2_header.Gs2Header.{Gs2Header}
-use Rattle.fe2o3_scram.specs.declared.scram_messages.gs2_header.Gs2Header.TheVariants.{Unsupported, Unoffered}
+use Rattle.fe2o3_scram.specs.declared.scram_messages.channel_binding_flag.ChannelBindingFlag.{ChannelBindingFlag}
+use Rattle.fe2o3_scram.specs.declared.scram_messages.channel_binding_flag.ChannelBindingFlag.TheVariants.{NotSupported, ClientSupports}
 use Rattle.fe2o3_scram.specs.ClientFirst.{client_first_bare, header_text, ReadsClientFirst}
 use Rattle.fe2o3_scram.specs.Escape.{escaped}
 use Rattle.fe2o3_scram.specs.Exchanges.{Exchange, IsSound, OpensRecord, Succeeds, nonce_in, bare_in, first_in, named_in, server_in, final_in, answer_in, client_first_with, without_proof_with}
@@ -117,23 +117,23 @@ bare_text user nonce utf8 too = IsUtf8-append (codes "n=" ++ escaped user) (code
     (utf8_behind (codes "n=") (escaped user) refl (IsUtf8-escaped user utf8)) (utf8_behind (codes ",r=") nonce refl too)
 
 -- a header, and a text behind it
-header_utf8 : (header : Gs2Header) (bare : List ℕ) → IsUtf8 bare → IsUtf8 (header_text header ++ bare)
-header_utf8 Unsupported bare utf8 = utf8_behind (codes "n,,") bare refl utf8
-header_utf8 Unoffered bare utf8 = utf8_behind (codes "y,,") bare refl utf8
+header_utf8 : (header : ChannelBindingFlag) (bare : List ℕ) → IsUtf8 bare → IsUtf8 (header_text header ++ bare)
+header_utf8 NotSupported bare utf8 = utf8_behind (codes "n,,") bare refl utf8
+header_utf8 ClientSupports bare utf8 = utf8_behind (codes "y,,") bare refl utf8
 
-header_bytes : (header : Gs2Header) → IsBytes (header_text header)
-header_bytes Unsupported = IsBytes-literal (codes "n,,") refl
-header_bytes Unoffered = IsBytes-literal (codes "y,,") refl
+header_bytes : (header : ChannelBindingFlag) → IsBytes (header_text header)
+header_bytes NotSupported = IsBytes-literal (codes "n,,") refl
+header_bytes ClientSupports = IsBytes-literal (codes "y,,") refl
 
 reads_client_first : (x : Exchange) → IsSound x
-    → ReadsClientFirst x.unbound (client_first_with x.header x.user x.client_nonce)
+    → ReadsClientFirst x.cbind_flag_y (client_first_with x.header x.user x.client_nonce)
     (Ok (record { header = x.header; user = x.user; nonce = x.client_nonce; bare = bare_in x }))
 reads_client_first x sound =
     let parts = two_parts (codes "n=" ++ escaped x.user) (codes "r=" ++ x.client_nonce)
     (part_of (codes "n=") (escaped x.user) refl (no_comma-escaped x.user))
     (part_of (codes "r=") x.client_nonce refl sound.client_plain) in
     let utf8 = header_utf8 x.header (bare_in x) (bare_text x.user x.client_nonce sound.user sound.client_text) in
-    named x.unbound x.header (client_first_with x.header x.user x.client_nonce) (bare_in x) utf8 sound.header refl
+    named x.cbind_flag_y x.header (client_first_with x.header x.user x.client_nonce) (bare_in x) utf8 sound.header refl
     (escaped x.user) x.user x.client_nonce
     (_, parts, refl) refl (_, parts, refl)
 
@@ -224,8 +224,8 @@ reads_server_first x sound =
       (
         λ none. none x.count count,
         (
-          not_too_small (first_in x) x.limits.least x.count count sound.least,
-          (not_too_large (first_in x) x.limits.most x.count count sound.within, tt),
+          not_too_small (first_in x) x.limits.min_iterations x.count count sound.least,
+          (not_too_large (first_in x) x.limits.max_iterations x.count count sound.within, tt),
         ),
       ),
     )
@@ -243,7 +243,7 @@ final_parts c r p plain too also = record {
       sym (append_assoc c (44 ∷ r) (44 ∷ p));
 }
 
-final_text : (header : Gs2Header) (nonce proof : List ℕ) → IsUtf8 nonce
+final_text : (header : ChannelBindingFlag) (nonce proof : List ℕ) → IsUtf8 nonce
     → IsUtf8 (client_final_of (without_proof_with header nonce) proof)
 final_text header nonce proof utf8 =
     IsUtf8-append (without_proof_with header nonce) (codes ",p=" ++ base64_text proof)

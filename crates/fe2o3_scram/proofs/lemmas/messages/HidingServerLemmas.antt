@@ -9,7 +9,7 @@ use Rattle.fe2o3_scram.specs.declared.scram_messages.error.ServerScramErrorKind.
 use Rattle.fe2o3_scram.specs.ClientFirst.{ClientFirst, ReadsClientFirst}
 use Rattle.fe2o3_scram.specs.Credentials.{Record, Records, Provider, Store, record_at, serving}
 use Rattle.fe2o3_scram.specs.HidingServer.{HidingCosts, NamedIn, NamedBy}
-use Rattle.fe2o3_scram.specs.Nobody.{Nobody, nobody_record, with_nobody}
+use Rattle.fe2o3_scram.specs.MockSettings.{MockSettings, mock_record, with_mock}
 use Rattle.fe2o3_scram.specs.ScramServer.{ServerState, Initial, ServerFirstSent, ServerFinalSent, ChallengesFrom}
 use Rattle.fe2o3_scram.specs.ServerFirst.{ServerChallenge, ReachesChallenge}
 use Rattle.fe2o3_scram.specs.private.MadeUp.{KeepsMadeUp, followed_by}
@@ -33,106 +33,106 @@ has_made_up (entry ∷ records) name made_up =
     go false behind = behind
 
 -- a message that is read comes to a record
-pub reaches_made_up : (provider : Provider) (nobody : Nobody) (text name : List ℕ) (client : ClientFirst)
-    → ReadsClientFirst provider.unbound text (Ok client) → name ≡ client.user
-    → ReachesChallenge (with_nobody provider nobody (name ∷ [])) text
-reaches_made_up provider nobody text name client reads same =
-    let has = has_made_up provider.records name (nobody_record nobody name) in
+pub reaches_made_up : (provider : Provider) (mock : MockSettings) (text name : List ℕ) (client : ClientFirst)
+    → ReadsClientFirst provider.cbind_flag_y text (Ok client) → name ≡ client.user
+    → ReachesChallenge (with_mock provider mock (name ∷ [])) text
+reaches_made_up provider mock text name client reads same =
+    let has = has_made_up provider.records name (mock_record mock name) in
     inr (
       client,
       has.0,
       reads,
-      subst (λ (user : List ℕ). record_at (with_nobody provider nobody (name ∷ [])).records user
+      subst (λ (user : List ℕ). record_at (with_mock provider mock (name ∷ [])).records user
           ≡ Some has.0) same has.1,
     )
 
 -- behind the challenge the made-up record of its user is kept
-pub keeps_first : (provider : Provider) (nobody : Nobody) (state next : ServerState) (nonce text : List ℕ)
-    (client : ClientFirst) (answer : Option (List ℕ)) → ReadsClientFirst provider.unbound text (Ok client)
-    → ChallengesFrom state (with_nobody provider nobody (client.user ∷ [])) nonce text (Ok answer) next
+pub keeps_first : (provider : Provider) (mock : MockSettings) (state next : ServerState) (nonce text : List ℕ)
+    (client : ClientFirst) (answer : Option (List ℕ)) → ReadsClientFirst provider.cbind_flag_y text (Ok client)
+    → ChallengesFrom state (with_mock provider mock (client.user ∷ [])) nonce text (Ok answer) next
     → KeepsMadeUp next
-    (Some (record { version = nobody.version; records = (client.user, nobody_record nobody client.user) ∷ [] })) nobody
-keeps_first provider nobody state next nonce text client None reads answers =
+    (Some (record { version = mock.version; records = (client.user, mock_record mock client.user) ∷ [] })) mock
+keeps_first provider mock state next nonce text client None reads answers =
     let other = answers.0 in
-    let same = one_client_first_value provider.unbound text other.0 client other.1 reads in
-    let has = has_made_up provider.records client.user (nobody_record nobody client.user) in
-    let none : record_at (with_nobody provider nobody (client.user ∷ [])).records client.user ≡ None =
-    subst (λ (c : ClientFirst). record_at (with_nobody provider nobody (client.user ∷ [])).records c.user ≡ None) same
+    let same = one_client_first_value provider.cbind_flag_y text other.0 client other.1 reads in
+    let has = has_made_up provider.records client.user (mock_record mock client.user) in
+    let none : record_at (with_mock provider mock (client.user ∷ [])).records client.user ≡ None =
+    subst (λ (c : ClientFirst). record_at (with_mock provider mock (client.user ∷ [])).records c.user ≡ None) same
     other.2 in
     let both = sym none ∙ has.1 in
     absurd (cc)
-keeps_first provider nobody state next nonce text client (Some message) reads answers =
+keeps_first provider mock state next nonce text client (Some message) reads answers =
     let other = answers.1 in
-    let user = ap (λ (c : ClientFirst). c.user) (one_client_first_value provider.unbound text other.0 client other.2
+    let user = ap (λ (c : ClientFirst). c.user) (one_client_first_value provider.cbind_flag_y text other.0 client other.2
     reads) in
     let kept : KeepsMadeUp (ServerFirstSent answers.0) (Some (record {
-      version = nobody.version;
-      records = (client.user, nobody_record nobody client.user) ∷ [];
-    })) nobody = ap (λ (user : List ℕ). Some (record {
-      version = nobody.version;
-      records = (user, nobody_record nobody user) ∷ [];
+      version = mock.version;
+      records = (client.user, mock_record mock client.user) ∷ [];
+    })) mock = ap (λ (user : List ℕ). Some (record {
+      version = mock.version;
+      records = (user, mock_record mock user) ∷ [];
     })) (sym (ap (λ (c : ServerChallenge). c.user) other.4 ∙ user)) in
     subst (λ (s : ServerState). KeepsMadeUp s (Some (record {
-      version = nobody.version;
-      records = (client.user, nobody_record nobody client.user) ∷ [];
-    })) nobody) (sym answers.3) kept
+      version = mock.version;
+      records = (client.user, mock_record mock client.user) ∷ [];
+    })) mock) (sym answers.3) kept
 
 -- the same of the code's values
-pub keeps_made_up : (unbound : Bool) (store : Store) (nobody : Nobody) (held after : Option Store)
+pub keeps_made_up : (cbind_flag_y : Bool) (store : Store) (mock : MockSettings) (held after : Option Store)
     (state next : ServerState) (nonce text : List ℕ) (client : ClientFirst) (answer : Option (List ℕ))
-    → held ≡ Some (record { version = nobody.version; records = (client.user, nobody_record nobody client.user) ∷ [] })
-    → after ≡ Some (record { version = nobody.version; records = (client.user, nobody_record nobody client.user) ∷ [] })
-    → ReadsClientFirst unbound text (Ok client)
-    → ChallengesFrom state (serving unbound (followed_by store held)) nonce text (Ok answer) next
-    → KeepsMadeUp next after nobody
-keeps_made_up unbound store nobody held after state next nonce text client answer is too reads answers =
-    subst (λ (made_up : Option Store). KeepsMadeUp next made_up nobody) (sym too)
-    (keeps_first (serving unbound store) nobody state next nonce text client answer reads
-    (subst (λ (made_up : Option Store). ChallengesFrom state (serving unbound (followed_by store made_up)) nonce text
+    → held ≡ Some (record { version = mock.version; records = (client.user, mock_record mock client.user) ∷ [] })
+    → after ≡ Some (record { version = mock.version; records = (client.user, mock_record mock client.user) ∷ [] })
+    → ReadsClientFirst cbind_flag_y text (Ok client)
+    → ChallengesFrom state (serving cbind_flag_y (followed_by store held)) nonce text (Ok answer) next
+    → KeepsMadeUp next after mock
+keeps_made_up cbind_flag_y store mock held after state next nonce text client answer is too reads answers =
+    subst (λ (made_up : Option Store). KeepsMadeUp next made_up mock) (sym too)
+    (keeps_first (serving cbind_flag_y store) mock state next nonce text client answer reads
+    (subst (λ (made_up : Option Store). ChallengesFrom state (serving cbind_flag_y (followed_by store made_up)) nonce text
     (Ok answer) next) is answers))
 
 -- a message that is read is refused for want of memory alone
-pub read_or_refused : (unbound : Bool) (text : List ℕ) (client : ClientFirst) (fault : ServerScramErrorKind)
-    → ReadsClientFirst unbound text (Ok client) → ¬ ReadsClientFirst unbound text (Err fault)
-read_or_refused unbound text client fault reads refuses =
-    differ (one_client_first unbound text (Ok client) (Err fault) reads refuses)
+pub read_or_refused : (cbind_flag_y : Bool) (text : List ℕ) (client : ClientFirst) (fault : ServerScramErrorKind)
+    → ReadsClientFirst cbind_flag_y text (Ok client) → ¬ ReadsClientFirst cbind_flag_y text (Err fault)
+read_or_refused cbind_flag_y text client fault reads refuses =
+    differ (one_client_first cbind_flag_y text (Ok client) (Err fault) reads refuses)
   where
     differ : ◌≡◌ {A = Result ClientFirst ServerScramErrorKind} (Ok client) (Err fault) → ⊥
     differ same = absurd (cc)
 
-pub wants_costs : (A : Type 0) (unbound : Bool) (text : List ℕ) (client : ClientFirst) (before after : ℕ)
-    → ReadsClientFirst unbound text (Ok client) → after ≡ before + 3 → HidingCosts {A = A} unbound text
+pub wants_costs : (A : Type 0) (cbind_flag_y : Bool) (text : List ℕ) (client : ClientFirst) (before after : ℕ)
+    → ReadsClientFirst cbind_flag_y text (Ok client) → after ≡ before + 3 → HidingCosts {A = A} cbind_flag_y text
     (Err OutOfMemory) before after
-wants_costs A unbound text client before after reads counted = (
+wants_costs A cbind_flag_y text client before after reads counted = (
   omega (counted, arith),
   omega (counted, arith),
-  λ fault refuses. absurd (read_or_refused unbound text client fault reads refuses),
+  λ fault refuses. absurd (read_or_refused cbind_flag_y text client fault reads refuses),
 )
 
-pub refusal_costs : (A : Type 0) (unbound : Bool) (text : List ℕ) (client : ClientFirst) (fault : ServerScramErrorKind)
-    (before after : ℕ) → ReadsClientFirst unbound text (Ok client)
-    → (fault ≢ OutOfMemory → ReadsClientFirst unbound text (Err fault)) → after ≡ before + 3
-    → HidingCosts {A = A} unbound text (Err fault) before after
-refusal_costs A unbound text client fault before after reads refuses counted =
-    go fault (λ other. read_or_refused unbound text client fault reads (refuses other))
+pub refusal_costs : (A : Type 0) (cbind_flag_y : Bool) (text : List ℕ) (client : ClientFirst) (fault : ServerScramErrorKind)
+    (before after : ℕ) → ReadsClientFirst cbind_flag_y text (Ok client)
+    → (fault ≢ OutOfMemory → ReadsClientFirst cbind_flag_y text (Err fault)) → after ≡ before + 3
+    → HidingCosts {A = A} cbind_flag_y text (Err fault) before after
+refusal_costs A cbind_flag_y text client fault before after reads refuses counted =
+    go fault (λ other. read_or_refused cbind_flag_y text client fault reads (refuses other))
   where
     go : (fault : ServerScramErrorKind) → (fault ≢ OutOfMemory → ⊥)
-        → HidingCosts {A = A} unbound text (Err fault) before after
-    go OutOfMemory none = wants_costs A unbound text client before after reads counted
+        → HidingCosts {A = A} cbind_flag_y text (Err fault) before after
+    go OutOfMemory none = wants_costs A cbind_flag_y text client before after reads counted
     go fault none = absurd (none (λ same. absurd (cc)))
 
 -- ---- some name counts
 
-pub some_name : (unbound : Bool) (text : List ℕ) → (name : List ℕ) × NamedIn unbound text name
-some_name unbound text = go (some_client_first unbound text)
+pub some_name : (cbind_flag_y : Bool) (text : List ℕ) → (name : List ℕ) × NamedIn cbind_flag_y text name
+some_name cbind_flag_y text = go (some_client_first cbind_flag_y text)
   where
-    go : (answer : Result ClientFirst ServerScramErrorKind) × ReadsClientFirst unbound text answer
-        → (name : List ℕ) × NamedIn unbound text name
+    go : (answer : Result ClientFirst ServerScramErrorKind) × ReadsClientFirst cbind_flag_y text answer
+        → (name : List ℕ) × NamedIn cbind_flag_y text name
     go (Ok client, reads) = (
       client.user,
-      λ other too. ap (λ (c : ClientFirst). c.user) (one_client_first_value unbound text client other reads too),
+      λ other too. ap (λ (c : ClientFirst). c.user) (one_client_first_value cbind_flag_y text client other reads too),
     )
-    go (Err fault, refuses) = ([], λ other reads. absurd (read_or_refused unbound text other fault reads refuses))
+    go (Err fault, refuses) = ([], λ other reads. absurd (read_or_refused cbind_flag_y text other fault reads refuses))
 
 pub some_user : (state : ServerState) → (name : List ℕ) × NamedBy state name
 some_user Initial = ([], tt)

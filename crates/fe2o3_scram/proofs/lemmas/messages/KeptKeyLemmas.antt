@@ -3,7 +3,7 @@ use Rattle.std.proofs.Common.{◌≡◌, ◌≢◌, ◌⊎◌, ◌↔◌, ℕ, L
 use Rattle.std.specs.Prelude.{T, is_ok, if◌then◌else◌}
 use Rattle.fe2o3_scram.specs.declared.client_secret.IterationLimits.{IterationLimits}
 use Rattle.fe2o3_scram.specs.declared.scram_messages.error.ScramErrorKind.{ScramErrorKind}
-use Rattle.fe2o3_scram.specs.declared.scram_messages.error.ScramErrorKind.TheVariants.{NormalizeError, OtherKeys}
+use Rattle.fe2o3_scram.specs.declared.scram_messages.error.ScramErrorKind.TheVariants.{NormalizeError, StaleKeys}
 use Rattle.fe2o3_scram.specs.ClientFinal.{Answer, answer_by, answer_of, fit, without_proof}
 use Rattle.fe2o3_scram.specs.ClientKeys.{ClientKeys, keys_of}
 use Rattle.fe2o3_scram.specs.ClientSecret.{Password, Keys, Both}
@@ -63,12 +63,12 @@ unfolding ReadsServerFirst
 fitting keys nonce text limits first reads = elim (names_values_or keys text) [
   | inl has ↦ fitting_named keys text first reads.1 has
   | inr other ↦
-      absurd ((none-split (before nonce limits text) (last OtherKeys (NamesOther keys text)) reads.0).1.0 other)
+      absurd ((none-split (before nonce limits text) (last StaleKeys (NamesOther keys text)) reads.0).1.0 other)
 ]
 
 -- a message that keys do not refuse is read by a password in normal form as by them
 by_password : (keys : ClientKeys) (password : PasswordText) (nonce text : List ℕ) (limits : IterationLimits)
-    (answer : Result ServerFirst ScramErrorKind) → IsNormal password → answer ≢ Err OtherKeys
+    (answer : Result ServerFirst ScramErrorKind) → IsNormal password → answer ≢ Err StaleKeys
     → ReadsServerFirst nonce (Keys keys) limits text answer
     → ReadsServerFirst nonce (Password password) limits text answer
 unfolding ReadsServerFirst
@@ -94,7 +94,7 @@ same_answer keys password bare text first are fits =
 
 pub keys_stand : (keys : ClientKeys) (password : PasswordText) (nonce bare text : List ℕ) (limits : IterationLimits)
     (answer : Result Answer ScramErrorKind) → IsNormal password → AreKeysOf keys (password_bytes password)
-    → answer ≢ Err OtherKeys
+    → answer ≢ Err StaleKeys
     → AnswersServerFirst keys.version (client_of nonce (Keys keys) limits) bare text answer
     → AnswersServerFirst keys.version (client_of nonce (Password password) limits) bare text answer
 keys_stand keys password nonce bare text limits (Ok answer) printable are other (first, reads, is) = (
@@ -104,21 +104,21 @@ keys_stand keys password nonce bare text limits (Ok answer) printable are other 
 )
 keys_stand keys password nonce bare text limits (Err fault) printable are other reads =
     by_password keys password nonce text limits (Err fault) printable
-    (λ is. let same : fault ≡ OtherKeys = cc in other (ap (λ (kind : ScramErrorKind). Err kind) same)) reads
+    (λ is. let same : fault ≡ StaleKeys = cc in other (ap (λ (kind : ScramErrorKind). Err kind) same)) reads
 
 -- the keys read what the password reads, or they are of another salt or another count
 by_keys : (keys : ClientKeys) (password : PasswordText) (nonce text : List ℕ) (limits : IterationLimits)
     (answer : Result ServerFirst ScramErrorKind) → IsNormal password
     → ReadsServerFirst nonce (Password password) limits text answer
     → ReadsServerFirst nonce (Keys keys) limits text answer
-    ⊎ ReadsServerFirst nonce (Keys keys) limits text (Err OtherKeys)
+    ⊎ ReadsServerFirst nonce (Keys keys) limits text (Err StaleKeys)
 unfolding ReadsServerFirst
 by_keys keys password nonce text limits (Err fault) printable reads =
     inl (goes_over nonce text limits _ _ _ _ (Err fault) (λ wrong. absurd (cc)) (λ un. absurd (un printable)) reads)
 by_keys keys password nonce text limits (Ok first) printable reads = elim (names_values_or keys text) [
-  | inl has ↦ inl (goes_over nonce text limits NormalizeError OtherKeys _ _ (Ok first) (λ _ other. other has)
+  | inl has ↦ inl (goes_over nonce text limits NormalizeError StaleKeys _ _ (Ok first) (λ _ other. other has)
       (λ un. absurd (un printable)) reads)
-  | inr other ↦ inr (last_holds (before nonce limits text) NormalizeError OtherKeys (¬ IsNormal password)
+  | inr other ↦ inr (last_holds (before nonce limits text) NormalizeError StaleKeys (¬ IsNormal password)
       (NamesOther keys text) other reads.0)
 ]
 
@@ -126,7 +126,7 @@ pub keys_answer : (keys : ClientKeys) (password : PasswordText) (nonce bare text
     (answer : Result Answer ScramErrorKind) → IsNormal password → AreKeysOf keys (password_bytes password)
     → AnswersServerFirst keys.version (client_of nonce (Password password) limits) bare text answer
     → AnswersServerFirst keys.version (client_of nonce (Keys keys) limits) bare text answer
-    ⊎ AnswersServerFirst keys.version (client_of nonce (Keys keys) limits) bare text (Err OtherKeys)
+    ⊎ AnswersServerFirst keys.version (client_of nonce (Keys keys) limits) bare text (Err StaleKeys)
 keys_answer keys password nonce bare text limits (Ok answer) printable are (first, reads, is) =
     elim (by_keys keys password nonce text limits (Ok first) printable reads) [
       | inl fits ↦ inl (

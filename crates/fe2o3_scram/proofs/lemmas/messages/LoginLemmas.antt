@@ -1,12 +1,12 @@
 -- What an accepted message means, for a caller's own proof: `accepted_texts_log_in` of a server, `hidden_texts_log_in`
--- of one that hides unknown users, `believed_texts_are_signed` of a client.
+-- of one that hides unknown users, `verified_texts_are_signed` of a client.
 use Rattle.std.proofs.Common.{◌≡◌, ◌≢◌, ℕ, Option, Some, None, List, [], ◌∷◌, refl, sym, ◌∙◌, subst, Ok}
 use Rattle.fe2o3_scram.specs.Credentials.{Record, record_at}
 use Rattle.fe2o3_scram.specs.HidingServer.{HidingServer, NamedBy, hiding_name}
-use Rattle.fe2o3_scram.specs.Logins.{TextLogsIn, AcceptedTextsLogIn, HiddenTextLogsIn, HiddenTextsLogIn, IsSigned, BelievedTextsAreSigned}
-use Rattle.fe2o3_scram.specs.Nobody.{nobody_record}
+use Rattle.fe2o3_scram.specs.Logins.{TextLogsIn, AcceptedTextsLogIn, HiddenTextLogsIn, HiddenTextsLogIn, IsSigned, VerifiedTextsAreSigned}
+use Rattle.fe2o3_scram.specs.MockSettings.{mock_record}
 use Rattle.fe2o3_scram.specs.ScramClient as client_states
-use Rattle.fe2o3_scram.specs.ScramClient.{ClientSide, ClientState, BelievesIn}
+use Rattle.fe2o3_scram.specs.ScramClient.{ClientSide, ClientState, VerifiesIn}
 use Rattle.fe2o3_scram.specs.ScramServer.{ServerState, ServerFirstSent, ServerFinalSent, ConcludesFrom}
 use Rattle.fe2o3_scram.proofs.lemmas.providers.HidingLemmas.{record_at-kept}
 
@@ -45,7 +45,7 @@ known_logs_in server text user logs known = go (record_at server.provider.record
     go None is = absurd (known is)
     go (Some stored) is =
         let both : Some stored ≡ Some logs.stored =
-        sym (record_at-kept server.provider.records ((user, nobody_record server.nobody user) ∷ []) user stored is)
+        sym (record_at-kept server.provider.records ((user, mock_record server.mock user) ∷ []) user stored is)
         ∙ logs.known in
         record {
           challenge = logs.challenge;
@@ -75,11 +75,11 @@ hidden_texts_log_in server next text answer from =
 
 -- ---- a client
 
-signed : (state : ClientState) (side next : ClientSide) (text : List ℕ) → BelievesIn state side text (Ok tt) next
+signed : (state : ClientState) (side next : ClientSide) (text : List ℕ) → VerifiesIn state side text (Ok tt) next
     → IsSigned state text
 signed (client_states.ClientFinalSent signature keys) side next text from =
     record { signature = signature; keys = keys; waits = refl; reads = from.0 }
 signed state side next text from = absurd from
 
-pub believed_texts_are_signed : BelievedTextsAreSigned
-believed_texts_are_signed side next text from = signed side.state side next text from
+pub verified_texts_are_signed : VerifiedTextsAreSigned
+verified_texts_are_signed side next text from = signed side.state side next text from

@@ -4,7 +4,7 @@ use Rattle.std.proofs.lemmas.List.{append_cancel_left}
 use Rattle.fe2o3_scram.specs.declared.hmac.ScramVersion.{ScramVersion}
 use Rattle.fe2o3_scram.specs.declared.hmac.ScramVersion.TheVariants.{Sha1, Sha256, Sha512}
 use Rattle.fe2o3_scram.specs.ClientFinal.{ReachesBinding, ReachesProof, client_final_of, without_proof}
-use Rattle.fe2o3_scram.specs.declared.scram_messages.gs2_header.Gs2Header.TheVariants.{Unsupported}
+use Rattle.fe2o3_scram.specs.declared.scram_messages.channel_binding_flag.ChannelBindingFlag.TheVariants.{NotSupported}
 use Rattle.fe2o3_scram.specs.ClientFirst.{HasEscapes}
 use Rattle.fe2o3_scram.specs.Escape.{escaped, NoEquals}
 use Rattle.fe2o3_scram.specs.Hmac.{mechanism_name}
@@ -40,12 +40,12 @@ user_parts = two_joined (codes "n=user") (codes "r=abc") (codes "n=user" ∷ [])
     (only_part (codes "n=user") (no_comma-test (codes "n=user") refl))
     (only_part (codes "r=abc") (no_comma-test (codes "r=abc") refl))
 
-no_escapes : (unbound : Bool) → ¬ HasEscapes unbound (codes "n,,n=user,r=abc")
-no_escapes unbound has =
+no_escapes : (cbind_flag_y : Bool) → ¬ HasEscapes cbind_flag_y (codes "n,,n=user,r=abc")
+no_escapes cbind_flag_y has =
     let bare = has.1.1 in
     let spelling = escaped has.1.0 in
     let behind : bare.1 ≡ codes "n=user,r=abc" =
-    (one_header bare.0 Unsupported (codes "n,,n=user,r=abc") bare.1 (codes "n=user,r=abc") bare.3 refl).1 in
+    (one_header bare.0 NotSupported (codes "n,,n=user,r=abc") bare.1 (codes "n=user,r=abc") bare.3 refl).1 in
     let part = subst (λ (text : List ℕ). Part text 0 (codes "n=" ++ spelling)) behind bare.4 in
     let same = one_part (codes "n=user,r=abc") 0 (codes "n=user") (codes "n=" ++ spelling)
     (_, user_parts, refl) part in
@@ -53,12 +53,12 @@ no_escapes unbound has =
     has.1.2 (subst NoEquals name (without-test 61 (codes "user") refl))
 
 pub unknown_users_take_none : UnknownUsersTakeNone
-unknown_users_take_none version unbound (inl escapes) = no_escapes unbound escapes
-unknown_users_take_none version unbound (inr (client, stored, reads, known)) = absurd (cc)
+unknown_users_take_none version cbind_flag_y (inl escapes) = no_escapes cbind_flag_y escapes
+unknown_users_take_none version cbind_flag_y (inr (client, stored, reads, known)) = absurd (cc)
 
 -- the first part is no channel binding
-unbound : (rest : List ℕ) → ¬ Part (codes "r=abc,p=AA==") 0 (codes "c=" ++ rest)
-unbound rest has =
+cbind_flag_y : (rest : List ℕ) → ¬ Part (codes "r=abc,p=AA==") 0 (codes "c=" ++ rest)
+cbind_flag_y rest has =
     let parts = two_joined (codes "r=abc") (codes "p=AA==") (codes "r=abc" ∷ []) (codes "p=AA==" ∷ [])
     (only_part (codes "r=abc") (no_comma-test (codes "r=abc") refl))
     (only_part (codes "p=AA==") (no_comma-test (codes "p=AA==") refl)) in
@@ -69,10 +69,10 @@ unbound rest has =
 pub unbound_texts_take_none : UnboundTextsTakeNone
 unbound_texts_take_none provider user bare first has = go has.1.1
   where
-    go : ReachesBinding Unsupported (codes "r=abc,p=AA==")
-        ⊎ ReachesProof Unsupported (codes "abc") (codes "r=abc,p=AA==") → ⊥
-    go (inl reaches) = unbound reaches.0.0 reaches.0.1
-    go (inr reaches) = reaches.0.1.0 unbound
+    go : ReachesBinding NotSupported (codes "r=abc,p=AA==")
+        ⊎ ReachesProof NotSupported (codes "abc") (codes "r=abc,p=AA==") → ⊥
+    go (inl reaches) = cbind_flag_y reaches.0.0 reaches.0.1
+    go (inr reaches) = reaches.0.1.0 cbind_flag_y
 
 -- the client-final message with the nonce abd
 abbrev other_text : List ℕ
@@ -101,7 +101,7 @@ other_nonces_take_none provider user bare first has = go has.1.1
     bound : HasBase64 other_text 0 (codes "c=") (codes "n,,")
     bound = (IsBytes-literal (codes "n,,") refl, (_, other_parts, refl))
 
-    go : ReachesBinding Unsupported other_text ⊎ ReachesProof Unsupported (codes "abc") other_text → ⊥
+    go : ReachesBinding NotSupported other_text ⊎ ReachesProof NotSupported (codes "abc") other_text → ⊥
     go (inl reaches) = reaches.1 bound
     go (inr reaches) = reaches.0.1.1.1.1.1.0 other_nonce
 

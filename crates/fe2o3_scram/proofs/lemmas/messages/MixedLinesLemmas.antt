@@ -3,9 +3,9 @@ use Rattle.std.proofs.Common.{◌≡◌, ◌<◌, ◌+◌, ℕ, List, [], ◌∷
 use Rattle.fe2o3_scram.specs.declared.hmac.ScramVersion.{ScramVersion}
 use Rattle.fe2o3_scram.specs.declared.credentials.record_lines.ReadLinesErrorKind.TheVariants.{VersionMismatch}
 use Rattle.fe2o3_scram.specs.Credentials.{VersionedRecord}
-use Rattle.fe2o3_scram.specs.Mixed.{MixedRecords, unversioned}
+use Rattle.fe2o3_scram.specs.Mixed.{MultiRecords, unversioned}
 use Rattle.fe2o3_scram.specs.Escape.{escaped}
-use Rattle.fe2o3_scram.specs.MixedLines.{IsMixedReadable, mixed_line, mixed_text}
+use Rattle.fe2o3_scram.specs.MultiRecordLines.{IsMixedReadable, mixed_line, mixed_text}
 use Rattle.fe2o3_scram.specs.RecordLines.{HeadFault}
 use Rattle.fe2o3_scram.specs.RecordText.{record_text}
 use Rattle.fe2o3_scram.proofs.lemmas.messages.LineListLemmas.{lines_text-more}
@@ -32,7 +32,7 @@ other_version version text rest user is same differ = (
 pub mixed_text-start : (before : List ℕ) → before ++ mixed_text [] ≡ before
 mixed_text-start before = append-nil before
 
-pub mixed_text-more : (before : List ℕ) (users : MixedRecords) (k : ℕ) (other : List ℕ × VersionedRecord)
+pub mixed_text-more : (before : List ℕ) (users : MultiRecords) (k : ℕ) (other : List ℕ × VersionedRecord)
     → k < length users
     → before ++ mixed_text (take (k + 1) users)
     ≡ (before ++ mixed_text (take k users)) ++ (mixed_line (get_or users k other) ++ (10 ∷ []))

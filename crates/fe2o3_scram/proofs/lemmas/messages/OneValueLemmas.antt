@@ -10,30 +10,30 @@ use Rattle.fe2o3_scram.proofs.lemmas.messages.ServerFirstLemmas.{one_server_firs
 use Rattle.fe2o3_scram.proofs.lemmas.messages.ServerFinalLemmas.{names_signature}
 use Rattle.fe2o3_scram.specs.Texts.{HasBase64}
 
-pub names_client_first : (unbound : Bool) (text : List ℕ) (first : ClientFirst)
-    → ReadsClientFirst unbound text (Ok first) → NamesClientFirst unbound text first
+pub names_client_first : (cbind_flag_y : Bool) (text : List ℕ) (first : ClientFirst)
+    → ReadsClientFirst cbind_flag_y text (Ok first) → NamesClientFirst cbind_flag_y text first
 unfolding ReadsClientFirst
-names_client_first unbound text first reads = reads.1
+names_client_first cbind_flag_y text first reads = reads.1
 
 pub names_server_first : (client : Client) (text : List ℕ) (first : ServerFirst)
     → ReadsServerFirst client.nonce client.secret client.limits text (Ok first) → NamesServerFirst text first
 unfolding ReadsServerFirst
 names_server_first client text first reads = reads.1
 
-pub names_server_final : (signature text : List ℕ) (believed : Unit {0}) → ReadsServerFinal signature text (Ok believed)
+pub names_server_final : (signature text : List ℕ) (verified : Unit {0}) → ReadsServerFinal signature text (Ok verified)
     → HasBase64 text 0 (codes "v=") signature
 unfolding ReadsServerFinal
-names_server_final signature text believed reads = names_signature text signature reads
+names_server_final signature text verified reads = names_signature text signature reads
 
 -- one value each
 
 same_value : {X F : Type 0} (x y : X) → ◌≡◌ {A = Result X F} (Ok x) (Ok y) → x ≡ y
 same_value x y same = cc
 
-pub one_client_first_value : (unbound : Bool) (text : List ℕ) (first other : ClientFirst)
-    → ReadsClientFirst unbound text (Ok first) → ReadsClientFirst unbound text (Ok other) → first ≡ other
-one_client_first_value unbound text first other reads too =
-    same_value first other (one_client_first unbound text (Ok first) (Ok other) reads too)
+pub one_client_first_value : (cbind_flag_y : Bool) (text : List ℕ) (first other : ClientFirst)
+    → ReadsClientFirst cbind_flag_y text (Ok first) → ReadsClientFirst cbind_flag_y text (Ok other) → first ≡ other
+one_client_first_value cbind_flag_y text first other reads too =
+    same_value first other (one_client_first cbind_flag_y text (Ok first) (Ok other) reads too)
 
 pub one_client_final_value : (server : Server) (text : List ℕ) (final other : ClientFinal)
     → ReadsClientFinal server text (Ok final) → ReadsClientFinal server text (Ok other) → final ≡ other

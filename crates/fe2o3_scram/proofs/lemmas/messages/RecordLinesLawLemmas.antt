@@ -10,11 +10,11 @@ use Rattle.fe2o3_scram.specs.declared.credentials.record_lines.ReadLinesErrorKin
 use Rattle.fe2o3_scram.specs.declared.credentials.record_lines.ReadLinesErrorKind.TheVariants.{LineFeedMissing, SpaceMissing, InvalidName, InvalidRecord, VersionMismatch}
 use Rattle.fe2o3_scram.specs.declared.credentials.record_text.RecordTextError.{RecordTextError}
 use Rattle.fe2o3_scram.specs.Credentials.{Record, Records, VersionedRecord}
-use Rattle.fe2o3_scram.specs.Mixed.{MixedRecords, unversioned}
+use Rattle.fe2o3_scram.specs.Mixed.{MultiRecords, unversioned}
 use Rattle.fe2o3_scram.specs.Escape.{escaped, escaped_byte}
 use Rattle.fe2o3_scram.specs.Hmac.{mechanism_name}
 use Rattle.fe2o3_scram.specs.Laws.{HoldsBytes, HoldsMixedBytes}
-use Rattle.fe2o3_scram.specs.MixedLines.{IsMixedReadable, IsMixedWritable, MixedFault, ReadsMixed, SpellsMixed, mixed_line, mixed_text}
+use Rattle.fe2o3_scram.specs.MultiRecordLines.{IsMixedReadable, IsMixedWritable, MixedFault, ReadsMixed, SpellsMixed, mixed_line, mixed_text}
 use Rattle.fe2o3_scram.specs.RecordLines.{HeadFault, IsLineReadable, IsWritable, LastCut, LineFault, ReadsUsers, UserFault, record_of_user, user_line, users_text}
 use Rattle.fe2o3_scram.specs.RecordText.{IsReadable, ReadsRecord, record_text}
 use Rattle.fe2o3_scram.specs.Texts.{Cut, Without, alphabet, base64_text}
@@ -178,35 +178,35 @@ one_user_fault version name kept VersionMismatch VersionMismatch fault too = ref
 one_user_fault version name kept VersionMismatch other fault too = absurd too
 one_user_fault version name kept kind other fault too = absurd fault
 
-one_of_user : (version : ScramVersion) (line : List ℕ) (kind other : ReadLinesErrorKind) → OfUser version line kind
+any_mechanism_user : (version : ScramVersion) (line : List ℕ) (kind other : ReadLinesErrorKind) → OfUser version line kind
     → OfUser version line other → kind ≡ other
-one_of_user version line kind other (inl plain) (inl too) = plain.1 ∙ sym too.1
-one_of_user version line kind other (inl plain) (inr (name, kept, cut, fault)) =
+any_mechanism_user version line kind other (inl plain) (inl too) = plain.1 ∙ sym too.1
+any_mechanism_user version line kind other (inl plain) (inr (name, kept, cut, fault)) =
     absurd (not_without-in 32 name kept line cut.1 plain.0)
-one_of_user version line kind other (inr (name, kept, cut, fault)) (inl plain) =
+any_mechanism_user version line kind other (inr (name, kept, cut, fault)) (inl plain) =
     absurd (not_without-in 32 name kept line cut.1 plain.0)
-one_of_user version line kind other (inr (name, kept, cut, fault)) (inr (names, others, cut_too, too)) =
+any_mechanism_user version line kind other (inr (name, kept, cut, fault)) (inr (names, others, cut_too, too)) =
     let same = one_last_cut 32 line names others name kept cut_too cut in
     one_user_fault version name kept kind other fault
     (subst (λ (text : List ℕ). UserFault version name text other) same.1
     (subst (λ (text : List ℕ). UserFault version text others other) same.0 too))
 
-one_of_line : (version : ScramVersion) (text : List ℕ) (kind other : ReadLinesErrorKind) → OfLine version text kind
+any_mechanism_line : (version : ScramVersion) (text : List ℕ) (kind other : ReadLinesErrorKind) → OfLine version text kind
     → OfLine version text other → kind ≡ other
-one_of_line version text kind other (inl plain) (inl too) = plain.2 ∙ sym too.2
-one_of_line version text kind other (inl plain) (inr (line, rest, cut, fault)) =
+any_mechanism_line version text kind other (inl plain) (inl too) = plain.2 ∙ sym too.2
+any_mechanism_line version text kind other (inl plain) (inr (line, rest, cut, fault)) =
     absurd (not_without-in 10 line rest text cut.1 plain.1)
-one_of_line version text kind other (inr (line, rest, cut, fault)) (inl plain) =
+any_mechanism_line version text kind other (inr (line, rest, cut, fault)) (inl plain) =
     absurd (not_without-in 10 line rest text cut.1 plain.1)
-one_of_line version text kind other (inr (line, rest, cut, fault)) (inr (lines, more, cut_too, too)) =
+any_mechanism_line version text kind other (inr (line, rest, cut, fault)) (inr (lines, more, cut_too, too)) =
     let same = one_cut 10 text lines more line rest cut_too cut in
-    one_of_user version line kind other (of_user version line kind fault)
+    any_mechanism_user version line kind other (of_user version line kind fault)
     (of_user version line other (subst (λ (text : List ℕ). LineFault version text other) same.0 too))
 
 one_fault : (version : ScramVersion) (text : List ℕ) (kind other : ReadLinesErrorKind) → HeadFault version text kind
     → HeadFault version text other → kind ≡ other
 one_fault version text kind other fault too =
-    one_of_line version text kind other (of_line version text kind fault) (of_line version text other too)
+    any_mechanism_line version text kind other (of_line version text kind fault) (of_line version text other too)
 
 -- a user's line has no fault
 
@@ -279,7 +279,7 @@ one_users_answer version text answer other is too =
       no_empty_fault = no_empty_fault version;
     }) text answer other is too
 
-pub one_mixed_answer : (text : List ℕ) (answer other : Result MixedRecords ReadLinesError) → ReadsMixed text answer
+pub one_mixed_answer : (text : List ℕ) (answer other : Result MultiRecords ReadLinesError) → ReadsMixed text answer
     → ReadsMixed text other → answer ≡ other
 one_mixed_answer text answer other is too = one_lines_answer mixed_line IsMixedReadable MixedFault (record {
   one_head = one_mixed_head;
@@ -315,11 +315,11 @@ users_read_again version users writable bytes = (go users writable bytes, refl)
     go (user ∷ users) writable bytes =
         (readable version user writable.0 bytes.0, go users writable.1 bytes.1)
 
-pub mixed_read_again : (users : MixedRecords) → AllByRecursion IsMixedWritable users
+pub mixed_read_again : (users : MultiRecords) → AllByRecursion IsMixedWritable users
     → AllByRecursion HoldsMixedBytes users → ReadsMixed (mixed_text users) (Ok users)
 mixed_read_again users writable bytes = (go users writable bytes, refl)
   where
-    go : (users : MixedRecords) → AllByRecursion IsMixedWritable users → AllByRecursion HoldsMixedBytes users
+    go : (users : MultiRecords) → AllByRecursion IsMixedWritable users → AllByRecursion HoldsMixedBytes users
         → AllByRecursion IsMixedReadable users
     go [] writable bytes = tt
     go (user ∷ users) writable bytes =
@@ -327,7 +327,7 @@ mixed_read_again users writable bytes = (go users writable bytes, refl)
 
 -- ---- what was read is written as it was
 
-pub written_back : (text : List ℕ) (users : MixedRecords) → SpellsMixed text users
+pub written_back : (text : List ℕ) (users : MultiRecords) → SpellsMixed text users
     → AllByRecursion IsMixedWritable users × (mixed_text users ≡ text)
 written_back text users spells = (go users spells.0, sym spells.1)
   where
@@ -339,6 +339,6 @@ written_back text users spells = (go users spells.0, sym spells.1)
       server_key = is.1.server_key.1;
     }
 
-    go : (users : MixedRecords) → AllByRecursion IsMixedReadable users → AllByRecursion IsMixedWritable users
+    go : (users : MultiRecords) → AllByRecursion IsMixedReadable users → AllByRecursion IsMixedWritable users
     go [] are = tt
     go (user ∷ users) are = (writable user are.0, go users are.1)

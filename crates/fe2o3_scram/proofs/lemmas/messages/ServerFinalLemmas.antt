@@ -101,14 +101,14 @@ module _ (signature text : List ℕ) where
   pub one_server_final : (answer other : Result (Unit {0}) ScramErrorKind) → ReadsServerFinal signature text answer
       → ReadsServerFinal signature text other → answer ≡ other
   unfolding ReadsServerFinal
-  one_server_final (Ok believed) (Ok other) reads too = refl
-  one_server_final (Ok believed) (Err fault) reads (inl refused) =
+  one_server_final (Ok verified) (Ok other) reads too = refl
+  one_server_final (Ok verified) (Err fault) reads (inl refused) =
       let both = one_signature text (Ok signature) (Err fault) reads refused in absurd (cc)
-  one_server_final (Ok believed) (Err fault) reads (inr (other, too, differ, is)) =
+  one_server_final (Ok verified) (Err fault) reads (inr (other, too, differ, is)) =
       absurd (one_verdict other reads too differ)
-  one_server_final (Err fault) (Ok believed) (inl refused) reads =
+  one_server_final (Err fault) (Ok verified) (inl refused) reads =
       let both = one_signature text (Ok signature) (Err fault) reads refused in absurd (cc)
-  one_server_final (Err fault) (Ok believed) (inr (other, too, differ, is)) reads =
+  one_server_final (Err fault) (Ok verified) (inr (other, too, differ, is)) reads =
       absurd (one_verdict other reads too differ)
   one_server_final (Err fault) (Err other) (inl refused) (inl too) =
       let both = one_signature text (Err fault) (Err other) refused too in

@@ -5,8 +5,8 @@ use Rattle.fe2o3_scram.specs.declared.scram_messages.error.ScramErrorKind.TheVar
 use Rattle.fe2o3_scram.specs.declared.scram_messages.error.ServerScramErrorKind.{ServerScramErrorKind}
 use Rattle.fe2o3_scram.specs.declared.scram_messages.error.ServerScramErrorKind.TheVariants.{XorLengthMismatch, AuthenticationFailed}
 use Rattle.fe2o3_scram.specs.ClientFinal.{Server, ClientFinal, HasProof, recovered_key, NamesClientFinal, ReadsFinalText, ReadsClientFinal, final_text_tests}
-use Rattle.fe2o3_scram.specs.declared.scram_messages.gs2_header.Gs2Header.{Gs2Header}
-use Rattle.fe2o3_scram.specs.declared.scram_messages.gs2_header.Gs2Header.TheVariants.{Unsupported, Unoffered}
+use Rattle.fe2o3_scram.specs.declared.scram_messages.channel_binding_flag.ChannelBindingFlag.{ChannelBindingFlag}
+use Rattle.fe2o3_scram.specs.declared.scram_messages.channel_binding_flag.ChannelBindingFlag.TheVariants.{NotSupported, ClientSupports}
 use Rattle.fe2o3_scram.specs.ClientFirst.{ClientFirst, BarePart, NamesClientFirst, ReadsClientFirst, TakesHeader, client_first_tests, header_text}
 use Rattle.fe2o3_scram.specs.Escape.{escaped}
 use Rattle.fe2o3_scram.specs.Hmac.{digest, digest_len}
@@ -65,46 +65,46 @@ some_reading tests Names decided named = elim (first_or tests decided) [
 -- ---- the client-first message
 
 -- a header that is taken, and what stands behind it
-abbrev Cut : Bool → List ℕ → Gs2Header × List ℕ → Type 0
-Cut unbound text cut = TakesHeader unbound cut.0 × (text ≡ header_text cut.0 ++ cut.1)
+abbrev Cut : Bool → List ℕ → ChannelBindingFlag × List ℕ → Type 0
+Cut cbind_flag_y text cut = TakesHeader cbind_flag_y cut.0 × (text ≡ header_text cut.0 ++ cut.1)
 
-cut_or : (unbound : Bool) (text : List ℕ) → Found (Cut unbound text)
-cut_or unbound text = elim (rest_or (header_text Unsupported) text) [
-  | inl (bare, is) ↦ inl ((Unsupported, bare), (tt, is))
-  | inr none ↦ elim (unoffered unbound) [
-    | inl (bare, cut) ↦ inl ((Unoffered, bare), cut)
+cut_or : (cbind_flag_y : Bool) (text : List ℕ) → Found (Cut cbind_flag_y text)
+cut_or cbind_flag_y text = elim (rest_or (header_text NotSupported) text) [
+  | inl (bare, is) ↦ inl ((NotSupported, bare), (tt, is))
+  | inr none ↦ elim (unoffered cbind_flag_y) [
+    | inl (bare, cut) ↦ inl ((ClientSupports, bare), cut)
     | inr other ↦ inr (neither none other)
   ]
 ]
   where
-    unoffered : (unbound : Bool) → Found (λ (bare : List ℕ). Cut unbound text (Unoffered, bare))
-    unoffered true = found_with (rest_or (header_text Unoffered) text) (λ bare is. inl (bare, (tt, is)))
+    unoffered : (cbind_flag_y : Bool) → Found (λ (bare : List ℕ). Cut cbind_flag_y text (ClientSupports, bare))
+    unoffered true = found_with (rest_or (header_text ClientSupports) text) (λ bare is. inl (bare, (tt, is)))
         (λ bare cut. (bare, cut.1))
     unoffered false = inr (λ bare cut. cut.0)
 
-    neither : ((bare : List ℕ) → text ≡ header_text Unsupported ++ bare → ⊥)
-        → ((bare : List ℕ) → Cut unbound text (Unoffered, bare) → ⊥) → (cut : Gs2Header × List ℕ)
-        → Cut unbound text cut → ⊥
-    neither none other (Unsupported, bare) cut = none bare cut.1
-    neither none other (Unoffered, bare) cut = other bare cut
+    neither : ((bare : List ℕ) → text ≡ header_text NotSupported ++ bare → ⊥)
+        → ((bare : List ℕ) → Cut cbind_flag_y text (ClientSupports, bare) → ⊥) → (cut : ChannelBindingFlag × List ℕ)
+        → Cut cbind_flag_y text cut → ⊥
+    neither none other (NotSupported, bare) cut = none bare cut.1
+    neither none other (ClientSupports, bare) cut = other bare cut
 
 -- whether the message begins with no header that is taken
-no_header_or : (unbound : Bool) (text : List ℕ)
-    → Decided ((header : Gs2Header) → TakesHeader unbound header → ¬ StartsWith text (header_text header))
-no_header_or unbound text = elim (cut_or unbound text) [
+no_header_or : (cbind_flag_y : Bool) (text : List ℕ)
+    → Decided ((header : ChannelBindingFlag) → TakesHeader cbind_flag_y header → ¬ StartsWith text (header_text header))
+no_header_or cbind_flag_y text = elim (cut_or cbind_flag_y text) [
   | inl ((header, bare), cut) ↦ inr (λ none. none header cut.0 (bare, cut.1))
   | inr none ↦ inl (λ header takes begins. none (header, begins.0) (takes, begins.1))
 ]
 
 -- what stands in a part behind the header
-bare_attribute_or : {X : Type 0} (write : X → List ℕ) (unbound : Bool) (text : List ℕ) (k : ℕ) (key : List ℕ)
+bare_attribute_or : {X : Type 0} (write : X → List ℕ) (cbind_flag_y : Bool) (text : List ℕ) (k : ℕ) (key : List ℕ)
     → ((spelling : List ℕ) → Found (λ (x : X). spelling ≡ write x))
-    → Found (λ (x : X). BarePart unbound text k (key ++ write x))
-bare_attribute_or {X} write unbound text k key read =
-    found_with (cut_or unbound text) behind (λ x has. ((has.0, has.1), (has.2, has.3)))
+    → Found (λ (x : X). BarePart cbind_flag_y text k (key ++ write x))
+bare_attribute_or {X} write cbind_flag_y text k key read =
+    found_with (cut_or cbind_flag_y text) behind (λ x has. ((has.0, has.1), (has.2, has.3)))
   where
-    behind : (cut : Gs2Header × List ℕ) → Cut unbound text cut
-        → Found (λ (x : X). BarePart unbound text k (key ++ write x))
+    behind : (cut : ChannelBindingFlag × List ℕ) → Cut cbind_flag_y text cut
+        → Found (λ (x : X). BarePart cbind_flag_y text k (key ++ write x))
     behind (header, bare) cut =
         found_with (attribute_or (λ _. Unit {0}) write bare k key
         (λ spelling. found_with (read spelling) (λ x is. inl (x, (tt, is))) (λ x is. (x, is.1))))
@@ -118,23 +118,23 @@ bare_attribute_or {X} write unbound text k key read =
           ),
         ))
 
-pub some_client_first : (unbound : Bool) (text : List ℕ) → (answer : Result ClientFirst ServerScramErrorKind)
-    × ReadsClientFirst unbound text answer
+pub some_client_first : (cbind_flag_y : Bool) (text : List ℕ) → (answer : Result ClientFirst ServerScramErrorKind)
+    × ReadsClientFirst cbind_flag_y text answer
 unfolding ReadsClientFirst
-some_client_first unbound text =
-    some_reading (client_first_tests unbound text) (NamesClientFirst unbound text)
-    (not_or (utf8_or text), (no_header_or unbound text, (none_or user, (none_or nonce, tt))))
+some_client_first cbind_flag_y text =
+    some_reading (client_first_tests cbind_flag_y text) (NamesClientFirst cbind_flag_y text)
+    (not_or (utf8_or text), (no_header_or cbind_flag_y text, (none_or user, (none_or nonce, tt))))
     (λ none. named (found_one user none.1.1.0) (found_one nonce none.1.1.1.0))
   where
-    user : Found (λ (user : List ℕ). BarePart unbound text 0 (codes "n=" ++ escaped user))
-    user = bare_attribute_or escaped unbound text 0 (codes "n=") name_or
+    user : Found (λ (user : List ℕ). BarePart cbind_flag_y text 0 (codes "n=" ++ escaped user))
+    user = bare_attribute_or escaped cbind_flag_y text 0 (codes "n=") name_or
 
-    nonce : Found (λ (nonce : List ℕ). BarePart unbound text 1 (codes "r=" ++ nonce))
-    nonce = bare_attribute_or (λ nonce. nonce) unbound text 1 (codes "r=") (λ spelling. inl (spelling, refl))
+    nonce : Found (λ (nonce : List ℕ). BarePart cbind_flag_y text 1 (codes "r=" ++ nonce))
+    nonce = bare_attribute_or (λ nonce. nonce) cbind_flag_y text 1 (codes "r=") (λ spelling. inl (spelling, refl))
 
-    named : (user : List ℕ) × BarePart unbound text 0 (codes "n=" ++ escaped user)
-        → (nonce : List ℕ) × BarePart unbound text 1 (codes "r=" ++ nonce)
-        → (first : ClientFirst) × NamesClientFirst unbound text first
+    named : (user : List ℕ) × BarePart cbind_flag_y text 0 (codes "n=" ++ escaped user)
+        → (nonce : List ℕ) × BarePart cbind_flag_y text 1 (codes "r=" ++ nonce)
+        → (first : ClientFirst) × NamesClientFirst cbind_flag_y text first
     named (user, (header, bare, takes, is, part)) (nonce, (own, other, taken, too, next)) = (
       record { header = header; user = user; nonce = nonce; bare = bare },
       record {
@@ -212,8 +212,8 @@ count_decided limits text = (
   (
     none_or (has_count_or text),
     (
-      some_count_or text (λ count. count < limits.least) (λ count. less_or count limits.least),
-      (some_count_or text (λ count. limits.most < count) (less_or limits.most), tt),
+      some_count_or text (λ count. count < limits.min_iterations) (λ count. less_or count limits.min_iterations),
+      (some_count_or text (λ count. limits.max_iterations < count) (less_or limits.max_iterations), tt),
     ),
   ),
 )
@@ -273,7 +273,7 @@ proof_or text = elim (last_part_or text) [
   | inr none ↦ inr (λ final has. none final.without (codes "p=" ++ base64_text final.proof) has.1)
 ]
 
-binding_decided : (header : Gs2Header) (text : List ℕ) → AllDecided (binding_tests header text)
+binding_decided : (header : ChannelBindingFlag) (text : List ℕ) → AllDecided (binding_tests header text)
 binding_decided header text = (
   none_or (attribute_text_or text 0 (codes "c=")),
   (none_or (binding_or text), (not_or (this_binding_or text (header_text header)), tt)),
@@ -289,7 +289,7 @@ spelling_decided : (text : List ℕ) → AllDecided (spelling_tests text)
 spelling_decided text = (proof_part_or text, (none_or (proof_or text), tt))
 
 -- a text has an answer before the keys are looked at
-some_final_text : (header : Gs2Header) (nonce text : List ℕ)
+some_final_text : (header : ChannelBindingFlag) (nonce text : List ℕ)
     → (answer : Result ClientFinal ServerScramErrorKind) × ReadsFinalText header nonce text answer
 unfolding ReadsFinalText
 some_final_text header nonce text =

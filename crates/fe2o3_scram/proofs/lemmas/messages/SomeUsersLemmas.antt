@@ -6,10 +6,10 @@ use Rattle.fe2o3_scram.specs.declared.credentials.record_lines.ReadLinesErrorKin
 use Rattle.fe2o3_scram.specs.declared.credentials.record_lines.ReadLinesErrorKind.TheVariants.{LineFeedMissing, SpaceMissing, InvalidName, InvalidRecord, VersionMismatch}
 use Rattle.fe2o3_scram.specs.declared.credentials.record_text.RecordTextError.{RecordTextError}
 use Rattle.fe2o3_scram.specs.Credentials.{Records, VersionedRecord}
-use Rattle.fe2o3_scram.specs.Mixed.{MixedRecords, unversioned}
+use Rattle.fe2o3_scram.specs.Mixed.{MultiRecords, unversioned}
 use Rattle.fe2o3_scram.specs.Escape.{escaped}
 use Rattle.fe2o3_scram.specs.Hmac.{mechanism_name}
-use Rattle.fe2o3_scram.specs.MixedLines.{IsMixedReadable, MixedFault, ReadsMixed, mixed_line}
+use Rattle.fe2o3_scram.specs.MultiRecordLines.{IsMixedReadable, MixedFault, ReadsMixed, mixed_line}
 use Rattle.fe2o3_scram.specs.RecordLines.{HeadFault, IsLineReadable, LastCut, LineFault, ReadsUsers, user_line}
 use Rattle.fe2o3_scram.specs.RecordText.{ReadsRecord}
 use Rattle.fe2o3_scram.specs.Texts.{Cut, Without}
@@ -96,5 +96,5 @@ pub some_users_answer : (version : ScramVersion) (text : List ℕ) → (answer :
 some_users_answer version text =
     some_lines_answer (user_line version) (IsLineReadable version) (HeadFault version) (head_or version) text
 
-pub some_mixed_answer : (text : List ℕ) → (answer : Result MixedRecords ReadLinesError) × ReadsMixed text answer
+pub some_mixed_answer : (text : List ℕ) → (answer : Result MultiRecords ReadLinesError) × ReadsMixed text answer
 some_mixed_answer text = some_lines_answer mixed_line IsMixedReadable MixedFault mixed_head_or text

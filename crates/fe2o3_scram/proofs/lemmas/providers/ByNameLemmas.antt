@@ -158,17 +158,17 @@ without-other (entry ∷ records) user name other =
         ap (λ (found : Option Record). cond (pointwise nat_eq entry.0 name) (Some entry.1) found) behind
 
 -- a name that nobody has
-pub without_nobody : (records : Records) (user : List ℕ) → is_some (record_at records user) ≡ false
+pub without_mock : (records : Records) (user : List ℕ) → is_some (record_at records user) ≡ false
     → records_without records user ≡ records
-without_nobody [] user nobody = refl
-without_nobody (entry ∷ records) user nobody =
-    go (pointwise nat_eq entry.0 user) nobody (without_nobody records user)
+without_mock [] user mock = refl
+without_mock (entry ∷ records) user mock =
+    go (pointwise nat_eq entry.0 user) mock (without_mock records user)
   where
     go : (test : Bool) → is_some (cond test (Some entry.1) (record_at records user)) ≡ false
         → (is_some (record_at records user) ≡ false → records_without records user ≡ records)
         → cond (not test) (entry ∷ records_without records user) (records_without records user) ≡ entry ∷ records
-    go true nobody behind = absurd (cc)
-    go false nobody behind = ap (λ (rest : Records). entry ∷ rest) (behind nobody)
+    go true mock behind = absurd (cc)
+    go false mock behind = ap (λ (rest : Records). entry ∷ rest) (behind mock)
 
 module _ {X Y : Type 0} (record_of : X → VersionedRecord) (version : ScramVersion) where
   -- the name leaves the map
@@ -232,17 +232,17 @@ with-other (entry ∷ records) user name stored other =
         ap (λ (found : Option Record). cond (pointwise nat_eq entry.0 name) (Some entry.1) found) behind
 
 -- a name that nobody has
-pub with_nobody : (records : Records) (user : List ℕ) (stored : Record) → is_some (record_at records user) ≡ false
+pub with_mock : (records : Records) (user : List ℕ) (stored : Record) → is_some (record_at records user) ≡ false
     → records_with records user stored ≡ records
-with_nobody [] user stored nobody = refl
-with_nobody (entry ∷ records) user stored nobody =
-    go (pointwise nat_eq entry.0 user) nobody (with_nobody records user stored)
+with_mock [] user stored mock = refl
+with_mock (entry ∷ records) user stored mock =
+    go (pointwise nat_eq entry.0 user) mock (with_mock records user stored)
   where
     go : (test : Bool) → is_some (cond test (Some entry.1) (record_at records user)) ≡ false
         → (is_some (record_at records user) ≡ false → records_with records user stored ≡ records)
         → cond test ((entry.0, stored) ∷ records) (entry ∷ records_with records user stored) ≡ entry ∷ records
-    go true nobody behind = absurd (cc)
-    go false nobody behind = ap (λ (rest : Records). entry ∷ rest) (behind nobody)
+    go true mock behind = absurd (cc)
+    go false mock behind = ap (λ (rest : Records). entry ∷ rest) (behind mock)
 
 -- the first of the name, with those before it
 pub with-at : (records : Records) (user : List ℕ) (stored : Record) (k : ℕ) (default : List ℕ × Record)
@@ -266,11 +266,11 @@ with-at (entry ∷ records) user stored (suc k) default before below here =
     go false before behind = ap (λ (rest : Records). entry ∷ rest) (behind before)
 
 -- one user more without the name
-pub nobody-more : (records : Records) (user : List ℕ) (k : ℕ) (default : List ℕ × Record) → k < length records
+pub mock-more : (records : Records) (user : List ℕ) (k : ℕ) (default : List ℕ × Record) → k < length records
     → is_some (record_at (take k records) user) ≡ false
     → pointwise nat_eq (get_or records k default).0 user ≡ false
     → is_some (record_at (take (k + 1) records) user) ≡ false
-nobody-more records user k default below before here =
+mock-more records user k default below before here =
     ap (λ (front : Records). is_some (record_at front user)) (take_more records k default below)
     ∙ ap (λ (found : Option Record). is_some found)
     (record_at-other (take k records) (get_or records k default) user here) ∙ before

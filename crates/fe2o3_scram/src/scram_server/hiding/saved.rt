@@ -36,8 +36,8 @@ impl<C: ScramCredentialProvider> HidingAuthenticator<C> {
     ) -> Result<Self, OutOfMemory>
         requires { meter.old ≤ 2 ^ 63 }
         ensures provider { IfOk result (λ hiding. hiding.credentials ≡ self.credentials) }
-        ensures unbound { IfOk result (λ hiding. hiding.unbound ≡ self.unbound) }
-        ensures nobody { IfOk result (λ hiding. hiding.nobody ≡ self.nobody) }
+        ensures cbind_flag_y { IfOk result (λ hiding. hiding.cbind_flag_y ≡ self.cbind_flag_y) }
+        ensures mock { IfOk result (λ hiding. hiding.mock ≡ self.mock) }
         ensures state { IfOk result (λ hiding. hiding.state ≡ ServerFirstSent (challenge_kept challenge.now)) }
         ensures cost { meter.new ≡ meter.old + 3 }
     {
@@ -66,14 +66,14 @@ impl<C: ScramCredentialProvider> HidingAuthenticator<C> {
     /// saved. No password, key or record is needed beside it.
     ///
     /// `OutOfMemory` is the only error.
-    pub fn restore_logged_in(self, alloc: Global, username: &str) -> Result<Self, OutOfMemory>
+    pub fn restore_authenticated(self, alloc: Global, username: &str) -> Result<Self, OutOfMemory>
         ensures provider { IfOk result (λ hiding. hiding.credentials ≡ self.credentials) }
-        ensures unbound { IfOk result (λ hiding. hiding.unbound ≡ self.unbound) }
-        ensures nobody { IfOk result (λ hiding. hiding.nobody ≡ self.nobody) }
+        ensures cbind_flag_y { IfOk result (λ hiding. hiding.cbind_flag_y ≡ self.cbind_flag_y) }
+        ensures mock { IfOk result (λ hiding. hiding.mock ≡ self.mock) }
         ensures state { IfOk result (λ hiding. hiding.state ≡ ServerFinalSent username.now) }
     {
         Ok(Self {
-            authenticator: self.authenticator.restore_logged_in(alloc, username)?,
+            authenticator: self.authenticator.restore_authenticated(alloc, username)?,
             scram_version: self.scram_version,
             secret: self.secret,
             salt_len: self.salt_len,

@@ -1,7 +1,7 @@
 use Rattle.std.proofs.Common.{inl, inr, sym, ◌∙◌}
-use Rattle.fe2o3_sasl_runs.specs.Events.{Refused}
-use Rattle.fe2o3_sasl_runs.specs.Runs.{client_reply}
-use Rattle.fe2o3_sasl_runs.specs.SaslProfile.{profile_of}
+use Rattle.fe2o3_sasl_core.specs.Events.{Refused}
+use Rattle.fe2o3_sasl_core.specs.Runs.{client_reply}
+use Rattle.fe2o3_sasl_core.specs.SaslProfile.{profile_of}
 use Rattle.sasl_c.proofs.StatusLemmas.{profile_not_room}
 use Rattle.sasl_c.proofs.StepLemmas.{client_hides}
 use Rattle.sasl_c.proofs.client_steps.stepped.Goals as goal

@@ -1,5 +1,5 @@
 use Rattle.std.specs.Prelude.{Err}
-use Rattle.fe2o3_scram.specs.MixedLines.{ReadsMixed, SpellsMixed, UpToMixed}
+use Rattle.fe2o3_scram.specs.MultiRecordLines.{ReadsMixed, SpellsMixed, UpToMixed}
 use Rattle.fe2o3_scram.specs.RecordLines.{ReachesUser}
 use Rattle.sasl_c.specs.Lines.{Chosen}
 use Rattle.sasl_c.proofs.LineLemmas.{asks, found}

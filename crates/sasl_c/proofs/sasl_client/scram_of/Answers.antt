@@ -1,4 +1,4 @@
-use Rattle.fe2o3_sasl_runs.specs.SaslProfile.{profile_of}
+use Rattle.fe2o3_sasl_core.specs.SaslProfile.{profile_of}
 use Rattle.sasl_c.proofs.SaslClientLemmas.{shows_other, shows_scram, writes_other, writes_scram}
 use Rattle.sasl_c.proofs.sasl_client.scram_of.Goals as goal
 

@@ -15,7 +15,7 @@ pub returns-in-Err-taken-clause-err : goal.returns-in-Err-taken-clause-err
 returns-in-Err-taken-clause-err c = λ other. unanswered c.args.host.now c.args.bytes.now c.args.nonce.now
     c.args.server.now c.in-Ok.kept (value_state c.in-Ok-acceptor.acceptor) c.in-Ok.ensures.kept
     c.in-Ok.ensures.wanting.0 c.in-Ok.ensures.wanting.1 c.in-Ok-acceptor.ensures.ok c.in-Err-taken.status
-    c.in-Ok.ensures.nobody (c.in-Err-taken.ensures.err other)
+    c.in-Ok.ensures.mock (c.in-Err-taken.ensures.err other)
 
 pub returns-in-Ok-taken-clause-ok : goal.returns-in-Ok-taken-clause-ok
 returns-in-Ok-taken-clause-ok c = answered c.args.host.now c.args.bytes.now c.args.nonce.now c.args.server.now

@@ -13,44 +13,44 @@ returns-in-Err-clause-err c = λ _.
     (challenge_kept c.in-Some.challenge) c.in-Err.status
     c.in-Some.ensures c.in-Err.ensures.err
 
-pub returns-in-Ok-compute_server_final_message_behind-clause-ok :
-    goal.returns-in-Ok-compute_server_final_message_behind-clause-ok
-returns-in-Ok-compute_server_final_message_behind-clause-ok c =
+pub returns-in-Ok-compute_server_final_message_with_gs2_header-clause-ok :
+    goal.returns-in-Ok-compute_server_final_message_with_gs2_header-clause-ok
+returns-in-Ok-compute_server_final_message_with_gs2_header-clause-ok c =
     let all = concluded c.args.kept.now c.args.server.now c.args.client_final.now
-    c.in-Ok-compute_server_final_message_behind.message.items
+    c.in-Ok-compute_server_final_message_with_gs2_header.message.items
     (challenge_kept c.in-Some.challenge) (versioned c.in-Ok.shown.0 (kept c.in-Ok.shown.1)) c.in-Some.ensures
-    c.in-Ok.ensures.ok c.in-Ok-compute_server_final_message_behind.ensures.answer in
+    c.in-Ok.ensures.ok c.in-Ok-compute_server_final_message_with_gs2_header.ensures.answer in
     (c.in-Some.challenge.username.now, all.0)
 
-pub returns-in-Ok-compute_server_final_message_behind-clause-fits :
-    goal.returns-in-Ok-compute_server_final_message_behind-clause-fits
-returns-in-Ok-compute_server_final_message_behind-clause-fits c =
+pub returns-in-Ok-compute_server_final_message_with_gs2_header-clause-fits :
+    goal.returns-in-Ok-compute_server_final_message_with_gs2_header-clause-fits
+returns-in-Ok-compute_server_final_message_with_gs2_header-clause-fits c =
     let all = concluded c.args.kept.now c.args.server.now c.args.client_final.now
-    c.in-Ok-compute_server_final_message_behind.message.items
+    c.in-Ok-compute_server_final_message_with_gs2_header.message.items
     (challenge_kept c.in-Some.challenge) (versioned c.in-Ok.shown.0 (kept c.in-Ok.shown.1)) c.in-Some.ensures
-    c.in-Ok.ensures.ok c.in-Ok-compute_server_final_message_behind.ensures.answer in
+    c.in-Ok.ensures.ok c.in-Ok-compute_server_final_message_with_gs2_header.ensures.answer in
     all.1
 
-pub returns-in-Err-compute_server_final_message_behind-clause-err :
-    goal.returns-in-Err-compute_server_final_message_behind-clause-err
-returns-in-Err-compute_server_final_message_behind-clause-err c =
+pub returns-in-Err-compute_server_final_message_with_gs2_header-clause-err :
+    goal.returns-in-Err-compute_server_final_message_with_gs2_header-clause-err
+returns-in-Err-compute_server_final_message_with_gs2_header-clause-err c =
     refuses c.args.kept.now c.args.server.now c.args.client_final.now (challenge_kept c.in-Some.challenge)
     (versioned c.in-Ok.shown.0 (kept c.in-Ok.shown.1))
-    c.in-Err-compute_server_final_message_behind.why c.from.result c.in-Some.ensures c.in-Ok.ensures.ok
-    c.in-Err-compute_server_final_message_behind.ensures.answer.1 c.from.ensures
+    c.in-Err-compute_server_final_message_with_gs2_header.why c.from.result c.in-Some.ensures c.in-Ok.ensures.ok
+    c.in-Err-compute_server_final_message_with_gs2_header.ensures.answer.1 c.from.ensures
 
-pub returns-in-Err-compute_server_final_message_behind-clause-memory :
-    goal.returns-in-Err-compute_server_final_message_behind-clause-memory
-returns-in-Err-compute_server_final_message_behind-clause-memory c =
+pub returns-in-Err-compute_server_final_message_with_gs2_header-clause-memory :
+    goal.returns-in-Err-compute_server_final_message_with_gs2_header-clause-memory
+returns-in-Err-compute_server_final_message_with_gs2_header-clause-memory c =
     final_asks c.args.kept.now c.args.server.now c.args.client_final.now (challenge_kept c.in-Some.challenge)
     (versioned c.in-Ok.shown.0 (kept c.in-Ok.shown.1))
-    c.in-Err-compute_server_final_message_behind.why c.from.result c.in-Some.ensures c.in-Ok.ensures.ok
-    c.in-Err-compute_server_final_message_behind.ensures.answer.0 c.from.ensures
+    c.in-Err-compute_server_final_message_with_gs2_header.why c.from.result c.in-Some.ensures c.in-Ok.ensures.ok
+    c.in-Err-compute_server_final_message_with_gs2_header.ensures.answer.0 c.from.ensures
 
-pub returns-in-Err-compute_server_final_message_behind-clause-cost :
-    goal.returns-in-Err-compute_server_final_message_behind-clause-cost
-returns-in-Err-compute_server_final_message_behind-clause-cost c =
+pub returns-in-Err-compute_server_final_message_with_gs2_header-clause-cost :
+    goal.returns-in-Err-compute_server_final_message_with_gs2_header-clause-cost
+returns-in-Err-compute_server_final_message_with_gs2_header-clause-cost c =
     memory_costs (Unit {0}) c.args.kept.now c.args.server.now c.args.client_final.now (challenge_kept c.in-Some.challenge)
     (versioned c.in-Ok.shown.0 (kept c.in-Ok.shown.1))
-    c.in-Err-compute_server_final_message_behind.why c.from.result _ _ c.in-Some.ensures c.in-Ok.ensures.ok
-    c.in-Err-compute_server_final_message_behind.ensures.cost c.from.ensures
+    c.in-Err-compute_server_final_message_with_gs2_header.why c.from.result _ _ c.in-Some.ensures c.in-Ok.ensures.ok
+    c.in-Err-compute_server_final_message_with_gs2_header.ensures.cost c.from.ensures

@@ -12,9 +12,9 @@ returns-in-Err-stepped-clause-err c = λ other. server_not_stepped c.args.host.n
 
 pub returns-in-Ok-stepped-clause-ok : goal.returns-in-Ok-stepped-clause-ok
 returns-in-Ok-stepped-clause-ok c = server_stepped c.args.host.now _ c.args.server.now c.in-Ok-stepped.made.next
-    (value_state c.in-Ok.acceptor) c.in-Ok-stepped.made.standing c.in-Ok-stepped.made.sent.items c.in-Ok.ensures.ok
+    (value_state c.in-Ok.acceptor) c.in-Ok-stepped.made.progress c.in-Ok-stepped.made.sent.items c.in-Ok.ensures.ok
     c.in-Ok-stepped.ensures.ok
 
 pub returns-in-Ok-stepped-clause-fits : goal.returns-in-Ok-stepped-clause-fits
 returns-in-Ok-stepped-clause-fits c = server_steps_short (value_state c.in-Ok.acceptor) _ c.in-Ok-stepped.made.next
-    c.in-Ok-stepped.made.standing c.in-Ok-stepped.made.sent.items c.in-Ok-stepped.ensures.ok
+    c.in-Ok-stepped.made.progress c.in-Ok-stepped.made.sent.items c.in-Ok-stepped.ensures.ok

@@ -1,6 +1,6 @@
 use Rattle.std.proofs.Common.{inl, inr, refl}
-use Rattle.fe2o3_sasl_runs.specs.Events.{Failed}
-use Rattle.fe2o3_sasl_runs.specs.Runs.{server_reply}
+use Rattle.fe2o3_sasl_core.specs.Events.{Failed}
+use Rattle.fe2o3_sasl_core.specs.Runs.{server_reply}
 use Rattle.sasl_c.proofs.server_steps.stepped.Goals as goal
 
 pub returns-in-Err-clause-err : goal.returns-in-Err-clause-err

@@ -1,4 +1,4 @@
-use Rattle.sasl_c.proofs.ServerUserLemmas.{bytes_name, names_nobody}
+use Rattle.sasl_c.proofs.ServerUserLemmas.{bytes_name, names_no_user}
 use Rattle.sasl_c.proofs.server_user.named.Goals as goal
 
 pub returns-in-Ok-Some-body_user-clause-ok : goal.returns-in-Ok-Some-body_user-clause-ok
@@ -13,8 +13,8 @@ returns-in-Ok-Some-body_user-clause-ok c =
 pub returns-in-Ok-None-body_user-clause-err : goal.returns-in-Ok-None-body_user-clause-err
 returns-in-Ok-None-body_user-clause-err c = λ _.
     let done = rw c.in-Ok-Some.field-0-is at c.in-Ok-Some.ensures.body in
-    let nobody = rw c.deref.ensures.value at (rw c.in-Ok-None-body_user.field-0-is at c.in-Ok-None-body_user.ensures.ok)
+    let mock = rw c.deref.ensures.value at (rw c.in-Ok-None-body_user.field-0-is at c.in-Ok-None-body_user.ensures.ok)
     in
-    names_nobody c.args.server.now c.in_ok-kept.kept c.args.bytes.now c.in-Ok-Some.body.items c.in-Frame.turn done.0
+    names_no_user c.args.server.now c.in_ok-kept.kept c.args.bytes.now c.in-Ok-Some.body.items c.in-Frame.turn done.0
     c.in_ok-kept.ensures.kept c.in_ok-kept.ensures.wanting.0 c.in_ok-kept.ensures.wanting.1 c.in-Frame.is done.1
-    nobody
+    mock

@@ -1,8 +1,8 @@
 use Rattle.std.proofs.Common.{arith, true≢false, ap, sym, ◌∙◌, Some}
-use Rattle.fe2o3_sasl_runs.specs.Events.{Refused}
-use Rattle.fe2o3_sasl_runs.specs.Runs.{client_answer}
+use Rattle.fe2o3_sasl_core.specs.Events.{Refused}
+use Rattle.fe2o3_sasl_core.specs.Runs.{client_answer}
 use Rattle.fe2o3_sasl.proofs.lemmas.audit.CoverLemmas.{at_index, none_more}
-use Rattle.fe2o3_sasl_runs.specs.declared.sasl_profile.error.ProfileError.TheVariants.{OutOfMemory}
+use Rattle.fe2o3_sasl_core.specs.declared.sasl_profile.error.ProfileError.TheVariants.{OutOfMemory}
 use Rattle.fe2o3_sasl.proofs.audit.client_receipts.client_is_complete.Goals as goal
 
 pub loop-reply-preserved : goal.loop-reply-preserved

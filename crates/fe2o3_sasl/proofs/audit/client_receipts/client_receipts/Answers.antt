@@ -1,6 +1,6 @@
 use Rattle.std.proofs.Common.{map, arith}
-use Rattle.fe2o3_sasl_runs.specs.Events.{Login}
-use Rattle.fe2o3_sasl_runs.specs.Runs.{given, client_answer, login_of}
+use Rattle.fe2o3_sasl_core.specs.Events.{Login}
+use Rattle.fe2o3_sasl_core.specs.Runs.{given, client_answer, login_of}
 use Rattle.fe2o3_sasl.specs.private.Findings.{client_receipt}
 use Rattle.fe2o3_sasl.proofs.lemmas.audit.ClientReceiptLemmas.{client_next, start_behind}
 use Rattle.fe2o3_sasl.proofs.lemmas.audit.CoverLemmas.{at_index}

@@ -1,5 +1,5 @@
 use Rattle.std.proofs.Common.{◌≤◌, map}
-use Rattle.fe2o3_sasl_runs.specs.Runs.{given, client_answer}
+use Rattle.fe2o3_sasl_core.specs.Runs.{given, client_answer}
 use Rattle.fe2o3_sasl.specs.private.ClientReceipts.{ClientSoFar, KeptKeys, login_at}
 use Rattle.fe2o3_sasl.specs.private.Findings.{client_receipt}
 use Rattle.fe2o3_sasl.proofs.audit.client_receipts.client_receipts.Given as goal

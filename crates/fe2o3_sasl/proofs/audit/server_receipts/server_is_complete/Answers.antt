@@ -1,6 +1,6 @@
 use Rattle.std.proofs.Common.{arith, true≢false, ap, sym, ◌∙◌, Some}
 use Rattle.fe2o3_sasl.specs.private.ServerReceipts.{no_memory}
-use Rattle.fe2o3_sasl_runs.specs.Runs.{server_answer}
+use Rattle.fe2o3_sasl_core.specs.Runs.{server_answer}
 use Rattle.fe2o3_sasl.proofs.lemmas.audit.CoverLemmas.{at_index, none_more}
 use Rattle.fe2o3_sasl.proofs.audit.server_receipts.server_is_complete.Goals as goal
 

@@ -1,14 +1,14 @@
 use Rattle.std.proofs.Common.{map, arith}
 use Rattle.fe2o3_scram.specs.Credentials.{serving}
 use Rattle.fe2o3_sasl.specs.private.Findings.{server_receipt}
-use Rattle.fe2o3_sasl_runs.specs.Runs.{given, server_answer}
+use Rattle.fe2o3_sasl_core.specs.Runs.{given, server_answer}
 use Rattle.fe2o3_sasl.proofs.lemmas.audit.CoverLemmas.{at_index}
 use Rattle.fe2o3_sasl.proofs.lemmas.audit.ServerReceiptLemmas.{server_next, challenge_behind}
 use Rattle.fe2o3_sasl.proofs.audit.server_receipts.server_receipts.Goals as goal
 
 pub loop-place-preserved : goal.loop-place-preserved
 loop-place-preserved g c =
-    let provider = serving c.args.accepts_unbound (g.C.ScramCredentialProvider.meaning c.args.credentials.now) in
+    let provider = serving c.args.accept_cbind_flag_y (g.C.ScramCredentialProvider.meaning c.args.credentials.now) in
     let events = c.args.events.now in
     let replies = c.args.replies.now in
     let i = c.loop-place.place in

@@ -1,5 +1,5 @@
 use Rattle.std.proofs.Common.{◌≡◌, ℕ, List, sym, ◌∙◌, subst}
-use Rattle.fe2o3_sasl_runs.specs.SaslProfile.{profile_of}
+use Rattle.fe2o3_sasl_core.specs.SaslProfile.{profile_of}
 use Rattle.fe2o3_sasl_negotiation.specs.Framing.{IsPart}
 use Rattle.fe2o3_sasl_negotiation.proofs.lemmas.ReceivingLemmas.{held_before_unit, same_side}
 use Rattle.fe2o3_sasl_negotiation.proofs.lemmas.ClientAnswerLemmas.{unit_costs}
@@ -13,42 +13,42 @@ pub invariant_of-self-in-Err-clause-part : goal.invariant_of-self-in-Err-clause-
 invariant_of-self-in-Err-clause-part c =
     let old = c.args.self.now in
     let same : c.truncate.new.self.items ≡ old.held.items = c.truncate.ensures.items
-    ∙ held_before_unit old.due old.limit old.held.items c.args.bytes.now c.take_unit.new.held.items c.len-had.result
+    ∙ held_before_unit old.expected old.limit old.held.items c.args.bytes.now c.take_unit.new.held.items c.len-had.result
     old.part (rw c.in-Whole.is at c.in_ok-take_unit.ensures.ok) (c.len-had.ensures ∙ old.held.ok.0) in
-    subst (λ (h : List ℕ). IsPart old.due old.limit h) (sym same) old.part
+    subst (λ (h : List ℕ). IsPart old.expected old.limit h) (sym same) old.part
 
 pub returns-in-Ok-clause-cost : goal.returns-in-Ok-clause-cost
 returns-in-Ok-clause-cost c =
     let old = c.args.self.now in
-    unit_costs old.standing old.due old.limit old.held.items c.args.bytes.now c.args.nonce.now
-    c.take_unit.new.held.items (profile_of old.profile) c.args.meter.now c.answer.new.meter c.in-Wanting.is
+    unit_costs old.progress old.expected old.limit old.held.items c.args.bytes.now c.args.nonce.now
+    c.take_unit.new.held.items (profile_of old.profile) c.args.meter.now c.answer.new.meter c.in-InProgress.is
     (rw c.in-Whole.is at c.in_ok-take_unit.ensures.ok) (rw c.deref.ensures.value at c.in-Ok.ensures.cost)
 
 pub returns-in-Err-clause-unchanged : goal.returns-in-Err-clause-unchanged
 returns-in-Err-clause-unchanged c =
     let old = c.args.self.now in
     let same : c.truncate.new.self.items ≡ old.held.items = c.truncate.ensures.items
-    ∙ held_before_unit old.due old.limit old.held.items c.args.bytes.now c.take_unit.new.held.items c.len-had.result
+    ∙ held_before_unit old.expected old.limit old.held.items c.args.bytes.now c.take_unit.new.held.items c.len-had.result
     old.part (rw c.in-Whole.is at c.in_ok-take_unit.ensures.ok) (c.len-had.ensures ∙ old.held.ok.0) in
-    same_side old.standing old.due old.limit same c.in-Err.ensures.unchanged
+    same_side old.progress old.expected old.limit same c.in-Err.ensures.unchanged
 
 pub returns-in-Err-clause-cost : goal.returns-in-Err-clause-cost
 returns-in-Err-clause-cost c =
     let old = c.args.self.now in
-    unit_costs old.standing old.due old.limit old.held.items c.args.bytes.now c.args.nonce.now
-    c.take_unit.new.held.items (profile_of old.profile) c.args.meter.now c.answer.new.meter c.in-Wanting.is
+    unit_costs old.progress old.expected old.limit old.held.items c.args.bytes.now c.args.nonce.now
+    c.take_unit.new.held.items (profile_of old.profile) c.args.meter.now c.answer.new.meter c.in-InProgress.is
     (rw c.in-Whole.is at c.in_ok-take_unit.ensures.ok) (rw c.deref.ensures.value at c.in-Err.ensures.cost)
 
 pub returns-in-Err-clause-memory : goal.returns-in-Err-clause-memory
 returns-in-Err-clause-memory c =
     let old = c.args.self.now in
-    client_asks old.standing old.due old.limit (client_room old) old.held.items c.args.bytes.now
-    c.take_unit.new.held.items (profile_of old.profile) c.in-Wanting.is
+    client_asks old.progress old.expected old.limit (client_room old) old.held.items c.args.bytes.now
+    c.take_unit.new.held.items (profile_of old.profile) c.in-InProgress.is
     (rw c.in-Whole.is at c.in_ok-take_unit.ensures.ok) (rw c.deref.ensures.value at c.in-Err.ensures.memory)
 
 pub invariant_of-self-in-Ok-clause-at : goal.invariant_of-self-in-Ok-clause-at
 invariant_of-self-in-Ok-clause-at c =
     let old = c.args.self.now in
-    client_stays (hostname_in old) old.standing old.due (profile_of old.profile) (profile_of c.answer.new.profile)
-    c.args.nonce.now c.take_unit.new.held.items c.args.out.now.items c.answer.new.out.items c.in-Ok.step c.in-Wanting.is
+    client_stays (hostname_in old) old.progress old.expected (profile_of old.profile) (profile_of c.answer.new.profile)
+    c.args.nonce.now c.take_unit.new.held.items c.args.out.now.items c.answer.new.out.items c.in-Ok.step c.in-InProgress.is
     old.at (rw (c.deref.ensures.value, c.shown_name.ensures) at c.in-Ok.ensures.ok)

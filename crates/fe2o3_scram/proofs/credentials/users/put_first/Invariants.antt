@@ -6,5 +6,5 @@ use Rattle.fe2o3_scram.proofs.credentials.users.put_first.Given as goal
 abbrev pub invariant-loop-user : goal.invariant-loop-user
 invariant-loop-user l = record {
   same : l.users ≡ l.fn.users;
-  nobody : is_some (record_at (take l.user-index l.users) l.username) ≡ false;
+  mock : is_some (record_at (take l.user-index l.users) l.username) ≡ false;
 }

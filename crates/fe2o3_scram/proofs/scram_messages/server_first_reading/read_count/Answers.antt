@@ -35,7 +35,7 @@ returns-then-iterations-limits-2-clause-err c =
       inr (
         λ none. none count has,
         inr (
-          not_too_small text c.args.limits.least count has c.if-iterations-limits.false,
+          not_too_small text c.args.limits.min_iterations count has c.if-iterations-limits.false,
           inl ((count, has, c.if-iterations-limits-2.true), refl),
         ),
       ),
@@ -51,8 +51,8 @@ returns-clause-tested c =
       (
         λ none. none count has,
         (
-          not_too_small text c.args.limits.least count has (search rules),
-          (not_too_large text c.args.limits.most count has (search rules), tt),
+          not_too_small text c.args.limits.min_iterations count has (search rules),
+          (not_too_large text c.args.limits.max_iterations count has (search rules), tt),
         ),
       ),
     )

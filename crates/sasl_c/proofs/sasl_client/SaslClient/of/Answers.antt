@@ -1,5 +1,5 @@
 use Rattle.std.proofs.Common.{sym}
-use Rattle.fe2o3_sasl_runs.specs.SaslProfile.{profile_of}
+use Rattle.fe2o3_sasl_core.specs.SaslProfile.{profile_of}
 use Rattle.fe2o3_sasl_negotiation.specs.Sides.{client_side}
 use Rattle.sasl_c.specs.SaslClient.{ProfileIsReached, IsProfile, WritesProfile}
 use Rattle.sasl_c.proofs.SaslClientLemmas.{shows_side, writes_side}
@@ -11,16 +11,16 @@ returns-clause-state c = λ login comes limit few.
     let shown = profile_of c.profile.result.now in
     let state = (client_side c.args.side.now).state in
     let is = c.in-Some-scram_of.ensures.state login (carried (ProfileIsReached login) state shown (sym c.profile.ensures) comes) in
-    shows_side login c.in-Some.connection c.in-Some-scram_of.scram (client_side c.args.side.now) c.set_down-kept.result
-    c.set_down-kept.ensures.side limit c.in-Some.ensures.keeps
+    shows_side login c.in-Some.connection c.in-Some-scram_of.scram (client_side c.args.side.now) c.snapshot-kept.result
+    c.snapshot-kept.ensures.side limit c.in-Some.ensures.keeps
     (carried (IsProfile login c.in-Some-scram_of.scram) shown state c.profile.ensures is)
 
 pub returns-clause-writes : goal.returns-clause-writes
 returns-clause-writes c =
     let shown = profile_of c.profile.result.now in
     let state = (client_side c.args.side.now).state in
-    writes_side c.in-Some.connection c.in-Some-scram_of.scram (client_side c.args.side.now) c.set_down-kept.result
-    c.set_down-kept.ensures.side c.in-Some.ensures.writes
+    writes_side c.in-Some.connection c.in-Some-scram_of.scram (client_side c.args.side.now) c.snapshot-kept.result
+    c.snapshot-kept.ensures.side c.in-Some.ensures.writes
     (carried (WritesProfile c.in-Some-scram_of.scram) shown state c.profile.ensures c.in-Some-scram_of.ensures.writes)
 
 pub returns-in_default-scram_of-clause-state : goal.returns-in_default-scram_of-clause-state

@@ -19,12 +19,12 @@ returns-in-Ok-new-clause-ok c =
     (map (λ name. name.now) c.names.result) (value_state c.in-Ok-new.acceptor) c.in-Some.ensures c.in-Some-of.ensures
     c.names.ensures c.in-Ok-new.ensures.ok c.in-Ok.ensures.ok
 
-pub returns-in-Err-NothingOffered-clause-err : goal.returns-in-Err-NothingOffered-clause-err
-returns-in-Err-NothingOffered-clause-err c = λ _.
+pub returns-in-Err-NoMechanismLeft-clause-err : goal.returns-in-Err-NoMechanismLeft-clause-err
+returns-in-Err-NoMechanismLeft-clause-err c = λ _.
     no_offer c.args.self.now c.in-Some.version c.in-Some-of.choice c.args.scram.now (all_in c.in-Ok.all)
     (map (λ name. name.now) c.names.result) _ c.in-Some.ensures c.in-Some-of.ensures c.names.ensures refl
     c.in-Ok.ensures.ok c.in-Ok.ensures.utf8.0 c.in-Ok.ensures.utf8.1
-    (c.in-Err-NothingOffered.ensures.err c.in-Err-NothingOffered.field-0-is)
+    (c.in-Err-NoMechanismLeft.ensures.err c.in-Err-NoMechanismLeft.field-0-is)
 
 pub returns-in_default-of-clause-err : goal.returns-in_default-of-clause-err
 returns-in_default-of-clause-err c = λ _.

@@ -1,12 +1,12 @@
 use Rattle.std.proofs.Common.{◌≡◌, refl}
 use Rattle.fe2o3_scram.specs.ClientFinal.{client_final_values}
 use Rattle.fe2o3_scram.specs.Keys.{auth_message}
-use Rattle.fe2o3_sasl_runs.specs.ServerHistory.{first_message}
+use Rattle.fe2o3_sasl_core.specs.ServerHistory.{first_message}
 use Rattle.fe2o3_sasl.specs.private.ServerReceipts.{opened_challenge}
 use Rattle.fe2o3_sasl.proofs.audit.server_receipts.accepted.receipt_of.Goals as goal
 
 pub returns-clause-accepted : goal.returns-clause-accepted
-returns-clause-accepted g c = λ unbound.
+returns-clause-accepted g c = λ cbind_flag_y.
     let provider = g.C.ScramCredentialProvider.meaning c.args.credentials.now in
     let opened = opened_challenge c.args.opened.now in
     let final = client_final_values c.args.client_final in

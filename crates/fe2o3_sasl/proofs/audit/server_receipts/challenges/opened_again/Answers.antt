@@ -5,7 +5,7 @@ use Rattle.fe2o3_scram.specs.ClientFirst.{client_first_values}
 use Rattle.fe2o3_scram.specs.Credentials.{kept, record_at, serving}
 use Rattle.fe2o3_scram.specs.ServerFirst.{AnswersClientFirst, challenge_values}
 use Rattle.fe2o3_scram.proofs.lemmas.texts.Base64Lemmas.{encode_of-standard}
-use Rattle.fe2o3_sasl_runs.specs.Bodies.{SpellsBody}
+use Rattle.fe2o3_sasl_core.specs.Bodies.{SpellsBody}
 use Rattle.fe2o3_sasl.proofs.lemmas.audit.ServerReceiptLemmas.{challenge_again}
 use Rattle.fe2o3_sasl.proofs.audit.server_receipts.challenges.opened_again.Goals as goal
 
@@ -28,7 +28,7 @@ returns-clause-opened g c =
 
 pub returns-clause-message : goal.returns-clause-message
 returns-clause-message g c =
-    let provider = serving c.args.accepts_unbound (g.C.ScramCredentialProvider.meaning c.args.credentials.now) in
+    let provider = serving c.args.accept_cbind_flag_y (g.C.ScramCredentialProvider.meaning c.args.credentials.now) in
     let answers : AnswersClientFirst provider c.deref-2.result.now c.in-Some.text.now
     (Ok (Some (challenge_values c.in-Ok-Some.server_first))) =
     rw c.in-Ok-Some.field-0-is at c.in-Ok-Some.ensures in

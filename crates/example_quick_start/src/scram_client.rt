@@ -1,0 +1,34 @@
+//! A client that logs in.
+
+use anyhow::Result;
+use fe2o3_sasl::{ScramClient, ScramVersion};
+use std::alloc::Global;
+
+/// The way to the server, which tells a client's first message from its second, as the frames of
+/// SASL do.
+pub trait Connection {
+    /// Sends the first message, and brings the challenge.
+    fn start(&mut self, client_first: &[u8]) -> Result<Vec<u8>>;
+
+    /// Sends the response to the challenge, and brings the outcome.
+    fn respond(&mut self, client_final: &[u8]) -> Result<Vec<u8>>;
+}
+
+/// Logs in as `user`, and believes the server only on the signature of this very exchange. The nonce is
+/// random bytes, fresh for each login. The server names the iteration count, of which both bounds are
+/// the client's: 4096 is the least that RFC 7677 asks for.
+pub fn log_in<C: Connection>(alloc: Global, connection: &mut C, nonce: &[u8; 32]) -> Result<()> {
+    let username = "user".to_string(alloc)?;
+    let password = "pencil".to_string(alloc)?;
+    let client = ScramClient::new(username, password, ScramVersion::Sha256);
+    let client = client
+        .with_min_iterations(4096)
+        .with_iteration_limit(100_000);
+    let mut client = Box::new(alloc, client)?;
+    let client_first = client.compute_client_first_message(alloc, nonce)?;
+    let server_first = connection.start(&client_first)?;
+    let client_final = client.compute_client_final_message(alloc, str::from_utf8(&server_first)?)?;
+    let server_final = connection.respond(&client_final)?;
+    client.validate_server_final(alloc, &server_final)?;
+    Ok(())
+}

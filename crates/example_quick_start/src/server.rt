@@ -1,0 +1,50 @@
+//! A server over frame bodies, which does not tell which users it knows.
+
+ghost use Rattle.std.specs.Prelude.{◌≡◌, ℕ, List, Some, IfOk};
+ghost use Rattle.fe2o3_sasl_wire.specs.declared.amqp_types.SaslCode.TheVariants.{Ok as OkCode};
+ghost use Rattle.fe2o3_scram.specs.HidingServer.{hiding_server};
+ghost use Rattle.fe2o3_scram.specs.ScramServer.{logged_in};
+ghost use Rattle.fe2o3_sasl.specs.HidingLaws.{HiddenBodyLogsIn};
+
+use anyhow::Result;
+use fe2o3_sasl::{
+    DEFAULT_SCRAM_ITERATIONS, Event, HidingAuthenticator, ScramVersion, ServerReply,
+    SingleScramCredential, acceptor_step,
+};
+use fe2o3_sasl_wire::SaslCode;
+use std::alloc::Global;
+
+/// The server of one connection.
+pub type Server = HidingAuthenticator<SingleScramCredential>;
+
+/// What the server keeps of `user`. A salt is random bytes, fresh for each record.
+pub fn new_user(alloc: Global, salt: [u8; 32]) -> Result<SingleScramCredential> {
+    let username = "user".to_string(alloc)?;
+    let version = ScramVersion::Sha256;
+    Ok(SingleScramCredential::new(alloc, username, "pencil", version, salt)?)
+}
+
+/// A server that knows `user`. Its secret is random bytes, one for all connections, which are told to
+/// nobody and kept for as long as the records are.
+pub fn new_server(alloc: Global, salt: [u8; 32], secret: [u8; 32]) -> Result<Server> {
+    let secret = secret.to_vec(alloc)?;
+    let user = new_user(alloc, salt)?;
+    Ok(HidingAuthenticator::new(user, secret, salt.len(), DEFAULT_SCRAM_ITERATIONS)?)
+}
+
+/// The body to send back, and how the login ended, if it did. After an outcome that is not Ok,
+/// send the body and close. After Ok, `server.authenticated_user()` has logged in.
+pub fn answer(
+    alloc: Global,
+    server: &mut Server,
+    event: &Event,
+) -> Result<(Vec<u8>, Option<SaslCode>)>
+    ensures { IfOk result (λ answer. answer.1 ≡ Some OkCode → (user : List ℕ)
+        × HiddenBodyLogsIn (hiding_server (λ store. store) server.old) event.now.body.items user
+        × (logged_in server.new.state ≡ Some user)) }
+{
+    match acceptor_step(alloc, server, event)? {
+        ServerReply::Challenge { body } => Ok((body, None)),
+        ServerReply::Outcome { code, body } => Ok((body, Some(code))),
+    }
+}

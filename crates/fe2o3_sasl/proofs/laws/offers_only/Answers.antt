@@ -1,5 +1,0 @@
-use Rattle.fe2o3_sasl_runs.proofs.lemmas.machines.OffersOnlyLemmas.{offering_runs}
-use Rattle.fe2o3_sasl.proofs.laws.offers_only.Goals as goal
-
-pub returns : goal.returns
-returns g c = offering_runs g.A.SaslAcceptor.names g.A.SaslAcceptor.machine

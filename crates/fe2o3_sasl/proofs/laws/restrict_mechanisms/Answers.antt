@@ -1,0 +1,5 @@
+use Rattle.fe2o3_sasl_core.proofs.lemmas.machines.OffersOnlyLemmas.{offering_runs}
+use Rattle.fe2o3_sasl.proofs.laws.restrict_mechanisms.Goals as goal
+
+pub returns : goal.returns
+returns g c = offering_runs g.A.SaslAcceptor.names g.A.SaslAcceptor.machine

@@ -1,0 +1,40 @@
+use Rattle.std.proofs.Common.{Bool, get_or, subst, arith}
+use Rattle.std.proofs.lemmas.List.{take_all}
+use Rattle.std.proofs.lemmas.Option.{slice_get-get_or}
+use Rattle.std.specs.List.{AllByRecursion}
+use Rattle.std.specs.Prelude.{MatchBool}
+use Rattle.fe2o3_scram.specs.ClientSecret.{secret_of}
+use Rattle.fe2o3_sasl_core.specs.ClientPolicy.{CanTake}
+use Rattle.fe2o3_sasl_core.specs.declared.client_policy.Mechanism.{Mechanism}
+use Rattle.fe2o3_sasl_core.specs.declared.client_policy.Mechanism.TheVariants.{ScramSha512}
+use Rattle.fe2o3_sasl_core.proofs.lemmas.machines.PolicyLemmas.{each_more}
+use Rattle.fe2o3_sasl_core.proofs.client_policy.first_taken.Goals as goal
+
+pub returns-then-can_take : goal.returns-then-can_take
+returns-then-can_take c user =
+    let xs = c.args.mechanisms.now in
+    let k = c.loop-mechanism.mechanism-index in
+    let can = CanTake c.args.policy user (secret_of c.args.secret.now) c.args.offer.now (get_or xs k ScramSha512) in (
+      k,
+      slice_get-get_or xs k ScramSha512 c.loop-mechanism-test.true,
+      subst (λ (told : Bool). MatchBool told can (¬ can)) c.if-can_take.true (c.can_take.ensures user),
+      c.loop-mechanism.invariant user,
+    )
+
+pub loop-mechanism-preserved : goal.loop-mechanism-preserved
+loop-mechanism-preserved c user =
+    let xs = c.args.mechanisms.now in
+    let k = c.loop-mechanism.mechanism-index in
+    let can = CanTake c.args.policy user (secret_of c.args.secret.now) c.args.offer.now (get_or xs k ScramSha512) in
+    each_more (λ (other : Mechanism). ¬ CanTake c.args.policy user (secret_of c.args.secret.now) c.args.offer.now other)
+    xs k ScramSha512 c.loop-mechanism-test.true (c.loop-mechanism.invariant user)
+    (subst (λ (told : Bool). MatchBool told can (¬ can)) c.if-can_take.false (c.can_take.ensures user))
+
+pub returns : goal.returns
+returns c user =
+    let xs = c.args.mechanisms.now in
+    let k = c.loop-mechanism.mechanism-index in
+    subst
+    (AllByRecursion
+    (λ (other : Mechanism). ¬ CanTake c.args.policy user (secret_of c.args.secret.now) c.args.offer.now other))
+    (take_all k xs (omega arith)) (c.loop-mechanism.invariant user)

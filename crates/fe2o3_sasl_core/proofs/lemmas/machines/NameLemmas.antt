@@ -1,0 +1,103 @@
+-- Names in lists of names.
+use Rattle.std.proofs.Common.{◌≡◌, ◌≢◌, ◌<◌, ◌+◌, ℕ, zero, suc, Bool, true, false, List, [], ◌∷◌, ◌++◌, length, take, get_or, map, refl, sym, ◌∙◌, ap, arith}
+use Rattle.std.specs.Prelude.{if◌then◌else◌, not, nat_eq, filter}
+use Rattle.std.specs.Cmp.Lexicographic.{pointwise, same_text, other_text}
+use Rattle.std.proofs.lemmas.List.{take_more, map-append}
+use Rattle.fe2o3_sasl_core.specs.AnyMechanism.{has_name, both_names}
+
+-- a name stands in one of two lists
+pub has_name-append : (names others : List (List ℕ)) (name : List ℕ)
+    → has_name (names ++ others) name ≡ (if has_name names name then true else has_name others name)
+has_name-append [] others name = refl
+has_name-append (first ∷ names) others name = grind (arith, has_name-append names others name)
+
+-- of a list without some names it has those that are left
+pub has_name-filter : (keeps : List ℕ → Bool) (names : List (List ℕ)) (name : List ℕ)
+    → has_name (filter keeps names) name ≡ (if keeps name then has_name names name else false)
+has_name-filter keeps [] name = grind (arith)
+has_name-filter keeps (first ∷ names) name =
+    grind (arith, has_name-filter keeps names name, same_text first name)
+
+-- the names of both are those of either
+pub has_name-both : (names others : List (List ℕ)) (name : List ℕ)
+    → has_name (both_names names others) name ≡ (if has_name names name then true else has_name others name)
+has_name-both names others name =
+    let behind = has_name-filter (λ (name : List ℕ). not (has_name names name)) others name in
+    let both = has_name-append names (filter (λ (name : List ℕ). not (has_name names name)) others) name in
+    both ∙ grind (arith, behind)
+
+-- ---- looking for a name
+
+-- it is none of those that were looked at
+pub none_more : {X : Type 0} (f : X → List ℕ) (xs : List X) (k : ℕ) (other : X) (name : List ℕ) → k < length xs
+    → has_name (map f (take k xs)) name ≡ false → pointwise nat_eq (f (get_or xs k other)) name ≡ false
+    → has_name (map f (take (k + 1) xs)) name ≡ false
+none_more f xs k other name below none here =
+    grind (
+      arith,
+      none,
+      here,
+      take_more xs k other below,
+      map-append f (take k xs) (get_or xs k other ∷ []),
+      has_name-append (map f (take k xs)) (f (get_or xs k other) ∷ []) name,
+    )
+
+pub found_at : {X : Type 0} (f : X → List ℕ) (xs : List X) (k : ℕ) (other : X) (name : List ℕ) → k < length xs
+    → pointwise nat_eq (f (get_or xs k other)) name ≡ true → has_name (map f xs) name ≡ true
+found_at f [] k other name below here = elim below [ ]
+found_at f (x ∷ xs) zero other name below here = grind (arith, here)
+found_at f (x ∷ xs) (suc k) other name below here =
+    grind (arith, found_at f xs k other name (omega (arith, below)) here)
+
+-- ---- an offer
+
+-- a name that is in no list is none that is left
+pub nothing_more : (allowed own : List (List ℕ)) (name : List ℕ) → filter (has_name allowed) own ≡ []
+    → has_name own name ≡ false → filter (has_name (allowed ++ name ∷ [])) own ≡ []
+nothing_more allowed [] name none lacks = refl
+nothing_more allowed (first ∷ own) name none lacks =
+    grind (
+      arith,
+      none,
+      lacks,
+      nothing_more allowed own name,
+      has_name-append allowed (name ∷ []) first,
+      same_text name first,
+      same_text first name,
+    )
+
+-- a name in both is left
+pub something : (allowed own : List (List ℕ)) (name : List ℕ) → has_name allowed name ≡ true
+    → has_name own name ≡ true → filter (has_name allowed) own ≢ []
+something allowed [] name has owns = grind (arith, owns)
+something allowed (first ∷ own) name has owns =
+    grind (arith, has, owns, something allowed own name has, same_text first name)
+
+-- of no names none is left
+pub nothing : (own : List (List ℕ)) → filter (has_name []) own ≡ []
+nothing [] = refl
+nothing (first ∷ own) = nothing own
+
+-- a name is itself
+same_name : (name : List ℕ) → pointwise nat_eq name name ≡ true
+same_name name = go (pointwise nat_eq name name) refl
+  where
+    go : (is : Bool) → is ≡ pointwise nat_eq name name → pointwise nat_eq name name ≡ true
+    go true is = sym is
+    go false is = absurd (other_text name name is refl)
+
+-- the same, of the names that were looked at
+pub something_at : {X : Type 0} (f : X → List ℕ) (xs : List X) (own : List (List ℕ)) (k : ℕ) (other : X) (told : Bool)
+    → k < length xs → told ≡ has_name own (f (get_or xs k other)) → told ≡ true
+    → filter (has_name (map f xs)) own ≢ []
+something_at f xs own k other told below is true_here =
+    something (map f xs) own (f (get_or xs k other)) (found_at f xs k other (f (get_or xs k other)) below
+    (same_name (f (get_or xs k other)))) (sym is ∙ true_here)
+
+pub nothing_at : {X : Type 0} (f : X → List ℕ) (xs : List X) (own : List (List ℕ)) (k : ℕ) (other : X) (told : Bool)
+    → k < length xs → told ≡ has_name own (f (get_or xs k other)) → told ≡ false
+    → filter (has_name (map f (take k xs))) own ≡ [] → filter (has_name (map f (take (k + 1) xs))) own ≡ []
+nothing_at f xs own k other told below is false_here none =
+    ap (λ (names : List (List ℕ)). filter (has_name names) own)
+    (ap (map f) (take_more xs k other below) ∙ map-append f (take k xs) (get_or xs k other ∷ []))
+    ∙ nothing_more (map f (take k xs)) own (f (get_or xs k other)) none (sym is ∙ false_here)

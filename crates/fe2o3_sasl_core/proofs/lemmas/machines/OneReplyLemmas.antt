@@ -1,0 +1,305 @@
+-- Each machine has one reply to each frame.
+use Rattle.std.proofs.Common.{◌≡◌, ℕ, Option, Some, None, List, sym, ap, ◌∙◌, subst, inl, inr, Result, Ok, Err}
+use Rattle.fe2o3_sasl_wire.specs.declared.amqp_types.SaslCode.TheVariants as outcomes
+use Rattle.fe2o3_sasl_wire.specs.SaslFrames as frames
+use Rattle.fe2o3_sasl_wire.specs.SaslFrames.{SaslFrame}
+use Rattle.fe2o3_scram.specs.declared.scram_messages.error.ScramErrorKind.{ScramErrorKind}
+use Rattle.fe2o3_scram.specs.declared.scram_messages.error.ServerScramErrorKind.{ServerScramErrorKind}
+use Rattle.fe2o3_scram.specs.declared.scram_messages.error.ServerScramErrorKind.TheVariants.{AuthenticationFailed}
+use Rattle.fe2o3_scram.specs.ClientFinal.{Server, ClientFinal, ReadsClientFinal, Answer, answer_of}
+use Rattle.fe2o3_scram.specs.ClientFirst.{ClientFirst, ReadsClientFirst}
+use Rattle.fe2o3_scram.specs.Credentials.{Record, Provider, record_at}
+use Rattle.fe2o3_scram.specs.ClientKeys.{ClientKeys}
+use Rattle.fe2o3_scram.specs.ScramClient as client_states
+use Rattle.fe2o3_scram.specs.ScramClient.{ClientState, ClientSide, AnswersIn, VerifiesIn, with_state, holding}
+use Rattle.fe2o3_scram.specs.ScramServer as server_states
+use Rattle.fe2o3_scram.specs.ScramServer.{ServerState, ChallengesFrom, ConcludesFrom, server_against}
+use Rattle.fe2o3_scram.specs.ServerFinal.{ReadsServerFinal, server_final_of}
+use Rattle.fe2o3_scram.specs.ServerFirst.{ServerChallenge, ServerFirst, ReadsServerFirst, challenge_of}
+use Rattle.fe2o3_scram.specs.Texts.{base64_text}
+use Rattle.fe2o3_scram.proofs.lemmas.messages.ClientFinalLemmas.{one_client_final}
+use Rattle.fe2o3_scram.proofs.lemmas.messages.ClientFirstLemmas.{one_client_first}
+use Rattle.fe2o3_scram.proofs.lemmas.messages.ServerFinalLemmas.{one_server_final}
+use Rattle.fe2o3_scram.proofs.lemmas.messages.ServerFirstLemmas.{one_server_first}
+use Rattle.fe2o3_sasl_core.specs.MechanismLaws.{OneAcceptorReply, OneProfileReply}
+use Rattle.fe2o3_sasl_core.specs.SaslAcceptor.{Acceptor, ScramAcceptor, PlainAcceptor, AnonymousAcceptor, server_frame}
+use Rattle.fe2o3_sasl_core.specs.Profiles.{Profile, ScramProfile, client_frame}
+use Rattle.fe2o3_sasl_core.specs.declared.sasl_profile.error.ProfileError.{ProfileError}
+
+-- the result is made of a reading
+abbrev MadeOf : {V R : Type 0} → (V → Type 0) → (V → R) → R → Type 0
+MadeOf {V} Reads make result = (reading : V) × Reads reading × (result ≡ make reading)
+
+-- of one reading there is one result
+one_made : {V R : Type 0} (Reads : V → Type 0) (make : V → R) (result other : R)
+    → ((reading again : V) → Reads reading → Reads again → reading ≡ again)
+    → MadeOf Reads make result → MadeOf Reads make other → result ≡ other
+one_made Reads make result other one is too = is.2 ∙ (ap make (one is.0 too.0 is.1 too.1) ∙ sym too.2)
+
+-- ---- a SCRAM server
+
+-- what it answers, and its state
+abbrev pub ServerTurn : Type 0
+ServerTurn = Result (Option (List ℕ)) ServerScramErrorKind × ServerState
+
+abbrev challenged : ServerState → ClientFirst → List ℕ → Option Record → ServerTurn
+challenged state client nonce None = (Ok None, state)
+challenged state client nonce (Some stored) =
+    let challenge = challenge_of client (base64_text nonce) stored in
+    (Ok (Some challenge.first), server_states.ServerFirstSent challenge)
+
+-- the turn to a client-first message that was read
+abbrev first_turn : ServerState → Provider → List ℕ → Result ClientFirst ServerScramErrorKind → ServerTurn
+first_turn state provider nonce (Ok client) = challenged state client nonce (record_at provider.records client.user)
+first_turn state provider nonce (Err fault) = (Err fault, state)
+
+challenge_made : (state : ServerState) (provider : Provider) (nonce text : List ℕ)
+    (answer : Result (Option (List ℕ)) ServerScramErrorKind) (next : ServerState)
+    → ChallengesFrom state provider nonce text answer next
+    → MadeOf (ReadsClientFirst provider.cbind_flag_y text) (first_turn state provider nonce) (answer, next)
+challenge_made state provider nonce text (Ok (Some message)) next is =
+    let made = is.1.4 in
+    let first = is.2 ∙ ap (λ (x : ServerChallenge). x.first) made in
+    let after = is.3 ∙ ap (λ (x : ServerChallenge). server_states.ServerFirstSent x) made in
+    let turn : ◌≡◌ {A = ServerTurn} (Ok (Some message), next) (challenged state is.1.0 nonce (Some is.1.1)) =
+    λ i. (Ok (Some (first i)), after i) in
+    (Ok is.1.0, is.1.2, turn ∙ ap (challenged state is.1.0 nonce) (sym is.1.3))
+challenge_made state provider nonce text (Ok None) next is =
+    let turn : ◌≡◌ {A = ServerTurn} (Ok None, next) (challenged state is.0.0 nonce None) = λ i. (Ok None, is.1 i) in
+    (Ok is.0.0, is.0.1, turn ∙ ap (challenged state is.0.0 nonce) (sym is.0.2))
+challenge_made state provider nonce text (Err fault) next is = (Err fault, is.0, λ i. (Err fault, is.1 i))
+
+-- the turn to a client-final message that was read against this record
+abbrev final_turn : ServerChallenge → Server → Result ClientFinal ServerScramErrorKind → ServerTurn
+final_turn challenge server (Ok final) =
+    (Ok (Some (server_final_of server final)), server_states.ServerFinalSent challenge.user)
+final_turn challenge server (Err fault) = (Err fault, server_states.ServerFirstSent challenge)
+
+-- the turn to a client-final message where the challenge is open: the record is there, or is not
+abbrev ConcludesWith : ServerChallenge → Provider → List ℕ → Option Record → ServerTurn → Type 0
+ConcludesWith challenge provider text (Some stored) turn =
+    let server = server_against provider challenge stored in
+    MadeOf (ReadsClientFinal server text) (final_turn challenge server) turn
+ConcludesWith challenge provider text None turn =
+    turn ≡ (Err AuthenticationFailed, server_states.ServerFirstSent challenge)
+
+one_concluded : (challenge : ServerChallenge) (provider : Provider) (text : List ℕ) (stored : Option Record)
+    (turn other : ServerTurn) → ConcludesWith challenge provider text stored turn
+    → ConcludesWith challenge provider text stored other → turn ≡ other
+one_concluded challenge provider text (Some stored) turn other is too =
+    let server = server_against provider challenge stored in
+    one_made (ReadsClientFinal server text) (final_turn challenge server) turn other (one_client_final server text)
+    is too
+one_concluded challenge provider text None turn other is too = is ∙ sym too
+
+conclusion_made : (challenge : ServerChallenge) (provider : Provider) (text : List ℕ)
+    (answer : Result (Option (List ℕ)) ServerScramErrorKind) (next : ServerState)
+    → ConcludesFrom (server_states.ServerFirstSent challenge) provider text answer next
+    → ConcludesWith challenge provider text (record_at provider.records challenge.user) (answer, next)
+conclusion_made challenge provider text (Ok None) next is = absurd is
+conclusion_made challenge provider text (Ok (Some message)) next is =
+    let said = is.2.2 in
+    let after = is.3 in
+    subst (λ (stored : Option Record). ConcludesWith challenge provider text stored (Ok (Some message), next))
+    (sym is.1) (Ok is.2.0, is.2.1, λ i. (Ok (Some (said i)), after i))
+conclusion_made challenge provider text (Err fault) next (inl refused, after) =
+    subst (λ (stored : Option Record). ConcludesWith challenge provider text stored (Err fault, next))
+    (sym refused.1) (Err fault, refused.2, λ i. (Err fault, after i))
+conclusion_made challenge provider text (Err fault) next (inr unknown, after) =
+    let kind = unknown.1 in
+    subst (λ (stored : Option Record). ConcludesWith challenge provider text stored (Err fault, next))
+    (sym unknown.0) (λ i. (Err (kind i), after i))
+
+pub one_conclusion : (state : ServerState) (provider : Provider) (text : List ℕ)
+    (answer other : Result (Option (List ℕ)) ServerScramErrorKind) (next last : ServerState)
+    → ConcludesFrom state provider text answer next → ConcludesFrom state provider text other last
+    → ◌≡◌ {A = ServerTurn} (answer, next) (other, last)
+one_conclusion (server_states.ServerFirstSent challenge) provider text answer other next last is too =
+    one_concluded challenge provider text (record_at provider.records challenge.user) (answer, next) (other, last)
+    (conclusion_made challenge provider text answer next is) (conclusion_made challenge provider text other last too)
+one_conclusion server_states.Initial provider text (Ok message) other next last is too = absurd is
+one_conclusion server_states.Initial provider text (Err fault) (Ok message) next last is too = absurd too
+one_conclusion server_states.Initial provider text (Err fault) (Err kind) next last is too =
+    λ i. (Err ((is.0 ∙ sym too.0) i), (is.1 ∙ sym too.1) i)
+one_conclusion (server_states.ServerFinalSent user) provider text (Ok message) other next last is too = absurd is
+one_conclusion (server_states.ServerFinalSent user) provider text (Err fault) (Ok message) next last is too = absurd too
+one_conclusion (server_states.ServerFinalSent user) provider text (Err fault) (Err kind) next last is too =
+    λ i. (Err ((is.0 ∙ sym too.0) i), (is.1 ∙ sym too.1) i)
+
+-- ---- an acceptor
+
+-- both of one turn of the server
+turn_taken : (provider : Provider) (frame : List ℕ → SaslFrame) (turn again : ServerTurn) (reply other : SaslFrame)
+    (next last : Acceptor) → turn ≡ again
+    → reply ≡ server_frame frame turn.0 → next ≡ ScramAcceptor provider turn.1
+    → other ≡ server_frame frame again.0 → last ≡ ScramAcceptor provider again.1 → (reply ≡ other) × (next ≡ last)
+turn_taken provider frame turn again reply other next last same r n s l = (
+  r ∙ (ap (λ (x : ServerTurn). server_frame frame x.0) same ∙ sym s),
+  n ∙ (ap (λ (x : ServerTurn). ScramAcceptor provider x.1) same ∙ sym l),
+)
+
+-- both are the same
+both_are : {A B : Type 0} (wanted : A) (end : B) (reply other : A) (next last : B) → (reply ≡ wanted) × (next ≡ end)
+    → (other ≡ wanted) × (last ≡ end) → (reply ≡ other) × (next ≡ last)
+both_are wanted end reply other next last is too = (is.0 ∙ sym too.0, is.1 ∙ sym too.1)
+
+pub one_acceptor_reply : OneAcceptorReply
+one_acceptor_reply (ScramAcceptor provider state) nonce (frames.Init mechanism (Some text) hostname) reply other next
+    last (inl is) (inl too) = (is.1 ∙ sym too.1, is.2 ∙ sym too.2)
+one_acceptor_reply (ScramAcceptor provider state) nonce (frames.Init mechanism (Some text) hostname) reply other next
+    last (inl is) (inr too) = absurd (is.0 too.0)
+one_acceptor_reply (ScramAcceptor provider state) nonce (frames.Init mechanism (Some text) hostname) reply other next
+    last (inr is) (inl too) = absurd (too.0 is.0)
+one_acceptor_reply (ScramAcceptor provider state) nonce (frames.Init mechanism (Some text) hostname) reply other next
+    last (inr is) (inr too) =
+    let turn : ServerTurn = (is.1.0, is.1.1) in
+    let again : ServerTurn = (too.1.0, too.1.1) in
+    turn_taken provider (λ message. frames.Challenge message) turn again reply other next last
+    (one_made (ReadsClientFirst provider.cbind_flag_y text) (first_turn state provider nonce) turn again
+    (one_client_first provider.cbind_flag_y text)
+    (challenge_made state provider nonce text is.1.0 is.1.1 is.1.2)
+    (challenge_made state provider nonce text too.1.0 too.1.1 too.1.2))
+    is.1.3 is.1.4 too.1.3 too.1.4
+one_acceptor_reply (ScramAcceptor provider state) nonce (frames.Response text) reply other next last is too =
+    let turn : ServerTurn = (is.0, is.1) in
+    let again : ServerTurn = (too.0, too.1) in
+    turn_taken provider (λ message. frames.Outcome outcomes.Ok (Some message)) turn again reply other next last
+    (one_conclusion state provider text is.0 too.0 is.1 too.1 is.2 too.2) is.3 is.4 too.3 too.4
+one_acceptor_reply (PlainAcceptor user password accepted) nonce (frames.Init mechanism (Some text) hostname) reply other
+    next last (inl is) (inl too) = (is.1 ∙ sym too.1, is.2 ∙ sym too.2)
+one_acceptor_reply (PlainAcceptor user password accepted) nonce (frames.Init mechanism (Some text) hostname) reply other
+    next last (inl is) (inr too) = absurd (too.0 is.0)
+one_acceptor_reply (PlainAcceptor user password accepted) nonce (frames.Init mechanism (Some text) hostname) reply other
+    next last (inr is) (inl too) = absurd (is.0 too.0)
+one_acceptor_reply (PlainAcceptor user password accepted) nonce (frames.Init mechanism (Some text) hostname) reply other
+    next last (inr is) (inr too) = (is.1 ∙ sym too.1, is.2 ∙ sym too.2)
+one_acceptor_reply (PlainAcceptor user password accepted) nonce (frames.Response text) reply other next last is too =
+    both_are _ _ reply other next last is too
+one_acceptor_reply AnonymousAcceptor nonce (frames.Init mechanism response hostname) reply other next last is too =
+    both_are _ _ reply other next last is too
+one_acceptor_reply AnonymousAcceptor nonce (frames.Response text) reply other next last is too =
+    both_are _ _ reply other next last is too
+one_acceptor_reply acceptor nonce (frames.Init mechanism None hostname) reply other next last is too =
+    both_are _ _ reply other next last is too
+one_acceptor_reply acceptor nonce frame reply other next last is too = absurd is
+
+-- ---- a SCRAM client
+
+-- what it answers, and the client after it
+abbrev ClientTurn : Type 0 → Type 0
+ClientTurn A = Result A ScramErrorKind × ClientSide
+
+abbrev answered_side : ClientSide → Answer → ClientSide
+answered_side side answer = with_state side (client_states.ClientFinalSent answer.signature (Some answer.keys))
+
+-- the turn to a server-first message that was read
+abbrev answer_turn : ClientSide → List ℕ → List ℕ → Result ServerFirst ScramErrorKind → ClientTurn (List ℕ)
+answer_turn side bare text (Ok first) =
+    let answer = answer_of side.version side.secret bare text first in
+    (Ok answer.message, answered_side side answer)
+answer_turn side bare text (Err fault) = (Err fault, side)
+
+answer_made : (nonce bare : List ℕ) (side : ClientSide) (text : List ℕ) (answer : Result (List ℕ) ScramErrorKind)
+    (next : ClientSide) → AnswersIn (client_states.ClientFirstSent nonce bare) side text answer next
+    → MadeOf (ReadsServerFirst nonce side.secret side.limits text) (answer_turn side bare text) (answer, next)
+answer_made nonce bare side text (Ok message) next is =
+    let first = is.1 in
+    let sent = is.2 ∙ ap (λ (x : Answer). x.message) first.2 in
+    let after = is.3 ∙ ap (answered_side side) first.2 in
+    (Ok first.0, first.1, λ i. (Ok (sent i), after i))
+answer_made nonce bare side text (Err fault) next is = (Err fault, is.0, λ i. (Err fault, is.1 i))
+
+one_answer : (state : ClientState) (side : ClientSide) (text : List ℕ) (answer other : Result (List ℕ) ScramErrorKind)
+    (next last : ClientSide) → AnswersIn state side text answer next → AnswersIn state side text other last
+    → ◌≡◌ {A = ClientTurn (List ℕ)} (answer, next) (other, last)
+one_answer (client_states.ClientFirstSent nonce bare) side text answer other next last is too =
+    one_made (ReadsServerFirst nonce side.secret side.limits text) (answer_turn side bare text) (answer, next)
+    (other, last) (one_server_first (holding side nonce) text) (answer_made nonce bare side text answer next is)
+    (answer_made nonce bare side text other last too)
+one_answer client_states.ClientInitial side text (Ok message) other next last is too = absurd is
+one_answer client_states.ClientInitial side text (Err fault) (Ok message) next last is too = absurd too
+one_answer client_states.ClientInitial side text (Err fault) (Err kind) next last is too =
+    λ i. (Err ((is.0 ∙ sym too.0) i), (is.1 ∙ sym too.1) i)
+one_answer (client_states.ClientFinalSent signature keys) side text (Ok message) other next last is too = absurd is
+one_answer (client_states.ClientFinalSent signature keys) side text (Err fault) (Ok message) next last is too =
+    absurd too
+one_answer (client_states.ClientFinalSent signature keys) side text (Err fault) (Err kind) next last is too =
+    λ i. (Err ((is.0 ∙ sym too.0) i), (is.1 ∙ sym too.1) i)
+one_answer (client_states.Complete keys) side text (Ok message) other next last is too = absurd is
+one_answer (client_states.Complete keys) side text (Err fault) (Ok message) next last is too = absurd too
+one_answer (client_states.Complete keys) side text (Err fault) (Err kind) next last is too =
+    λ i. (Err ((is.0 ∙ sym too.0) i), (is.1 ∙ sym too.1) i)
+
+-- the turn to a server-final message that was read
+abbrev verification_turn : ClientSide → Option ClientKeys → Result (Unit {0}) ScramErrorKind → ClientTurn (Unit {0})
+verification_turn side keys (Ok verified) = (Ok verified, with_state side (client_states.Complete keys))
+verification_turn side keys (Err fault) = (Err fault, side)
+
+verification_made : (signature : List ℕ) (keys : Option ClientKeys) (side : ClientSide) (text : List ℕ)
+    (answer : Result (Unit {0}) ScramErrorKind) (next : ClientSide)
+    → VerifiesIn (client_states.ClientFinalSent signature keys) side text answer next
+    → MadeOf (ReadsServerFinal signature text) (verification_turn side keys) (answer, next)
+verification_made signature keys side text (Ok verified) next is = (Ok verified, is.0, λ i. (Ok verified, is.1 i))
+verification_made signature keys side text (Err fault) next is = (Err fault, is.0, λ i. (Err fault, is.1 i))
+
+one_verification : (state : ClientState) (side : ClientSide) (text : List ℕ) (answer other : Result (Unit {0}) ScramErrorKind)
+    (next last : ClientSide) → VerifiesIn state side text answer next → VerifiesIn state side text other last
+    → ◌≡◌ {A = ClientTurn (Unit {0})} (answer, next) (other, last)
+one_verification (client_states.ClientFinalSent signature keys) side text answer other next last is too =
+    one_made (ReadsServerFinal signature text) (verification_turn side keys) (answer, next) (other, last)
+    (one_server_final signature text) (verification_made signature keys side text answer next is)
+    (verification_made signature keys side text other last too)
+one_verification client_states.ClientInitial side text (Ok verified) other next last is too = absurd is
+one_verification client_states.ClientInitial side text (Err fault) (Ok verified) next last is too = absurd too
+one_verification client_states.ClientInitial side text (Err fault) (Err kind) next last is too =
+    λ i. (Err ((is.0 ∙ sym too.0) i), (is.1 ∙ sym too.1) i)
+one_verification (client_states.ClientFirstSent nonce bare) side text (Ok verified) other next last is too = absurd is
+one_verification (client_states.ClientFirstSent nonce bare) side text (Err fault) (Ok verified) next last is too = absurd too
+one_verification (client_states.ClientFirstSent nonce bare) side text (Err fault) (Err kind) next last is too =
+    λ i. (Err ((is.0 ∙ sym too.0) i), (is.1 ∙ sym too.1) i)
+one_verification (client_states.Complete keys) side text (Ok verified) other next last is too = absurd is
+one_verification (client_states.Complete keys) side text (Err fault) (Ok verified) next last is too = absurd too
+one_verification (client_states.Complete keys) side text (Err fault) (Err kind) next last is too =
+    λ i. (Err ((is.0 ∙ sym too.0) i), (is.1 ∙ sym too.1) i)
+
+-- ---- a profile
+
+-- both of one turn of the client
+same_turn : {A : Type 0} (frame : A → SaslFrame) (turn again : ClientTurn A)
+    (reply other : Result SaslFrame ProfileError) (next last : Profile) → turn ≡ again
+    → reply ≡ client_frame frame turn.0 → next ≡ ScramProfile turn.1
+    → other ≡ client_frame frame again.0 → last ≡ ScramProfile again.1 → (reply ≡ other) × (next ≡ last)
+same_turn {A} frame turn again reply other next last same r n s l = (
+  r ∙ (ap (λ (x : ClientTurn A). client_frame frame x.0) same ∙ sym s),
+  n ∙ (ap (λ (x : ClientTurn A). ScramProfile x.1) same ∙ sym l),
+)
+
+pub one_profile_reply : OneProfileReply
+one_profile_reply profile hostname nonce (frames.Mechanisms names) reply other next last (inl is) (inl too) =
+    (is.1 ∙ sym too.1, is.2 ∙ sym too.2)
+one_profile_reply profile hostname nonce (frames.Mechanisms names) reply other next last (inl is) (inr too) =
+    absurd (too.0 is.0)
+one_profile_reply profile hostname nonce (frames.Mechanisms names) reply other next last (inr is) (inl too) =
+    absurd (is.0 too.0)
+one_profile_reply profile hostname nonce (frames.Mechanisms names) reply other next last (inr is) (inr too) =
+    (is.1 ∙ sym too.1, is.2 ∙ sym too.2)
+one_profile_reply (ScramProfile client) hostname nonce (frames.Challenge text) reply other next last
+    (inl is) (inl too) = (is.1 ∙ sym too.1, is.2 ∙ sym too.2)
+one_profile_reply (ScramProfile client) hostname nonce (frames.Challenge text) reply other next last
+    (inl is) (inr too) = absurd (is.0 too.0)
+one_profile_reply (ScramProfile client) hostname nonce (frames.Challenge text) reply other next last
+    (inr is) (inl too) = absurd (too.0 is.0)
+one_profile_reply (ScramProfile client) hostname nonce (frames.Challenge text) reply other next last
+    (inr is) (inr too) =
+    same_turn (λ message. frames.Response message) (is.1.0, is.1.1) (too.1.0, too.1.1) reply other next last
+    (one_answer client.state client text is.1.0 too.1.0 is.1.1 too.1.1 is.1.2 too.1.2) is.1.3 is.1.4 too.1.3 too.1.4
+one_profile_reply (ScramProfile client) hostname nonce (frames.Outcome outcomes.Ok None) reply other next last is too =
+    both_are _ _ reply other next last is too
+one_profile_reply (ScramProfile client) hostname nonce (frames.Outcome outcomes.Ok (Some text)) reply other
+    next last is too =
+    same_turn (λ verified. frames.Outcome outcomes.Ok (Some text)) (is.0, is.1) (too.0, too.1) reply other next last
+    (one_verification client.state client text is.0 too.0 is.1 too.1 is.2 too.2) is.3 is.4 too.3 too.4
+one_profile_reply profile hostname nonce (frames.Outcome code more) reply other next last is too =
+    both_are _ _ reply other next last is too
+one_profile_reply profile hostname nonce frame reply other next last is too =
+    both_are _ _ reply other next last is too

@@ -1,0 +1,152 @@
+-- What the machine of a SCRAM profile replies, from what a SCRAM client answers.
+use Rattle.std.proofs.Common.{◌≡◌, ◌≢◌, ◌⊎◌, ℕ, false, Option, Some, List, ◌+◌, ◌<◌, ◌≤◌, length, take, get_or, refl, sym, ap, ◌∙◌, subst, inl, inr, Err}
+use Rattle.std.proofs.lemmas.List.{take_more, take_all}
+use Rattle.std.proofs.lemmas.List.Elements.{Contains-push_cases}
+use Rattle.std.specs.List.{Contains}
+use Rattle.std.specs.Str.{IsUtf8}
+use Rattle.fe2o3_sasl_wire.specs.SaslFrames as frames
+use Rattle.fe2o3_sasl_wire.specs.SaslFrames.{SaslFrame}
+use Rattle.fe2o3_scram.specs.declared.scram_messages.error.ScramErrorKind.{ScramErrorKind}
+use Rattle.fe2o3_scram.specs.declared.scram_messages.error.ScramErrorKind.TheVariants as kinds
+use Rattle.fe2o3_scram.specs.Readings.{Gives}
+use Rattle.fe2o3_scram.specs.ScramClient as client_states
+use Rattle.fe2o3_scram.specs.ScramClient.{ClientSide, ClientState, AnswersIn, VerifiesIn, ReachesSaltIn, ReachesVerifierIn}
+use Rattle.fe2o3_sasl_wire.specs.declared.amqp_types.SaslCode.{SaslCode}
+use Rattle.fe2o3_sasl_wire.specs.declared.amqp_types.SaslCode.TheVariants as outcomes
+use Rattle.fe2o3_scram.specs.ClientKeys.{ClientKeys}
+use Rattle.fe2o3_scram.specs.ServerFinal.{ReadsServerFinal, ReadsSignature}
+use Rattle.fe2o3_sasl_core.specs.Profiles.{Profile, ScramProfile, PlainProfile, AnonymousProfile, ExternalProfile, FrameAllocates, ViewAllocates, StepAllocates, IsAnswered, ProfileAnswers, is_scram}
+use Rattle.fe2o3_sasl_core.specs.ProfileFaults.{fault_of_kind}
+use Rattle.fe2o3_sasl_core.specs.private.Writing.{RefusesAlways}
+use Rattle.fe2o3_sasl_core.specs.declared.sasl_profile.error.ProfileError.{ProfileError}
+use Rattle.fe2o3_sasl_core.specs.declared.sasl_profile.error.ProfileError.TheVariants.{NotImplemented, Scram, StaleKeys, Frame, OutOfMemory}
+
+-- a challenge that the client refuses: its fault is that of the machine, or want of memory
+pub challenge_refused : {V : Type 0} (view : V → List ℕ) (client next : ClientSide)
+    (hostname : Option (List ℕ)) (nonce text : List ℕ) (kind : ScramErrorKind) → IsUtf8 text → next ≡ client
+    → Gives kinds.OutOfMemory (ReachesSaltIn client.state text) view (Err kind)
+    (λ answer. AnswersIn client.state client text answer next)
+    → ProfileAnswers FrameAllocates (ScramProfile client) hostname nonce (frames.Challenge text)
+    (Err (fault_of_kind kind)) (ScramProfile next)
+challenge_refused view client next hostname nonce text kinds.OutOfMemory utf8 same from =
+    ((utf8, from.0 refl), ap (λ (side : ClientSide). ScramProfile side) same)
+challenge_refused view client next hostname nonce text kinds.StaleKeys utf8 same from =
+    inr (utf8, (Err kinds.StaleKeys, next, from.1 (λ e. absurd (cc)), refl, refl))
+challenge_refused view client next hostname nonce text kind utf8 same from =
+    inr (utf8, (Err kind, next, from.1 (λ e. absurd (cc)), refl, refl))
+
+-- a client that comes to the signature has answered
+pub waiting : (state : ClientState) (text : List ℕ) → ReachesVerifierIn state text → IsUtf8 text × IsAnswered state
+waiting (client_states.ClientFinalSent signature keys) text reaches = (reaches.0, (signature, keys, refl))
+waiting state text reaches = absurd reaches
+
+-- where a call asks for memory so does one on a view
+view_allocates : (profile : Profile) (frame : SaslFrame) → FrameAllocates profile frame → ViewAllocates profile frame
+view_allocates profile (frames.Mechanisms names) has = has
+view_allocates (ScramProfile client) (frames.Challenge text) has = has
+view_allocates (ScramProfile client) (frames.Outcome outcomes.Ok (Some text)) has = waiting client.state text has
+view_allocates profile frame has = absurd has
+
+-- the data of an outcome are copied alike
+pub outcome_allocates : (profile : Profile) (code : SaslCode) (text : List ℕ)
+    → StepAllocates profile (frames.Outcome code (Some text)) → ViewAllocates profile (frames.Outcome code (Some text))
+outcome_allocates (ScramProfile client) outcomes.Ok text has = has
+outcome_allocates (ScramProfile client) outcomes.Auth text has = tt
+outcome_allocates (ScramProfile client) outcomes.Sys text has = tt
+outcome_allocates (ScramProfile client) outcomes.SysPerm text has = tt
+outcome_allocates (ScramProfile client) outcomes.SysTemp text has = tt
+outcome_allocates (PlainProfile user password) code text has = tt
+outcome_allocates AnonymousProfile code text has = tt
+outcome_allocates ExternalProfile code text has = tt
+
+-- what a profile refuses, it refuses of a view
+pub view_refuses : (profile next : Profile) (hostname : Option (List ℕ)) (nonce : List ℕ) (frame : SaslFrame)
+    (fault : ProfileError) → ProfileAnswers FrameAllocates profile hostname nonce frame (Err fault) next
+    → ProfileAnswers ViewAllocates profile hostname nonce frame (Err fault) next
+view_refuses profile next hostname nonce frame OutOfMemory h = (view_allocates profile frame h.0, h.1)
+view_refuses profile next hostname nonce frame NotImplemented h = h
+view_refuses profile next hostname nonce frame (Scram kind) h = h
+view_refuses profile next hostname nonce frame StaleKeys h = h
+view_refuses profile next hostname nonce frame (Frame fault) h = h
+
+-- a challenge that is not due is refused
+pub undue : (client : ClientSide) (text : List ℕ)
+    → ((nonce bare : List ℕ) → client.state ≢ client_states.ClientFirstSent nonce bare)
+    → AnswersIn client.state client text (Err kinds.IllegalClientState) client
+undue client text none = go client.state none
+  where
+    go : (state : ClientState) → ((nonce bare : List ℕ) → state ≢ client_states.ClientFirstSent nonce bare)
+        → AnswersIn state client text (Err kinds.IllegalClientState) client
+    go (client_states.ClientFirstSent nonce bare) none = absurd (none nonce bare refl)
+    go state none = (refl, refl)
+
+-- an outcome Ok that is not due is refused, and then one whose data are not UTF-8
+pub undue_outcome : (client : ClientSide) (text : List ℕ)
+    → ((signature : List ℕ) (keys : Option ClientKeys) → client.state ≢ client_states.ClientFinalSent signature keys)
+    → RefusesAlways (ScramProfile client) (frames.Outcome outcomes.Ok (Some text)) (Scram kinds.IllegalClientState)
+undue_outcome client text none = λ hostname nonce. (
+  Err kinds.IllegalClientState,
+  client,
+  go client.state none,
+  refl,
+  refl,
+)
+  where
+    go : (state : ClientState)
+        → ((signature : List ℕ) (keys : Option ClientKeys) → state ≢ client_states.ClientFinalSent signature keys)
+        → VerifiesIn state client text (Err kinds.IllegalClientState) client
+    go (client_states.ClientFinalSent signature keys) none = absurd (none signature keys refl)
+    go state none = (refl, refl)
+
+pub outcome_not_text : (client : ClientSide) (text : List ℕ) → ¬ IsUtf8 text → IsAnswered client.state
+    → RefusesAlways (ScramProfile client) (frames.Outcome outcomes.Ok (Some text)) (Scram kinds.Utf8Error)
+unfolding ReadsServerFinal ReadsSignature
+outcome_not_text client text not answered =
+    λ hostname nonce. (Err kinds.Utf8Error, client, go client.state answered.2, refl, refl)
+  where
+    go : (state : ClientState) → state ≡ client_states.ClientFinalSent answered.0 answered.1
+        → VerifiesIn state client text (Err kinds.Utf8Error) client
+    go state is = subst (λ (some : ClientState). VerifiesIn some client text (Err kinds.Utf8Error) client) (sym is)
+        (inl (inl (not, refl)), refl)
+
+-- one that SCRAM does not read is copied, and one that it reads where it is due and UTF-8
+pub other_outcome : (client : ClientSide) (code : SaslCode) (text : List ℕ) → code ≢ outcomes.Ok
+    → StepAllocates (ScramProfile client) (frames.Outcome code (Some text))
+other_outcome client outcomes.Ok text other = absurd (other refl)
+other_outcome client outcomes.Auth text other = tt
+other_outcome client outcomes.Sys text other = tt
+other_outcome client outcomes.SysPerm text other = tt
+other_outcome client outcomes.SysTemp text other = tt
+
+pub unread_outcome : (profile : Profile) (code : SaslCode) (text : List ℕ) → is_scram profile ≡ false
+    → StepAllocates profile (frames.Outcome code (Some text))
+unread_outcome (ScramProfile client) code text is = absurd (cc)
+unread_outcome (PlainProfile user password) code text is = tt
+unread_outcome AnonymousProfile code text is = tt
+unread_outcome ExternalProfile code text is = tt
+
+-- a challenge to a profile that is not of SCRAM is refused
+pub unchallenged : (profile : Profile) (text : List ℕ) → is_scram profile ≡ false
+    → RefusesAlways profile (frames.Challenge text) NotImplemented
+unchallenged (ScramProfile client) text is = absurd (cc)
+unchallenged (PlainProfile user password) text is = λ hostname nonce. (refl, refl)
+unchallenged AnonymousProfile text is = λ hostname nonce. (refl, refl)
+unchallenged ExternalProfile text is = λ hostname nonce. (refl, refl)
+
+-- ---- the search for a name
+
+pub not_among_more : (names : List (List ℕ)) (i : ℕ) (symbol name : List ℕ) → i < length names
+    → symbol ≡ get_or names i symbol → symbol ≢ name → ¬ Contains (take i names) name
+    → ¬ Contains (take (i + 1) names) name
+not_among_more names i symbol name within is differs none there =
+    go (Contains-push_cases (take i names) (get_or names i symbol) name
+    (subst (λ (some : List (List ℕ)). Contains some name) (take_more names i symbol within) there))
+  where
+    go : Contains (take i names) name ⊎ (get_or names i symbol ≡ name) → ⊥
+    go (inl old) = none old
+    go (inr same) = differs (is ∙ same)
+
+pub not_among_all : (names : List (List ℕ)) (i : ℕ) (name : List ℕ) → length names ≤ i
+    → ¬ Contains (take i names) name → ¬ Contains names name
+not_among_all names i name past none there =
+    none (subst (λ (some : List (List ℕ)). Contains some name) (sym (take_all i names past)) there)

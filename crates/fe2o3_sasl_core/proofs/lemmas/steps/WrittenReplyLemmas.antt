@@ -1,0 +1,161 @@
+-- What a profile replies in a body, from what it answers and what was written.
+use Rattle.std.proofs.Common.{◌≡◌, ℕ, Option, Some, List, refl, sym, ap, ◌∙◌, subst, inl, inr, Ok, Err}
+use Rattle.std.specs.List.{Contains}
+use Rattle.fe2o3_sasl_wire.specs.declared.amqp_types.SaslCode.{SaslCode}
+use Rattle.fe2o3_sasl_wire.specs.declared.amqp_types.SaslCode.TheVariants as outcomes
+use Rattle.fe2o3_sasl_wire.specs.declared.sasl_frames.error.Error.{Error}
+use Rattle.fe2o3_sasl_wire.specs.declared.sasl_frames.error.Error.TheVariants as faults
+use Rattle.fe2o3_sasl_wire.specs.SaslFrames as frames
+use Rattle.fe2o3_sasl_wire.specs.SaslFrames.{SaslFrame, canonical}
+use Rattle.fe2o3_sasl_core.specs.Events.{Started, Answered, Reported, Refused}
+use Rattle.fe2o3_sasl_core.specs.Runs.{ProfileReplies, SendsCanonical}
+use Rattle.fe2o3_sasl_core.specs.Profiles.{Profile, ScramProfile, profile_name, initial_response, after_init, profile_machine, FrameAllocates, StepAllocates, IsStarted, ProfileAnswers}
+use Rattle.fe2o3_scram.specs.ScramClient as client_states
+use Rattle.fe2o3_scram.specs.ScramClient.{ClientState, ReachesSaltIn}
+use Rattle.fe2o3_sasl_core.specs.declared.sasl_profile.error.ProfileError.{ProfileError}
+use Rattle.fe2o3_sasl_core.specs.declared.sasl_profile.error.ProfileError.TheVariants as profile_faults
+use Rattle.fe2o3_sasl_core.specs.private.Writing.{RefusesAlways, WritesBody}
+use Rattle.fe2o3_sasl_core.proofs.lemmas.steps.ProfileReplyLemmas.{waiting}
+use Rattle.fe2o3_sasl_core.specs.declared.sasl_profile.error.ProfileError.TheVariants.{NotImplemented, Scram, StaleKeys, Frame, OutOfMemory}
+
+-- a client that comes to the salt has been started
+started : (state : ClientState) (text : List ℕ) → ReachesSaltIn state text → IsStarted state
+started (client_states.ClientFirstSent nonce bare) text reaches = (nonce, bare, refl)
+started state text reaches = absurd reaches
+
+-- where a call asks for memory a step does
+step_allocates : (profile : Profile) (frame : SaslFrame) → FrameAllocates profile frame → StepAllocates profile frame
+step_allocates profile (frames.Mechanisms names) has = has
+step_allocates (ScramProfile client) (frames.Challenge text) has = (has.0, started client.state text has.1)
+step_allocates (ScramProfile client) (frames.Outcome outcomes.Ok (Some text)) has = waiting client.state text has
+step_allocates profile frame has = absurd has
+
+-- a refusal of the profile is what it replies
+pub refusal_replies : (hostname : Option (List ℕ)) (profile : Profile) (nonce : List ℕ) (frame : SaslFrame)
+    (fault : ProfileError) (next : Profile)
+    → ProfileAnswers FrameAllocates profile hostname nonce frame (Err fault) next
+    → ProfileReplies hostname profile nonce frame (Refused fault) next
+refusal_replies hostname profile nonce frame OutOfMemory next h = inl (step_allocates profile frame h.0, refl, h.1)
+refusal_replies hostname profile nonce frame NotImplemented next h = inr (Err NotImplemented, next, h, (refl, refl))
+refusal_replies hostname profile nonce frame (Scram kind) next h = inr (Err (Scram kind), next, h, (refl, refl))
+refusal_replies hostname profile nonce frame StaleKeys next h = inr (Err StaleKeys, next, h, (refl, refl))
+refusal_replies hostname profile nonce frame (Frame fault) next h = inr (Err (Frame fault), next, h, (refl, refl))
+
+-- one on a copy leaves the profile
+pub refused_on_copy : (hostname : Option (List ℕ)) (profile begun moved : Profile) (nonce : List ℕ) (frame : SaslFrame)
+    (fault : ProfileError) → begun ≡ profile → moved ≡ begun
+    → ProfileAnswers FrameAllocates begun hostname nonce frame (Err fault) moved
+    → ProfileReplies hostname profile nonce frame (Refused fault) profile
+refused_on_copy hostname profile begun moved nonce frame fault same kept h =
+    refusal_replies hostname profile nonce frame fault profile
+    (subst (λ (p : Profile). ProfileAnswers FrameAllocates p hostname nonce frame (Err fault) profile) same
+    (subst (λ (p : Profile). ProfileAnswers FrameAllocates begun hostname nonce frame (Err fault) p)
+    (kept ∙ same) h))
+
+-- ---- outcomes
+
+-- an outcome that is reported
+pub reported : (hostname : Option (List ℕ)) (profile next : Profile) (nonce : List ℕ) (frame : SaslFrame)
+    (code : SaslCode) (more : Option (List ℕ)) → frame ≡ frames.Outcome code more
+    → ProfileAnswers FrameAllocates profile hostname nonce frame (Ok frame) next
+    → ProfileReplies hostname profile nonce (frames.Outcome code more) (Reported code more) next
+reported hostname profile next nonce frame code more is h =
+    inr (
+      Ok (frames.Outcome code more),
+      next,
+      subst (λ (f : SaslFrame). profile_machine profile hostname nonce f (Ok f) next) is h,
+      (refl, refl),
+    )
+
+-- ---- starts
+
+-- an init that is written
+pub started_ok : (hostname : Option (List ℕ)) (profile begun moved : Profile) (nonce : List ℕ) (names : List (List ℕ))
+    (init : SaslFrame) (body : List ℕ) → begun ≡ profile → Contains names (profile_name profile)
+    → init ≡ frames.Init (profile_name begun) (initial_response begun nonce) hostname
+    → moved ≡ after_init begun nonce → canonical init ≡ Some body
+    → ProfileReplies hostname profile nonce (frames.Mechanisms names) (Started body) moved
+started_ok hostname profile begun moved nonce names init body same has is after written =
+    let init_of : Profile → SaslFrame = λ p. frames.Init (profile_name p) (initial_response p nonce) hostname in
+    let e : init ≡ init_of profile = is ∙ ap init_of same in
+    inr (
+      Ok (init_of profile),
+      after_init profile nonce,
+      inl (has, refl, refl),
+      subst (λ (b : Option (List ℕ)). SendsCanonical (Refused (Frame faults.TooLarge)) (λ b. Started b) b profile
+          (after_init profile nonce) (Started body) moved) (sym (ap canonical (sym e) ∙ written))
+          (refl, after ∙ ap (λ (p : Profile). after_init p nonce) same),
+    )
+
+-- an init that is not
+pub started_err : {X : Type 0} (view : X → List ℕ) (hostname : Option (List ℕ)) (profile begun : Profile)
+    (nonce : List ℕ) (names : List (List ℕ)) (init : SaslFrame) (fault : ProfileError) → begun ≡ profile
+    → Contains names (profile_name profile)
+    → init ≡ frames.Init (profile_name begun) (initial_response begun nonce) hostname
+    → WritesBody view (canonical init) (Err fault)
+    → ProfileReplies hostname profile nonce (frames.Mechanisms names) (Refused fault) profile
+started_err view hostname profile begun nonce names init profile_faults.OutOfMemory same has is w =
+    inl (has, refl, refl)
+started_err view hostname profile begun nonce names init (profile_faults.Frame fault) same has is w =
+    let init_of : Profile → SaslFrame = λ p. frames.Init (profile_name p) (initial_response p nonce) hostname in
+    let e : init ≡ init_of profile = is ∙ ap init_of same in
+    inr (
+      Ok (init_of profile),
+      after_init profile nonce,
+      inl (has, refl, refl),
+      subst (λ (b : Option (List ℕ)). SendsCanonical (Refused (Frame faults.TooLarge)) (λ b. Started b) b profile
+          (after_init profile nonce) (Refused (Frame fault)) profile) (sym (ap canonical (sym e) ∙ w.1))
+          (ap (λ (f : Error). Refused (Frame f)) w.0, refl),
+    )
+started_err view hostname profile begun nonce names init profile_faults.NotImplemented same has is w = absurd w
+started_err view hostname profile begun nonce names init (profile_faults.Scram kind) same has is w = absurd w
+started_err view hostname profile begun nonce names init profile_faults.StaleKeys same has is w = absurd w
+
+-- ---- answers
+
+-- a frame that is refused unread
+pub refused_unread : (hostname : Option (List ℕ)) (profile : Profile) (nonce : List ℕ) (frame : SaslFrame)
+    (fault : ProfileError) → RefusesAlways profile frame fault
+    → ProfileReplies hostname profile nonce frame (Refused fault) profile
+refused_unread hostname profile nonce frame fault refuses =
+    inr (Err fault, profile, refuses hostname nonce, (refl, refl))
+
+-- a response that is written
+pub responded_ok : (hostname : Option (List ℕ)) (profile begun moved : Profile) (nonce text response body : List ℕ)
+    → begun ≡ profile
+    → ProfileAnswers FrameAllocates begun hostname nonce (frames.Challenge text) (Ok (frames.Response response)) moved
+    → canonical (frames.Response response) ≡ Some body
+    → ProfileReplies hostname profile nonce (frames.Challenge text) (Answered body) moved
+responded_ok hostname profile begun moved nonce text response body same made written =
+    inr (
+      Ok (frames.Response response),
+      moved,
+      subst (λ (p : Profile). profile_machine p hostname nonce (frames.Challenge text)
+          (Ok (frames.Response response)) moved) same made,
+      subst (λ (b : Option (List ℕ)). SendsCanonical (Refused (Frame faults.TooLarge)) (λ b. Answered b) b profile moved
+          (Answered body) moved) (sym written) (refl, refl),
+    )
+
+-- a response that is not
+pub responded_err : {X : Type 0} (view : X → List ℕ) (hostname : Option (List ℕ)) (profile begun moved : Profile)
+    (nonce text response : List ℕ) (fault : ProfileError) → begun ≡ profile
+    → StepAllocates profile (frames.Challenge text)
+    → ProfileAnswers FrameAllocates begun hostname nonce (frames.Challenge text) (Ok (frames.Response response)) moved
+    → WritesBody view (canonical (frames.Response response)) (Err fault)
+    → ProfileReplies hostname profile nonce (frames.Challenge text) (Refused fault) profile
+responded_err view hostname profile begun moved nonce text response profile_faults.OutOfMemory same is made w =
+    inl (is, refl, refl)
+responded_err view hostname profile begun moved nonce text response (profile_faults.Frame fault) same is made w =
+    inr (
+      Ok (frames.Response response),
+      moved,
+      subst (λ (p : Profile). profile_machine p hostname nonce (frames.Challenge text)
+          (Ok (frames.Response response)) moved) same made,
+      subst (λ (b : Option (List ℕ)). SendsCanonical (Refused (Frame faults.TooLarge)) (λ b. Answered b) b profile moved
+          (Refused (Frame fault)) profile) (sym w.1) (ap (λ (f : Error). Refused (Frame f)) w.0, refl),
+    )
+responded_err view hostname profile begun moved nonce text response profile_faults.NotImplemented same is made w =
+    absurd w
+responded_err view hostname profile begun moved nonce text response profile_faults.StaleKeys same is made w = absurd w
+responded_err view hostname profile begun moved nonce text response (profile_faults.Scram kind) same is made w =
+    absurd w

@@ -1,0 +1,6 @@
+use Rattle.fe2o3_sasl_core.proofs.lemmas.machines.PlainAuthenticatorLemmas.{err_where}
+use Rattle.fe2o3_sasl_core.proofs.plain_server.PlainAuthenticatorSaslAcceptor.on_init_metered.Goals as goal
+
+pub returns-in_err-to_string-clause-memory : goal.returns-in_err-to_string-clause-memory
+returns-in_err-to_string-clause-memory g c =
+    err_where c.from_residual.result (c.in-Some.username.now, c.in-Some.ensures.user)

@@ -1,0 +1,135 @@
+-- What a SCRAM client answers to a list of frame bodies (RFC 5802, section 5; AMQP 1.0, part 5, section 5.3.2).
+-- Nothing here is a state: what is due and what is open are positions in the list.
+use Rattle.std.specs.Prelude.{◌≡◌, ◌⊎◌, ℕ, Bool, true, false, Option, Some, None, List, length, slice_get, Result, Ok, Err}
+use Rattle.std.specs.List.{Contains}
+use Rattle.std.specs.Str.{IsUtf8}
+use Rattle.fe2o3_sasl_wire.specs.declared.amqp_types.SaslCode.TheVariants as outcomes
+use Rattle.fe2o3_sasl_wire.specs.declared.sasl_frames.error.Error.{Error}
+use Rattle.fe2o3_sasl_wire.specs.declared.sasl_frames.error.Error.TheVariants as faults
+use Rattle.fe2o3_sasl_wire.specs.SaslFrames.{canonical, SaslFrame}
+use Rattle.fe2o3_sasl_wire.specs.SaslFrames as frames
+use Rattle.fe2o3_scram.specs.declared.scram_messages.error.ScramErrorKind.{ScramErrorKind}
+use Rattle.fe2o3_scram.specs.declared.scram_messages.error.ScramErrorKind.TheVariants.{Utf8Error, IllegalClientState, ServerSignatureMismatch}
+use Rattle.fe2o3_scram.specs.Texts.{base64_text}
+use Rattle.fe2o3_scram.specs.ClientFinal.{Answer, answer_of}
+use Rattle.fe2o3_scram.specs.ClientFirst.{client_first, client_first_bare}
+use Rattle.fe2o3_sasl_core.specs.Events.{Given, Login, ClientSays, Started, Answered, Reported, Refused, scram_fault}
+use Rattle.fe2o3_scram.specs.Hmac.{mechanism_name}
+use Rattle.fe2o3_sasl_core.specs.Positions.{OpenBy}
+use Rattle.fe2o3_scram.specs.ServerFinal.{ReadsServerFinal}
+use Rattle.fe2o3_scram.specs.ServerFirst.{ServerFirst, ReadsServerFirst}
+use Rattle.fe2o3_sasl_core.specs.Bodies.{carried, SpellsBody}
+use Rattle.fe2o3_sasl_core.specs.declared.sasl_profile.error.ProfileError.TheVariants.{NotImplemented, Frame, OutOfMemory}
+
+-- an answer: the client's nonce, the server-first message, and what that names
+pub record Answering : Type 0 where
+  pub nonce : List ℕ
+  pub text : List ℕ
+  pub first : ServerFirst
+
+-- its answer
+abbrev pub answer_at : Login → Answering → Answer
+answer_at login answer = answer_of login.version login.secret
+    (client_first_bare login.user answer.nonce) answer.text answer.first
+
+-- the reply of a start: an init with the client-first message (AMQP 1.0, part 5, section 5.3.3.2)
+abbrev pub says_start : Login → Given → ClientSays
+says_start login event =
+    carried (Refused (Frame faults.TooLarge)) (λ body. Started body)
+    (canonical (frames.Init (mechanism_name login.version)
+    (Some (client_first login.user (base64_text event.nonce))) login.hostname))
+
+-- the reply of an answer: a response with the client-final message
+abbrev pub says_answer : Login → Answering → ClientSays
+says_answer login answer = carried (Refused (Frame faults.TooLarge)) (λ body. Answered body)
+    (canonical (frames.Response (answer_at login answer).message))
+
+-- a challenge is read in this order: it is UTF-8, a challenge is due, and then every test of a server-first message
+abbrev pub ReadsChallenge : Login → (List ℕ → Type 0) → List ℕ → Result Answering ScramErrorKind → Type 0
+ReadsChallenge login Due text (Ok answer) = IsUtf8 text × (answer.text ≡ text) × Due answer.nonce
+    × ReadsServerFirst answer.nonce login.secret login.limits text (Ok answer.first)
+ReadsChallenge login Due text (Err kind) =
+    (¬ IsUtf8 text × (kind ≡ Utf8Error))
+    ⊎ ((IsUtf8 text × ((nonce : List ℕ) → ¬ Due nonce) × (kind ≡ IllegalClientState))
+    ⊎ (IsUtf8 text × ((nonce : List ℕ) × Due nonce × ReadsServerFirst nonce login.secret login.limits text (Err kind))))
+
+-- the data of an outcome Ok is read in this order: there is data, an answer is open, and then every test of a
+-- server-final message
+abbrev pub ReadsOutcome : Login → (Answering → Type 0) → Option (List ℕ) → Result (Unit {0}) ScramErrorKind → Type 0
+ReadsOutcome login IsOpen None (Ok verified) = ⊥
+ReadsOutcome login IsOpen None (Err kind) = kind ≡ ServerSignatureMismatch
+ReadsOutcome login IsOpen (Some text) (Ok verified) = (answer : Answering) × IsOpen answer
+    × ReadsServerFinal (answer_at login answer).signature text (Ok verified)
+ReadsOutcome login IsOpen (Some text) (Err kind) =
+    (((answer : Answering) → ¬ IsOpen answer) × (kind ≡ IllegalClientState))
+    ⊎ ((answer : Answering) × IsOpen answer × ReadsServerFinal (answer_at login answer).signature text (Err kind))
+
+-- the reply to a body that spells this, where a challenge is due for these nonces and these answers are open
+abbrev pub ClientAnswers : Login → (List ℕ → Type 0) → (Answering → Type 0) → Given → Result SaslFrame Error
+    → ClientSays → Type 0
+ClientAnswers login Due IsOpen event (Err fault) says = says ≡ Refused (Frame fault)
+ClientAnswers login Due IsOpen event (Ok (frames.Mechanisms names)) says =
+    (Contains names (mechanism_name login.version) × (says ≡ says_start login event))
+    ⊎ (¬ Contains names (mechanism_name login.version) × (says ≡ Refused NotImplemented))
+ClientAnswers login Due IsOpen event (Ok (frames.Challenge text)) says =
+    ((answer : Answering) × ReadsChallenge login Due text (Ok answer) × (says ≡ says_answer login answer))
+    ⊎ ((kind : ScramErrorKind) × ReadsChallenge login Due text (Err kind) × (says ≡ Refused (scram_fault kind)))
+ClientAnswers login Due IsOpen event (Ok (frames.Outcome outcomes.Ok more)) says =
+    (ReadsOutcome login IsOpen more (Ok tt) × (says ≡ Reported outcomes.Ok more))
+    ⊎ ((kind : ScramErrorKind) × ReadsOutcome login IsOpen more (Err kind) × (says ≡ Refused (scram_fault kind)))
+ClientAnswers login Due IsOpen event (Ok (frames.Outcome code more)) says = says ≡ Reported code more
+ClientAnswers login Due IsOpen event (Ok frame) says = says ≡ Refused NotImplemented
+
+-- the replies that memory may be wanting for: those to a mechanisms list with the name, to a challenge in UTF-8, and
+-- to an outcome with data, which in one of code Ok are UTF-8
+abbrev pub ClientAllocates : Login → Result SaslFrame Error → Type 0
+ClientAllocates login (Ok (frames.Mechanisms names)) = Contains names (mechanism_name login.version)
+ClientAllocates login (Ok (frames.Challenge text)) = IsUtf8 text
+ClientAllocates login (Ok (frames.Outcome outcomes.Ok (Some text))) = IsUtf8 text
+ClientAllocates login (Ok (frames.Outcome code (Some text))) = Unit {0}
+ClientAllocates login spelled = ⊥
+
+-- a start
+abbrev pub is_start : ClientSays → Bool
+is_start (Started body) = true
+is_start says = false
+
+-- an answer
+abbrev pub is_answer : ClientSays → Bool
+is_answer (Answered body) = true
+is_answer says = false
+
+-- a new start, or a reported outcome of code Ok
+abbrev pub ends_answer : ClientSays → Bool
+ends_answer (Started body) = true
+ends_answer (Reported outcomes.Ok more) = true
+ends_answer says = false
+
+-- this is the nonce text of the event at k
+abbrev pub NonceAt : List Given → ℕ → List ℕ → Type 0
+NonceAt events k nonce = (event : Given) × (slice_get events k ≡ Some event) × (nonce ≡ base64_text event.nonce)
+
+-- a challenge at k is due for this nonce: that of the last start before k, where no answer stands between
+abbrev pub IsDue : List Given → List ClientSays → ℕ → List ℕ → Type 0
+IsDue events replies k nonce = OpenBy is_start is_answer (NonceAt events) replies k nonce
+
+-- the answer to the challenge at k
+abbrev pub AnswersAt : Login → List Given → List ClientSays → ℕ → Answering → Type 0
+AnswersAt login events replies k answer =
+    (event : Given) × (text : List ℕ) × (slice_get events k ≡ Some event)
+    × SpellsBody event.body (Ok (frames.Challenge text))
+    × ReadsChallenge login (IsDue events replies k) text (Ok answer)
+
+-- the answer that is open at k: the last one before k, where neither a start nor a reported Ok stands between
+abbrev pub OpenAnswer : Login → List Given → List ClientSays → ℕ → Answering → Type 0
+OpenAnswer login events replies k answer = OpenBy is_answer ends_answer
+    (AnswersAt login events replies) replies k answer
+
+-- a reply for each event: the one that the table gives, or want of memory where memory may be wanting
+pub record ClientHistory (login : Login) (events : List Given) (replies : List ClientSays) : Type 0 where
+  pub count : length replies ≡ length events
+  pub each : (k : ℕ) (event : Given) (says : ClientSays) → slice_get events k ≡ Some event
+      → slice_get replies k ≡ Some says
+      → (spelled : Result SaslFrame Error) × SpellsBody event.body spelled
+      × ((ClientAllocates login spelled × (says ≡ Refused OutOfMemory))
+      ⊎ ClientAnswers login (IsDue events replies k) (OpenAnswer login events replies k) event spelled says)

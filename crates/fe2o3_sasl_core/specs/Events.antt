@@ -1,0 +1,79 @@
+-- What the two sides are given and what they answer, as plain data (AMQP 1.0, part 5, section 5.3), and what
+-- the code always holds of it.
+use Rattle.std.specs.Prelude.{◌≡◌, ℕ, ◌<◌, ◌^◌, List, length, slice_get, Option, Some}
+use Rattle.std.specs.Str.{IsUtf8}
+use Rattle.fe2o3_sasl_wire.specs.SaslFrames.{IsBytes}
+use Rattle.fe2o3_sasl_wire.specs.declared.amqp_types.SaslCode.{SaslCode}
+use Rattle.fe2o3_sasl_wire.specs.declared.sasl_frames.error.Error.{Error}
+use Rattle.fe2o3_scram.specs.declared.hmac.ScramVersion.{ScramVersion}
+use Rattle.fe2o3_scram.specs.declared.scram_messages.error.ScramErrorKind.{ScramErrorKind}
+use Rattle.fe2o3_scram.specs.declared.scram_messages.error.ScramErrorKind.TheVariants as kinds
+use Rattle.fe2o3_scram.specs.declared.client_secret.IterationLimits.{IterationLimits}
+use Rattle.fe2o3_sasl_core.specs.declared.sasl_profile.error.ProfileError.{ProfileError}
+use Rattle.fe2o3_sasl_core.specs.declared.sasl_profile.error.ProfileError.TheVariants.{Scram, StaleKeys}
+use Rattle.fe2o3_scram.specs.ClientKeys.{AreSized}
+use Rattle.fe2o3_scram.specs.ClientSecret.{Secret, Password, Keys, Both}
+use Rattle.fe2o3_scram.specs.Credentials.{Record}
+
+-- an event: the body of a frame as it came, and the 32 bytes that the answer takes where it takes a nonce
+pub record Given : Type 0 where
+  pub body : List ℕ
+  pub nonce : List ℕ
+
+-- what a client logs in with: user name, secret and version, the iteration counts that it accepts, and the hostname
+-- that its init carries, if any (AMQP 1.0, part 5, section 5.3.3.2)
+pub record Login : Type 0 where
+  pub user : List ℕ
+  pub secret : Secret
+  pub version : ScramVersion
+  pub limits : IterationLimits
+  pub hostname : Option (List ℕ)
+
+-- a reply of a server: the body of a challenge, the code and the body of an outcome, or a fault
+pub data ServerSays : Type 0 where
+  Challenged : (body : List ℕ) → ServerSays
+  Concluded : (code : SaslCode) → (body : List ℕ) → ServerSays
+  Failed : (fault : Error) → ServerSays
+
+-- the fault for a refusal of a SCRAM client
+abbrev pub scram_fault : ScramErrorKind → ProfileError
+scram_fault kinds.StaleKeys = StaleKeys
+scram_fault kind = Scram kind
+
+-- a reply of a client: the body of an init, the body of a response, an outcome that it reports, or a fault: a frame that
+-- it does not expect, a refusal of SCRAM, kept keys that are of another salt or another count, a body that is not read
+-- or not written, no memory
+pub data ClientSays : Type 0 where
+  Started : (body : List ℕ) → ClientSays
+  Answered : (body : List ℕ) → ClientSays
+  Reported : (code : SaslCode) → (more : Option (List ℕ)) → ClientSays
+  Refused : (fault : ProfileError) → ClientSays
+
+-- what the code holds of an event: bytes, and a nonce of 32
+pub record IsGiven (event : Given) : Type 0 where
+  pub body : IsBytes event.body
+  pub nonce : IsBytes event.nonce
+  pub length : length event.nonce ≡ 32
+
+-- each event is one that the code holds
+abbrev pub AreGiven : List Given → Type 0
+AreGiven events = (k : ℕ) (event : Given) → slice_get events k ≡ Some event → IsGiven event
+
+-- what the code holds of a login: texts in UTF-8, and a limit of 32 bits
+pub record IsLogin (login : Login) : Type 0 where
+  pub user : IsUtf8 login.user
+  pub limit : login.limits.max_iterations < 2 ^ 32
+  pub hostname : (text : List ℕ) → login.hostname ≡ Some text → IsUtf8 text
+
+-- what the code holds of a secret: its keys are as long as a digest (RFC 5802, section 3)
+abbrev pub IsSecret : Secret → Type 0
+IsSecret (Password password) = Unit {0}
+IsSecret (Keys keys) = AreSized keys
+IsSecret (Both password keys) = AreSized keys
+
+-- what the code holds of a record: bytes, and a count of 32 bits
+pub record IsRecord (stored : Record) : Type 0 where
+  pub salt : IsBytes stored.salt
+  pub count : stored.count < 2 ^ 32
+  pub stored_key : IsBytes stored.stored_key
+  pub server_key : IsBytes stored.server_key

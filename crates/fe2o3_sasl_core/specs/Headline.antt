@@ -1,0 +1,60 @@
+-- The headline theorem, over every list of frame bodies: what every history has. Every run of `scram_server_run` and
+-- of `scram_client_run` has it by contract, and `headline` in `laws` of `fe2o3_sasl` has it of the definitions.
+use Rattle.std.specs.Prelude.{◌≡◌, ◌≢◌, ℕ, ◌<◌, Option, Some, List, slice_get, Ok}
+use Rattle.fe2o3_sasl_wire.specs.declared.amqp_types.SaslCode.TheVariants as outcomes
+use Rattle.fe2o3_sasl_wire.specs.declared.sasl_frames.error.Error.TheVariants as faults
+use Rattle.fe2o3_sasl_wire.specs.SaslFrames as frames
+use Rattle.fe2o3_sasl_core.specs.ClientHistory.{Answering, answer_at, OpenAnswer}
+use Rattle.fe2o3_scram.specs.Credentials.{Provider}
+use Rattle.fe2o3_sasl_core.specs.Events.{Given, Login, IsRecord, ServerSays, Concluded, Failed, ClientSays, Reported, Refused}
+use Rattle.fe2o3_sasl_core.specs.Positions.{IsLastOpen}
+use Rattle.fe2o3_scram.specs.ServerFinal.{ReadsServerFinal}
+use Rattle.fe2o3_sasl_core.specs.Bodies.{SpellsBody}
+use Rattle.fe2o3_sasl_core.specs.ServerHistory.{Accepted, AcceptsAt, ServerHistory, is_challenge, is_ok, says_ok}
+use Rattle.fe2o3_sasl_core.specs.TwoSides.{Sides, Takes, Agree, MessagesCollide, client_message, server_message, keys_at}
+use Rattle.fe2o3_sasl_core.specs.declared.sasl_profile.error.ProfileError.TheVariants.{OutOfMemory}
+
+-- what a server answers Ok to, exactly
+pub record AnswersOkExactly (provider : Provider) (events : List Given) (replies : List ServerSays) : Type 0 where
+  -- only a response that fits its open challenge, and whose proof meets the stored key
+  pub only : (n : ℕ) (body : List ℕ) → slice_get replies n ≡ Some (Concluded outcomes.Ok body)
+      → (accepted : Accepted) × AcceptsAt provider events replies n accepted
+      × (Concluded outcomes.Ok body ≡ says_ok provider accepted)
+  -- that closes the challenge: no later position finds it open, by the definition of what is open
+  pub closes : (n j k : ℕ) (body : List ℕ) → slice_get replies n ≡ Some (Concluded outcomes.Ok body)
+      → IsLastOpen is_challenge is_ok replies n j → n < k → ¬ IsLastOpen is_challenge is_ok replies k j
+  -- and every such response, but for want of memory and an outcome that is too large, as `says_ok` says
+  pub wherever : (n : ℕ) (accepted : Accepted) (says : ServerSays) → AcceptsAt provider events replies n accepted
+      → slice_get replies n ≡ Some says → says ≢ Failed faults.OutOfMemory → says ≡ says_ok provider accepted
+
+-- the event at m is an outcome Ok with this data, which is the signature that the open answer waits for
+abbrev pub SignedAt : Login → List Given → List ClientSays → ℕ → List ℕ → Type 0
+SignedAt login events replies m text = (event : Given) × (answer : Answering) × (slice_get events m ≡ Some event)
+    × SpellsBody event.body (Ok (frames.Outcome outcomes.Ok (Some text)))
+    × OpenAnswer login events replies m answer × ReadsServerFinal (answer_at login answer).signature text (Ok tt)
+
+-- what a client reports Ok on, exactly
+pub record ReportsOkExactly (login : Login) (events : List Given) (replies : List ClientSays) : Type 0 where
+  -- only the signature of its open answered challenge
+  pub only : (m : ℕ) (more : Option (List ℕ)) → slice_get replies m ≡ Some (Reported outcomes.Ok more)
+      → (text : List ℕ) × (more ≡ Some text) × SignedAt login events replies m text
+  -- and every such signature, but for want of memory
+  pub wherever : (m : ℕ) (text : List ℕ) (says : ClientSays) → SignedAt login events replies m text
+      → slice_get replies m ≡ Some says → says ≢ Refused OutOfMemory → says ≡ Reported outcomes.Ok (Some text)
+
+-- of a verifier that the client took at m: both sides agree where their AuthMessages are equal, and where these
+-- differ they share one HMAC value under the two sides' own server keys
+pub record VerifierAgrees (sides : Sides) (m : ℕ) (accepted : Accepted) : Type 0 where
+  pub answer : Answering
+  pub opened : OpenAnswer sides.login sides.client_events sides.client_replies m answer
+  pub agrees : client_message sides.login answer ≡ server_message accepted
+      → Agree sides.login sides.provider answer accepted
+  pub collides : client_message sides.login answer ≢ server_message accepted → MessagesCollide sides answer accepted
+      (keys_at sides.login answer).server_key accepted.challenge.stored.server_key
+
+-- of the verifiers that the client took: each that a server issued, of whatever provider and history
+abbrev pub TakenVerifiersAgree : Login → List Given → List ClientSays → Type 0
+TakenVerifiersAgree login events replies = (sides : Sides) (m n : ℕ) (accepted : Accepted) → sides.login ≡ login
+    → sides.client_events ≡ events → sides.client_replies ≡ replies
+    → ServerHistory sides.provider sides.server_events sides.server_replies → IsRecord accepted.challenge.stored
+    → Takes sides m n accepted → VerifierAgrees sides m accepted

@@ -1,0 +1,139 @@
+-- What a client's profile answers to one frame (AMQP 1.0, part 5, section 5.3.2).
+use Rattle.std.specs.Prelude.{◌≡◌, ◌⊎◌, ℕ, Bool, true, false, Option, Some, None, List, ◌∷◌, ◌++◌, codes, Result, Ok, Err}
+use Rattle.std.specs.List.{Contains}
+use Rattle.std.specs.Str.{IsUtf8}
+use Rattle.fe2o3_sasl_wire.specs.declared.amqp_types.SaslCode.TheVariants as outcomes
+use Rattle.fe2o3_sasl_wire.specs.SaslFrames as frames
+use Rattle.fe2o3_sasl_wire.specs.SaslFrames.{SaslFrame}
+use Rattle.fe2o3_scram.specs.declared.scram_messages.error.ScramErrorKind.{ScramErrorKind}
+use Rattle.fe2o3_scram.specs.declared.scram_messages.error.ScramErrorKind.TheVariants.{Utf8Error, ServerSignatureMismatch}
+use Rattle.fe2o3_scram.specs.Texts.{base64_text}
+use Rattle.fe2o3_scram.specs.ClientFirst.{client_first}
+use Rattle.fe2o3_scram.specs.ClientKeys.{ClientKeys}
+use Rattle.fe2o3_scram.specs.ScramClient as client_states
+use Rattle.fe2o3_scram.specs.ScramClient.{ClientSide, ClientState, started, AnswersIn, VerifiesIn, ReachesSaltIn, ReachesVerifierIn, with_state}
+use Rattle.fe2o3_scram.specs.Hmac.{mechanism_name}
+use Rattle.fe2o3_sasl_core.specs.Events.{Login, scram_fault}
+use Rattle.fe2o3_sasl_core.specs.declared.sasl_profile.error.ProfileError.{ProfileError}
+use Rattle.fe2o3_sasl_core.specs.declared.sasl_profile.error.ProfileError.TheVariants.{NotImplemented, Scram, OutOfMemory}
+
+-- the profiles: SCRAM of the three versions, PLAIN, ANONYMOUS and EXTERNAL
+pub data Profile : Type 0 where
+  ScramProfile : (client : ClientSide) → Profile
+  PlainProfile : (user password : List ℕ) → Profile
+  AnonymousProfile : Profile
+  ExternalProfile : Profile
+
+-- whether it is of SCRAM
+abbrev pub is_scram : Profile → Bool
+is_scram (ScramProfile client) = true
+is_scram profile = false
+
+-- the name of its mechanism
+abbrev pub profile_name : Profile → List ℕ
+profile_name (ScramProfile client) = mechanism_name client.version
+profile_name (PlainProfile user password) = codes "PLAIN"
+profile_name AnonymousProfile = codes "ANONYMOUS"
+profile_name ExternalProfile = codes "EXTERNAL"
+
+-- its initial response, with this nonce
+abbrev pub initial_response : Profile → List ℕ → Option (List ℕ)
+initial_response (ScramProfile client) nonce = Some (client_first client.user (base64_text nonce))
+initial_response (PlainProfile user password) nonce = Some (0 ∷ user ++ 0 ∷ password)
+initial_response profile nonce = None
+
+-- the profile after its init
+abbrev pub after_init : Profile → List ℕ → Profile
+after_init (ScramProfile client) nonce = ScramProfile (started client nonce)
+after_init profile nonce = profile
+
+-- the frame of what a SCRAM client answers, or its refusal
+abbrev pub client_frame : {A : Type 0} → (A → SaslFrame) → Result A ScramErrorKind → Result SaslFrame ProfileError
+client_frame frame (Ok answer) = Ok (frame answer)
+client_frame frame (Err kind) = Err (scram_fault kind)
+
+-- the machine of a profile: from the profile, a hostname, a nonce and a frame to a reply and the profile after it
+abbrev pub profile_machine : Profile → Option (List ℕ) → List ℕ → SaslFrame → Result SaslFrame ProfileError → Profile
+    → Type 0
+profile_machine profile hostname nonce (frames.Mechanisms names) reply next =
+    (Contains names (profile_name profile)
+    × (reply ≡ Ok (frames.Init (profile_name profile) (initial_response profile nonce) hostname))
+    × (next ≡ after_init profile nonce))
+    ⊎ (¬ Contains names (profile_name profile) × (reply ≡ Err NotImplemented) × (next ≡ profile))
+profile_machine (ScramProfile client) hostname nonce (frames.Challenge text) reply next =
+    (¬ IsUtf8 text × (reply ≡ Err (Scram Utf8Error)) × (next ≡ ScramProfile client))
+    ⊎ (IsUtf8 text × ((answer : Result (List ℕ) ScramErrorKind) × (after : ClientSide)
+    × AnswersIn client.state client text answer after
+    × (reply ≡ client_frame (λ message. frames.Response message) answer) × (next ≡ ScramProfile after)))
+profile_machine (ScramProfile client) hostname nonce (frames.Outcome outcomes.Ok None) reply next =
+    (reply ≡ Err (Scram ServerSignatureMismatch)) × (next ≡ ScramProfile client)
+profile_machine (ScramProfile client) hostname nonce (frames.Outcome outcomes.Ok (Some text)) reply next =
+    (answer : Result (Unit {0}) ScramErrorKind) × (after : ClientSide)
+    × VerifiesIn client.state client text answer after
+    × (reply ≡ client_frame (λ verified. frames.Outcome outcomes.Ok (Some text)) answer)
+    × (next ≡ ScramProfile after)
+profile_machine profile hostname nonce (frames.Outcome code more) reply next =
+    (reply ≡ Ok (frames.Outcome code more)) × (next ≡ profile)
+profile_machine profile hostname nonce frame reply next = (reply ≡ Err NotImplemented) × (next ≡ profile)
+
+-- where a profile comes to ask for memory before it has its answer to a frame: for an init; for the response to a
+-- challenge in UTF-8 that comes to its salt; and for the signature of an outcome Ok
+abbrev pub FrameAllocates : Profile → SaslFrame → Type 0
+FrameAllocates profile (frames.Mechanisms names) = Contains names (profile_name profile)
+FrameAllocates (ScramProfile client) (frames.Challenge text) = IsUtf8 text × ReachesSaltIn client.state text
+FrameAllocates (ScramProfile client) (frames.Outcome outcomes.Ok (Some text)) = ReachesVerifierIn client.state text
+FrameAllocates profile frame = ⊥
+
+-- a client in this state has sent its first message, so that a challenge is due (RFC 5802, section 5)
+abbrev pub IsStarted : ClientState → Type 0
+IsStarted state = (nonce : List ℕ) × (bare : List ℕ) × (state ≡ client_states.ClientFirstSent nonce bare)
+
+-- a client in this state waits for a signature, so that an outcome is due (RFC 5802, section 5)
+abbrev pub IsAnswered : ClientState → Type 0
+IsAnswered state = (signature : List ℕ) × (keys : Option ClientKeys)
+    × (state ≡ client_states.ClientFinalSent signature keys)
+
+-- the same where the frame is a view: the data of an outcome are copied, of one that SCRAM reads where they are UTF-8
+-- and due
+abbrev pub ViewAllocates : Profile → SaslFrame → Type 0
+ViewAllocates profile (frames.Mechanisms names) = Contains names (profile_name profile)
+ViewAllocates (ScramProfile client) (frames.Challenge text) = IsUtf8 text × ReachesSaltIn client.state text
+ViewAllocates (ScramProfile client) (frames.Outcome outcomes.Ok (Some text)) = IsUtf8 text × IsAnswered client.state
+ViewAllocates profile (frames.Outcome code (Some text)) = Unit {0}
+ViewAllocates profile frame = ⊥
+
+-- the same of a step: a profile to which a challenge in UTF-8 is due is copied
+abbrev pub StepAllocates : Profile → SaslFrame → Type 0
+StepAllocates profile (frames.Mechanisms names) = Contains names (profile_name profile)
+StepAllocates (ScramProfile client) (frames.Challenge text) = IsUtf8 text × IsStarted client.state
+StepAllocates (ScramProfile client) (frames.Outcome outcomes.Ok (Some text)) = IsUtf8 text × IsAnswered client.state
+StepAllocates profile (frames.Outcome code (Some text)) = Unit {0}
+StepAllocates profile frame = ⊥
+
+-- a SCRAM profile before its first message
+abbrev pub scram_profile : Login → Profile
+scram_profile login = ScramProfile (record {
+  user = login.user;
+  secret = login.secret;
+  version = login.version;
+  limits = login.limits;
+  state = client_states.ClientInitial;
+})
+
+-- the state of its client; a profile that is not of SCRAM has sent no message of SCRAM
+abbrev pub profile_state : Profile → ClientState
+profile_state (ScramProfile client) = client.state
+profile_state profile = client_states.ClientInitial
+
+-- the same profile with its client in this state; one that is not of SCRAM stays as it is
+abbrev pub in_state : Profile → ClientState → Profile
+in_state (ScramProfile client) state = ScramProfile (with_state client state)
+in_state profile state = profile
+
+-- what a profile answers to a frame: what its machine replies, or want of memory, where the profile stays
+abbrev pub ProfileAnswers : (Profile → SaslFrame → Type 0) → Profile → Option (List ℕ) → List ℕ → SaslFrame
+    → Result SaslFrame ProfileError → Profile → Type 0
+ProfileAnswers Allocates profile hostname nonce frame (Err OutOfMemory) next =
+    Allocates profile frame × (next ≡ profile)
+ProfileAnswers Allocates profile hostname nonce frame answer next =
+    profile_machine profile hostname nonce frame answer next

@@ -1,0 +1,61 @@
+-- What a server answers that offers only some of its mechanisms (AMQP 1.0, part 5, section 5.3.3.1).
+use Rattle.std.specs.Prelude.{◌≡◌, ℕ, Bool, true, false, List, filter, map, string_bytes}
+use Rattle.fe2o3_sasl_wire.specs.declared.amqp_types.SaslCode.TheVariants as outcomes
+use Rattle.fe2o3_sasl_wire.specs.SaslFrames as frames
+use Rattle.fe2o3_sasl_wire.specs.SaslFrames.{SaslFrame}
+use Rattle.fe2o3_sasl_core.specs.AnyMechanism.{has_name}
+use Rattle.fe2o3_sasl_core.specs.SaslAcceptor.{ends_with}
+use Rattle.fe2o3_sasl_core.specs.declared.restrict_mechanisms.RestrictMechanisms.{RestrictMechanisms}
+
+-- an acceptor in its state, and the names that it may offer
+pub record Offering (S : Type 0) : Type 0 where
+  pub inner : S
+  pub allowed : List (List ℕ)
+
+-- the names that it offers: of its own those that it may offer, in its order
+abbrev pub offering_names : {S : Type 0} → (S → List (List ℕ)) → Offering S → List (List ℕ)
+offering_names names offering = filter (has_name offering.allowed) (names offering.inner)
+
+-- whether a frame is passed on: of the inits those of a mechanism that is offered
+abbrev pub is_passed_on : {S : Type 0} → (S → List (List ℕ)) → Offering S → SaslFrame → Bool
+is_passed_on names offering (frames.Init mechanism response hostname) =
+    has_name (offering_names names offering) mechanism
+is_passed_on names offering frame = true
+
+-- a frame that is passed on is answered by the acceptor, and else by Auth
+abbrev pub OfferingReplies : {S : Type 0} → (S → List ℕ → SaslFrame → SaslFrame → S → Type 0) → Offering S → Bool
+    → List ℕ → SaslFrame → SaslFrame → Offering S → Type 0
+OfferingReplies machine offering false nonce frame reply next =
+    (reply ≡ ends_with outcomes.Auth) × (next ≡ offering)
+OfferingReplies {S} machine offering true nonce frame reply next =
+    (moved : S) × machine offering.inner nonce frame reply moved × (next ≡ record offering { inner = moved })
+
+-- its machine
+abbrev pub offering_machine : {S : Type 0} → (S → List (List ℕ)) → (S → List ℕ → SaslFrame → SaslFrame → S → Type 0)
+    → Offering S → List ℕ → SaslFrame → SaslFrame → Offering S → Type 0
+offering_machine names machine offering nonce frame reply next =
+    OfferingReplies machine offering (is_passed_on names offering frame) nonce frame reply next
+
+-- where it asks for memory: as the acceptor does with what is passed on
+abbrev pub offering_allocates : {S : Type 0} → (S → List (List ℕ)) → (S → SaslFrame → Type 0) → Offering S → SaslFrame
+    → Type 0
+offering_allocates names allocates offering frame =
+    (is_passed_on names offering frame ≡ true) × allocates offering.inner frame
+
+-- so many where it is so, and else none
+abbrev pub TakesWhere : Bool → (ℕ → Type 0) → ℕ → Type 0
+TakesWhere true takes n = takes n
+TakesWhere false takes n = n ≡ 0
+
+-- how many HMAC values it makes (RFC 5802, section 3): as many as the acceptor does with what is passed on
+abbrev pub offering_hmacs : {S : Type 0} → (S → List (List ℕ)) → (S → SaslFrame → ℕ → Type 0) → Offering S → SaslFrame
+    → ℕ → Type 0
+offering_hmacs names hmacs offering frame n =
+    TakesWhere (is_passed_on names offering frame) (hmacs offering.inner frame) n
+
+-- the acceptor that a value is
+abbrev pub offering_of : {A S : Type 0} → (A → S) → RestrictMechanisms A → Offering S
+offering_of state offering = record {
+  inner = state offering.acceptor;
+  allowed = map string_bytes offering.allowed.value.items;
+}

@@ -1,0 +1,111 @@
+-- What an acceptor answers to one frame (AMQP 1.0, part 5, section 5.3.2).
+use Rattle.std.specs.Prelude.{◌≡◌, ◌≢◌, ◌⊎◌, ℕ, Bool, true, Option, Some, None, List, [], ◌∷◌, codes, slice_get, string_bytes, Result, Ok}
+use Rattle.std.specs.List.{AllByRecursion, join_with_byte}
+use Rattle.fe2o3_sasl_wire.specs.declared.amqp_types.SaslCode.{SaslCode}
+use Rattle.fe2o3_sasl_wire.specs.declared.amqp_types.SaslCode.TheVariants as outcomes
+use Rattle.fe2o3_sasl_wire.specs.AmqpTypes.{challenge_frame, outcome_frame}
+use Rattle.fe2o3_sasl_wire.specs.SaslFrames as frames
+use Rattle.fe2o3_sasl_wire.specs.SaslFrames.{SaslFrame}
+use Rattle.fe2o3_sasl_core.specs.declared.sasl_acceptor.SaslPlainMechanism.{SaslPlainMechanism}
+use Rattle.fe2o3_sasl_core.specs.declared.sasl_acceptor.SaslServerFrame.{SaslServerFrame}
+use Rattle.fe2o3_sasl_core.specs.declared.sasl_acceptor.SaslServerFrame.TheVariants as server_frames
+use Rattle.fe2o3_scram.specs.declared.scram_messages.error.ServerScramErrorKind.{ServerScramErrorKind}
+use Rattle.fe2o3_scram.specs.Credentials.{Provider}
+use Rattle.fe2o3_scram.specs.Hmac.{mechanism_name}
+use Rattle.fe2o3_scram.specs.ScramServer.{ServerState, logged_in, ChallengesFrom, ConcludesFrom, ReachesBase64In}
+use Rattle.fe2o3_scram.specs.ServerFirst.{ReachesChallenge}
+
+-- the acceptors, each with all that its answers depend on: SCRAM over a provider, in a state; PLAIN for one
+-- user, which also knows whether it has accepted; and ANONYMOUS, which keeps nothing
+pub data Acceptor : Type 0 where
+  ScramAcceptor : (provider : Provider) → (state : ServerState) → Acceptor
+  PlainAcceptor : (user password : List ℕ) → (accepted : Bool) → Acceptor
+  AnonymousAcceptor : Acceptor
+
+-- who has logged in, from an outcome Ok on and up to the next challenge (AMQP 1.0, part 5, sections 5.3.2 and
+-- 5.3.3.5; RFC 5802, section 5; RFC 4616, section 2); ANONYMOUS does not ask (RFC 4505, section 2)
+abbrev pub acceptor_user : Acceptor → Option (List ℕ)
+acceptor_user (ScramAcceptor provider state) = logged_in state
+acceptor_user (PlainAcceptor user password true) = Some user
+acceptor_user acceptor = None
+
+-- the names of its mechanisms
+abbrev pub acceptor_names : Acceptor → List (List ℕ)
+acceptor_names (ScramAcceptor provider state) = mechanism_name provider.version ∷ []
+acceptor_names (PlainAcceptor user password accepted) = codes "PLAIN" ∷ []
+acceptor_names AnonymousAcceptor = codes "ANONYMOUS" ∷ []
+
+-- the names that a server offers: ANONYMOUS where it has none (AMQP 1.0, part 5, section 5.3.3.1)
+abbrev pub offered : List (List ℕ) → List (List ℕ)
+offered [] = codes "ANONYMOUS" ∷ []
+offered names = names
+
+-- no byte of the text is zero
+abbrev pub NoZero : List ℕ → Type 0
+NoZero text = AllByRecursion (λ byte. byte ≢ 0) text
+
+-- cut at its zero bytes, the text has this part at place k, counted from 0
+abbrev pub ZeroPart : List ℕ → ℕ → List ℕ → Type 0
+ZeroPart text k part = (parts : List (List ℕ)) × AllByRecursion NoZero parts × (join_with_byte 0 parts ≡ text)
+    × (slice_get parts k ≡ Some part)
+
+-- a message of PLAIN (RFC 4616, section 2) names this user and this password; its first part and those after
+-- the third say nothing
+abbrev pub NamesPlain : List ℕ → List ℕ → List ℕ → Type 0
+NamesPlain user password text = ZeroPart text 1 user × ZeroPart text 2 password
+
+-- an outcome without data
+abbrev pub ends_with : SaslCode → SaslFrame
+ends_with code = frames.Outcome code None
+
+-- the frame of what a SCRAM server answers: but for a message it is Auth
+abbrev pub server_frame : (List ℕ → SaslFrame) → Result (Option (List ℕ)) ServerScramErrorKind → SaslFrame
+server_frame frame (Ok (Some message)) = frame message
+server_frame frame answer = ends_with outcomes.Auth
+
+-- the machine of an acceptor: from a nonce and an init or a response to a reply and the acceptor after it
+abbrev pub acceptor_machine : Acceptor → List ℕ → SaslFrame → SaslFrame → Acceptor → Type 0
+acceptor_machine (ScramAcceptor provider state) nonce (frames.Init mechanism (Some text) hostname) reply next =
+    ((mechanism ≢ mechanism_name provider.version) × (reply ≡ ends_with outcomes.Auth)
+    × (next ≡ ScramAcceptor provider state))
+    ⊎ ((mechanism ≡ mechanism_name provider.version)
+    × ((answer : Result (Option (List ℕ)) ServerScramErrorKind) × (after : ServerState)
+    × ChallengesFrom state provider nonce text answer after
+    × (reply ≡ server_frame (λ message. frames.Challenge message) answer) × (next ≡ ScramAcceptor provider after)))
+acceptor_machine (ScramAcceptor provider state) nonce (frames.Response text) reply next =
+    (answer : Result (Option (List ℕ)) ServerScramErrorKind) × (after : ServerState)
+    × ConcludesFrom state provider text answer after
+    × (reply ≡ server_frame (λ message. frames.Outcome outcomes.Ok (Some message)) answer)
+    × (next ≡ ScramAcceptor provider after)
+acceptor_machine (PlainAcceptor user password accepted) nonce (frames.Init mechanism (Some text) hostname) reply next =
+    (NamesPlain user password text × (reply ≡ ends_with outcomes.Ok) × (next ≡ PlainAcceptor user password true))
+    ⊎ (¬ NamesPlain user password text × (reply ≡ ends_with outcomes.Auth)
+    × (next ≡ PlainAcceptor user password accepted))
+acceptor_machine (PlainAcceptor user password accepted) nonce (frames.Response text) reply next =
+    (reply ≡ ends_with outcomes.Sys) × (next ≡ PlainAcceptor user password accepted)
+acceptor_machine AnonymousAcceptor nonce (frames.Init mechanism response hostname) reply next =
+    (reply ≡ ends_with outcomes.Ok) × (next ≡ AnonymousAcceptor)
+acceptor_machine AnonymousAcceptor nonce (frames.Response text) reply next =
+    (reply ≡ ends_with outcomes.Ok) × (next ≡ AnonymousAcceptor)
+acceptor_machine acceptor nonce (frames.Init mechanism None hostname) reply next =
+    (reply ≡ ends_with outcomes.Auth) × (next ≡ acceptor)
+acceptor_machine acceptor nonce frame reply next = ⊥
+
+-- where an acceptor comes to ask for memory before it has its reply to a frame (AMQP 1.0, part 5, section 5.3.2):
+-- SCRAM at an init with its own name where it comes to an escaped user name or to a known user (RFC 5802, section 5.1),
+-- and at a response where it comes to a base64 text (RFC 5802, section 7); the others never
+abbrev pub acceptor_allocates : Acceptor → SaslFrame → Type 0
+acceptor_allocates (ScramAcceptor provider state) (frames.Init mechanism (Some text) hostname) =
+    (mechanism ≡ mechanism_name provider.version) × ReachesChallenge provider text
+acceptor_allocates (ScramAcceptor provider state) (frames.Response text) = ReachesBase64In state provider text
+acceptor_allocates acceptor frame = ⊥
+
+-- the acceptor of PLAIN that a value is
+abbrev pub plain_acceptor : SaslPlainMechanism → Acceptor
+plain_acceptor mechanism =
+    PlainAcceptor (string_bytes mechanism.username) (string_bytes mechanism.password) mechanism.accepted
+
+-- the frame that an acceptor sends
+abbrev pub sent_frame : SaslServerFrame → SaslFrame
+sent_frame (server_frames.Challenge challenge) = challenge_frame challenge
+sent_frame (server_frames.Outcome outcome) = outcome_frame outcome

@@ -1,0 +1,2 @@
+-- What contracts of private functions cite. MockSettings has to believe it.
+pub mod Writing

@@ -1,0 +1,40 @@
+-- Which frames are answered, and how replies are written in bodies. Contracts of private functions alone cite this.
+use Rattle.std.specs.Prelude.{◌≡◌, ℕ, List, Option, Some, None, Result, Ok, Err}
+use Rattle.fe2o3_sasl_wire.specs.SaslFrames as frames
+use Rattle.fe2o3_sasl_wire.specs.SaslFrames.{SaslFrame}
+use Rattle.fe2o3_sasl_wire.specs.declared.sasl_frames.error.Error.{Error}
+use Rattle.fe2o3_sasl_wire.specs.declared.sasl_frames.error.Error.TheVariants as faults
+use Rattle.fe2o3_sasl_core.specs.declared.sasl_profile.error.ProfileError.{ProfileError}
+use Rattle.fe2o3_sasl_core.specs.declared.sasl_profile.error.ProfileError.TheVariants as profile_faults
+use Rattle.fe2o3_sasl_core.specs.Profiles.{Profile, FrameAllocates, ProfileAnswers, profile_machine}
+
+-- what a profile answers to a frame, whatever the hostname and the nonce are
+abbrev pub AnswersAlways : Profile → SaslFrame → Result SaslFrame ProfileError → Profile → Type 0
+AnswersAlways profile frame answer next =
+    (hostname : Option (List ℕ)) (nonce : List ℕ)
+    → ProfileAnswers FrameAllocates profile hostname nonce frame answer next
+
+-- what the machine of a profile replies to a frame by which the profile stays, whatever the hostname and the nonce are
+abbrev pub RefusesAlways : Profile → SaslFrame → ProfileError → Type 0
+RefusesAlways profile frame fault = (hostname : Option (List ℕ)) (nonce : List ℕ)
+    → profile_machine profile hostname nonce frame (Err fault) profile
+
+-- an init or a response
+abbrev pub IsRequest : SaslFrame → Type 0
+IsRequest (frames.Init mechanism response hostname) = Unit {0}
+IsRequest (frames.Response text) = Unit {0}
+IsRequest frame = ⊥
+
+-- the frame is written in its canonical body, and the reply says so; it has none; or memory is wanting
+abbrev pub Writes : {A X : Type 0} → (X → A) → (List ℕ → A) → Option (List ℕ) → Result X Error → Type 0
+Writes view says body (Ok reply) = (written : List ℕ) × (body ≡ Some written) × (view reply ≡ says written)
+Writes view says body (Err faults.TooLarge) = body ≡ None
+Writes view says body (Err faults.OutOfMemory) = Unit {0}
+Writes view says body (Err fault) = ⊥
+
+-- the same of a client's frame
+abbrev pub WritesBody : {X : Type 0} → (X → List ℕ) → Option (List ℕ) → Result X ProfileError → Type 0
+WritesBody view body (Ok written) = body ≡ Some (view written)
+WritesBody view body (Err profile_faults.OutOfMemory) = Unit {0}
+WritesBody view body (Err (profile_faults.Frame fault)) = (fault ≡ faults.TooLarge) × (body ≡ None)
+WritesBody view body (Err fault) = ⊥

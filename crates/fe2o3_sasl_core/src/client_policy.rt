@@ -1,0 +1,415 @@
+//! Which mechanism a client takes of those that a server offers (AMQP 1.0, part 5, section 5.3.3.2).
+
+ghost use Rattle.std.specs.Prelude.{◌≡◌, ◌≢◌, ◌↔◌, true, false, Some, IfOk, IfErr, OnOk, MatchBool, MatchOption, List, ℕ, option_map, is_some, string_bytes};
+ghost use Rattle.std.specs.List.{AllByRecursion, Contains};
+ghost use Rattle.fe2o3_scram.specs.ClientSecret.{Both, secret_of, up_to, no_limit};
+ghost use Rattle.fe2o3_scram.specs.Passwords.{Typed, Prepared};
+ghost use Rattle.fe2o3_sasl_core.specs.ClientPolicy.{by_strength, policy_name, is_allowed, secret_for, fresh_client, scram_by, plain_by, profile_by, CanTake, IsFirstTaken};
+ghost use Rattle.fe2o3_sasl_core.specs.SaslProfile.{profile_of};
+ghost use Rattle.fe2o3_sasl_core.specs.declared.client_policy.ChoiceError.TheVariants.{OutOfMemory as OutOfMemoryError};
+
+use crate::OutOfMemory;
+use crate::mechanism_names::{ANONYMOUS, EXTERNAL, PLAIN};
+use crate::sasl_profile::SaslProfile;
+use fe2o3_sasl_wire::SymbolsView;
+use fe2o3_scram::cached_keys::CachedKeys;
+use fe2o3_scram::client_secret::{ClientSecret, IterationLimits};
+use fe2o3_scram::hmac::ScramVersion;
+use fe2o3_scram::scram_client::ScramClient;
+use std::alloc::{AllocError, AllocFailed, Global};
+use thiserror::Error;
+
+/// The mechanisms of clients.
+#[derive(Clone, Copy, Debug, PartialEq, Eq)]
+pub enum Mechanism {
+    /// SCRAM-SHA-512.
+    ScramSha512,
+
+    /// SCRAM-SHA-256 (RFC 7677).
+    ScramSha256,
+
+    /// SCRAM-SHA-1 (RFC 5802).
+    ScramSha1,
+
+    /// EXTERNAL (RFC 4422, appendix A).
+    External,
+
+    /// PLAIN (RFC 4616), which shows the password to the server.
+    Plain,
+
+    /// ANONYMOUS (RFC 4505), which proves nothing.
+    Anonymous,
+}
+
+/// The mechanisms, the strongest first.
+const BY_STRENGTH: [Mechanism; 6] = [
+    Mechanism::ScramSha512,
+    Mechanism::ScramSha256,
+    Mechanism::ScramSha1,
+    Mechanism::External,
+    Mechanism::Plain,
+    Mechanism::Anonymous,
+];
+
+impl Mechanism {
+    /// Its name.
+    pub fn name(self) -> &'static str
+        ensures { result.now ≡ policy_name self }
+    {
+        match self {
+            Mechanism::ScramSha512 => ScramVersion::Sha512.mechanism(),
+            Mechanism::ScramSha256 => ScramVersion::Sha256.mechanism(),
+            Mechanism::ScramSha1 => ScramVersion::Sha1.mechanism(),
+            Mechanism::External => EXTERNAL,
+            Mechanism::Plain => PLAIN,
+            Mechanism::Anonymous => ANONYMOUS,
+        }
+    }
+}
+
+/// Which mechanisms a client may log in by. An offer can be altered on its way, but whatever it says, the
+/// client takes nothing that is not allowed here.
+#[derive(Clone, Copy, Debug, PartialEq, Eq)]
+pub struct ClientPolicy {
+    floor: ScramVersion,
+    limits: IterationLimits,
+    external: bool,
+    plain: bool,
+    anonymous: bool,
+}
+
+impl ClientPolicy {
+    /// SCRAM by the hash of this version and by stronger ones (SHA-1, SHA-256, SHA-512), and nothing else.
+    pub fn scram_from(floor: ScramVersion) -> Self
+        ensures { result ≡ record {
+          floor = floor;
+          limits = up_to no_limit;
+          external = false;
+          plain = false;
+          anonymous = false;
+        } }
+    {
+        Self {
+            floor,
+            limits: IterationLimits::none(),
+            external: false,
+            plain: false,
+            anonymous: false,
+        }
+    }
+
+    /// SCRAM by iteration counts within these limits alone. RFC 7677, section 4, asks for 4096 at least.
+    pub fn with_iteration_limits(self, limits: IterationLimits) -> Self
+        ensures { result ≡ record self { limits = limits } }
+    {
+        Self { limits, ..self }
+    }
+
+    /// EXTERNAL too, where none of what is stronger is offered.
+    pub fn or_external(self) -> Self
+        ensures { result ≡ record self { external = true } }
+    {
+        Self {
+            external: true,
+            ..self
+        }
+    }
+
+    /// PLAIN too, where nothing stronger is offered. It shows the password to whoever reads the connection:
+    /// allow it under TLS alone.
+    pub fn allow_plain(self) -> Self
+        ensures { result ≡ record self { plain = true } }
+    {
+        Self {
+            plain: true,
+            ..self
+        }
+    }
+
+    /// ANONYMOUS too, where nothing else is offered.
+    pub fn or_anonymous(self) -> Self
+        ensures { result ≡ record self { anonymous = true } }
+    {
+        Self {
+            anonymous: true,
+            ..self
+        }
+    }
+
+    /// Whether it allows the mechanism.
+    pub fn allows(&self, mechanism: Mechanism) -> bool
+        ensures { result ≡ is_allowed self.now mechanism }
+    {
+        match mechanism {
+            Mechanism::ScramSha512 => true,
+            Mechanism::ScramSha256 => self.floor != ScramVersion::Sha512,
+            Mechanism::ScramSha1 => self.floor == ScramVersion::Sha1,
+            Mechanism::External => self.external,
+            Mechanism::Plain => self.plain,
+            Mechanism::Anonymous => self.anonymous,
+        }
+    }
+}
+
+/// Why a client takes no mechanism.
+#[derive(Clone, Copy, Debug, PartialEq, Eq, Error)]
+pub enum ChoiceError {
+    /// The offer has no mechanism that the policy allows and the secret serves for.
+    #[error("No mechanism to take")]
+    NoAcceptableMechanism,
+
+    /// A request for memory was refused.
+    #[error("Out of memory")]
+    OutOfMemory,
+}
+
+impl From<AllocError> for ChoiceError {
+    ghost from_gives = { λ _ error. error ≡ OutOfMemoryError };
+
+    fn from(_error: AllocError) -> Self {
+        ChoiceError::OutOfMemory
+    }
+}
+
+impl<T: Drop> From<AllocFailed<T>> for ChoiceError {
+    ghost from_gives = { λ _ error. error ≡ OutOfMemoryError };
+
+    fn from(_error: AllocFailed<T>) -> Self {
+        ChoiceError::OutOfMemory
+    }
+}
+
+/// Whether the secret serves for SCRAM of this version.
+fn serves_scram(secret: &ClientSecret<'_>, version: ScramVersion) -> bool
+    ensures { result ≡ is_some (secret_for version (secret_of secret.now)) }
+{
+    match secret {
+        ClientSecret::Password(_)
+        | ClientSecret::Prepared(_)
+        | ClientSecret::Both { .. }
+        | ClientSecret::PreparedAndKeys { .. } => true,
+        ClientSecret::Keys(keys) => keys.scram_version() == version,
+    }
+}
+
+/// Whether the secret serves for the mechanism.
+fn serves(secret: &ClientSecret<'_>, mechanism: Mechanism) -> bool
+    ensures { (limits : IterationLimits) (user : List ℕ)
+        → result ≡ is_some (profile_by limits user (secret_of secret.now) mechanism) }
+{
+    match mechanism {
+        Mechanism::ScramSha512 => serves_scram(secret, ScramVersion::Sha512),
+        Mechanism::ScramSha256 => serves_scram(secret, ScramVersion::Sha256),
+        Mechanism::ScramSha1 => serves_scram(secret, ScramVersion::Sha1),
+        Mechanism::Plain => !matches!(secret, ClientSecret::Keys(_)),
+        Mechanism::External | Mechanism::Anonymous => true,
+    }
+}
+
+/// Whether the mechanism can be taken.
+#[tactic(auto, using(crate::proofs::lemmas::machines::PolicyLemmas::taking))]
+fn can_take(
+    mechanism: Mechanism,
+    offer: &SymbolsView<'_>,
+    secret: &ClientSecret<'_>,
+    policy: ClientPolicy,
+) -> bool
+    ensures { (user : List ℕ) → MatchBool result (CanTake policy user (secret_of secret.now) offer.now mechanism)
+        (¬ CanTake policy user (secret_of secret.now) offer.now mechanism) }
+{
+    policy.allows(mechanism) && serves(secret, mechanism) && offer.contains(mechanism.name())
+}
+
+/// The first of the mechanisms that can be taken.
+fn first_taken(
+    mechanisms: &[Mechanism],
+    offer: &SymbolsView<'_>,
+    secret: &ClientSecret<'_>,
+    policy: ClientPolicy,
+) -> Option<Mechanism>
+    ensures { (user : List ℕ) → MatchOption result
+        (AllByRecursion (λ other. ¬ CanTake policy user (secret_of secret.now) offer.now other) mechanisms.now)
+        (IsFirstTaken policy user (secret_of secret.now) offer.now mechanisms.now) }
+{
+    for mechanism in mechanisms {
+        if can_take(*mechanism, offer, secret, policy) {
+            return Some(*mechanism);
+        }
+    }
+    None
+}
+
+/// A client of the user by a password as it is typed, and by these keys where they are of this version.
+#[tactic(auto, using(crate::proofs::lemmas::machines::PolicyLemmas::keys))]
+fn client_with_keys(
+    alloc: Global,
+    username: String,
+    password: &str,
+    keys: &CachedKeys,
+    version: ScramVersion,
+) -> Result<ScramClient, OutOfMemory>
+    ensures { IfOk result (λ client. Some client ≡ option_map (fresh_client (string_bytes username) version)
+        (secret_for version (Both (Typed password.now) keys.now))) }
+{
+    let password = String::from_str(alloc, password)?;
+    if keys.scram_version() != version {
+        return Ok(ScramClient::new(username, password, version));
+    }
+    let keys = CachedKeys::clone(keys)?;
+    Ok(ScramClient::with_password_and_keys(username, password, keys))
+}
+
+/// The same by a prepared password.
+#[tactic(auto, using(crate::proofs::lemmas::machines::PolicyLemmas::keys))]
+fn prepared_client_with_keys(
+    alloc: Global,
+    username: String,
+    password: &str,
+    keys: &CachedKeys,
+    version: ScramVersion,
+) -> Result<ScramClient, OutOfMemory>
+    ensures { IfOk result (λ client. Some client ≡ option_map (fresh_client (string_bytes username) version)
+        (secret_for version (Both (Prepared password.now) keys.now))) }
+{
+    let password = String::from_str(alloc, password)?;
+    if keys.scram_version() != version {
+        return Ok(ScramClient::with_prepared_password(username, password, version));
+    }
+    let keys = CachedKeys::clone(keys)?;
+    Ok(ScramClient::with_prepared_password_and_keys(username, password, keys))
+}
+
+/// A client of the user by SCRAM of this version that accepts every count, if the secret serves for it.
+#[tactic(auto, using(crate::proofs::lemmas::machines::PolicyLemmas::keys))]
+fn scram_client(
+    alloc: Global,
+    username: &str,
+    secret: &ClientSecret<'_>,
+    version: ScramVersion,
+) -> Result<Option<ScramClient>, OutOfMemory>
+    ensures { IfOk result (λ client. client
+        ≡ option_map (fresh_client username.now version) (secret_for version (secret_of secret.now))) }
+{
+    let username = String::from_str(alloc, username)?;
+    match secret {
+        ClientSecret::Password(password) => {
+            let password = String::from_str(alloc, password)?;
+            Ok(Some(ScramClient::new(username, password, version)))
+        }
+        ClientSecret::Prepared(password) => {
+            let password = String::from_str(alloc, password)?;
+            Ok(Some(ScramClient::with_prepared_password(username, password, version)))
+        }
+        ClientSecret::Keys(keys) => {
+            if keys.scram_version() != version {
+                return Ok(None);
+            }
+            let keys = CachedKeys::clone(keys)?;
+            Ok(Some(ScramClient::with_keys(username, keys)))
+        }
+        ClientSecret::Both { password, keys } => {
+            let client = client_with_keys(alloc, username, password, keys, version)?;
+            Ok(Some(client))
+        }
+        ClientSecret::PreparedAndKeys { password, keys } => {
+            let client = prepared_client_with_keys(alloc, username, password, keys, version)?;
+            Ok(Some(client))
+        }
+    }
+}
+
+/// The profile of the user by SCRAM of this version, if the secret serves for it.
+fn scram_profile(
+    alloc: Global,
+    username: &str,
+    secret: &ClientSecret<'_>,
+    version: ScramVersion,
+    limits: IterationLimits,
+) -> Result<Option<SaslProfile>, OutOfMemory>
+    ensures { IfOk result (λ profile. option_map profile_of profile
+        ≡ scram_by limits username.now version (secret_for version (secret_of secret.now))) }
+{
+    match scram_client(alloc, username, secret, version)? {
+        Some(client) => {
+            let client = client.with_min_iterations(limits.min_iterations);
+            let client = client.with_iteration_limit(limits.max_iterations);
+            Ok(Some(SaslProfile::scram_of(client)))
+        }
+        None => Ok(None),
+    }
+}
+
+/// The profile of a user by PLAIN, if the secret has a password.
+fn plain_profile(
+    alloc: Global,
+    username: &str,
+    secret: &ClientSecret<'_>,
+) -> Result<Option<SaslProfile>, OutOfMemory>
+    ensures { IfOk result (λ profile. option_map profile_of profile ≡ plain_by username.now (secret_of secret.now)) }
+{
+    let password = match secret {
+        ClientSecret::Password(password) | ClientSecret::Prepared(password) => password,
+        ClientSecret::Both { password, .. } | ClientSecret::PreparedAndKeys { password, .. } =>
+            password,
+        ClientSecret::Keys(_) => return Ok(None),
+    };
+    Ok(Some(SaslProfile::plain(
+        String::from_str(alloc, username)?,
+        String::from_str(alloc, password)?,
+    )))
+}
+
+/// The profile of a user with this secret by the mechanism, if the secret serves for it.
+fn profile_by_mechanism(
+    alloc: Global,
+    username: &str,
+    secret: &ClientSecret<'_>,
+    limits: IterationLimits,
+    mechanism: Mechanism,
+) -> Result<Option<SaslProfile>, OutOfMemory>
+    ensures { IfOk result (λ profile. option_map profile_of profile
+        ≡ profile_by limits username.now (secret_of secret.now) mechanism) }
+{
+    match mechanism {
+        Mechanism::ScramSha512 => {
+            scram_profile(alloc, username, secret, ScramVersion::Sha512, limits)
+        }
+        Mechanism::ScramSha256 => {
+            scram_profile(alloc, username, secret, ScramVersion::Sha256, limits)
+        }
+        Mechanism::ScramSha1 => {
+            scram_profile(alloc, username, secret, ScramVersion::Sha1, limits)
+        }
+        Mechanism::External => Ok(Some(SaslProfile::External)),
+        Mechanism::Plain => plain_profile(alloc, username, secret),
+        Mechanism::Anonymous => Ok(Some(SaslProfile::Anonymous)),
+    }
+}
+
+/// The profile by the strongest mechanism that is offered, that the policy allows and for which the secret
+/// serves: SCRAM-SHA-512, SCRAM-SHA-256, SCRAM-SHA-1, EXTERNAL, PLAIN, ANONYMOUS, in this order. Keys serve for
+/// SCRAM of their own version; of a password with keys, other versions and PLAIN take the password. The profile
+/// has sent nothing; `NoAcceptableMechanism` where there is no such mechanism, and else `OutOfMemory`.
+pub fn select_mechanism(
+    alloc: Global,
+    offer: &SymbolsView<'_>,
+    username: &str,
+    secret: &ClientSecret<'_>,
+    policy: ClientPolicy,
+) -> Result<SaslProfile, ChoiceError>
+    ensures ok { IfOk result (λ profile. (mechanism : Mechanism)
+        × IsFirstTaken policy username.now (secret_of secret.now) offer.now by_strength mechanism
+        × (profile_by policy.limits username.now (secret_of secret.now) mechanism ≡ Some (profile_of profile))) }
+    ensures err { IfErr result (λ error. error ≢ ChoiceError.OutOfMemory
+        → AllByRecursion (λ other. ¬ CanTake policy username.now (secret_of secret.now) offer.now other) by_strength) }
+    ensures memory { (result ≡ Err ChoiceError.OutOfMemory)
+        → ¬ AllByRecursion (λ other. ¬ CanTake policy username.now (secret_of secret.now) offer.now other) by_strength }
+{
+    let Some(mechanism) = first_taken(&BY_STRENGTH, offer, secret, policy) else {
+        return Err(ChoiceError::NoAcceptableMechanism);
+    };
+    match profile_by_mechanism(alloc, username, secret, policy.limits, mechanism)? {
+        Some(profile) => Ok(profile),
+        None => unreachable!(),
+    }
+}

@@ -1,0 +1,42 @@
+//! Logins by SASL over lists of frame bodies, for AMQP 1.0: the crate below `fe2o3_sasl`, which has all
+//! of this under its own name. Who only speaks SASL names that crate.
+//!
+//! A client takes a [`SaslProfile`], a server a [`SaslAcceptor`]. [`steps`] answer one body each, and
+//! [`whole_runs`] a list of them; the contracts of these state the headline theorem.
+#![tactic(auto)]
+
+pub mod client_policy;
+pub mod events;
+pub mod external_server;
+mod mechanism_names;
+pub mod restrict_mechanisms;
+pub mod any_mechanism;
+pub mod plain_server;
+pub mod sasl_acceptor;
+pub mod sasl_profile;
+pub mod steps;
+pub mod whole_runs;
+
+pub use crate::client_policy::{ChoiceError, ClientPolicy, Mechanism, select_mechanism};
+pub use crate::events::{ClientReply, Event, EventError, ServerReply};
+pub use crate::external_server::{ExternalServer, NoExternalIdentity};
+pub use crate::restrict_mechanisms::{OfferError, RestrictMechanisms};
+pub use crate::any_mechanism::{HasMechanism, AnyMechanism, Selected};
+pub use crate::plain_server::{MAX_PASSWORD_LEN, PlainServer};
+pub use crate::sasl_acceptor::{
+    AuthenticatedUser, SaslAcceptor, SaslAcceptorExt, SaslAnonymousMechanism, SaslPlainMechanism,
+    SaslServerFrame,
+};
+pub use crate::sasl_profile::{
+    Negotiation, ProfileError, SaslProfile, SaslScramSha1, SaslScramSha256, SaslScramSha512,
+    UrlError,
+};
+pub use crate::steps::{
+    acceptor_body_step, acceptor_step, acceptor_step_metered, profile_body_step, profile_step,
+    profile_step_metered,
+};
+pub use crate::whole_runs::{
+    run_acceptor, run_profile, scram_client_run, scram_client_run_limited, scram_server_run,
+    scram_server_run_with_cbind_flag_y,
+};
+pub use std::alloc::AllocError as OutOfMemory;

@@ -1,0 +1,336 @@
+//! The server's side of PLAIN over the records that SCRAM keeps (RFC 4616).
+
+ghost use Rattle.std.specs.Prelude.{◌≡◌, ◌≤◌, ◌+◌, ◌^◌, ◌↔◌, ℕ, List, [], ◌∷◌, None, Some, IsTrue, IfOk, IfErr, MatchOption, OnErr, OnOk, codes, option_map, string_bytes};
+ghost use Rattle.std.proofs.Common.{ap};
+ghost use Rattle.fe2o3_sasl_wire.specs.AmqpTypes.{init_frame, response_frame};
+ghost use Rattle.fe2o3_scram.specs.Credentials.{CheckingCosts, record_at};
+ghost use Rattle.fe2o3_scram.specs.Passwords.{Typed};
+ghost use Rattle.fe2o3_scram.specs.Texts.{Cut};
+ghost use Rattle.fe2o3_sasl_core.specs.Costs.{CostsAtMost};
+ghost use Rattle.fe2o3_sasl_core.specs.PlainServer.{AsksPlain, HasPassword, IsTaken, PlainLogsIn, PlainParts, PlainState, SpellsPlain, count_or, parts_of, plain_allocates, plain_hmacs, plain_machine, plain_state};
+ghost use Rattle.fe2o3_sasl_core.specs.SaslAcceptor.{sent_frame};
+
+use crate::OutOfMemory;
+use crate::mechanism_names::PLAIN;
+use crate::any_mechanism::HasMechanism;
+use crate::sasl_acceptor::{AuthenticatedUser, SaslAcceptor, SaslServerFrame, one_name, outcome};
+use fe2o3_sasl_wire::{Array, SaslCode, SaslInit, SaslResponse, Symbol};
+use fe2o3_scram::credentials::ScramCredentialProvider;
+use fe2o3_scram::hmac::Meter;
+use fe2o3_scram::provider::StoredPassword;
+use std::alloc::{AllocError, Global};
+use std::fmt;
+
+/// The longest password that is tested, in bytes. RFC 4616 asks a server to take at least 255.
+pub const MAX_PASSWORD_LEN: usize = 1024;
+
+/// The salt with which the password of an unknown user is hashed.
+const NO_SALT: [u8; 16] = [0; 16];
+
+/// An acceptor of PLAIN for the users of a store, which tests the password against the record that SCRAM
+/// keeps of it. PLAIN sends the password itself, so offer it under TLS alone.
+///
+/// An init logs a user in whose message is UTF-8 in three parts with zero bytes between them, of which the
+/// first, the identity to act as, is empty or the user's name, and whose password is that of the user's record,
+/// printable ASCII of 1 to 1024 bytes. Every other init is Auth and changes nothing, and so is a response. A
+/// password that comes to be tested is hashed for an unknown user too, with an iteration count of the
+/// server's own, and takes as many HMAC values as the record of a known user with that count.
+#[derive(Drop)]
+pub struct PlainServer<C: ScramCredentialProvider> {
+    credentials: C,
+    iterations: u32,
+    user: Option<String>,
+}
+
+impl<C: ScramCredentialProvider> PlainServer<C> {
+    /// An acceptor of the users of this store, whose records have this iteration count.
+    pub fn new(credentials: C, iterations: u32) -> Self
+        ensures { plain_state C.meaning result
+            ≡ record { provider = C.meaning credentials; count = iterations; user = None } }
+    {
+        Self {
+            credentials,
+            iterations,
+            user: None,
+        }
+    }
+
+    /// The store of credentials.
+    pub fn credentials(&self) -> &C
+        ensures { C.meaning result.now ≡ (plain_state C.meaning self.now).provider }
+    {
+        &self.credentials
+    }
+
+    /// Returns this acceptor as a login of this user leaves it: it names that user. The caller vouches for
+    /// the name, since no message is checked. Pass the name that `user` returned when the server was
+    /// saved. No password and no record is needed beside it.
+    ///
+    /// `OutOfMemory` is the only error.
+    pub fn restore_authenticated(self, alloc: Global, username: &str) -> Result<Self, OutOfMemory>
+        ensures { IfOk result (λ plain. plain_state C.meaning plain
+            ≡ record (plain_state C.meaning self) { user = Some username.now }) }
+    {
+        Ok(Self {
+            credentials: self.credentials,
+            iterations: self.iterations,
+            user: Some(username.to_string(alloc)?),
+        })
+    }
+
+    /// The user whom the init logs in. The meter counts the HMAC values.
+    fn logged_in<'a>(&self, init: &'a SaslInit, meter: &mut Meter) -> Option<&'a str>
+        requires { meter.old ≤ 2 ^ 63 }
+        ensures user { MatchOption result
+            ((user : List ℕ) → ¬ PlainLogsIn (C.meaning self.now.credentials) (init_frame init.now) user)
+            (λ user. PlainLogsIn (C.meaning self.now.credentials) (init_frame init.now) user.now) }
+        ensures cost { CostsAtMost plain_hmacs (plain_state C.meaning self.now) (init_frame init.now)
+            meter.old meter.new }
+        ensures exactly { (n : ℕ) → plain_hmacs (plain_state C.meaning self.now) (init_frame init.now) n
+            → meter.new ≡ meter.old + n }
+    {
+        let message = asked(init)?;
+        if self.has_password(&message, meter) {
+            Some(message.username)
+        } else {
+            None
+        }
+    }
+
+    /// Whether the message has the password of its user. The meter counts the HMAC values.
+    fn has_password(&self, message: &PlainMessage<'_>, meter: &mut Meter) -> bool
+        requires { meter.old ≤ 2 ^ 63 }
+        ensures verdict { IsTrue result ↔ HasPassword (C.meaning self.now.credentials) (parts_of message.now) }
+        ensures cost { CheckingCosts (Typed message.now.password.now) (count_or self.now.iterations
+            (record_at (C.meaning self.now.credentials).records message.now.username.now)) meter.old meter.new }
+    {
+        let scram_version = *self.credentials.scram_version();
+        match self.credentials.get_stored_password(message.username) {
+            Some(stored_password) => {
+                stored_password.verify_password_metered(scram_version, message.password, meter)
+            }
+            None => mock(self.iterations).verify_password_metered(
+                scram_version,
+                message.password,
+                meter,
+            ),
+        }
+    }
+}
+
+/// The message by which an init asks to log in, or `None` where it is of another mechanism, or carries none that
+/// is taken.
+fn asked(init: &SaslInit) -> Option<PlainMessage<'_>>
+    ensures { MatchOption result ((parts : PlainParts) → ¬ AsksPlain (init_frame init.now) parts)
+        (λ message. AsksPlain (init_frame init.now) (parts_of message)) }
+{
+    if init.mechanism.as_str() != PLAIN {
+        return None;
+    }
+    let Some(response) = &init.initial_response else {
+        return None;
+    };
+    PlainMessage::read_taken(&response.0)
+}
+
+/// The user of a message of PLAIN that is taken (RFC 4616, section 2), whose record is to be fetched, or `None` where
+/// the bytes are none. Nothing says yet that the password is that of the user.
+pub fn plain_user(message: &[u8]) -> Option<&str>
+    ensures { MatchOption result ((parts : PlainParts) → SpellsPlain parts message.now → ¬ IsTaken parts)
+        (λ user. (parts : PlainParts) × SpellsPlain parts message.now × IsTaken parts × (user.now ≡ parts.user)) }
+{
+    match PlainMessage::read_taken(message) {
+        Some(message) => Some(message.username),
+        None => None,
+    }
+}
+
+/// What stands for the record of an unknown user. It has no keys, so no password is that of it.
+fn mock(iterations: u32) -> StoredPassword<'static>
+    ensures count { result.iterations ≡ iterations }
+    ensures keyless { result.stored_key.now ≡ [] }
+{
+    StoredPassword {
+        salt: &NO_SALT,
+        iterations,
+        stored_key: &[],
+        server_key: &[],
+    }
+}
+
+/// A message of PLAIN, borrowed from an init.
+#[derive(Drop)]
+struct PlainMessage<'a> {
+    identity: &'a str,
+    username: &'a str,
+    password: &'a str,
+}
+
+impl<'a> PlainMessage<'a> {
+    /// The message that the bytes are, or `None` where they are none that is taken.
+    fn read_taken(bytes: &'a [u8]) -> Option<PlainMessage<'a>>
+        ensures { MatchOption result ((parts : PlainParts) → SpellsPlain parts bytes.now → ¬ IsTaken parts)
+            (λ message. SpellsPlain (parts_of message) bytes.now × IsTaken (parts_of message)) }
+    {
+        let message = PlainMessage::read(bytes)?;
+        if message.is_taken() {
+            Some(message)
+        } else {
+            None
+        }
+    }
+
+    /// The message that the bytes are, or `None` where they are none.
+    fn read(bytes: &'a [u8]) -> Option<PlainMessage<'a>>
+        ensures { MatchOption result ((parts : PlainParts) → ¬ SpellsPlain parts bytes.now)
+            (λ message. SpellsPlain (parts_of message) bytes.now) }
+    {
+        match str::from_utf8(bytes) {
+            Ok(text) => PlainMessage::parse(text),
+            Err(_) => None,
+        }
+    }
+
+    /// The message that the text is, or `None` where it is none.
+    fn parse(text: &'a str) -> Option<PlainMessage<'a>>
+        ensures { MatchOption result ((parts : PlainParts) → ¬ SpellsPlain parts text.now)
+            (λ message. SpellsPlain (parts_of message) text.now) }
+    {
+        let (identity, rest) = cut_at_zero(text)?;
+        let (username, password) = cut_at_zero(rest)?;
+        match cut_at_zero(password) {
+            Some(_) => None,
+            None => Some(PlainMessage {
+                identity,
+                username,
+                password,
+            }),
+        }
+    }
+
+    /// Whether it names a user, with a password, and nobody else to act as.
+    fn is_taken(&self) -> bool
+        ensures { IsTrue result ↔ IsTaken (parts_of self.now) }
+    {
+        if self.username.is_empty() || self.password.is_empty() {
+            return false;
+        }
+        if self.password.len() > MAX_PASSWORD_LEN {
+            return false;
+        }
+        self.identity.is_empty() || self.identity == self.username
+    }
+}
+
+/// What stands before the first zero byte, and what follows it.
+fn cut_at_zero(text: &str) -> Option<(&str, &str)>
+    ensures { MatchOption result ((before rest : List ℕ) → ¬ Cut 0 text.now before rest)
+        (λ both. Cut 0 text.now both.0.now both.1.now) }
+{
+    text.split_once('\0')
+}
+
+impl<C: ScramCredentialProvider> fmt::Debug for PlainServer<C> {
+    /// The iteration count and who has logged in, without the store of credentials.
+    fn fmt<W: fmt::Write>(&self, f: &mut fmt::Formatter<W>) -> fmt::Result {
+        write!(
+            f,
+            "PlainServer {{ iterations: {}, user: {:?}, .. }}",
+            self.iterations, self.user
+        )
+    }
+}
+
+impl<C: ScramCredentialProvider> Clone for PlainServer<C> {
+    ghost is_clone = { λ plain copy. C.is_clone plain.credentials copy.credentials
+        × (copy.iterations ≡ plain.iterations)
+        × (option_map string_bytes copy.user ≡ option_map string_bytes plain.user) };
+
+    fn clone(&self) -> Result<Self, AllocError> {
+        Ok(Self {
+            credentials: self.credentials.clone()?,
+            iterations: self.iterations,
+            user: self.user.clone()?,
+        })
+    }
+}
+
+impl<C: ScramCredentialProvider> SaslAcceptor for PlainServer<C> {
+    ghost State = { PlainState };
+
+    ghost state = { λ plain. plain_state C.meaning plain };
+
+    ghost names = { λ _. codes "PLAIN" ∷ [] };
+
+    ghost machine = { plain_machine };
+
+    ghost allocates = { plain_allocates };
+
+    ghost hmacs = { plain_hmacs };
+
+    ghost clone_keeps = { λ acceptor copy same.
+        let kept = C.clone_keeps acceptor.credentials copy.credentials same.0 in
+        λ i. record { provider = kept i; count = same.1 i; user = same.2 i } };
+
+    fn mechanisms(&self, alloc: Global) -> Result<Array<Symbol>, OutOfMemory> {
+        one_name(alloc, PLAIN)
+    }
+
+    fn on_init(
+        &mut self,
+        alloc: Global,
+        init: SaslInit,
+        nonce: &[u8; 32],
+    ) -> Result<SaslServerFrame, OutOfMemory> {
+        self.on_init_metered(alloc, init, nonce, &mut Meter::new())
+    }
+
+    fn on_response(
+        &mut self,
+        _alloc: Global,
+        response: SaslResponse,
+    ) -> Result<SaslServerFrame, OutOfMemory> {
+        drop(response);
+        Ok(outcome(SaslCode::Auth))
+    }
+
+    fn on_init_metered(
+        &mut self,
+        alloc: Global,
+        init: SaslInit,
+        _nonce: &[u8; 32],
+        meter: &mut Meter,
+    ) -> Result<SaslServerFrame, OutOfMemory>
+        requires { meter.old ≤ 2 ^ 63 }
+        ensures ok { IfOk result (λ reply. plain_machine (plain_state C.meaning self.old) _nonce.now
+            (init_frame init) (sent_frame reply) (plain_state C.meaning self.new)) }
+        ensures memory { IfErr result (λ _. plain_allocates (plain_state C.meaning self.old) (init_frame init)) }
+        ensures err { OnErr result (plain_state C.meaning self.new ≡ plain_state C.meaning self.old) }
+        ensures cost { CostsAtMost plain_hmacs (plain_state C.meaning self.old) (init_frame init)
+            meter.old meter.new }
+        ensures exactly { (n : ℕ) → plain_hmacs (plain_state C.meaning self.old) (init_frame init) n
+            → meter.new ≡ meter.old + n }
+    {
+        let Some(username) = self.logged_in(&init, meter) else {
+            return Ok(outcome(SaslCode::Auth));
+        };
+        self.user = Some(username.to_string(alloc)?);
+        Ok(outcome(SaslCode::Ok))
+    }
+}
+
+impl<C: ScramCredentialProvider> AuthenticatedUser for PlainServer<C> {
+    ghost named = { λ plain. (plain_state C.meaning plain).user };
+
+    ghost named_by_state = { λ acceptor other same. ap (λ (server : PlainState). server.user) same };
+
+    fn authenticated_user(&self) -> Option<&str> {
+        self.user.as_deref()
+    }
+}
+
+impl<C: ScramCredentialProvider> HasMechanism for PlainServer<C> {
+    fn has_mechanism(&self, name: &str) -> bool {
+        PLAIN == name
+    }
+}

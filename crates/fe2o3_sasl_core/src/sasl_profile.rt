@@ -1,0 +1,602 @@
+//! The client's side of a negotiation: what it answers to the frames of a server (AMQP 1.0, part 5, section 5.3.2).
+
+ghost use Rattle.std.specs.Prelude.{◌≡◌, ◌≢◌, ◌↔◌, ◌≤◌, ◌^◌, ◌++◌, ◌∷◌, Option, Some, None, false, ℕ, List, IfOk, IfErr, OnOk, OnErr, MatchOption, IsTrue, IsAscii, option_map, string_bytes};
+ghost use Rattle.fe2o3_sasl_core.specs.declared.sasl_profile.error.ProfileError.TheVariants.{Scram};
+ghost use Rattle.std.specs.List.{Contains};
+ghost use Rattle.fe2o3_sasl_wire.specs.AmqpTypes.{binary_bytes, init_frame, response_frame, outcome_frame};
+ghost use Rattle.fe2o3_sasl_wire.specs.FrameView.{shown, viewed_frame};
+ghost use Rattle.fe2o3_sasl_wire.specs.Owned.{owned_frame};
+ghost use Rattle.fe2o3_sasl_wire.specs.SaslFrames.{Init, Challenge, Outcome};
+ghost use Rattle.fe2o3_scram.specs.ClientKeys.{ClientKeys};
+ghost use Rattle.fe2o3_scram.specs.ScramClient.{ClientInitial, ClientFirstSent, ClientFinalSent, answer_keys, login_keys};
+ghost use Rattle.fe2o3_scram.specs.Texts.{base64_text};
+ghost use Rattle.fe2o3_sasl_core.specs.Costs.{ProfileCosts};
+ghost use Rattle.fe2o3_sasl_core.specs.Profiles.{ScramProfile, PlainProfile, scram_profile, profile_name, is_scram, profile_state, in_state, initial_response, after_init, FrameAllocates, ViewAllocates, StepAllocates, ProfileAnswers};
+ghost use Rattle.fe2o3_sasl_core.specs.ProfileFaults.{answered};
+ghost use Rattle.fe2o3_sasl_core.specs.Runs.{login_of};
+ghost use Rattle.fe2o3_sasl_core.specs.SaslProfile.{RefusesUrl, HasCredentials, negotiated_frame, profile_of, variant_version};
+ghost use Rattle.fe2o3_sasl_core.specs.private.Writing.{AnswersAlways, RefusesAlways};
+
+mod error;
+mod scram;
+mod scram_frames;
+
+use crate::OutOfMemory;
+use crate::mechanism_names::{ANONYMOUS, EXTERNAL, PLAIN, symbol_of};
+pub use error::{ProfileError, UrlError};
+use fe2o3_sasl_wire::{
+    Binary, Frame, FrameView, SaslCode, SaslInit, SaslMechanisms, SaslOutcome, SaslResponse, Symbol,
+};
+use fe2o3_scram::cached_keys::CachedKeys;
+use fe2o3_scram::hmac::{Meter, ScramVersion};
+use fe2o3_scram::scram_client::ScramClient;
+use fe2o3_scram::scram_messages::ScramErrorKind;
+pub use scram::{SaslScram, SaslScramSha1, SaslScramSha256, SaslScramSha512};
+use scram_frames::{answer, verify, first_message, outcome_refusal_unread, refusal_unread};
+use std::alloc::{AllocError, Global};
+use std::fmt;
+use url::Url;
+
+/// What a client logs in with.
+#[derive(Drop)]
+pub enum SaslProfile {
+    /// ANONYMOUS (RFC 4505).
+    Anonymous,
+
+    /// PLAIN (RFC 4616).
+    Plain {
+        /// The user name.
+        username: String,
+
+        /// The password.
+        password: String,
+    },
+
+    /// EXTERNAL (RFC 4422, appendix A).
+    External,
+
+    /// SCRAM-SHA-1.
+    ScramSha1(SaslScramSha1),
+
+    /// SCRAM-SHA-256.
+    ScramSha256(SaslScramSha256),
+
+    /// SCRAM-SHA-512.
+    ScramSha512(SaslScramSha512),
+}
+
+/// What a profile answers with.
+#[derive(Drop)]
+pub enum Negotiation {
+    /// An init, to the mechanisms of the server.
+    Init(SaslInit),
+
+    /// A response, to a challenge.
+    Response(SaslResponse),
+
+    /// The outcome that the server told, which ends the negotiation.
+    Outcome(SaslOutcome),
+}
+
+impl SaslProfile {
+    /// PLAIN for this user with this password. The words go out as they are: no empty word is refused,
+    /// and no zero byte, at which the message is cut by its reader (RFC 4616, section 2, has neither).
+    pub fn plain(username: String, password: String) -> SaslProfile
+        ensures { profile_of result ≡ PlainProfile (string_bytes username) (string_bytes password) }
+    {
+        SaslProfile::Plain { username, password }
+    }
+
+    /// PLAIN for the user name and the password of an address, as `url` spells them. It turns blanks,
+    /// controls, some signs and what is not ASCII into percent escapes, and nothing turns an escape back.
+    /// The scheme is not looked at, so `amqp` sends the password as `amqps` does. NoCredentials where
+    /// one of the two is empty or absent.
+    pub fn from_url(alloc: Global, url: &Url) -> Result<SaslProfile, UrlError>
+        ensures ok { IfOk result (λ profile. profile_of profile ≡ PlainProfile url.now.username url.now.password) }
+        ensures both { IfOk result (λ _. HasCredentials url.now) }
+        ensures err { IfErr result (λ fault. RefusesUrl url.now fault) }
+    {
+        let username = url.username();
+        if username.is_empty() {
+            return Err(UrlError::NoCredentials);
+        }
+        let Some(password) = url.password() else {
+            return Err(UrlError::NoCredentials);
+        };
+        Ok(SaslProfile::Plain {
+            username: String::from_str(alloc, username)?,
+            password: String::from_str(alloc, password)?,
+        })
+    }
+
+    /// SCRAM of this version that has sent nothing, and refuses an iteration count above the limit.
+    pub(crate) fn scram(
+        username: String,
+        password: String,
+        version: ScramVersion,
+        limit: u32,
+    ) -> SaslProfile
+        ensures { profile_of result ≡ scram_profile (login_of version (string_bytes username)
+            (string_bytes password) limit) }
+    {
+        SaslProfile::scram_of(ScramClient::new(username, password, version).with_iteration_limit(
+            limit,
+        ))
+    }
+
+    /// Returns the client of a SCRAM profile, and `None` of another profile. The variant of the profile names the
+    /// version of that client.
+    pub fn scram_client(&self) -> Option<&ScramClient>
+        ensures state { MatchOption result (profile_state (profile_of self.now) ≡ ClientInitial)
+            (λ client. profile_state (profile_of self.now) ≡ client.now.state) }
+        ensures side { MatchOption result (is_scram (profile_of self.now) ≡ false)
+            (λ client. profile_of self.now ≡ ScramProfile client.now) }
+        ensures version { MatchOption result (variant_version self.now ≡ None)
+            (λ client. variant_version self.now ≡ Some client.now.version) }
+    {
+        match self {
+            SaslProfile::Anonymous | SaslProfile::Plain { .. } | SaslProfile::External => None,
+            SaslProfile::ScramSha1(scram) => Some(&scram.client),
+            SaslProfile::ScramSha256(scram) => Some(&scram.client),
+            SaslProfile::ScramSha512(scram) => Some(&scram.client),
+        }
+    }
+
+    /// The keys of the login of SCRAM, once its server was believed, and `None` before and of another
+    /// profile. The next login by them takes two HMAC values, as long as the server keeps its salt and its
+    /// iteration count (RFC 5802, section 3).
+    pub fn keys(&self) -> Option<&CachedKeys>
+        ensures { MatchOption result (login_keys (profile_state (profile_of self.now)) ≡ None)
+            (λ keys. login_keys (profile_state (profile_of self.now)) ≡ Some keys.now) }
+    {
+        self.scram_client()?.keys()
+    }
+
+    /// The nonce of the client-first message of SCRAM, where that is what the client sent last. A client
+    /// that is set down here is taken up by `initial_response` with it.
+    pub fn nonce(&self) -> Option<&[u8; 32]>
+        ensures { MatchOption result
+            ((nonce bare : List ℕ) → profile_state (profile_of self.now) ≢ ClientFirstSent nonce bare)
+            (λ nonce. (bare : List ℕ)
+            × (profile_state (profile_of self.now) ≡ ClientFirstSent (base64_text nonce.now) bare)) }
+    {
+        self.scram_client()?.nonce()
+    }
+
+    /// The signature that a client of SCRAM waits for, where it has sent its client-final message last. A
+    /// client that is set down here is taken up by `waiting_for`.
+    pub fn server_signature(&self) -> Option<&[u8]>
+        ensures { MatchOption result ((signature : List ℕ) (keys : Option ClientKeys)
+            → profile_state (profile_of self.now) ≢ ClientFinalSent signature keys)
+            (λ signature. (keys : Option ClientKeys)
+            × (profile_state (profile_of self.now) ≡ ClientFinalSent signature.now keys)) }
+    {
+        self.scram_client()?.server_signature()
+    }
+
+    /// The keys of the answer for which a client of SCRAM waits for a signature. They are for a client that
+    /// is set down: until the server is believed anybody may have named their salt, so do not keep them for
+    /// another login.
+    pub fn answer_keys(&self) -> Option<&CachedKeys>
+        ensures { MatchOption result (answer_keys (profile_state (profile_of self.now)) ≡ None)
+            (λ keys. answer_keys (profile_state (profile_of self.now)) ≡ Some keys.now) }
+    {
+        self.scram_client()?.answer_keys()
+    }
+
+    /// The same profile, where the client-final message of SCRAM is what it sent last, and it waits for
+    /// this signature. With the keys of that answer it hands them out once the server is believed. A
+    /// profile that is not of SCRAM stays as it is.
+    pub fn waiting_for(self, server_signature: Vec<u8>, keys: Option<CachedKeys>) -> Self
+        ensures { profile_of result ≡ in_state (profile_of self) (ClientFinalSent server_signature.items keys) }
+    {
+        match self {
+            SaslProfile::ScramSha1(scram) => {
+                let client = scram.client.waiting_for(server_signature, keys);
+                SaslProfile::ScramSha1(SaslScramSha1::of(client))
+            }
+            SaslProfile::ScramSha256(scram) => {
+                let client = scram.client.waiting_for(server_signature, keys);
+                SaslProfile::ScramSha256(SaslScramSha256::of(client))
+            }
+            SaslProfile::ScramSha512(scram) => {
+                let client = scram.client.waiting_for(server_signature, keys);
+                SaslProfile::ScramSha512(SaslScramSha512::of(client))
+            }
+            profile => profile,
+        }
+    }
+
+    /// The name of the mechanism.
+    pub(crate) fn name(&self) -> &'static str
+        ensures name { result.now ≡ profile_name (profile_of self.now) }
+        ensures ascii { IsAscii result.now }
+    {
+        match self {
+            SaslProfile::Anonymous => ANONYMOUS,
+            SaslProfile::Plain { .. } => PLAIN,
+            SaslProfile::External => EXTERNAL,
+            SaslProfile::ScramSha1(scram) => scram.client.version().mechanism(),
+            SaslProfile::ScramSha256(scram) => scram.client.version().mechanism(),
+            SaslProfile::ScramSha512(scram) => scram.client.version().mechanism(),
+        }
+    }
+
+    /// The name of the mechanism, as a symbol.
+    pub fn mechanism(&self, alloc: Global) -> Result<Symbol, OutOfMemory>
+        ensures { IfOk result (λ symbol. symbol ≡ profile_name (profile_of self.now)) }
+    {
+        symbol_of(alloc, self.name())
+    }
+
+    /// What the init says first: nothing for ANONYMOUS and EXTERNAL, the message of PLAIN, and for SCRAM the
+    /// client-first message of a fresh start, with a nonce of 32 bytes. A refusal leaves the profile as it was.
+    pub fn initial_response(
+        &mut self,
+        alloc: Global,
+        nonce: &[u8; 32],
+    ) -> Result<Option<Binary>, OutOfMemory>
+        ensures ok { IfOk result (λ response.
+            option_map binary_bytes response ≡ initial_response (profile_of self.old) nonce.now) }
+        ensures started { OnOk result (profile_of self.new ≡ after_init (profile_of self.old) nonce.now) }
+        ensures err { OnErr result (profile_of self.new ≡ profile_of self.old) }
+    {
+        match self {
+            SaslProfile::Anonymous | SaslProfile::External => Ok(None),
+            SaslProfile::Plain { username, password } => {
+                Ok(Some(plain_message(alloc, username, password)?))
+            }
+            SaslProfile::ScramSha1(scram) => {
+                Ok(Some(first_message(&mut scram.client, alloc, nonce)?))
+            }
+            SaslProfile::ScramSha256(scram) => {
+                Ok(Some(first_message(&mut scram.client, alloc, nonce)?))
+            }
+            SaslProfile::ScramSha512(scram) => {
+                Ok(Some(first_message(&mut scram.client, alloc, nonce)?))
+            }
+        }
+    }
+
+    /// Answers a frame of the server: mechanisms with the profile's name by an init with this hostname, a challenge
+    /// by a response, an outcome by itself. NotImplemented for mechanisms without the name, for a challenge to a
+    /// profile other than SCRAM, and for an init or a response; else what SCRAM refuses. A refusal leaves the profile
+    /// as it was.
+    pub fn on_frame(
+        &mut self,
+        alloc: Global,
+        frame: Frame,
+        hostname: Option<&str>,
+        nonce: &[u8; 32],
+    ) -> Result<Negotiation, ProfileError>
+        ensures answer { ProfileAnswers FrameAllocates (profile_of self.old) (shown hostname.entry) nonce.now
+            (owned_frame frame) (answered negotiated_frame result) (profile_of self.new) }
+        ensures err { OnErr result (profile_of self.new ≡ profile_of self.old) }
+    {
+        self.on_frame_metered(alloc, frame, hostname, nonce, &mut Meter::new())
+    }
+
+    /// As `on_frame`. The meter, of at most 2^63, counts the HMAC values: of SCRAM's answer to a challenge two by
+    /// keys, by the password four and those of the iteration count, and none for a refusal; none for any other frame.
+    pub fn on_frame_metered(
+        &mut self,
+        alloc: Global,
+        frame: Frame,
+        hostname: Option<&str>,
+        nonce: &[u8; 32],
+        meter: &mut Meter,
+    ) -> Result<Negotiation, ProfileError>
+        requires { meter.old ≤ 2 ^ 63 }
+        ensures answer { ProfileAnswers FrameAllocates (profile_of self.old) (shown hostname.entry) nonce.now
+            (owned_frame frame) (answered negotiated_frame result) (profile_of self.new) }
+        ensures err { OnErr result (profile_of self.new ≡ profile_of self.old) }
+        ensures cost { ProfileCosts (owned_frame frame) (profile_of self.old) result meter.old meter.new }
+    {
+        match frame {
+            Frame::Mechanisms(mechanisms) => {
+                if !has_name(&mechanisms, self.name()) {
+                    return Err(ProfileError::NotImplemented);
+                }
+                Ok(Negotiation::Init(self.start(alloc, hostname, nonce)?))
+            }
+            Frame::Challenge(challenge) => {
+                match self.respond(alloc, &challenge.challenge.0, meter) {
+                    Ok(response) => Ok(Negotiation::Response(response)),
+                    Err(fault) => Err(fault),
+                }
+            }
+            Frame::Outcome(outcome) => {
+                self.conclude(alloc, &outcome)?;
+                Ok(Negotiation::Outcome(outcome))
+            }
+            Frame::Init(_) | Frame::Response(_) => Err(ProfileError::NotImplemented),
+        }
+    }
+
+    /// Answers a frame that is read where it stands, as `on_frame` answers the frame that it shows.
+    pub fn on_view(
+        &mut self,
+        alloc: Global,
+        view: FrameView<'_>,
+        hostname: Option<&str>,
+        nonce: &[u8; 32],
+    ) -> Result<Negotiation, ProfileError>
+        ensures answer { ProfileAnswers ViewAllocates (profile_of self.old) (shown hostname.entry) nonce.now
+            (viewed_frame view.entry) (answered negotiated_frame result) (profile_of self.new) }
+        ensures err { OnErr result (profile_of self.new ≡ profile_of self.old) }
+    {
+        self.on_view_metered(alloc, view, hostname, nonce, &mut Meter::new())
+    }
+
+    /// As `on_view`, with a meter as that of `on_frame_metered`.
+    #[tactic(auto, using(crate::proofs::lemmas::steps::ProfileReplyLemmas::view_refuses))]
+    pub fn on_view_metered(
+        &mut self,
+        alloc: Global,
+        view: FrameView<'_>,
+        hostname: Option<&str>,
+        nonce: &[u8; 32],
+        meter: &mut Meter,
+    ) -> Result<Negotiation, ProfileError>
+        requires { meter.old ≤ 2 ^ 63 }
+        ensures answer { ProfileAnswers ViewAllocates (profile_of self.old) (shown hostname.entry) nonce.now
+            (viewed_frame view.entry) (answered negotiated_frame result) (profile_of self.new) }
+        ensures err { OnErr result (profile_of self.new ≡ profile_of self.old) }
+        ensures cost { ProfileCosts (viewed_frame view.entry) (profile_of self.old) result meter.old meter.new }
+    {
+        match view {
+            FrameView::Mechanisms(names) => {
+                if !names.contains(self.name()) {
+                    return Err(ProfileError::NotImplemented);
+                }
+                Ok(Negotiation::Init(self.start(alloc, hostname, nonce)?))
+            }
+            FrameView::Challenge(challenge) => {
+                let response = self.respond(alloc, challenge, meter)?;
+                Ok(Negotiation::Response(response))
+            }
+            FrameView::Outcome {
+                code,
+                additional_data,
+            } => {
+                if let Some(kind) = self.outcome_refusal_unread(code, additional_data) {
+                    return Err(ProfileError::Scram(kind));
+                }
+                match outcome_of(alloc, code, additional_data) {
+                    Ok(outcome) => {
+                        self.conclude(alloc, &outcome)?;
+                        Ok(Negotiation::Outcome(outcome))
+                    }
+                    Err(_) => Err(ProfileError::OutOfMemory),
+                }
+            }
+            FrameView::Init { .. } | FrameView::Response(_) => Err(ProfileError::NotImplemented),
+        }
+    }
+
+    /// The init for a server that has the mechanism.
+    pub(crate) fn start(
+        &mut self,
+        alloc: Global,
+        hostname: Option<&str>,
+        nonce: &[u8; 32],
+    ) -> Result<SaslInit, OutOfMemory>
+        ensures ok { IfOk result (λ init. init_frame init ≡ Init (profile_name (profile_of self.old))
+            (initial_response (profile_of self.old) nonce.now) (shown hostname.entry)) }
+        ensures started { OnOk result (profile_of self.new ≡ after_init (profile_of self.old) nonce.now) }
+        ensures err { OnErr result (profile_of self.new ≡ profile_of self.old) }
+    {
+        let mechanism = self.mechanism(alloc)?;
+        let hostname = match hostname {
+            Some(hostname) => Some(String::from_str(alloc, hostname)?),
+            None => None,
+        };
+        let initial_response = self.initial_response(alloc, nonce)?;
+        Ok(SaslInit {
+            mechanism,
+            initial_response,
+            hostname,
+        })
+    }
+
+    /// Why a challenge is refused before a part of it is read: the profile is not of SCRAM, or the text
+    /// is not UTF-8, or it is not due.
+    pub(crate) fn refusal_unread(&self, challenge: &[u8]) -> Option<ProfileError>
+        ensures { MatchOption result (StepAllocates (profile_of self.now) (Challenge challenge.now))
+            (λ fault. RefusesAlways (profile_of self.now) (Challenge challenge.now) fault) }
+    {
+        match self.scram_client() {
+            Some(client) => refusal_unread(client, challenge),
+            None => Some(ProfileError::NotImplemented),
+        }
+    }
+
+    /// Why an outcome is refused before its data are copied: SCRAM reads them, and they are not due, or not UTF-8.
+    pub(crate) fn outcome_refusal_unread(
+        &self,
+        code: SaslCode,
+        additional_data: Option<&[u8]>,
+    ) -> Option<ScramErrorKind>
+        ensures { MatchOption result ((text : List ℕ) → shown additional_data.entry ≡ Some text
+            → StepAllocates (profile_of self.now) (Outcome code (Some text)))
+            (λ kind. RefusesAlways (profile_of self.now) (Outcome code (shown additional_data.entry)) (Scram kind)) }
+    {
+        match self.scram_client() {
+            Some(client) => outcome_refusal_unread(client, code, additional_data),
+            None => None,
+        }
+    }
+
+    /// The response to a challenge.
+    pub(crate) fn respond(
+        &mut self,
+        alloc: Global,
+        challenge: &[u8],
+        meter: &mut Meter,
+    ) -> Result<SaslResponse, ProfileError>
+        requires { meter.old ≤ 2 ^ 63 }
+        ensures answer { AnswersAlways (profile_of self.old) (Challenge challenge.now) (answered response_frame result)
+            (profile_of self.new) }
+        ensures err { OnErr result (profile_of self.new ≡ profile_of self.old) }
+        ensures cost { ProfileCosts (Challenge challenge.now) (profile_of self.old) result meter.old meter.new }
+    {
+        match self {
+            SaslProfile::Anonymous | SaslProfile::Plain { .. } | SaslProfile::External => {
+                Err(ProfileError::NotImplemented)
+            }
+            SaslProfile::ScramSha1(scram) => answer(&mut scram.client, alloc, challenge, meter),
+            SaslProfile::ScramSha256(scram) => answer(&mut scram.client, alloc, challenge, meter),
+            SaslProfile::ScramSha512(scram) => answer(&mut scram.client, alloc, challenge, meter),
+        }
+    }
+
+    /// Whether the outcome is reported.
+    pub(crate) fn conclude(
+        &mut self,
+        alloc: Global,
+        outcome: &SaslOutcome,
+    ) -> Result<(), ProfileError>
+        ensures answer { (hostname : Option (List ℕ)) (nonce : List ℕ) → ProfileAnswers FrameAllocates
+            (profile_of self.old) hostname nonce (outcome_frame outcome.now) (answered (λ _. outcome_frame outcome.now) result)
+            (profile_of self.new) }
+        ensures err { OnErr result (profile_of self.new ≡ profile_of self.old) }
+    {
+        match self {
+            SaslProfile::Anonymous | SaslProfile::Plain { .. } | SaslProfile::External => Ok(()),
+            SaslProfile::ScramSha1(scram) => verify(&mut scram.client, alloc, outcome),
+            SaslProfile::ScramSha256(scram) => verify(&mut scram.client, alloc, outcome),
+            SaslProfile::ScramSha512(scram) => verify(&mut scram.client, alloc, outcome),
+        }
+    }
+}
+
+impl Clone for SaslProfile {
+    ghost is_clone = { λ profile copy. profile_of copy ≡ profile_of profile };
+
+    fn clone(&self) -> Result<Self, AllocError> {
+        Ok(match self {
+            SaslProfile::Anonymous => SaslProfile::Anonymous,
+            SaslProfile::Plain { username, password } => SaslProfile::Plain {
+                username: username.clone()?,
+                password: password.clone()?,
+            },
+            SaslProfile::External => SaslProfile::External,
+            SaslProfile::ScramSha1(scram) => SaslProfile::ScramSha1(scram.clone()?),
+            SaslProfile::ScramSha256(scram) => SaslProfile::ScramSha256(scram.clone()?),
+            SaslProfile::ScramSha512(scram) => SaslProfile::ScramSha512(scram.clone()?),
+        })
+    }
+}
+
+impl From<ScramClient> for SaslProfile {
+    ghost from_gives = { λ client profile. profile_of profile ≡ ScramProfile client };
+
+    fn from(client: ScramClient) -> Self {
+        SaslProfile::scram_of(client)
+    }
+}
+
+impl From<SaslScramSha1> for SaslProfile {
+    ghost from_gives = { λ scram profile. profile_of profile ≡ ScramProfile scram };
+
+    fn from(scram: SaslScramSha1) -> Self {
+        SaslProfile::ScramSha1(scram)
+    }
+}
+
+impl From<SaslScramSha256> for SaslProfile {
+    ghost from_gives = { λ scram profile. profile_of profile ≡ ScramProfile scram };
+
+    fn from(scram: SaslScramSha256) -> Self {
+        SaslProfile::ScramSha256(scram)
+    }
+}
+
+impl From<SaslScramSha512> for SaslProfile {
+    ghost from_gives = { λ scram profile. profile_of profile ≡ ScramProfile scram };
+
+    fn from(scram: SaslScramSha512) -> Self {
+        SaslProfile::ScramSha512(scram)
+    }
+}
+
+impl fmt::Debug for SaslProfile {
+    /// The mechanism and the user name, without the password.
+    fn fmt<W: fmt::Write>(&self, f: &mut fmt::Formatter<W>) -> fmt::Result {
+        match self {
+            SaslProfile::Anonymous => f.write_str("Anonymous"),
+            SaslProfile::Plain { username, .. } => {
+                write!(f, "Plain {{ username: {username:?}, .. }}")
+            }
+            SaslProfile::External => f.write_str("External"),
+            SaslProfile::ScramSha1(scram) => write!(f, "ScramSha1({scram:?})"),
+            SaslProfile::ScramSha256(scram) => write!(f, "ScramSha256({scram:?})"),
+            SaslProfile::ScramSha512(scram) => write!(f, "ScramSha512({scram:?})"),
+        }
+    }
+}
+
+impl fmt::Debug for Negotiation {
+    /// The mechanism of an init and the code of an outcome, without what the mechanism says.
+    fn fmt<W: fmt::Write>(&self, f: &mut fmt::Formatter<W>) -> fmt::Result {
+        match self {
+            Negotiation::Init(init) => {
+                let mechanism = init.mechanism.as_str();
+                write!(f, "Init {{ mechanism: {mechanism:?}, .. }}")
+            }
+            Negotiation::Response(_) => f.write_str("Response { .. }"),
+            Negotiation::Outcome(outcome) => {
+                let code = outcome.code;
+                write!(f, "Outcome {{ code: {code:?}, .. }}")
+            }
+        }
+    }
+}
+
+/// The message of PLAIN: no authorization identity, the user name and the password, the last two
+/// each behind a zero byte (RFC 4616, section 2).
+fn plain_message(alloc: Global, username: &str, password: &str) -> Result<Binary, OutOfMemory>
+    ensures { IfOk result (λ message. binary_bytes message ≡ 0 ∷ username.now ++ 0 ∷ password.now) }
+{
+    let room = username
+        .len()
+        .saturating_add(password.len())
+        .saturating_add(2);
+    let mut message = Vec::with_capacity(alloc, room)?;
+    message.push(0)?;
+    message.extend_from_slice(username.as_bytes())?;
+    message.push(0)?;
+    message.extend_from_slice(password.as_bytes())?;
+    Ok(Binary(message))
+}
+
+/// Whether the name stands among the mechanisms.
+fn has_name(mechanisms: &SaslMechanisms, name: &str) -> bool
+    ensures { IsTrue result ↔ Contains mechanisms.now.sasl_server_mechanisms.0.items name.now }
+{
+    for symbol in &mechanisms.sasl_server_mechanisms.0 {
+        if symbol.as_str() == name {
+            return true;
+        }
+    }
+    false
+}
+
+/// An outcome with a copy of its data.
+pub(crate) fn outcome_of(
+    alloc: Global,
+    code: SaslCode,
+    additional_data: Option<&[u8]>,
+) -> Result<SaslOutcome, OutOfMemory>
+    ensures ok { IfOk result (λ outcome. outcome_frame outcome ≡ Outcome code (shown additional_data.entry)) }
+    ensures err { IfErr result (λ _. (text : List ℕ) × (shown additional_data.entry ≡ Some text)) }
+{
+    let additional_data = match additional_data {
+        Some(data) => Some(Binary(Vec::from_slice(alloc, data)?)),
+        None => None,
+    };
+    Ok(SaslOutcome {
+        code,
+        additional_data,
+    })
+}

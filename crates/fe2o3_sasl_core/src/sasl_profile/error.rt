@@ -1,0 +1,89 @@
+//! Why a profile does not answer.
+
+ghost use Rattle.std.specs.Prelude.{◌≡◌};
+ghost use Rattle.fe2o3_sasl_core.specs.declared.sasl_profile.error.ProfileError.TheVariants.{OutOfMemory};
+ghost use Rattle.fe2o3_sasl_core.specs.ProfileFaults.{fault_of_kind, fault_of_frame};
+
+use fe2o3_sasl_wire::Error;
+use fe2o3_scram::scram_messages::ScramErrorKind;
+use std::alloc::AllocError;
+
+/// Why a profile does not answer. Want of memory is always `OutOfMemory`, and other keys are always
+/// `StaleKeys`: neither is inside another fault.
+#[derive(Clone, Copy, Debug, PartialEq, Eq, thiserror::Error)]
+pub enum ProfileError {
+    /// The frame is none that the profile answers, or the server does not have its mechanism.
+    #[error("Not implemented")]
+    NotImplemented,
+
+    /// SCRAM refuses the message.
+    #[error("Scram")]
+    Scram(ScramErrorKind),
+
+    /// The server names another salt or another iteration count than the kept keys are of, and the client
+    /// has no password, which is needed. MockSettings signs that message, so whoever is on the way can bring
+    /// this about: keep the keys until a login by the password was believed.
+    #[error("The keys are of another salt or iteration count")]
+    StaleKeys,
+
+    /// The body is not read, or the answer is not written.
+    #[error("Frame")]
+    Frame(Error),
+
+    /// There was no memory for the answer. The call can be made again.
+    #[error("OutOfMemory")]
+    OutOfMemory,
+}
+
+impl From<ScramErrorKind> for ProfileError {
+    ghost from_gives = { λ kind error. error ≡ fault_of_kind kind };
+
+    fn from(kind: ScramErrorKind) -> Self {
+        match kind {
+            ScramErrorKind::OutOfMemory => ProfileError::OutOfMemory,
+            ScramErrorKind::StaleKeys => ProfileError::StaleKeys,
+            kind => ProfileError::Scram(kind),
+        }
+    }
+}
+
+impl From<Error> for ProfileError {
+    ghost from_gives = { λ fault error. error ≡ fault_of_frame fault };
+
+    fn from(fault: Error) -> Self {
+        match fault {
+            Error::OutOfMemory => ProfileError::OutOfMemory,
+            fault => ProfileError::Frame(fault),
+        }
+    }
+}
+
+impl From<AllocError> for ProfileError {
+    ghost from_gives = { λ _ error. error ≡ OutOfMemory };
+
+    fn from(_error: AllocError) -> Self {
+        ProfileError::OutOfMemory
+    }
+}
+
+/// Why an address gives no profile.
+#[derive(Clone, Copy, Debug, PartialEq, Eq, thiserror::Error)]
+pub enum UrlError {
+    /// The user name or the password is empty or absent.
+    #[error("NoCredentials")]
+    NoCredentials,
+
+    /// There was no memory for the two. The call can be made again.
+    #[error("OutOfMemory")]
+    OutOfMemory,
+}
+
+impl From<AllocError> for UrlError {
+    ghost use Rattle.fe2o3_sasl_core.specs.declared.sasl_profile.error.UrlError.TheVariants.{OutOfMemory as NoMemory};
+
+    ghost from_gives = { λ _ error. error ≡ NoMemory };
+
+    fn from(_error: AllocError) -> Self {
+        UrlError::OutOfMemory
+    }
+}

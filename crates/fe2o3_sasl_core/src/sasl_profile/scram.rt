@@ -1,0 +1,259 @@
+//! The SCRAM profiles: one type over the versions (RFC 5802, section 5), and a name for each of the three.
+
+ghost use Rattle.std.specs.Prelude.{◌≡◌, ◌≢◌, MatchOption, Some, None, string_bytes};
+ghost use Rattle.fe2o3_scram.specs.declared.hmac.ScramVersion.{ScramVersion};
+ghost use Rattle.fe2o3_scram.specs.declared.hmac.ScramVersion.TheVariants.{Sha1, Sha256, Sha512};
+ghost use Rattle.fe2o3_scram.specs.ClientSecret.{Password, Keys, Both, no_limit, up_to};
+ghost use Rattle.fe2o3_scram.specs.Passwords.{Typed, Prepared};
+ghost use Rattle.fe2o3_scram.specs.ScramClient.{ClientInitial, login_keys, with_limits};
+ghost use Rattle.fe2o3_sasl_core.specs.Profiles.{ScramProfile, scram_profile};
+ghost use Rattle.fe2o3_sasl_core.specs.Runs.{login_of};
+ghost use Rattle.fe2o3_sasl_core.specs.SaslProfile.{profile_of, variant_version};
+
+use super::SaslProfile;
+use fe2o3_scram::cached_keys::CachedKeys;
+use fe2o3_scram::hmac::ScramVersion;
+use fe2o3_scram::scram_client::ScramClient;
+use std::alloc::AllocError;
+use std::fmt;
+use std::marker::{Model, PhantomData};
+
+/// SCRAM-SHA-1 (RFC 5802). New applications should take SHA-256.
+pub type SaslScramSha1 = SaslScram<OfSha1>;
+
+/// SCRAM-SHA-256 (RFC 7677).
+pub type SaslScramSha256 = SaslScram<OfSha256>;
+
+/// SCRAM-SHA-512.
+pub type SaslScramSha512 = SaslScram<OfSha512>;
+
+/// A version of SCRAM as a type. It has no public path, so there are these three and no others.
+pub trait OfVersion {
+    ghost version: { ScramVersion };
+
+    /// The version.
+    fn version() -> ScramVersion
+        ensures { result ≡ version };
+}
+
+/// SHA-1.
+pub struct OfSha1 {}
+
+/// SHA-256.
+pub struct OfSha256 {}
+
+/// SHA-512.
+pub struct OfSha512 {}
+
+impl OfVersion for OfSha1 {
+    ghost version = { Sha1 };
+
+    fn version() -> ScramVersion {
+        ScramVersion::Sha1
+    }
+}
+
+impl OfVersion for OfSha256 {
+    ghost version = { Sha256 };
+
+    fn version() -> ScramVersion {
+        ScramVersion::Sha256
+    }
+}
+
+impl OfVersion for OfSha512 {
+    ghost version = { Sha512 };
+
+    fn version() -> ScramVersion {
+        ScramVersion::Sha512
+    }
+}
+
+/// A client of one user, by SCRAM of the version that `V` names.
+#[derive(Drop)]
+pub struct SaslScram<V: OfVersion> {
+    pub(super) client: ScramClient,
+    pub(super) version: PhantomData<V>,
+}
+
+impl<V: OfVersion> Model for SaslScram<V> {
+    ghost use Rattle.std.specs.Prelude.{◌≡◌};
+    ghost use Rattle.fe2o3_scram.specs.ScramClient.{ClientSide};
+
+    ghost Value = { ClientSide };
+
+    ghost view = { λ scram. scram.client };
+
+    ghost invariant = { λ scram. scram.client.version ≡ V.version };
+}
+
+impl<V: OfVersion> SaslScram<V> {
+    /// Returns the profile of a client of this version.
+    pub(super) fn of(client: ScramClient) -> Self
+        requires { client.version ≡ V.version }
+        ensures { result ≡ client }
+    {
+        Self {
+            client,
+            version: PhantomData,
+        }
+    }
+
+    /// The profile of a client of this version.
+    fn of_version(client: ScramClient) -> Option<Self>
+        ensures { MatchOption result (client.version ≢ V.version)
+            (λ scram. (client.version ≡ V.version) × (scram ≡ client)) }
+    {
+        if client.version() != V::version() {
+            return None;
+        }
+        Some(Self::of(client))
+    }
+
+    /// A client of this user with this password, which accepts every iteration count from 1 on.
+    pub fn new(username: String, password: String) -> Self
+        ensures { ScramProfile result ≡ scram_profile (login_of V.version (string_bytes username)
+            (string_bytes password) no_limit) }
+    {
+        Self::of(ScramClient::new(username, password, V::version()))
+    }
+
+    /// A client of this user with this prepared password (RFC 4013), which accepts every iteration count from
+    /// 1 on. The password is any text, taken as it stands, and not tested or prepared here; a caller prepares
+    /// the user name likewise.
+    pub fn with_prepared_password(username: String, password: String) -> Self
+        ensures { result ≡ record {
+          user = string_bytes username;
+          secret = Password (Prepared (string_bytes password));
+          version =
+              V.version;
+          limits = up_to no_limit;
+          state = ClientInitial;
+        } }
+    {
+        Self::of(ScramClient::with_prepared_password(username, password, V::version()))
+    }
+
+    /// A client of this user that keeps these keys in place of the password (RFC 5802, section 3), and
+    /// accepts every iteration count from 1 on. `None` where the keys are of another version.
+    ///
+    /// It answers a challenge as the client with the password does whose keys they are, by two HMAC
+    /// values in place of those of the iteration count. `StaleKeys` refuses a challenge that names another
+    /// salt or another count than theirs, and then the password is needed.
+    pub fn with_keys(username: String, keys: CachedKeys) -> Option<Self>
+        ensures { MatchOption result (keys.version ≢ V.version)
+            (λ scram. (keys.version ≡ V.version)
+            × (scram ≡ record {
+              user = string_bytes username;
+              secret = Keys keys;
+              version = V.version;
+              limits = up_to no_limit;
+              state =
+                  ClientInitial;
+            })) }
+    {
+        Self::of_version(ScramClient::with_keys(username, keys))
+    }
+
+    /// A client of this user with this password and these keys (RFC 5802, section 3), which accepts every
+    /// iteration count from 1 on. `None` where the keys are of another version.
+    ///
+    /// It answers by the keys a challenge that names the salt and the count that they are of, and any
+    /// other by the password. So it never answers `StaleKeys`.
+    pub fn with_password_and_keys(
+        username: String,
+        password: String,
+        keys: CachedKeys,
+    ) -> Option<Self>
+        ensures { MatchOption result (keys.version ≢ V.version)
+            (λ scram. (keys.version ≡ V.version)
+            × (scram ≡ record {
+              user = string_bytes username;
+              secret = Both (Typed (string_bytes password)) keys;
+              version = V.version;
+              limits = up_to no_limit;
+              state =
+                  ClientInitial;
+            })) }
+    {
+        Self::of_version(ScramClient::with_password_and_keys(username, password, keys))
+    }
+
+    /// As `with_password_and_keys`, with a prepared password, which is taken as it stands.
+    pub fn with_prepared_password_and_keys(
+        username: String,
+        password: String,
+        keys: CachedKeys,
+    ) -> Option<Self>
+        ensures { MatchOption result (keys.version ≢ V.version)
+            (λ scram. (keys.version ≡ V.version)
+            × (scram ≡ record {
+              user = string_bytes username;
+              secret = Both (Prepared (string_bytes password)) keys;
+              version = V.version;
+              limits = up_to no_limit;
+              state =
+                  ClientInitial;
+            })) }
+    {
+        Self::of_version(ScramClient::with_prepared_password_and_keys(username, password, keys))
+    }
+
+    /// The same client, which refuses an iteration count above the limit. The limit is one for each
+    /// challenge: how many challenges are answered it does not bound.
+    pub fn with_iteration_limit(self, limit: u32) -> Self
+        ensures { result ≡ with_limits self (record { min_iterations = self.limits.min_iterations; max_iterations = limit }) }
+    {
+        Self::of(self.client.with_iteration_limit(limit))
+    }
+
+    /// The same client, which refuses an iteration count below this one by `IterationCountTooSmall`. RFC
+    /// 7677, section 4, asks for 4096 at least.
+    pub fn with_min_iterations(self, min_iterations: u32) -> Self
+        ensures { result ≡ with_limits self (record { min_iterations = min_iterations; max_iterations = self.limits.max_iterations }) }
+    {
+        Self::of(self.client.with_min_iterations(min_iterations))
+    }
+
+    /// The keys of the login, once its server was believed, and `None` before (RFC 5802, section 3).
+    pub fn keys(&self) -> Option<&CachedKeys>
+        ensures { MatchOption result (login_keys self.now.state ≡ None)
+            (λ keys. login_keys self.now.state ≡ Some keys.now) }
+    {
+        self.client.keys()
+    }
+}
+
+impl<V: OfVersion> Clone for SaslScram<V> {
+    ghost is_clone = { λ scram copy. copy ≡ scram };
+
+    fn clone(&self) -> Result<Self, AllocError> {
+        Ok(Self::of(self.client.clone()?))
+    }
+}
+
+impl<V: OfVersion> fmt::Debug for SaslScram<V> {
+    /// The name of the version's profile, and the client, which hides its secrets.
+    fn fmt<W: fmt::Write>(&self, f: &mut fmt::Formatter<W>) -> fmt::Result {
+        let name = match V::version() {
+            ScramVersion::Sha1 => "SaslScramSha1",
+            ScramVersion::Sha256 => "SaslScramSha256",
+            ScramVersion::Sha512 => "SaslScramSha512",
+        };
+        f.debug_struct(name).field("client", &self.client).finish()
+    }
+}
+
+impl SaslProfile {
+    /// Returns the SCRAM profile of this client, in the variant of the client's version.
+    pub(crate) fn scram_of(client: ScramClient) -> SaslProfile
+        ensures profile { profile_of result ≡ ScramProfile client }
+        ensures variant { variant_version result ≡ Some client.version }
+    {
+        match client.version() {
+            ScramVersion::Sha1 => SaslProfile::ScramSha1(SaslScramSha1::of(client)),
+            ScramVersion::Sha256 => SaslProfile::ScramSha256(SaslScramSha256::of(client)),
+            ScramVersion::Sha512 => SaslProfile::ScramSha512(SaslScramSha512::of(client)),
+        }
+    }
+}

@@ -1,0 +1,341 @@
+//! Steps over bodies of frames. Each reads the body where it stands, works on a copy of the state,
+//! writes the answer, and keeps the new state last.
+
+ghost use Rattle.std.specs.Prelude.{◌≡◌, ◌↔◌, ◌≤◌, ◌^◌, true, ℕ, List, Option, Some, IfOk, IfErr, OnErr};
+ghost use Rattle.fe2o3_sasl_core.specs.Bodies.{server_says};
+ghost use Rattle.std.specs.List.{Contains};
+ghost use Rattle.fe2o3_sasl_wire.specs.FrameView.{shown, viewed_frame};
+ghost use Rattle.fe2o3_sasl_wire.specs.Owned.{owned_frame};
+ghost use Rattle.fe2o3_sasl_wire.specs.SaslFrames.{canonical, RefusesFrame, Challenge as ChallengeFrame, Mechanisms as MechanismsFrame, Outcome as OutcomeFrame};
+ghost use Rattle.fe2o3_sasl_core.specs.Costs.{CostsAtMost, AcceptorStepCosts, ProfileCosts, ProfileStepCosts};
+ghost use Rattle.fe2o3_sasl_core.specs.SaslAcceptor.{sent_frame};
+ghost use Rattle.fe2o3_sasl_core.specs.Profiles.{profile_name, StepAllocates};
+ghost use Rattle.fe2o3_sasl_core.specs.SaslProfile.{profile_of};
+ghost use Rattle.fe2o3_sasl_core.specs.Runs.{AcceptorAnswers, AcceptorSteps, ProfileReplies, ProfileSteps, given, server_answer, server_reply, client_answer};
+ghost use Rattle.fe2o3_sasl_core.specs.private.Writing.{IsRequest, Writes, WritesBody};
+
+use crate::OutOfMemory;
+use crate::events::{ClientReply, Event, ServerReply};
+use crate::sasl_acceptor::{SaslAcceptor, SaslServerFrame};
+use crate::sasl_profile::{ProfileError, SaslProfile, outcome_of};
+use bytes::BytesMut;
+use fe2o3_sasl_wire::{Error, Frame, FrameCodec, FrameView, SaslCode, SymbolsView, view_frame};
+use fe2o3_scram::hmac::Meter;
+use std::alloc::Global;
+
+/// The canonical body of a frame.
+fn body_of(alloc: Global, frame: Frame) -> Result<Vec<u8>, Error>
+    ensures ok { IfOk result (λ body. canonical (owned_frame frame) ≡ Some body.items) }
+    ensures err { IfErr result (λ fault. RefusesFrame (owned_frame frame) fault) }
+{
+    let mut body = BytesMut::new(alloc);
+    (FrameCodec {}).encode(frame, &mut body)?;
+    Ok(body.into_vec()?)
+}
+
+/// The reply that an acceptor's frame is.
+fn write_reply(alloc: Global, frame: SaslServerFrame) -> Result<ServerReply, Error>
+    ensures { Writes server_reply (server_says (sent_frame frame)) (canonical (sent_frame frame)) result }
+{
+    match frame {
+        SaslServerFrame::Challenge(challenge) => Ok(ServerReply::Challenge {
+            body: body_of(alloc, Frame::Challenge(challenge))?,
+        }),
+        SaslServerFrame::Outcome(outcome) => Ok(ServerReply::Outcome {
+            code: outcome.code,
+            body: body_of(alloc, Frame::Outcome(outcome))?,
+        }),
+    }
+}
+
+/// Whether the frame is an init or a response.
+fn is_request(view: &FrameView<'_>) -> bool
+    ensures { result ≡ true ↔ IsRequest (viewed_frame view.now) }
+{
+    match view {
+        FrameView::Init { .. } | FrameView::Response(_) => true,
+        FrameView::Mechanisms(_) | FrameView::Challenge(_) | FrameView::Outcome { .. } => false,
+    }
+}
+
+/// One step of an acceptor over a body, whose bytes after the frame are left alone: the fault of a
+/// body that is not read; NotImplemented for a frame that is no init and no response; else the
+/// acceptor's reply, or TooLarge where that has no body. After a refusal the acceptor is as before.
+/// Only an init and a response take memory.
+pub fn acceptor_step<A: SaslAcceptor>(
+    alloc: Global,
+    acceptor: &mut A,
+    event: &Event,
+) -> Result<ServerReply, Error>
+    ensures { AcceptorSteps A.machine (A.state acceptor.old) (given event.now) (server_answer result)
+        (A.state acceptor.new) }
+{
+    acceptor_step_metered(alloc, acceptor, event, &mut Meter::new())
+}
+
+/// As `acceptor_step`. The meter, of at most 2^63, counts the HMAC values, also of a refusal: no more than
+/// the acceptor says of the frame (SCRAM of a response two where it is accepted, one where its proof alone
+/// is refused, and none otherwise), and none for a body that is not read. A frame that is no init and no
+/// response is not shown to it.
+pub fn acceptor_step_metered<A: SaslAcceptor>(
+    alloc: Global,
+    acceptor: &mut A,
+    event: &Event,
+    meter: &mut Meter,
+) -> Result<ServerReply, Error>
+    requires { meter.old ≤ 2 ^ 63 }
+    ensures step { AcceptorSteps A.machine (A.state acceptor.old) (given event.now) (server_answer result)
+        (A.state acceptor.new) }
+    ensures cost { AcceptorStepCosts A.hmacs (A.state acceptor.old) (given event.now) meter.old meter.new }
+{
+    acceptor_body_step(alloc, acceptor, &event.body, &event.nonce, meter)
+}
+
+/// As `acceptor_step_metered`, over a body where it stands: no event is made of it.
+pub fn acceptor_body_step<A: SaslAcceptor>(
+    alloc: Global,
+    acceptor: &mut A,
+    body: &[u8],
+    nonce: &[u8; 32],
+    meter: &mut Meter,
+) -> Result<ServerReply, Error>
+    requires { meter.old ≤ 2 ^ 63 }
+    ensures step { AcceptorSteps A.machine (A.state acceptor.old) (record { body = body.now; nonce = nonce.now })
+        (server_answer result) (A.state acceptor.new) }
+    ensures cost { AcceptorStepCosts A.hmacs (A.state acceptor.old) (record { body = body.now; nonce = nonce.now })
+        meter.old meter.new }
+{
+    let (view, _) = match view_frame(body) {
+        Ok(read) => read,
+        Err(fault) => return Err(fault),
+    };
+    if !is_request(&view) {
+        return Err(Error::NotImplemented);
+    }
+    match view.to_frame(alloc) {
+        Ok(frame) => answer(alloc, acceptor, frame, nonce, meter),
+        Err(fault) => Err(fault),
+    }
+}
+
+/// The answer to an init or a response, which is written before the acceptor has the next state.
+fn answer<A: SaslAcceptor>(
+    alloc: Global,
+    acceptor: &mut A,
+    frame: Frame,
+    nonce: &[u8; 32],
+    meter: &mut Meter,
+) -> Result<ServerReply, Error>
+    requires request { IsRequest (owned_frame frame) }
+    requires meter { meter.old ≤ 2 ^ 63 }
+    ensures answer { AcceptorAnswers A.machine (A.state acceptor.old) nonce.now (owned_frame frame)
+        (server_answer result) (A.state acceptor.new) }
+    ensures cost { CostsAtMost A.hmacs (A.state acceptor.old) (owned_frame frame) meter.old meter.new }
+{
+    let mut next = acceptor.clone()?;
+    let reply = ask(alloc, &mut next, frame, nonce, meter)?;
+    match write_reply(alloc, reply) {
+        Ok(says) => {
+            *acceptor = next;
+            Ok(says)
+        }
+        Err(fault) => Err(fault),
+    }
+}
+
+/// What the acceptor replies.
+fn ask<A: SaslAcceptor>(
+    alloc: Global,
+    acceptor: &mut A,
+    frame: Frame,
+    nonce: &[u8; 32],
+    meter: &mut Meter,
+) -> Result<SaslServerFrame, OutOfMemory>
+    requires request { IsRequest (owned_frame frame) }
+    requires meter { meter.old ≤ 2 ^ 63 }
+    ensures ok { IfOk result (λ reply. A.machine (A.state acceptor.old) nonce.now (owned_frame frame)
+        (sent_frame reply) (A.state acceptor.new)) }
+    ensures err { OnErr result (A.state acceptor.new ≡ A.state acceptor.old) }
+    ensures cost { CostsAtMost A.hmacs (A.state acceptor.old) (owned_frame frame) meter.old meter.new }
+{
+    match frame {
+        Frame::Init(init) => acceptor.on_init_metered(alloc, init, nonce, meter),
+        Frame::Response(response) => acceptor.on_response_metered(alloc, response, meter),
+        Frame::Mechanisms(_) | Frame::Challenge(_) | Frame::Outcome(_) => unreachable!(),
+    }
+}
+
+/// One step of a profile over a body, whose bytes after the frame are left alone: `Frame` with the
+/// fault of a body that is not read; NotImplemented for mechanisms without the profile's name, for a
+/// challenge to a profile other than SCRAM, and for an init or a response; `Scram` with what SCRAM
+/// refuses; else the answer, or `Frame` with TooLarge where that has no body. After a refusal the
+/// profile is as before. A body that is not read and one that is not implemented take no memory.
+pub fn profile_step(
+    alloc: Global,
+    profile: &mut SaslProfile,
+    event: &Event,
+    hostname: Option<&str>,
+) -> Result<ClientReply, ProfileError>
+    ensures { ProfileSteps (shown hostname.entry) (profile_of profile.old) (given event.now) (client_answer result)
+        (profile_of profile.new) }
+{
+    profile_step_metered(alloc, profile, event, hostname, &mut Meter::new())
+}
+
+/// As `profile_step`. The meter, of at most 2^63, counts the HMAC values: of SCRAM's answer to a challenge
+/// two by keys, by the password four and those of the iteration count, no more where the answer is not
+/// sent, and none for a challenge that is refused; none for any other body.
+pub fn profile_step_metered(
+    alloc: Global,
+    profile: &mut SaslProfile,
+    event: &Event,
+    hostname: Option<&str>,
+    meter: &mut Meter,
+) -> Result<ClientReply, ProfileError>
+    requires { meter.old ≤ 2 ^ 63 }
+    ensures step { ProfileSteps (shown hostname.entry) (profile_of profile.old) (given event.now)
+        (client_answer result) (profile_of profile.new) }
+    ensures cost { ProfileStepCosts (profile_of profile.old) (given event.now) result meter.old meter.new }
+{
+    profile_body_step(alloc, profile, &event.body, &event.nonce, hostname, meter)
+}
+
+/// As `profile_step_metered`, over a body where it stands: no event is made of it.
+pub fn profile_body_step(
+    alloc: Global,
+    profile: &mut SaslProfile,
+    body: &[u8],
+    nonce: &[u8; 32],
+    hostname: Option<&str>,
+    meter: &mut Meter,
+) -> Result<ClientReply, ProfileError>
+    requires { meter.old ≤ 2 ^ 63 }
+    ensures step { ProfileSteps (shown hostname.entry) (profile_of profile.old)
+        (record { body = body.now; nonce = nonce.now }) (client_answer result) (profile_of profile.new) }
+    ensures cost { ProfileStepCosts (profile_of profile.old) (record { body = body.now; nonce = nonce.now }) result
+        meter.old meter.new }
+{
+    let (view, _) = match view_frame(body) {
+        Ok(read) => read,
+        Err(fault) => return Err(ProfileError::Frame(fault)),
+    };
+    answer_view(alloc, profile, view, hostname, nonce, meter)
+}
+
+/// The answer to a frame, in its body.
+fn answer_view(
+    alloc: Global,
+    profile: &mut SaslProfile,
+    view: FrameView<'_>,
+    hostname: Option<&str>,
+    nonce: &[u8; 32],
+    meter: &mut Meter,
+) -> Result<ClientReply, ProfileError>
+    requires { meter.old ≤ 2 ^ 63 }
+    ensures answer { ProfileReplies (shown hostname.entry) (profile_of profile.old) nonce.now (viewed_frame view.entry)
+        (client_answer result) (profile_of profile.new) }
+    ensures cost { ProfileCosts (viewed_frame view.entry) (profile_of profile.old) result meter.old meter.new }
+{
+    match view {
+        FrameView::Mechanisms(names) => {
+            if !names.contains(profile.name()) {
+                return Err(ProfileError::NotImplemented);
+            }
+            start(alloc, profile, &names, hostname, nonce)
+        }
+        FrameView::Challenge(challenge) => {
+            if let Some(fault) = profile.refusal_unread(challenge) {
+                return Err(fault);
+            }
+            respond(alloc, profile, challenge, meter)
+        }
+        FrameView::Outcome {
+            code,
+            additional_data,
+        } => report(alloc, profile, code, additional_data),
+        FrameView::Init { .. } => Err(ProfileError::NotImplemented),
+        FrameView::Response(_) => Err(ProfileError::NotImplemented),
+    }
+}
+
+/// The init of a profile whose name the server has, which is written before the profile is started.
+fn start(
+    alloc: Global,
+    profile: &mut SaslProfile,
+    names: &SymbolsView<'_>,
+    hostname: Option<&str>,
+    nonce: &[u8; 32],
+) -> Result<ClientReply, ProfileError>
+    requires { Contains names.now (profile_name (profile_of profile.old)) }
+    ensures { ProfileReplies (shown hostname.entry) (profile_of profile.old) nonce.now (MechanismsFrame names.now)
+        (client_answer result) (profile_of profile.new) }
+{
+    let mut next = profile.clone()?;
+    let init = next.start(alloc, hostname, nonce)?;
+    match client_body_of(alloc, Frame::Init(init)) {
+        Ok(body) => {
+            *profile = next;
+            Ok(ClientReply::Init { body })
+        }
+        Err(fault) => Err(fault),
+    }
+}
+
+/// The response of a profile, which is written before the profile waits for the outcome.
+fn respond(
+    alloc: Global,
+    profile: &mut SaslProfile,
+    challenge: &[u8],
+    meter: &mut Meter,
+) -> Result<ClientReply, ProfileError>
+    requires due { StepAllocates (profile_of profile.old) (ChallengeFrame challenge.now) }
+    requires meter { meter.old ≤ 2 ^ 63 }
+    ensures answer { (hostname : Option (List ℕ)) (nonce : List ℕ) → ProfileReplies hostname (profile_of profile.old)
+        nonce (ChallengeFrame challenge.now) (client_answer result) (profile_of profile.new) }
+    ensures cost { ProfileCosts (ChallengeFrame challenge.now) (profile_of profile.old) result meter.old meter.new }
+{
+    let mut next = profile.clone()?;
+    match next.respond(alloc, challenge, meter) {
+        Ok(response) => match client_body_of(alloc, Frame::Response(response)) {
+            Ok(body) => {
+                *profile = next;
+                Ok(ClientReply::Response { body })
+            }
+            Err(fault) => Err(fault),
+        },
+        Err(fault) => Err(fault),
+    }
+}
+
+/// The outcome, if the profile reports it. Its data is copied before the profile ends its exchange.
+fn report(
+    alloc: Global,
+    profile: &mut SaslProfile,
+    code: SaslCode,
+    additional_data: Option<&[u8]>,
+) -> Result<ClientReply, ProfileError>
+    ensures { (hostname : Option (List ℕ)) (nonce : List ℕ) → ProfileReplies hostname (profile_of profile.old) nonce
+        (OutcomeFrame code (shown additional_data.entry)) (client_answer result) (profile_of profile.new) }
+{
+    if let Some(kind) = profile.outcome_refusal_unread(code, additional_data) {
+        return Err(ProfileError::Scram(kind));
+    }
+    match outcome_of(alloc, code, additional_data) {
+        Ok(outcome) => match profile.conclude(alloc, &outcome) {
+            Ok(()) => Ok(ClientReply::Outcome(outcome)),
+            Err(fault) => Err(fault),
+        },
+        Err(_) => Err(ProfileError::OutOfMemory),
+    }
+}
+
+/// The canonical body of a client's frame.
+fn client_body_of(alloc: Global, frame: Frame) -> Result<Vec<u8>, ProfileError>
+    ensures { WritesBody (λ body. body.items) (canonical (owned_frame frame)) result }
+{
+    match body_of(alloc, frame) {
+        Ok(body) => Ok(body),
+        Err(Error::OutOfMemory) => Err(ProfileError::OutOfMemory),
+        Err(fault) => Err(ProfileError::Frame(fault)),
+    }
+}

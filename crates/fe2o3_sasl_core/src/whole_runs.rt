@@ -1,0 +1,192 @@
+//! Runs over lists of frame bodies: what an acceptor and a profile answer to each, in order (AMQP
+//! 1.0, part 5, section 5.3.2).
+
+ghost use Rattle.std.specs.Prelude.{◌≡◌, ◌<◌, ◌≤◌, ◌+◌, ◌++◌, ◌∷◌, [], map, IfOk, OnErr, vec_len, vec_capacity, false};
+ghost use Rattle.fe2o3_sasl_wire.specs.FrameView.{shown};
+ghost use Rattle.fe2o3_scram.specs.Credentials.{serving};
+ghost use Rattle.fe2o3_scram.specs.ClientSecret.{no_limit};
+ghost use Rattle.fe2o3_scram.specs.ScramServer.{Initial, served_by, state_in};
+ghost use Rattle.fe2o3_sasl_core.specs.ClientHistory.{ClientHistory};
+ghost use Rattle.fe2o3_sasl_core.specs.Events.{Login, IsLogin};
+ghost use Rattle.fe2o3_sasl_core.specs.ServerHistory.{ServerHistory};
+ghost use Rattle.fe2o3_sasl_core.specs.Headline.{AnswersOkExactly, ReportsOkExactly, TakenVerifiersAgree};
+ghost use Rattle.fe2o3_sasl_core.specs.UnalteredRuns.{ClientLogsIn, ServerLogsIn};
+ghost use Rattle.fe2o3_sasl_core.specs.SaslProfile.{profile_of};
+ghost use Rattle.fe2o3_sasl_core.specs.Runs.{AcceptorSteps, ProfileSteps, Runs, StartsAs, given, server_answer, client_answer, login_of};
+
+use crate::OutOfMemory;
+use crate::events::{ClientReply, Event, ServerReply};
+use crate::sasl_acceptor::SaslAcceptor;
+use crate::sasl_profile::{ProfileError, SaslProfile};
+use crate::steps::{acceptor_step, profile_step};
+use fe2o3_sasl_wire::Error;
+use fe2o3_scram::credentials::ScramCredentialProvider;
+use fe2o3_scram::hmac::ScramVersion;
+use fe2o3_scram::scram_server::ScramAuthenticator;
+use std::alloc::Global;
+
+/// The reply or the fault of an acceptor's step for each event, in order. Where there is no memory
+/// for the list of replies, nothing was done.
+pub fn run_acceptor<A: SaslAcceptor>(
+    alloc: Global,
+    acceptor: &mut A,
+    events: &[Event],
+) -> Result<Vec<Result<ServerReply, Error>>, OutOfMemory>
+    ensures replies { IfOk result (λ replies. Runs (AcceptorSteps A.machine) (A.state acceptor.old)
+        (map given events.now) (map server_answer replies.items) (A.state acceptor.new)) }
+    ensures err { OnErr result (A.state acceptor.new ≡ A.state acceptor.old) }
+{
+    let mut replies = Vec::with_capacity(alloc, events.len())?;
+    for event in events {
+        let reply = acceptor_step(alloc, acceptor, event);
+        push_within(&mut replies, reply);
+    }
+    Ok(replies)
+}
+
+/// The reply or the fault of a profile's step for each event, in order. A SCRAM profile that has not
+/// been used reports Ok exactly on the signature of its open answered challenge, with a hostname and
+/// without (RFC 5802, section 5; AMQP 1.0, part 5, section 5.3.3.2). Where there is no memory for the
+/// list of replies, nothing was done.
+pub fn run_profile(
+    alloc: Global,
+    profile: &mut SaslProfile,
+    events: &[Event],
+    hostname: Option<&str>,
+) -> Result<Vec<Result<ClientReply, ProfileError>>, OutOfMemory>
+    ensures replies { IfOk result (λ replies. Runs (ProfileSteps (shown hostname.entry)) (profile_of profile.old)
+        (map given events.now) (map client_answer replies.items) (profile_of profile.new)) }
+    ensures history { IfOk result (λ replies. (login : Login)
+        → StartsAs (profile_of profile.old) (shown hostname.entry) login
+        → ClientHistory login (map given events.now) (map client_answer replies.items)) }
+    ensures exactly { IfOk result (λ replies. (login : Login)
+        → StartsAs (profile_of profile.old) (shown hostname.entry) login
+        → ReportsOkExactly login (map given events.now) (map client_answer replies.items)) }
+    ensures agreement { IfOk result (λ replies. (login : Login)
+        → StartsAs (profile_of profile.old) (shown hostname.entry) login
+        → TakenVerifiersAgree login (map given events.now) (map client_answer replies.items)) }
+    ensures unaltered { IfOk result (λ replies. (login : Login)
+        → StartsAs (profile_of profile.old) (shown hostname.entry) login → IsLogin login
+        → ClientLogsIn login (map given events.now) (map client_answer replies.items)) }
+    ensures err { OnErr result (profile_of profile.new ≡ profile_of profile.old) }
+{
+    let mut replies = Vec::with_capacity(alloc, events.len())?;
+    for event in events {
+        let reply = profile_step(alloc, profile, event, hostname);
+        push_within(&mut replies, reply);
+    }
+    Ok(replies)
+}
+
+/// What a SCRAM server answers to a list of bodies, from a fresh start: it answers Ok exactly where
+/// a response fits its open challenge and its proof meets the stored key. Where there is no memory
+/// for the start or for the list of replies, nothing was done.
+pub fn scram_server_run<C: ScramCredentialProvider>(
+    alloc: Global,
+    credentials: &C,
+    events: &[Event],
+) -> Result<Vec<Result<ServerReply, Error>>, OutOfMemory>
+    ensures history { IfOk result (λ replies. ServerHistory (serving false (C.meaning credentials.now))
+        (map given events.now) (map server_answer replies.items)) }
+    ensures exactly { IfOk result (λ replies. AnswersOkExactly (serving false (C.meaning credentials.now))
+        (map given events.now) (map server_answer replies.items)) }
+    ensures unaltered { IfOk result (λ replies. ServerLogsIn (serving false (C.meaning credentials.now))
+        (map given events.now) (map server_answer replies.items)) }
+{
+    scram_server_run_with_cbind_flag_y(alloc, false, credentials, events)
+}
+
+/// As `scram_server_run`, of a server that takes a client whose GS2 header is `y,,` too where
+/// `accept_cbind_flag_y` says so (`ScramAuthenticator::accept_cbind_flag_y`).
+pub fn scram_server_run_with_cbind_flag_y<C: ScramCredentialProvider>(
+    alloc: Global,
+    accept_cbind_flag_y: bool,
+    credentials: &C,
+    events: &[Event],
+) -> Result<Vec<Result<ServerReply, Error>>, OutOfMemory>
+    ensures history { IfOk result (λ replies. ServerHistory (serving accept_cbind_flag_y (C.meaning credentials.now))
+        (map given events.now) (map server_answer replies.items)) }
+    ensures exactly { IfOk result (λ replies. AnswersOkExactly (serving accept_cbind_flag_y (C.meaning credentials.now))
+        (map given events.now) (map server_answer replies.items)) }
+    ensures unaltered { IfOk result (λ replies. ServerLogsIn (serving accept_cbind_flag_y (C.meaning credentials.now))
+        (map given events.now) (map server_answer replies.items)) }
+{
+    let provider = credentials.clone()?;
+    let mut authenticator = server_over(provider, accept_cbind_flag_y);
+    run_acceptor(alloc, &mut authenticator, events)
+}
+
+/// A server over these credentials that has not been used.
+fn server_over<C: ScramCredentialProvider>(
+    credentials: C,
+    accept_cbind_flag_y: bool,
+) -> ScramAuthenticator<C>
+    ensures served { served_by C.meaning result ≡ serving accept_cbind_flag_y (C.meaning credentials) }
+    ensures state { state_in result ≡ Initial }
+{
+    let authenticator = ScramAuthenticator::new(credentials);
+    if accept_cbind_flag_y {
+        authenticator.accept_cbind_flag_y()
+    } else {
+        authenticator
+    }
+}
+
+/// What a SCRAM client answers to a list of bodies, from a fresh start and without a hostname: it
+/// reports Ok exactly on the signature of its open answered challenge. It accepts every iteration
+/// count from 1 on. Where there is no memory for the start or for the list of replies, nothing was
+/// done.
+pub fn scram_client_run(
+    alloc: Global,
+    user: &str,
+    password: &str,
+    version: ScramVersion,
+    events: &[Event],
+) -> Result<Vec<Result<ClientReply, ProfileError>>, OutOfMemory>
+    ensures history { IfOk result (λ replies. ClientHistory (login_of version user.now password.now no_limit)
+        (map given events.now) (map client_answer replies.items)) }
+    ensures exactly { IfOk result (λ replies. ReportsOkExactly (login_of version user.now password.now no_limit)
+        (map given events.now) (map client_answer replies.items)) }
+    ensures agreement { IfOk result (λ replies. TakenVerifiersAgree (login_of version user.now password.now no_limit)
+        (map given events.now) (map client_answer replies.items)) }
+    ensures unaltered { IfOk result (λ replies. ClientLogsIn (login_of version user.now password.now no_limit)
+        (map given events.now) (map client_answer replies.items)) }
+{
+    scram_client_run_limited(alloc, user, password, version, u32::MAX, events)
+}
+
+/// As `scram_client_run`, for a client that refuses an iteration count above the limit.
+pub fn scram_client_run_limited(
+    alloc: Global,
+    user: &str,
+    password: &str,
+    version: ScramVersion,
+    limit: u32,
+    events: &[Event],
+) -> Result<Vec<Result<ClientReply, ProfileError>>, OutOfMemory>
+    ensures history { IfOk result (λ replies. ClientHistory (login_of version user.now password.now limit)
+        (map given events.now) (map client_answer replies.items)) }
+    ensures exactly { IfOk result (λ replies. ReportsOkExactly (login_of version user.now password.now limit)
+        (map given events.now) (map client_answer replies.items)) }
+    ensures agreement { IfOk result (λ replies. TakenVerifiersAgree (login_of version user.now password.now limit)
+        (map given events.now) (map client_answer replies.items)) }
+    ensures unaltered { IfOk result (λ replies. ClientLogsIn (login_of version user.now password.now limit)
+        (map given events.now) (map client_answer replies.items)) }
+{
+    let username = String::from_str(alloc, user)?;
+    let password = String::from_str(alloc, password)?;
+    let mut profile = SaslProfile::scram(username, password, version, limit);
+    run_profile(alloc, &mut profile, events, None)
+}
+
+/// Adds an item for which there is room.
+fn push_within<T: Drop>(items: &mut Vec<T>, item: T)
+    requires { vec_len items.old < vec_capacity items.old }
+    ensures items { items.new.items ≡ items.old.items ++ item ∷ [] }
+    ensures capacity { vec_capacity items.old ≤ vec_capacity items.new }
+    ensures length { vec_len items.new ≡ vec_len items.old + 1 }
+{
+    if items.push(item).is_err() {
+        unreachable!();
+    }
+}

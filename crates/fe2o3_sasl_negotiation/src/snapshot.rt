@@ -1,0 +1,207 @@
+//! Saves a side of a connection as plain values between two calls.
+
+ghost use Rattle.std.specs.Prelude.{◌≡◌, ◌≢◌, ◌↔◌, ℕ, List, IsTrue, IfOk, IfErr, MatchOption, None};
+ghost use Rattle.fe2o3_sasl_wire.specs.FrameView.{shown};
+ghost use Rattle.fe2o3_sasl_negotiation.specs.Framing.{IsPart};
+ghost use Rattle.fe2o3_sasl_negotiation.specs.Negotiations.{Completes};
+ghost use Rattle.fe2o3_sasl_negotiation.specs.Snapshot.{IsKept, IsServerKept, IsClientKept, EndsEmpty, NamesAfterLogin, server_awaits, server_due, server_fits, client_awaits, client_due, outcome_due, client_fits, side_kept};
+ghost use Rattle.fe2o3_sasl_negotiation.specs.declared.progress.Expected.TheVariants.{Header};
+ghost use Rattle.fe2o3_sasl_negotiation.specs.declared.progress.Progress.TheVariants.{Authenticated, InProgress};
+ghost use Rattle.fe2o3_sasl_negotiation.specs.declared.progress.FrameKind.{FrameKind as TurnKind};
+ghost use Rattle.fe2o3_sasl_negotiation.specs.declared.snapshot.RestoreError.TheVariants.{OutOfMemory as RestoreOutOfMemory};
+
+use crate::framing::{Arrived, MAX_FRAME, size, take_unit};
+use crate::progress::{CloseReason, Expected, Progress, FrameKind};
+use fe2o3_sasl_core::ProfileError;
+use fe2o3_sasl_wire::{Error as FrameError, SaslCode};
+use std::alloc::{AllocError, Global};
+use thiserror::Error;
+
+/// A side between two calls as plain values, without its acceptor or its profile. It holds no password, no
+/// key and no store.
+#[derive(Drop)]
+pub struct Snapshot<'a> {
+    /// The progress.
+    pub progress: Progress,
+
+    /// What is expected next.
+    pub expected: Expected,
+
+    /// The maximum size of a frame, 512 at most.
+    pub limit: usize,
+
+    /// The bytes that have arrived of the header or frame that is expected.
+    pub held: &'a [u8],
+
+    /// The user of a server that has logged in. `None` before that, for a mechanism that names nobody, and for
+    /// a client.
+    pub user: Option<&'a str>,
+}
+
+/// Why a side is not restored.
+#[derive(Clone, Copy, Debug, PartialEq, Eq, Error)]
+pub enum RestoreError {
+    /// No side has these values: the limit is above 512; all of what is expected has arrived, or a size that no frame may
+    /// have; a side that has ended holds bytes; what is expected does not fit the progress, or is never expected to that
+    /// side; or a side that has not logged in has a user, or a client.
+    #[error("No side keeps these values")]
+    InvalidSnapshot,
+
+    /// The server has logged in another user than the acceptor names, or one of the two has no user.
+    #[error("The acceptor names another user")]
+    OtherUser,
+
+    /// A request for memory was refused.
+    #[error("Out of memory")]
+    OutOfMemory,
+}
+
+impl From<AllocError> for RestoreError {
+    ghost from_gives = { λ _ error. error ≡ RestoreOutOfMemory };
+
+    fn from(_error: AllocError) -> Self {
+        RestoreError::OutOfMemory
+    }
+}
+
+impl Snapshot<'_> {
+    /// Returns the body of the frame that these bytes complete, without the four bytes of its size, or `None` where
+    /// they complete none. A server reads from it which user a frame names, before it restores the side, which stays
+    /// saved.
+    ///
+    /// Errors, in this order: `InvalidSnapshot` where no side has such values, and `OutOfMemory`, only of a side that waits for
+    /// a frame. The user is not read.
+    #[tactic(auto, using(crate::proofs::lemmas::CompletedLemmas::completed))]
+    pub fn completed(&self, alloc: Global, bytes: &[u8]) -> Result<Option<Vec<u8>>, RestoreError>
+        ensures kept { IfOk result (λ _. IsKept self.now) }
+        ensures body { IfOk result (λ body. MatchOption body
+            ((turn : TurnKind) (body : List ℕ) → ¬ Completes (side_kept self.now) bytes.now turn body)
+            (λ body. (turn : TurnKind) × Completes (side_kept self.now) bytes.now turn body.items)) }
+        ensures refused { IfErr result (λ error. error ≡ RestoreError.InvalidSnapshot → ¬ IsKept self.now) }
+        ensures other_user { IfErr result (λ error. error ≢ RestoreError.OtherUser) }
+        ensures memory { IfErr result (λ error. error ≡ RestoreError.OutOfMemory
+            → IsKept self.now × (self.now.progress ≡ InProgress) × (self.now.expected ≢ Header)) }
+    {
+        if !self.is_kept() {
+            return Err(RestoreError::InvalidSnapshot);
+        }
+        let Progress::InProgress = self.progress else {
+            return Ok(None);
+        };
+        let Expected::Frame(_) = self.expected else {
+            return Ok(None);
+        };
+        let mut held = self.held.to_vec(alloc)?;
+        match take_unit(&mut held, self.expected, self.limit, bytes)? {
+            Arrived::Whole => match held.get(4..) {
+                Some(body) => Ok(Some(body.to_vec(alloc)?)),
+                None => Ok(None),
+            },
+            Arrived::Part | Arrived::Refused => Ok(None),
+        }
+    }
+
+    /// Whether a side that waits can have these values.
+    fn is_kept(&self) -> bool
+        ensures { IsTrue result ↔ IsKept self.now }
+    {
+        self.limit <= MAX_FRAME && is_part(self.expected, self.limit, self.held)
+    }
+
+    /// Whether a side that has ended holds nothing.
+    fn ends_empty(&self) -> bool
+        ensures { IsTrue result ↔ EndsEmpty self.now }
+    {
+        matches!(self.progress, Progress::InProgress) || self.held.is_empty()
+    }
+
+    /// Whether only a side that has logged in has a user.
+    fn names_after_login(&self) -> bool
+        ensures { IsTrue result ↔ NamesAfterLogin self.now }
+    {
+        matches!(self.progress, Progress::Authenticated) || self.user.is_none()
+    }
+
+    /// Whether a server can have these values.
+    pub(crate) fn is_server(&self) -> bool
+        ensures { IsTrue result ↔ IsServerKept self.now }
+    {
+        self.is_kept()
+            && is_server_at(self.progress, self.expected)
+            && self.ends_empty()
+            && self.names_after_login()
+    }
+
+    /// Whether a client can have these values.
+    pub(crate) fn is_client(&self) -> bool
+        ensures { IsTrue result ↔ IsClientKept self.now }
+    {
+        self.is_kept()
+            && is_client_at(self.progress, self.expected)
+            && self.ends_empty()
+            && self.user.is_none()
+    }
+}
+
+/// Whether an acceptor names the user of a saved side, or both have none.
+pub(crate) fn is_user(named: Option<&str>, kept: Option<&str>) -> bool
+    ensures { IsTrue result ↔ shown named.entry ≡ shown kept.entry }
+{
+    match (named, kept) {
+        (Some(named), Some(kept)) => named == kept,
+        (None, None) => true,
+        _ => false,
+    }
+}
+
+/// Whether a server with this progress can have this expected.
+fn is_server_at(progress: Progress, expected: Expected) -> bool
+    ensures { result ≡ server_fits progress expected }
+{
+    let is_frame = matches!(expected, Expected::Frame(FrameKind::Init | FrameKind::Response));
+    match progress {
+        Progress::InProgress | Progress::Failed(CloseReason::ReplyTooLarge) => {
+            matches!(expected, Expected::Header) || is_frame
+        }
+        Progress::Failed(CloseReason::ProtocolHeaderMismatch) => matches!(expected, Expected::Header),
+        Progress::Failed(
+            CloseReason::MalformedFrame(FrameError::OutOfMemory)
+            | CloseReason::Refused(SaslCode::Ok)
+            | CloseReason::Mechanism(_),
+        ) => false,
+        Progress::Authenticated | Progress::Failed(_) => is_frame,
+    }
+}
+
+/// Whether a client with this progress can have this expected.
+fn is_client_at(progress: Progress, expected: Expected) -> bool
+    ensures { result ≡ client_fits progress expected }
+{
+    let is_outcome = matches!(expected, Expected::Frame(FrameKind::Challenge | FrameKind::Outcome));
+    let is_frame = matches!(expected, Expected::Frame(FrameKind::Mechanisms)) || is_outcome;
+    match progress {
+        Progress::InProgress => matches!(expected, Expected::Header) || is_frame,
+        Progress::Failed(CloseReason::ProtocolHeaderMismatch) => matches!(expected, Expected::Header),
+        Progress::Failed(
+            CloseReason::MalformedFrame(FrameError::OutOfMemory)
+            | CloseReason::Refused(SaslCode::Ok)
+            | CloseReason::Mechanism(ProfileError::OutOfMemory),
+        ) => false,
+        Progress::Authenticated
+        | Progress::Failed(CloseReason::ReplyTooLarge | CloseReason::Refused(_)) => is_outcome,
+        Progress::Failed(_) => is_frame,
+    }
+}
+
+/// Whether a side that waits can hold these bytes of what is expected.
+fn is_part(expected: Expected, limit: usize, held: &[u8]) -> bool
+    ensures { IsTrue result ↔ IsPart expected limit held.now }
+{
+    match expected {
+        Expected::Header => held.len() < 8,
+        Expected::Frame(_) => match size(held) {
+            Some(size) => size >= 8 && size <= limit && held.len() < size,
+            None => true,
+        },
+    }
+}

@@ -1,6 +1,0 @@
-use Rattle.fe2o3_sasl_runs.proofs.lemmas.machines.PlainAuthenticatorLemmas.{err_where}
-use Rattle.fe2o3_sasl_runs.proofs.plain_authenticator.PlainAuthenticatorSaslAcceptor.on_init_metered.Goals as goal
-
-pub returns-in_err-to_string-clause-memory : goal.returns-in_err-to_string-clause-memory
-returns-in_err-to_string-clause-memory g c =
-    err_where c.from_residual.result (c.in-Some.username.now, c.in-Some.ensures.user)

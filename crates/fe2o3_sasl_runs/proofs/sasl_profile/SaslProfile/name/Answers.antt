@@ -1,5 +1,0 @@
-use Rattle.fe2o3_sasl_runs.proofs.lemmas.frames.SpellingLemmas.{IsAscii-mechanism_name}
-use Rattle.fe2o3_sasl_runs.proofs.sasl_profile.SaslProfile.name.Goals as goal
-
-pub returns-in-ScramSha1-clause-ascii : goal.returns-in-ScramSha1-clause-ascii
-returns-in-ScramSha1-clause-ascii c = rw c.mechanism.ensures (IsAscii-mechanism_name c.version.result)

@@ -1,2 +1,0 @@
--- What contracts of private functions cite. Nobody has to believe it.
-pub mod Writing

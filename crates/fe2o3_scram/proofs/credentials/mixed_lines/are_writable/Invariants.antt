@@ -1,7 +1,0 @@
-use Rattle.std.proofs.Common.{take}
-use Rattle.std.specs.List.{AllByRecursion}
-use Rattle.fe2o3_scram.specs.MixedLines.{IsMixedWritable}
-use Rattle.fe2o3_scram.proofs.credentials.mixed_lines.are_writable.Given as goal
-
-abbrev pub invariant-loop-user : goal.invariant-loop-user
-invariant-loop-user l = AllByRecursion IsMixedWritable (take l.user-index l.users)

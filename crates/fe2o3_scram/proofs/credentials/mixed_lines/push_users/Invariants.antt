@@ -1,6 +1,0 @@
-use Rattle.std.proofs.Common.{◌≡◌, ◌++◌, take}
-use Rattle.fe2o3_scram.specs.MixedLines.{mixed_text}
-use Rattle.fe2o3_scram.proofs.credentials.mixed_lines.push_users.Given as goal
-
-abbrev pub invariant-loop-user : goal.invariant-loop-user
-invariant-loop-user l = l.text.items ≡ l.fn.text.items ++ mixed_text (take l.user-index l.users)

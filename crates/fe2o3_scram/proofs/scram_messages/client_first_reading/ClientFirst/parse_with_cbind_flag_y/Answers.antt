@@ -1,0 +1,81 @@
+use Rattle.std.proofs.Common.{rules, sym, ◌∙◌, refl}
+use Rattle.std.specs.Prelude.{◌↔◌}
+use Rattle.std.specs.Cow.{cow_str_bytes, IsBorrowedStr}
+use Rattle.std.specs.declared.borrow.CowStr.{CowStr}
+use Rattle.std.specs.declared.borrow.CowStr.TheVariants as cows
+use Rattle.fe2o3_scram.proofs.lemmas.messages.ClientFirstLemmas.{not_utf8, no_header, no_name, bad_name, no_nonce, named, invalid_name, escaped_name, has_escapes}
+use Rattle.fe2o3_scram.proofs.scram_messages.client_first_reading.ClientFirst.parse_with_cbind_flag_y.Goals as goal
+
+pub returns-in_default-clause-answer : goal.returns-in_default-clause-answer
+returns-in_default-clause-answer c = (
+  search rules,
+  λ _. not_utf8 c.args.accept_cbind_flag_y c.args.text.now
+      c.in_default.ensures.cases.0,
+)
+
+pub returns-in_default-cut_header-clause-answer : goal.returns-in_default-cut_header-clause-answer
+returns-in_default-cut_header-clause-answer c = (
+  search rules,
+  λ _. no_header c.args.accept_cbind_flag_y c.args.text.now c.in-Ok.ensures.cases.1
+      (rw c.in-Ok.ensures.cases.0 at c.in_default-cut_header.ensures),
+)
+
+pub returns-in_default-attribute-clause-answer : goal.returns-in_default-attribute-clause-answer
+returns-in_default-attribute-clause-answer c = (
+  search rules,
+  λ _. no_name c.args.accept_cbind_flag_y c.in-Some.header c.args.text.now c.in-Some.client_first_message_bare.now
+      c.in-Ok.ensures.cases.1 c.in-Some.ensures.0 (sym c.in-Ok.ensures.cases.0 ∙ c.in-Some.ensures.1)
+      c.in_default-attribute.ensures,
+)
+
+pub returns-in-Err-Invalid-clause-answer : goal.returns-in-Err-Invalid-clause-answer
+returns-in-Err-Invalid-clause-answer c = (
+  search rules,
+  λ _. bad_name c.args.accept_cbind_flag_y c.in-Some.header c.args.text.now c.in-Some.client_first_message_bare.now
+      c.in-Ok.ensures.cases.1 c.in-Some.ensures.0 (sym c.in-Ok.ensures.cases.0 ∙ c.in-Some.ensures.1)
+      c.in-Some-attribute.escaped.now c.in-Some-attribute.ensures
+      (invalid_name c.in-Err-Invalid.field-0 _ _ c.in-Err-Invalid.field-0-is c.in-Err-Invalid.ensures.err),
+)
+
+pub returns-in_default-attribute-2-clause-answer : goal.returns-in_default-attribute-2-clause-answer
+returns-in_default-attribute-2-clause-answer c = (
+  search rules,
+  λ _. no_nonce c.args.accept_cbind_flag_y c.in-Some.header c.args.text.now c.in-Some.client_first_message_bare.now
+      c.in-Ok.ensures.cases.1 c.in-Some.ensures.0 (sym c.in-Ok.ensures.cases.0 ∙ c.in-Some.ensures.1)
+      c.in-Some-attribute.escaped.now
+      (cow_str_bytes c.in-Ok-unescape_username.username)
+      c.in-Some-attribute.ensures c.in-Ok-unescape_username.ensures.ok c.in_default-attribute-2.ensures,
+)
+
+pub returns-clause-answer : goal.returns-clause-answer
+returns-clause-answer c =
+    named c.args.accept_cbind_flag_y c.in-Some.header c.args.text.now c.in-Some.client_first_message_bare.now
+    c.in-Ok.ensures.cases.1 c.in-Some.ensures.0 (sym c.in-Ok.ensures.cases.0 ∙ c.in-Some.ensures.1)
+    c.in-Some-attribute.escaped.now
+    (cow_str_bytes c.in-Ok-unescape_username.username)
+    c.in-Some-attribute-2.client_nonce.now c.in-Some-attribute.ensures c.in-Ok-unescape_username.ensures.ok
+    c.in-Some-attribute-2.ensures
+
+pub returns-in-Err-OutOfMemory-clause-answer : goal.returns-in-Err-OutOfMemory-clause-answer
+returns-in-Err-OutOfMemory-clause-answer c =
+    let name = c.in-Err-OutOfMemory.ensures.spells c.in-Err-OutOfMemory.field-0-is in (
+      λ _. has_escapes c.args.accept_cbind_flag_y c.in-Some.header c.args.text.now c.in-Some.client_first_message_bare.now
+          c.in-Ok.ensures.cases.1 c.in-Some.ensures.0 (sym c.in-Ok.ensures.cases.0 ∙ c.in-Some.ensures.1)
+          c.in-Some-attribute.escaped.now name.0 c.in-Some-attribute.ensures name.1
+          (escaped_name c.in-Err-OutOfMemory.field-0 _ _ c.in-Err-OutOfMemory.field-0-is
+          c.in-Err-OutOfMemory.ensures.err),
+      λ other. absurd (other refl),
+    )
+
+pub returns-clause-borrowed : goal.returns-clause-borrowed
+returns-clause-borrowed c = λ unescaped.
+    go c.in-Ok-unescape_username.username c.in-Ok-unescape_username.ensures.borrowed (λ escapes. unescaped
+    (has_escapes c.args.accept_cbind_flag_y c.in-Some.header c.args.text.now c.in-Some.client_first_message_bare.now
+    c.in-Ok.ensures.cases.1 c.in-Some.ensures.0 (sym c.in-Ok.ensures.cases.0 ∙ c.in-Some.ensures.1)
+    c.in-Some-attribute.escaped.now (cow_str_bytes c.in-Ok-unescape_username.username) c.in-Some-attribute.ensures
+    c.in-Ok-unescape_username.ensures.ok escapes))
+  where
+    go : {A : Type 0} {None : Type 0} (name : CowStr A) → (IsBorrowedStr name ↔ None) → (¬ (¬ None))
+        → IsBorrowedStr name
+    go (cows.Borrowed text) both some = tt
+    go (cows.Owned text) both some = absurd (some (λ none. both.1 none))

@@ -1,0 +1,37 @@
+-- The mock record of a name, by which a server answers an unknown user as it answers a known one. RFC 5802 leaves open
+-- what a server answers to an unknown user.
+use Rattle.std.specs.Prelude.{ℕ, List, ◌++◌, codes, map, take}
+use Rattle.fe2o3_scram.specs.declared.hmac.ScramVersion.{ScramVersion}
+use Rattle.fe2o3_scram.specs.declared.hmac.ScramVersion.TheVariants.{Sha512}
+use Rattle.fe2o3_scram.specs.Credentials.{Record, Provider}
+use Rattle.fe2o3_scram.specs.Hmac.{hmac_of, mechanism_name}
+
+-- what the mock records of a server have in common
+pub record MockSettings : Type 0 where
+  pub version : ScramVersion
+  pub secret : List ℕ
+  pub salt_len : ℕ
+  pub count : ℕ
+
+-- the mock record of a name: its salt and its two keys are HMAC values (RFC 2104, section 2) of the name under the
+-- secret, after three labels. The label of the salt has the mechanism's name, so that a name has another salt under each
+-- mechanism; no name of a mechanism has a colon. The salt is of SHA-512 for each version, so that it may be longer than a
+-- digest of the version
+abbrev pub mock_record : MockSettings → List ℕ → Record
+mock_record mock name = record {
+  salt = take mock.salt_len (hmac_of Sha512 mock.secret
+      (codes "Salt:" ++ (mechanism_name mock.version ++ (codes ":" ++ name))));
+  count = mock.count;
+  stored_key = hmac_of mock.version mock.secret (codes "StoredKey:" ++ name);
+  server_key = hmac_of mock.version mock.secret (codes "ServerKey:" ++ name);
+}
+
+-- the provider with the mock records of these names after its own: a name that it has keeps its own, since the first of
+-- a name counts
+abbrev pub with_mock : Provider → MockSettings → List (List ℕ) → Provider
+with_mock provider mock names = record {
+  version = provider.version;
+  cbind_flag_y = provider.cbind_flag_y;
+  records =
+      provider.records ++ map (λ name. (name, mock_record mock name)) names;
+}

@@ -1,0 +1,135 @@
+//! The records of several users, of several versions, as the lines of a text.
+
+ghost use Rattle.std.specs.Prelude.{◌≡◌, ◌≢◌, ◌↔◌, ◌<◌, ◌++◌, [], ◌∷◌, ℕ, List, IsTrue, IfOk, IfErr, OnErr, OnOk, length};
+ghost use Rattle.std.specs.List.{AllByRecursion};
+ghost use Rattle.fe2o3_scram.specs.Credentials.{VersionedRecord};
+ghost use Rattle.fe2o3_scram.specs.MultiRecordLines.{IsMixedReadable, IsMixedWritable, MixedFault, ReadsMixed, SpellsMixed, UpToMixed, mixed_line, mixed_text};
+ghost use Rattle.fe2o3_scram.specs.RecordLines.{ReachesUser};
+
+use crate::OutOfMemory;
+use crate::credentials::multi_record_store::{MultiRecordStore, MultiUser};
+use crate::credentials::record_lines::{
+    ReadLinesError, ReadLinesErrorKind, WriteLinesError, is_writable, push_line, read_head,
+};
+use std::alloc::Global;
+
+impl MultiRecordStore {
+    /// Reads a text with a line for each user, as `RecordStore::parse_lines` does, but each
+    /// line's record is for whatever version it names (RFC 5803, section 2). The empty text has no
+    /// user.
+    ///
+    /// Refused is the first line that is not such a line, by its number from 1 and the first of:
+    /// `LineFeedMissing`, `SpaceMissing`, `InvalidName`, and `InvalidRecord` with what
+    /// `ScramRecord::parse` refuses. `VersionMismatch` is never answered, and `OutOfMemory` only for a
+    /// line with a line feed and a space, and no comma before its last space, behind lines that are
+    /// read.
+    pub fn parse_lines(alloc: Global, text: &str) -> Result<Self, ReadLinesError>
+        ensures ok { IfOk result (SpellsMixed text.now) }
+        ensures err { IfErr result (λ error. error.kind ≢ ReadLinesErrorKind.OutOfMemory
+            → ReadsMixed text.now (Err error)) }
+        ensures memory { IfErr result (λ error. error.kind ≡ ReadLinesErrorKind.OutOfMemory
+            → UpToMixed text.now error.line ReachesUser) }
+    {
+        let mut store = Self::new(alloc);
+        let mut rest = text;
+        while !rest.is_empty() {
+            match store.read_line(alloc, rest) {
+                Ok(more) => rest = more,
+                Err(kind) => {
+                    let line = store.users().len() + 1;
+                    return Err(ReadLinesError { line, kind });
+                }
+            }
+        }
+        Ok(store)
+    }
+
+    /// Reads the first line of a text that is not empty, adds its user behind the others, and hands
+    /// out what follows the line.
+    fn read_line<'a>(&mut self, alloc: Global, text: &'a str) -> Result<&'a str, ReadLinesErrorKind>
+        requires { text.now ≢ [] }
+        ensures ok { IfOk result (λ rest. (user : List ℕ × VersionedRecord) × IsMixedReadable user
+            × (text.now ≡ mixed_line user ++ 10 ∷ rest.now)
+            × (self.new ≡ self.old ++ (user ∷ []))) }
+        ensures err { IfErr result (λ kind. kind ≢ ReadLinesErrorKind.OutOfMemory → MixedFault text.now kind) }
+        ensures memory { IfErr result (λ kind. kind ≡ ReadLinesErrorKind.OutOfMemory → ReachesUser text.now) }
+        ensures unchanged { IfErr result (λ _. self.new ≡ self.old) }
+    {
+        let (username, kept, rest) = read_head(alloc, text)?;
+        self.add(username, kept)?;
+        Ok(rest)
+    }
+
+    /// Writes the users' text in UTF-8, a line for each, in one spelling. `parse_lines` reads it again.
+    /// The text of users that `parse_lines` has read is the text that it read.
+    ///
+    /// The errors are `UserNotWritable`, exactly if a user's name has a line feed or a record has the
+    /// count 0 or a key that is not as long as a digest, and `OutOfMemory`, only if there is a user.
+    pub fn to_lines(&self, alloc: Global) -> Result<Vec<u8>, WriteLinesError>
+        ensures ok { IfOk result (λ text. text.items ≡ mixed_text self.now) }
+        ensures refused { (result ≡ Err WriteLinesError.UserNotWritable)
+            ↔ ¬ AllByRecursion IsMixedWritable self.now }
+        ensures memory { result ≡ Err WriteLinesError.OutOfMemory → 0 < length self.now }
+    {
+        if !are_writable(self.users()) {
+            return Err(WriteLinesError::UserNotWritable);
+        }
+        let mut text = Vec::new(alloc);
+        push_users(alloc, &mut text, self.users())?;
+        Ok(text)
+    }
+}
+
+impl MultiUser {
+    /// Whether the user's line is read again.
+    fn is_writable(&self) -> bool
+        ensures { IsTrue result ↔ IsMixedWritable self.now }
+    {
+        let record = self.record();
+        is_writable(
+            self.username(),
+            *record.scram_version(),
+            &record.as_stored_password(),
+        )
+    }
+
+    /// Writes the user's line at the end of the text, and its line feed.
+    fn push_line(&self, alloc: Global, text: &mut Vec<u8>) -> Result<(), OutOfMemory>
+        ensures { OnOk result (text.new.items ≡ text.old.items
+            ++ (mixed_line self.now ++ (10 ∷ []))) }
+    {
+        let record = self.record();
+        push_line(
+            alloc,
+            text,
+            self.username(),
+            *record.scram_version(),
+            &record.as_stored_password(),
+        )
+    }
+}
+
+/// Whether each user's line is read again.
+#[tactic(auto, using(crate::proofs::lemmas::messages::RecordLinesLemmas::each_user))]
+fn are_writable(users: &[MultiUser]) -> bool
+    ensures { IsTrue result ↔ AllByRecursion IsMixedWritable users.now }
+{
+    for user in users {
+        if !user.is_writable() {
+            return false;
+        }
+    }
+    true
+}
+
+/// Writes the users' lines at the end of the text.
+#[tactic(auto, using(crate::proofs::lemmas::messages::MixedLinesLemmas::mixed_writing))]
+fn push_users(alloc: Global, text: &mut Vec<u8>, users: &[MultiUser]) -> Result<(), OutOfMemory>
+    ensures ok { OnOk result (text.new.items ≡ text.old.items ++ mixed_text users.now) }
+    ensures memory { OnErr result (0 < length users.now) }
+{
+    for user in users {
+        user.push_line(alloc, text)?;
+    }
+    Ok(())
+}

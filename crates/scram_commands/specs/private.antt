@@ -1,3 +1,0 @@
--- Nobody has to believe these: they say what the code holds, and only private contracts cite them.
-pub mod Audit
-pub mod Passwords

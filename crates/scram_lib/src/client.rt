@@ -1,0 +1,169 @@
+//! `client`: a login, in which the messages of the server come on the input.
+
+ghost use Rattle.std.specs.Prelude.{◌≡◌, true, OnOk};
+ghost use Rattle.fe2o3_scram.specs.ScramClient.{is_complete};
+
+use crate::stop::Stop;
+use crate::{frames, input, keys, nonces, wire};
+use fe2o3_scram::{ScramClient, CachedKeys, ScramErrorKind, ScramVersion};
+use std::alloc::Global;
+use std::io::{BufRead, Write};
+use std::random::RandomSource;
+use std::rt::Files;
+
+/// The login that is asked for.
+#[derive(Clone, Copy)]
+pub struct Login<'a> {
+    /// The mechanism.
+    pub version: ScramVersion,
+
+    /// The user's name, plain.
+    pub user: &'a str,
+
+    /// The largest and the least iteration count that are accepted.
+    pub limit: u32,
+    pub least: u32,
+
+    /// The file of keys, if any.
+    pub keys: Option<&'a str>,
+
+    /// The nonce in hexadecimal digits, or none where it is to be random.
+    pub nonce: Option<&'a str>,
+
+    /// Whether bytes of AMQP come in place of lines.
+    pub frames: bool,
+}
+
+/// By what the client logs in: the password, if the first line of the input has one, and keys, if there are.
+#[derive(Drop)]
+struct Secret {
+    password: Option<String>,
+    keys: Option<CachedKeys>,
+}
+
+/// Logs in, and keeps the keys of the login where the words name a file for them.
+pub fn log_in<R, I, O>(rt: &R, login: &Login<'_>, input: &mut I, output: &mut O) -> Result<(), Stop>
+where
+    R: Files + RandomSource + AllocGlobal,
+    I: BufRead,
+    O: Write,
+{
+    let client = login.client(rt, input)?;
+    if login.frames {
+        return frames::log_in(rt, login, client, input, output);
+    }
+    over_lines(rt, login, client, input, output)
+}
+
+/// Logs in over lines.
+fn over_lines<R, I, O>(
+    rt: &R,
+    login: &Login<'_>,
+    mut client: Box<ScramClient>,
+    input: &mut I,
+    output: &mut O,
+) -> Result<(), Stop>
+where
+    R: Files + RandomSource + AllocGlobal,
+    I: BufRead,
+    O: Write,
+{
+    let nonce = nonces::nonce(rt, login.nonce)?;
+    exchange(rt.alloc(), &mut client, &nonce, input, output)?;
+    login.keep(rt, client.keys())
+}
+
+impl Login<'_> {
+    /// The client, whose password is the first line of the input.
+    fn client<R: Files + AllocGlobal, I: BufRead>(
+        &self,
+        rt: &R,
+        input: &mut I,
+    ) -> Result<Box<ScramClient>, Stop> {
+        let secret = self.secret(rt, input)?;
+        let user = self.user.to_string(rt.alloc())?;
+        let client = secret.client(user, self.version).ok_or(Stop::NoPassword)?;
+        let client = client
+            .with_min_iterations(self.least)
+            .with_iteration_limit(self.limit);
+        Ok(Box::new(rt.alloc(), client)?)
+    }
+
+    /// The secret, whose password is the first line of the input; an empty one is none.
+    fn secret<R: Files + AllocGlobal, I: BufRead>(
+        &self,
+        rt: &R,
+        input: &mut I,
+    ) -> Result<Secret, Stop> {
+        let line = input::next_line(rt.alloc(), input)?;
+        let keys = match self.keys {
+            Some(file) => keys::read(rt, file, self.version)?,
+            None => None,
+        };
+        let password = line.filter(|line| !line.is_empty());
+        Ok(Secret { password, keys })
+    }
+
+    /// Keeps the keys of the login where the words name a file for them.
+    pub(crate) fn keep<R: Files + AllocGlobal>(
+        &self,
+        rt: &R,
+        keys: Option<&CachedKeys>,
+    ) -> Result<(), Stop> {
+        match (self.keys, keys) {
+            (Some(file), Some(keys)) => keys::keep(rt, file, keys),
+            _ => Ok(()),
+        }
+    }
+}
+
+impl Secret {
+    /// The user's client, or none where there is neither a password nor a key.
+    fn client(self, user: String, version: ScramVersion) -> Option<ScramClient> {
+        let Secret { password, keys } = self;
+        match (password, keys) {
+            (Some(password), Some(keys)) => {
+                Some(ScramClient::with_password_and_keys(user, password, keys))
+            }
+            (Some(password), None) => Some(ScramClient::new(user, password, version)),
+            (None, Some(keys)) => Some(ScramClient::with_keys(user, keys)),
+            (None, None) => None,
+        }
+    }
+}
+
+/// Plays the exchange, a line for each message. Where it succeeds, the client has verified the server's signature.
+fn exchange<I: BufRead, O: Write>(
+    alloc: Global,
+    client: &mut ScramClient,
+    nonce: &[u8; 32],
+    input: &mut I,
+    output: &mut O,
+) -> Result<(), Stop>
+    ensures { OnOk result (is_complete client.new.state ≡ true) }
+{
+    let first = client.compute_client_first_message(alloc, nonce)?;
+    wire::send(alloc, output, &first)?;
+    let server_first = receive(alloc, input)?;
+    let last = answer(alloc, client, &server_first)?;
+    wire::send(alloc, output, &last)?;
+    let server_final = receive(alloc, input)?;
+    Ok(client.validate_server_final(alloc, &server_final)?)
+}
+
+/// Receives a message of the server, which may refuse the login by it (RFC 5802, section 7, `server-error`).
+fn receive<I: BufRead>(alloc: Global, input: &mut I) -> Result<Vec<u8>, Stop> {
+    let message = wire::receive(alloc, input)?;
+    if message.starts_with(b"e=") {
+        return Err(Stop::RefusedByServer);
+    }
+    Ok(message)
+}
+
+/// The answer to the server's challenge.
+fn answer(alloc: Global, client: &mut ScramClient, server_first: &[u8]) -> Result<Vec<u8>, Stop> {
+    match str::from_utf8(server_first) {
+        Ok(text) => Ok(client.compute_client_final_message(alloc, text)?),
+        Err(_) => Err(Stop::Client(ScramErrorKind::Utf8Error)),
+    }
+}

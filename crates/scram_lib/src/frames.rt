@@ -1,0 +1,193 @@
+//! `--frames`: a login over the bytes of a connection of AMQP, as they come on the input.
+
+ghost use Rattle.std.specs.Prelude.{◌≡◌, IfOk, OnOk};
+ghost use Rattle.fe2o3_sasl_negotiation.specs.Sides.{client_side, server_side};
+ghost use Rattle.fe2o3_sasl_negotiation.specs.declared.progress.Progress.{Progress};
+ghost use Rattle.fe2o3_sasl_negotiation.specs.declared.progress.Progress.TheVariants.{Authenticated};
+
+use crate::client::Login;
+use crate::nonces;
+use crate::server::Service;
+use crate::stop::Stop;
+use bytes::BytesMut;
+use fe2o3_sasl::{Meter, AuthenticatedUser, SaslProfile};
+use fe2o3_sasl_negotiation::{
+    ClientNegotiation, CloseReason, Received, ServerNegotiation, Progress,
+};
+use fe2o3_scram::{OutOfMemory, ScramClient};
+use std::alloc::Global;
+use std::io::{BufRead, Result as Written, Write};
+use std::random::RandomSource;
+use std::rt::Files;
+
+/// A side of a connection.
+trait Side {
+    ghost stands: { Self → Progress };
+
+    /// Takes bytes that came, and appends what is to be sent.
+    fn take(
+        &mut self,
+        alloc: Global,
+        bytes: &[u8],
+        nonce: &[u8; 32],
+        sent: &mut BytesMut,
+    ) -> Result<Received, OutOfMemory>
+        ensures progress { IfOk result (λ received. received.progress ≡ stands self.new) };
+}
+
+impl Side for ClientNegotiation {
+    ghost stands = { λ client. (client_side client).progress };
+
+    fn take(
+        &mut self,
+        alloc: Global,
+        bytes: &[u8],
+        nonce: &[u8; 32],
+        sent: &mut BytesMut,
+    ) -> Result<Received, OutOfMemory> {
+        self.receive(alloc, bytes, nonce, &mut Meter::new(), sent)
+    }
+}
+
+impl<A: AuthenticatedUser> Side for ServerNegotiation<A> {
+    ghost stands = { λ server. (server_side A.state server).progress };
+
+    fn take(
+        &mut self,
+        alloc: Global,
+        bytes: &[u8],
+        nonce: &[u8; 32],
+        sent: &mut BytesMut,
+    ) -> Result<Received, OutOfMemory> {
+        self.receive(alloc, bytes, nonce, &mut Meter::new(), sent)
+    }
+}
+
+/// Carries bytes to a side and from it until the login is done, and returns how it stands.
+fn carry<R, S, I, O>(
+    rt: &R,
+    side: &mut S,
+    word: Option<&str>,
+    sent: &mut BytesMut,
+    input: &mut I,
+    output: &mut O,
+) -> Result<Progress, Stop>
+where
+    R: RandomSource + AllocGlobal,
+    S: Side,
+    I: BufRead,
+    O: Write,
+    ensures { IfOk result (λ progress. progress ≡ S.stands side.new) }
+{
+    for _ in 0..u64::MAX {
+        send(output, sent).map_err(Stop::of_output)?;
+        let nonce = nonces::nonce(rt, word)?;
+        let bytes = input.fill_buf().map_err(Stop::of_input)?;
+        let received = side.take(rt.alloc(), bytes, &nonce, sent)?;
+        input.consume(received.taken);
+        if received.taken == 0 || received.progress != Progress::InProgress {
+            send(output, sent).map_err(Stop::of_output)?;
+            return Ok(received.progress);
+        }
+    }
+    Err(Stop::Ended)
+}
+
+/// Sends what is to be sent.
+fn send<O: Write>(output: &mut O, sent: &mut BytesMut) -> Written<()> {
+    output.write_all(sent.as_slice())?;
+    sent.clear();
+    output.flush()
+}
+
+/// Logs in.
+pub fn log_in<R, I, O>(
+    rt: &R,
+    login: &Login<'_>,
+    client: Box<ScramClient>,
+    input: &mut I,
+    output: &mut O,
+) -> Result<(), Stop>
+where
+    R: Files + RandomSource + AllocGlobal,
+    I: BufRead,
+    O: Write,
+{
+    let mut client = negotiation(rt.alloc(), client)?;
+    log_in_over(rt, login, &mut *client, input, output)?;
+    login.keep(rt, client.profile().keys())
+}
+
+/// Logs in by a client's side. Where it succeeds, the side has logged in.
+fn log_in_over<R, I, O>(
+    rt: &R,
+    login: &Login<'_>,
+    client: &mut ClientNegotiation,
+    input: &mut I,
+    output: &mut O,
+) -> Result<(), Stop>
+where
+    R: RandomSource + AllocGlobal,
+    I: BufRead,
+    O: Write,
+    ensures { OnOk result ((client_side client.new).progress ≡ Authenticated) }
+{
+    let mut sent = BytesMut::new(rt.alloc());
+    ClientNegotiation::open(&mut sent)?;
+    match carry(rt, client, login.nonce, &mut sent, input, output)? {
+        Progress::Authenticated => Ok(()),
+        Progress::InProgress => Err(Stop::Ended),
+        Progress::Failed(CloseReason::Refused(_)) => Err(Stop::RefusedByServer),
+        Progress::Failed(why) => Err(Stop::Closed(why)),
+    }
+}
+
+/// The client's side.
+fn negotiation(
+    alloc: Global,
+    client: Box<ScramClient>,
+) -> Result<Box<ClientNegotiation>, OutOfMemory> {
+    let profile = SaslProfile::from(Box::into_inner(client));
+    Ok(Box::new(alloc, ClientNegotiation::new(alloc, profile, None))?)
+}
+
+/// Serves a login.
+pub fn serve<R, S, I, O>(
+    rt: &R,
+    service: &Service<'_>,
+    server: S,
+    input: &mut I,
+    output: &mut O,
+) -> Result<(), Stop>
+where
+    R: RandomSource + AllocGlobal,
+    S: AuthenticatedUser + Drop,
+    I: BufRead,
+    O: Write,
+{
+    let mut server = Box::new(rt.alloc(), ServerNegotiation::new(rt.alloc(), server))?;
+    serve_over(rt, service, &mut *server, input, output)
+}
+
+/// Serves a login by a server's side. Where it succeeds, the side has logged its client in.
+fn serve_over<R, S, I, O>(
+    rt: &R,
+    service: &Service<'_>,
+    server: &mut ServerNegotiation<S>,
+    input: &mut I,
+    output: &mut O,
+) -> Result<(), Stop>
+where
+    R: RandomSource + AllocGlobal,
+    S: AuthenticatedUser,
+    I: BufRead,
+    O: Write,
+    ensures { OnOk result ((server_side S.state server.new).progress ≡ Authenticated) }
+{
+    let mut sent = BytesMut::new(rt.alloc());
+    match carry(rt, server, service.nonce, &mut sent, input, output)? {
+        Progress::Authenticated => Ok(()),
+        Progress::InProgress => Err(Stop::Ended),
+        Progress::Failed(why) => Err(Stop::Closed(why)),
+    }
+}

@@ -1,0 +1,80 @@
+//! A file of keys: what a client keeps in place of its password, in one line of the mechanism, the iteration
+//! count, and the salt, the ClientKey and the ServerKey in base64.
+
+use crate::stop::Stop;
+use crate::store;
+use crate::store::{Change, Changed};
+use crate::wire::bytes_of;
+use base64::engine::general_purpose::STANDARD;
+use fe2o3_scram::{CachedKeys, ScramVersion};
+use std::alloc::{AllocError, Global};
+use std::rt::Files;
+
+/// The keys that a file has, or none where there is no file.
+pub fn read<R: Files + AllocGlobal>(
+    rt: &R,
+    file: &str,
+    version: ScramVersion,
+) -> Result<Option<CachedKeys>, Stop> {
+    match store::read(rt, file) {
+        Ok(text) => Ok(Some(keys_of(rt.alloc(), &text, version)?)),
+        Err(Stop::MalformedFrame(std::io::ErrorKind::NotFound)) => Ok(None),
+        Err(stop) => Err(stop),
+    }
+}
+
+/// The keys that a text has, for this version.
+fn keys_of(alloc: Global, text: &str, version: ScramVersion) -> Result<CachedKeys, Stop> {
+    let line = text.strip_suffix('\n').ok_or(Stop::WrongKeys)?;
+    let words: Vec<&str> = line.split(' ').collect(alloc)?;
+    let [mechanism, iterations, salt, client_key, server_key] = words.as_slice() else {
+        return Err(Stop::WrongKeys);
+    };
+    if *mechanism != version.mechanism() {
+        return Err(Stop::OtherMechanism);
+    }
+    let iterations = iterations.parse::<u32>().map_err(|_| Stop::WrongKeys)?;
+    let (salt, client_key) = (bytes_of(alloc, salt)?, bytes_of(alloc, client_key)?);
+    let server_key = bytes_of(alloc, server_key)?;
+    let keys = CachedKeys::from_parts(version, salt, iterations, &client_key, &server_key);
+    keys.map_err(|_| Stop::WrongKeys)
+}
+
+/// The line of keys.
+fn line_of(alloc: Global, keys: &CachedKeys) -> Result<String, AllocError> {
+    let (mechanism, iterations) = (keys.scram_version().mechanism(), keys.iterations());
+    let salt = STANDARD.encode(alloc, keys.salt())?;
+    let client_key = STANDARD.encode(alloc, keys.client_key())?;
+    let server_key = STANDARD.encode(alloc, keys.server_key())?;
+    format!(in alloc; "{mechanism} {iterations} {salt} {client_key} {server_key}\n")
+}
+
+/// A line in the place of a whole text.
+#[derive(Drop)]
+struct Kept {
+    line: String,
+}
+
+impl Change for Kept {
+    fn makes_files(&self) -> bool {
+        true
+    }
+
+    fn apply(&self, _alloc: Global, _text: &str) -> Result<Changed, Stop> {
+        Ok(Changed {
+            text: self.line.clone()?,
+            done: "kept",
+        })
+    }
+}
+
+/// Keeps the keys of a login.
+pub fn keep<R: Files + AllocGlobal>(
+    rt: &R,
+    file: &str,
+    keys: &CachedKeys,
+) -> Result<(), Stop> {
+    let line = line_of(rt.alloc(), keys)?;
+    store::make_change(rt, file, &Kept { line })?;
+    Ok(())
+}

@@ -1,0 +1,78 @@
+//! Mock records: what a server that answers unknown users as known ones takes for their records.
+
+ghost use Rattle.std.specs.Prelude.{◌≡◌, ◌≤◌, IfOk};
+
+use crate::record::{ITERATIONS, SALT_LEN};
+use crate::stop::Stop;
+use crate::users::lines::UserLine;
+use fe2o3_scram::{HidingAuthenticator, RecordStore, ScramRecord, ScramVersion};
+use std::alloc::Global;
+
+/// The longest salt of a mock record, in bytes.
+const LONGEST_SALT: usize = 64;
+
+/// What the mock records of a mechanism have in common.
+#[derive(Clone, Copy)]
+pub struct Shape {
+    /// The length of their salts, in bytes.
+    pub salt_len: usize,
+
+    /// Their iteration count.
+    pub iterations: u32,
+}
+
+impl Shape {
+    /// Returns the shape of the first record for the mechanism in a text whose lines were read before. Where there is
+    /// none, it is the shape of the records that `users add` makes.
+    pub fn of(alloc: Global, text: &str, version: ScramVersion) -> Result<Shape, Stop>
+        ensures { IfOk result (λ shape. shape.salt_len ≤ 64) }
+    {
+        for line in text.lines() {
+            if UserLine::of(line).mechanism == version.mechanism() {
+                return Shape::of_line(alloc, line);
+            }
+        }
+        Ok(Shape {
+            salt_len: SALT_LEN,
+            iterations: ITERATIONS,
+        })
+    }
+
+    /// Returns the shape of a line's record, with the longest salt that a mock record has where that salt is longer.
+    fn of_line(alloc: Global, line: &str) -> Result<Shape, Stop>
+        ensures { IfOk result (λ shape. shape.salt_len ≤ 64) }
+    {
+        let (_, record) = line.rsplit_once(' ').unwrap_or(("", ""));
+        // The line was read before, so only memory can fail.
+        let Ok(record) = ScramRecord::parse(alloc, record) else {
+            return Err(Stop::OutOfMemory);
+        };
+        let kept = record.as_stored_password();
+        let (len, iterations) = (kept.salt.len(), kept.iterations);
+        Ok(Shape {
+            salt_len: if len < LONGEST_SALT {
+                len
+            } else {
+                LONGEST_SALT
+            },
+            iterations,
+        })
+    }
+
+    /// Returns the server of these users, with mock records by a secret.
+    pub fn hide(
+        self,
+        users: RecordStore,
+        secret: Vec<u8>,
+    ) -> HidingAuthenticator<RecordStore>
+        requires { self.salt_len ≤ 64 }
+        ensures secret { result.mock.secret ≡ secret.items }
+        ensures salt_len { result.mock.salt_len ≡ self.salt_len }
+        ensures iterations { result.mock.count ≡ self.iterations }
+    {
+        match HidingAuthenticator::new(users, secret, self.salt_len, self.iterations) {
+            Ok(server) => server,
+            Err(_) => unreachable!(),
+        }
+    }
+}

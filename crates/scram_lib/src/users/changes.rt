@@ -1,0 +1,84 @@
+//! Changes of a file of users. Lines that are not changed stay byte for byte.
+
+use crate::stop::Stop;
+use crate::store::{Change, Changed};
+use crate::users::lines;
+use crate::users::lines::UserLine;
+use fe2o3_scram::ScramVersion;
+use std::alloc::Global;
+
+/// A line that is put in the place of the first with its name and mechanism, or behind all.
+#[derive(Drop)]
+pub struct Put {
+    /// The line, with its line feed.
+    pub line: String,
+
+    /// The version of its record.
+    pub version: ScramVersion,
+}
+
+/// Each line of a name that is removed, or those for one mechanism.
+#[derive(Drop)]
+pub struct Taken {
+    /// The name, escaped.
+    pub name: String,
+
+    /// The mechanism, or none for each.
+    pub version: Option<ScramVersion>,
+}
+
+/// Whether a line is of this name, which is escaped, and of this mechanism, if any.
+fn is_of(line: &str, name: &str, version: Option<ScramVersion>) -> bool {
+    let line = UserLine::of(line);
+    line.name == name && version.is_none_or(|version| version.mechanism() == line.mechanism)
+}
+
+impl Change for Put {
+    fn makes_files(&self) -> bool {
+        true
+    }
+
+    fn apply(&self, alloc: Global, text: &str) -> Result<Changed, Stop> {
+        lines::test(alloc, text)?;
+        let name = UserLine::of(&self.line).name;
+        let mut changed = Changed {
+            text: String::with_capacity(alloc, text.len())?,
+            done: "added",
+        };
+        for line in text.split_inclusive('\n') {
+            if changed.done == "added" && is_of(line, name, Some(self.version)) {
+                changed.text.push_str(&self.line)?;
+                changed.done = "replaced";
+            } else {
+                changed.text.push_str(line)?;
+            }
+        }
+        if changed.done == "added" {
+            changed.text.push_str(&self.line)?;
+        }
+        Ok(changed)
+    }
+}
+
+impl Change for Taken {
+    fn makes_files(&self) -> bool {
+        false
+    }
+
+    fn apply(&self, alloc: Global, text: &str) -> Result<Changed, Stop> {
+        lines::test(alloc, text)?;
+        let mut kept = String::new(alloc);
+        for line in text.split_inclusive('\n') {
+            if !is_of(line, &self.name, self.version) {
+                kept.push_str(line)?;
+            }
+        }
+        if kept.len() == text.len() {
+            return Err(Stop::MockSettings);
+        }
+        Ok(Changed {
+            text: kept,
+            done: "removed",
+        })
+    }
+}

@@ -1,0 +1,75 @@
+//! The lines of a file of users.
+
+use crate::stop::Stop;
+use crate::store;
+use fe2o3_scram::{MultiRecordStore, ScramRecord, WriteLinesError, escape_username};
+use std::alloc::Global;
+use std::rt::Files;
+
+/// A line that was tested, in its parts.
+#[derive(Clone, Copy)]
+pub struct UserLine<'a> {
+    /// The name, escaped.
+    pub name: &'a str,
+
+    /// The name of the mechanism.
+    pub mechanism: &'a str,
+
+    /// The iteration count.
+    pub iterations: &'a str,
+}
+
+impl<'a> UserLine<'a> {
+    /// The parts of a line. One that is no user's has empty ones.
+    pub fn of(line: &'a str) -> UserLine<'a> {
+        let (name, record) = line.rsplit_once(' ').unwrap_or(("", ""));
+        let (mechanism, rest) = record.split_once('$').unwrap_or(("", ""));
+        let (iterations, _) = rest.split_once(':').unwrap_or(("", ""));
+        UserLine {
+            name,
+            mechanism,
+            iterations,
+        }
+    }
+}
+
+/// The users of a file.
+pub fn users<R: Files + AllocGlobal>(rt: &R, file: &str) -> Result<MultiRecordStore, Stop> {
+    let text = store::read(rt, file)?;
+    Ok(MultiRecordStore::parse_lines(rt.alloc(), &text)?)
+}
+
+/// Tests that each line of a text is a user's.
+pub fn test(alloc: Global, text: &str) -> Result<(), Stop> {
+    MultiRecordStore::parse_lines(alloc, text)?;
+    Ok(())
+}
+
+/// The name as lines have it (RFC 5802, section 5.1).
+pub fn escaped(alloc: Global, name: &str) -> Result<String, Stop> {
+    match String::from_utf8(escape_username(alloc, name.as_bytes())?) {
+        Ok(escaped) => Ok(escaped),
+        Err(_) => Err(Stop::WrongName),
+    }
+}
+
+/// The line of a user, with its line feed.
+pub fn line_of(alloc: Global, name: &str, record: ScramRecord) -> Result<String, Stop> {
+    let name = name.to_string(alloc)?;
+    let mut users = MultiRecordStore::new(alloc);
+    users.add(name, record)?;
+    text_of(alloc, &users)
+}
+
+/// The lines of users.
+fn text_of(alloc: Global, users: &MultiRecordStore) -> Result<String, Stop> {
+    let lines = match users.to_lines(alloc) {
+        Ok(lines) => lines,
+        Err(WriteLinesError::UserNotWritable) => return Err(Stop::WrongName),
+        Err(WriteLinesError::OutOfMemory) => return Err(Stop::OutOfMemory),
+    };
+    match String::from_utf8(lines) {
+        Ok(text) => Ok(text),
+        Err(_) => Err(Stop::WrongName),
+    }
+}

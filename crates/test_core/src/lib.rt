@@ -1,0 +1,28 @@
+//! Tests of the acceptors, the profiles, the runs and the audits of `fe2o3_sasl`, and of the program
+//! `sasl_lab`, by the library of its commands: what no run shows. Runs and audits themselves, and what the
+//! program prints, are data, which `test_vectors_sasl` replays. Expected values come from the standards
+//! and from Python's `hmac` and `hashlib`.
+#![tactic(auto)]
+
+#[cfg(test)]
+mod acceptors;
+#[cfg(test)]
+mod addresses;
+#[cfg(test)]
+mod client_policy;
+#[cfg(test)]
+mod closed;
+#[cfg(test)]
+mod kept_logins;
+#[cfg(test)]
+mod own_acceptor;
+#[cfg(test)]
+mod plain_records;
+#[cfg(test)]
+mod printed;
+#[cfg(test)]
+mod profiles;
+#[cfg(test)]
+mod program;
+#[cfg(test)]
+mod values;

@@ -1,0 +1,90 @@
+//! Profiles: their mechanisms, what each says first, and what `Debug` prints of it, which is no password. User
+//! `user` with the password `pencil`, and a nonce of 32 bytes 01.
+
+use crate::printed::shows;
+use crate::values::{boxed, bytes_of, text};
+use fe2o3_sasl::sasl_profile::{SaslProfile, SaslScramSha1, SaslScramSha256, SaslScramSha512};
+use fe2o3_sasl_wire::view_frame;
+use test_help_bodies::bodies::{FOUR_MECHANISMS, OUTCOME};
+use std::process::Abort;
+
+/// The profile of a mechanism, in a box: EXTERNAL where it is none of the others.
+fn profile<R: Abort + AllocGlobal>(rt: &R, mechanism: &str) -> Box<SaslProfile> {
+    let (user, password) = (text(rt, "user"), text(rt, "pencil"));
+    let profile = match mechanism {
+        "ANONYMOUS" => SaslProfile::Anonymous,
+        "PLAIN" => SaslProfile::plain(user, password),
+        "SCRAM-SHA-1" => SaslProfile::from(SaslScramSha1::new(user, password)),
+        "SCRAM-SHA-256" => SaslProfile::from(SaslScramSha256::new(user, password)),
+        "SCRAM-SHA-512" => SaslProfile::from(SaslScramSha512::new(user, password)),
+        _ => SaslProfile::External,
+    };
+    boxed(rt, profile)
+}
+
+/// What each version of SCRAM says first.
+const CLIENT_FIRST: &str = "n,,n=user,r=AQEBAQEBAQEBAQEBAQEBAQEBAQEBAQEBAQEBAQEBAQE=";
+
+/// The mechanism of each profile, what it says first, and its text.
+static PROFILES: [(&str, Option<&str>, &str); 6] = [
+    ("ANONYMOUS", None, "Anonymous"),
+    (
+        "PLAIN",
+        Some("\0user\0pencil"),
+        "Plain { username: \"user\", .. }",
+    ),
+    ("EXTERNAL", None, "External"),
+    (
+        "SCRAM-SHA-1",
+        Some(CLIENT_FIRST),
+        "ScramSha1(SaslScramSha1 { client: ScramClient { username: \"user\", scram: Sha1, iteration_limit: 4294967295, \
+        .. } })",
+    ),
+    (
+        "SCRAM-SHA-256",
+        Some(CLIENT_FIRST),
+        "ScramSha256(SaslScramSha256 { client: ScramClient { username: \"user\", scram: Sha256, iteration_limit: \
+        4294967295, .. } })",
+    ),
+    (
+        "SCRAM-SHA-512",
+        Some(CLIENT_FIRST),
+        "ScramSha512(SaslScramSha512 { client: ScramClient { username: \"user\", scram: Sha512, iteration_limit: \
+        4294967295, .. } })",
+    ),
+];
+
+#[test]
+fn names_its_mechanism_and_speaks_first(rt: HostRuntime) {
+    for (mechanism, message, text) in &PROFILES {
+        let mut profile = profile(&rt, mechanism);
+        shows(&rt, &*profile, text);
+        let name = profile.mechanism(rt.alloc()).expect(&rt, "memory");
+        let said = profile
+            .initial_response(rt.alloc(), &[1; 32])
+            .expect(&rt, "memory");
+        let said = said.as_ref().map(|said| said.0.as_slice());
+        let right = said == message.map(|message| message.as_bytes());
+        assert!(rt; name.as_str() == *mechanism && right, "{mechanism}");
+    }
+}
+
+/// What a profile of PLAIN answers to two bodies, as `Debug` prints it: without the message.
+static ANSWERS: [(&str, &str); 2] = [
+    (FOUR_MECHANISMS, "Ok(Init { mechanism: \"PLAIN\", .. })"),
+    (OUTCOME, "Ok(Outcome { code: Ok, .. })"),
+];
+
+#[test]
+fn hides_what_a_profile_says(rt: HostRuntime) {
+    let mut profile = profile(&rt, "PLAIN");
+    for (given, wanted) in &ANSWERS {
+        let body = bytes_of(&rt, given);
+        let (view, _) = view_frame(&body).expect(&rt, "a frame");
+        shows(
+            &rt,
+            profile.on_view(rt.alloc(), view, None, &[1; 32]),
+            wanted,
+        );
+    }
+}

@@ -1,0 +1,360 @@
+//! A system of the tests' own: files in memory, one call of which may fail, and random bytes that are known.
+
+use std::alloc::Global;
+use std::cell::Cell;
+use std::fs::{Metadata, OpenFile, OpenOptions, Permissions};
+use std::io::{Error, ErrorKind, Read, Result, Seek, SeekFrom, Write};
+use std::os::unix::fs::PermissionsExt;
+use std::random::RandomSource;
+use std::rc::Rc;
+use std::rt::Files;
+
+/// How many calls were made, and which one fails, counted from 1.
+#[derive(Drop)]
+pub struct Calls {
+    made: Cell<u32>,
+    failing: u32,
+}
+
+impl Calls {
+    /// Counts a call, which fails if it is the one that does.
+    fn count(&self) -> Result<()> {
+        let made = self.made.get().saturating_add(1);
+        self.made.set(made);
+        if made == self.failing {
+            return Err(Error::from(ErrorKind::Other));
+        }
+        Ok(())
+    }
+}
+
+/// What a file holds, and who may read and write it; or a folder.
+#[derive(Drop)]
+struct Node {
+    bytes: Cell<Vec<u8>>,
+    mode: Cell<u32>,
+    is_folder: Cell<bool>,
+}
+
+/// A file under its name.
+#[derive(Drop)]
+struct Stored {
+    name: String,
+    node: Rc<Node>,
+}
+
+/// Files in memory.
+#[derive(Drop)]
+pub struct Disk {
+    alloc: Global,
+    stored: Cell<Vec<Stored>>,
+    calls: Rc<Calls>,
+    random: Vec<u8>,
+    private: Metadata,
+}
+
+/// An open file.
+#[derive(Drop)]
+pub struct Open {
+    alloc: Global,
+    node: Rc<Node>,
+    calls: Rc<Calls>,
+    private: Metadata,
+    at: usize,
+}
+
+impl Disk {
+    /// A disk without a file, of which this call fails. Random bytes are, for each call in turn, all the next of
+    /// these, and for further calls all the last; where there are none they count up. What a file that only its owner
+    /// may use is told to be is `private`, which no program makes of nothing.
+    pub fn new(alloc: Global, failing: u32, random: Vec<u8>, private: Metadata) -> Result<Disk> {
+        let made = Cell::new(0);
+        Ok(Disk {
+            alloc,
+            stored: Cell::new(Vec::new(alloc)),
+            calls: Rc::new(alloc, Calls { made, failing })?,
+            random,
+            private,
+        })
+    }
+
+    /// How many calls were made.
+    pub fn calls(&self) -> u32 {
+        self.calls.made.get()
+    }
+
+    /// Stores a file with its permissions, or a folder.
+    pub fn store(&self, name: &str, bytes: &[u8], mode: u32, is_folder: bool) -> Result<()> {
+        let node = self.insert(name)?;
+        node.mode.set(mode);
+        node.is_folder.set(is_folder);
+        node.bytes.set(bytes.to_vec(self.alloc)?);
+        Ok(())
+    }
+
+    /// Adds an empty file, which nobody may read.
+    fn insert(&self, name: &str) -> Result<Rc<Node>> {
+        let bytes = Cell::new(Vec::new(self.alloc));
+        let (mode, is_folder) = (Cell::new(0), Cell::new(false));
+        let node = Rc::new(
+            self.alloc,
+            Node {
+                bytes,
+                mode,
+                is_folder,
+            },
+        )?;
+        self.name(name, node.clone()?)?;
+        Ok(node)
+    }
+
+    /// Gives a file a name that no other has.
+    fn name(&self, name: &str, node: Rc<Node>) -> Result<()> {
+        let name = name.to_string(self.alloc)?;
+        let mut stored = self.stored.replace(Vec::new(self.alloc));
+        let pushed = stored.push(Stored { name, node });
+        self.stored.set(stored);
+        pushed?;
+        Ok(())
+    }
+
+    /// The file of a name.
+    fn find(&self, name: &str) -> Result<Option<Rc<Node>>> {
+        let stored = self.stored.replace(Vec::new(self.alloc));
+        let found = node_of(&stored, name);
+        self.stored.set(stored);
+        found
+    }
+
+    /// Takes out a file, and says whether there was one.
+    fn remove(&self, name: &str) -> bool {
+        let mut stored = self.stored.replace(Vec::new(self.alloc));
+        let before = stored.len();
+        stored.retain(|file| file.name.as_str() != name);
+        let is_less = stored.len() < before;
+        self.stored.set(stored);
+        is_less
+    }
+
+    /// Opens a file.
+    fn open(&self, node: Rc<Node>) -> Result<Open> {
+        Ok(Open {
+            alloc: self.alloc,
+            node,
+            calls: self.calls.clone()?,
+            private: self.private.clone()?,
+            at: 0,
+        })
+    }
+
+    /// Each file as the lines of a paragraph: `F NAME MODE`, and `+ LINE` for each line.
+    pub fn tell(&self, text: &mut String) -> Result<()> {
+        let stored = self.stored.replace(Vec::new(self.alloc));
+        for file in &stored {
+            tell_file(file, text)?;
+        }
+        self.stored.set(stored);
+        Ok(())
+    }
+}
+
+/// What is told of a file: for its owner only, or for everybody to read.
+fn facts_of(node: &Node, private: &Metadata) -> Result<Metadata> {
+    if node.is_folder.get() {
+        return Ok(Metadata::of_dir());
+    }
+    if node.mode.get() % 0o100 == 0 {
+        return Ok(private.clone()?);
+    }
+    Ok(Metadata::of_file(0))
+}
+
+/// The file of a name.
+fn node_of(stored: &[Stored], name: &str) -> Result<Option<Rc<Node>>> {
+    match stored.iter().find(|file| file.name.as_str() == name) {
+        Some(file) => Ok(Some(file.node.clone()?)),
+        None => Ok(None),
+    }
+}
+
+/// A file as the lines of a paragraph.
+fn tell_file(file: &Stored, text: &mut String) -> Result<()> {
+    let (name, mode) = (&file.name, file.node.mode.get() & 0o777);
+    write!(text, "F {name} {mode:o}\n")?;
+    let bytes = file.node.bytes.replace(Vec::new(*text.allocator()));
+    for line in String::from_utf8_lossy(*text.allocator(), &bytes)?
+        .as_str()
+        .lines()
+    {
+        write!(text, "+ {line}\n")?;
+    }
+    file.node.bytes.set(bytes);
+    Ok(())
+}
+
+impl Alloc for Disk {
+    type A = Global;
+
+    fn alloc(&self) -> Global {
+        self.alloc
+    }
+}
+
+impl RandomSource for Disk {
+    fn fill_bytes(&self, buffer: &mut [u8]) -> Result<()> {
+        let known = self.random.get(self.calls() as usize);
+        let known = known.or(self.random.last()).copied();
+        self.calls.count()?;
+        for (place, byte) in buffer.iter_mut().enumerate() {
+            *byte = known.unwrap_or((place % 256) as u8);
+        }
+        Ok(())
+    }
+}
+
+impl Files for Disk {
+    type File = Open;
+
+    type Dir = Open;
+
+    fn open_file(&self, how: &OpenOptions, path: &str) -> Result<Open> {
+        how.check()?;
+        self.calls.count()?;
+        let found = self.find(path)?;
+        if how.asks_create_new() {
+            return match found {
+                Some(_) => Err(Error::from(ErrorKind::AlreadyExists)),
+                None => self.open(self.insert(path)?),
+            };
+        }
+        match found {
+            Some(node) if !how.asks_write() => self.open(node),
+            Some(_) => Err(Error::from(ErrorKind::NotSupported)),
+            None => Err(Error::from(ErrorKind::NotFound)),
+        }
+    }
+
+    fn open_dir(&self, _path: &str) -> Result<Open> {
+        Err(Error::from(ErrorKind::NotSupported))
+    }
+
+    fn metadata(&self, path: &str) -> Result<Metadata> {
+        self.calls.count()?;
+        match self.find(path)? {
+            Some(node) => facts_of(&node, &self.private),
+            None => Err(Error::from(ErrorKind::NotFound)),
+        }
+    }
+
+    fn symlink_metadata(&self, _path: &str) -> Result<Metadata> {
+        Err(Error::from(ErrorKind::NotSupported))
+    }
+
+    fn copy(&self, _from: &str, _to: &str) -> Result<u64> {
+        Err(Error::from(ErrorKind::NotSupported))
+    }
+
+    fn rename(&self, from: &str, to: &str) -> Result<()> {
+        self.calls.count()?;
+        let Some(node) = self.find(from)? else {
+            return Err(Error::from(ErrorKind::NotFound));
+        };
+        let _ = self.remove(to);
+        let _ = self.remove(from);
+        let new = self.insert(to)?;
+        new.mode.set(node.mode.get());
+        new.bytes.set(node.bytes.replace(Vec::new(self.alloc)));
+        Ok(())
+    }
+
+    fn remove_file(&self, path: &str) -> Result<()> {
+        self.calls.count()?;
+        if self.remove(path) {
+            Ok(())
+        } else {
+            Err(Error::from(ErrorKind::NotFound))
+        }
+    }
+
+    fn hard_link(&self, original: &str, link: &str) -> Result<()> {
+        self.calls.count()?;
+        if self.find(link)?.is_some() {
+            return Err(Error::from(ErrorKind::AlreadyExists));
+        }
+        match self.find(original)? {
+            Some(node) => self.name(link, node),
+            None => Err(Error::from(ErrorKind::NotFound)),
+        }
+    }
+
+    fn create_dir(&self, _path: &str) -> Result<()> {
+        Err(Error::from(ErrorKind::NotSupported))
+    }
+
+    fn remove_dir(&self, _path: &str) -> Result<()> {
+        Err(Error::from(ErrorKind::NotSupported))
+    }
+
+    fn remove_dir_all<B: std::alloc::Allocator>(&self, _alloc: B, _path: &str) -> Result<()> {
+        Err(Error::from(ErrorKind::NotSupported))
+    }
+}
+
+impl OpenFile for Open {
+    fn metadata(&self) -> Result<Metadata> {
+        self.calls.count()?;
+        facts_of(&self.node, &self.private)
+    }
+
+    fn set_len(&self, _size: u64) -> Result<()> {
+        Err(Error::from(ErrorKind::NotSupported))
+    }
+
+    fn sync_all(&self) -> Result<()> {
+        self.calls.count()
+    }
+
+    fn sync_data(&self) -> Result<()> {
+        Err(Error::from(ErrorKind::NotSupported))
+    }
+
+    fn set_permissions(&self, permissions: Permissions) -> Result<()> {
+        self.calls.count()?;
+        self.node.mode.set(permissions.mode());
+        Ok(())
+    }
+}
+
+impl Read for Open {
+    fn read(&mut self, buffer: &mut [u8]) -> Result<usize> {
+        self.calls.count()?;
+        let bytes = self.node.bytes.replace(Vec::new(self.alloc));
+        let left = bytes.get(self.at..).unwrap_or(&[]);
+        let len = left.len().min(buffer.len());
+        buffer[..len].copy_from_slice(&left[..len]);
+        self.at = self.at.saturating_add(len);
+        self.node.bytes.set(bytes);
+        Ok(len)
+    }
+}
+
+impl Write for Open {
+    fn write(&mut self, bytes: &[u8]) -> Result<usize> {
+        self.calls.count()?;
+        let mut held = self.node.bytes.replace(Vec::new(self.alloc));
+        let written = held.extend_from_slice(bytes);
+        self.node.bytes.set(held);
+        written?;
+        Ok(bytes.len())
+    }
+
+    fn flush(&mut self) -> Result<()> {
+        Ok(())
+    }
+}
+
+impl Seek for Open {
+    fn seek(&mut self, _to: SeekFrom) -> Result<u64> {
+        Err(Error::from(ErrorKind::NotSupported))
+    }
+}

@@ -1,0 +1,261 @@
+//! Runs of a program: its words, its input and its files, and what comes of them.
+
+use crate::disk::Disk;
+use example_broker_lib::log_in;
+use scram_lib::run;
+use std::alloc::{AllocError, Global};
+use std::fs::Metadata;
+use std::io::{BufRead, BufReader, Result, Write};
+
+/// A file or a folder before a run.
+#[derive(Drop)]
+struct File {
+    name: String,
+    text: String,
+    mode: u32,
+    is_folder: bool,
+}
+
+/// A run as a paragraph has it.
+#[derive(Drop)]
+struct Run {
+    /// The words of the program, its name first.
+    words: Vec<String>,
+
+    /// The input, and whether it is bytes, as what is printed then is.
+    input: Vec<u8>,
+    is_binary: bool,
+
+    /// Of which bytes the random bytes are, or none where they count up.
+    random: Vec<u8>,
+
+    /// The files before the run.
+    files: Vec<File>,
+
+    /// What is to come of it: the lines `>`, `!`, `=`, `F` and `+` of the paragraph.
+    wanted: String,
+
+    /// Whether each of its calls of files and of random bytes is to fail in turn.
+    fails: bool,
+
+    /// What a file that only its owner may use is told to be.
+    private: Metadata,
+}
+
+/// Checks the run that a paragraph spells: what comes of it in place of what is wanted, if that is another. Where
+/// the paragraph says so, each call fails in turn, and leaves the files as they were, with status 4.
+pub fn check(alloc: Global, private: &Metadata, paragraph: &str) -> Result<Option<String>> {
+    let run = read(alloc, private, paragraph)?;
+    if run.is_binary {
+        return play_pieces(alloc, &run);
+    }
+    let (calls, told) = play(alloc, &run, 0, 4096)?;
+    if told.as_str() != run.wanted.as_str() {
+        return Ok(Some(told));
+    }
+    if run.fails {
+        return fail_each(alloc, &run, calls);
+    }
+    Ok(None)
+}
+
+/// What comes of a run whose input comes in pieces of these lengths, if that is another than is wanted.
+fn play_pieces(alloc: Global, run: &Run) -> Result<Option<String>> {
+    for piece in [1, 7, 4096] {
+        let (_, told) = play(alloc, run, 0, piece)?;
+        if told.as_str() != run.wanted.as_str() {
+            return Ok(Some(told));
+        }
+    }
+    Ok(None)
+}
+
+/// Lets each call fail in turn: what comes of the first that leaves the files otherwise, if any.
+fn fail_each(alloc: Global, run: &Run, calls: u32) -> Result<Option<String>> {
+    let before = told_before(alloc, run)?;
+    if calls == 0 {
+        return Ok(Some("no call\n".to_string(alloc)?));
+    }
+    for failing in 1..=calls {
+        let (_, told) = play(alloc, run, failing, 4096)?;
+        if !told.as_str().ends_with(before.as_str()) {
+            return Ok(Some(format!(in alloc; "call {failing} fails:\n{told}")?));
+        }
+    }
+    Ok(None)
+}
+
+/// A disk with the files of a run, of which a call fails.
+fn disk_of(alloc: Global, run: &Run, failing: u32) -> Result<Disk> {
+    let disk = Disk::new(alloc, failing, run.random.clone()?, run.private.clone()?)?;
+    for file in &run.files {
+        disk.store(&file.name, file.text.as_bytes(), file.mode, file.is_folder)?;
+    }
+    Ok(disk)
+}
+
+/// The status and the files that are wanted of a run that fails.
+fn told_before(alloc: Global, run: &Run) -> Result<String> {
+    let disk = disk_of(alloc, run, 0)?;
+    let mut told = String::from_str(alloc, "= 4\n")?;
+    disk.tell(&mut told)?;
+    Ok(told)
+}
+
+/// Runs the program with a call that fails, and an input in pieces of a length: how many calls it made, and what
+/// came of it.
+fn play(alloc: Global, run: &Run, failing: u32, piece: usize) -> Result<(u32, String)> {
+    let disk = disk_of(alloc, run, failing)?;
+    let mut told = String::new(alloc);
+    play_on(&disk, run, piece, &mut told)?;
+    disk.tell(&mut told)?;
+    Ok((disk.calls(), told))
+}
+
+/// Runs the program, and tells its output, its errors and its status.
+fn play_on(disk: &Disk, asked: &Run, piece: usize, told: &mut String) -> Result<()> {
+    let alloc = disk.alloc();
+    let (mut output, mut errors) = (Vec::new(alloc), Vec::new(alloc));
+    let mut input = BufReader::with_capacity(alloc, piece, asked.input.as_slice())?;
+    let status = match asked.words.as_slice() {
+        [name, words @ ..] if name.as_str() == "broker" => {
+            serve(disk, words, &mut input, &mut output, &mut errors)?
+        }
+        words => run(disk, words, &mut input, &mut output, &mut errors),
+    };
+    if asked.is_binary {
+        write!(told, "X {}\n", hex::encode(alloc, output.as_slice())?)?;
+    } else {
+        tell_lines(told, ">", &output)?;
+    }
+    tell_lines(told, "!", &errors)?;
+    write!(told, "= {status}\n")?;
+    Ok(())
+}
+
+/// Serves the connections of an input as the program `broker` does by these words, and answers its status.
+fn serve<I: BufRead>(
+    disk: &Disk,
+    words: &[String],
+    input: &mut I,
+    output: &mut Vec<u8>,
+    errors: &mut Vec<u8>,
+) -> Result<u8> {
+    let records = words.first().map_or("", |word| word.as_str());
+    match log_in(disk, records, words.len() > 1, input, output) {
+        Ok((user, wrong)) => {
+            writeln!(errors, "{user:?} logged in, after {wrong} wrong logins")?;
+            Ok(0)
+        }
+        Err(_) => Ok(1),
+    }
+}
+
+/// Tells lines behind a mark.
+fn tell_lines(told: &mut String, mark: &str, bytes: &[u8]) -> Result<()> {
+    for line in String::from_utf8_lossy(*told.allocator(), bytes)?
+        .as_str()
+        .lines()
+    {
+        if line.is_empty() {
+            write!(told, "{mark}\n")?;
+        } else {
+            write!(told, "{mark} {line}\n")?;
+        }
+    }
+    Ok(())
+}
+
+/// Reads a paragraph.
+fn read(alloc: Global, private: &Metadata, paragraph: &str) -> Result<Run> {
+    let mut run = Run {
+        words: Vec::new(alloc),
+        input: Vec::new(alloc),
+        is_binary: false,
+        random: Vec::new(alloc),
+        files: Vec::new(alloc),
+        wanted: String::new(alloc),
+        fails: false,
+        private: private.clone()?,
+    };
+    for line in paragraph.lines() {
+        read_line(alloc, &mut run, line)?;
+    }
+    Ok(run)
+}
+
+/// Reads a line of a mark and a text.
+fn read_line(alloc: Global, run: &mut Run, line: &str) -> Result<()> {
+    let (mark, text) = line.split_once(' ').unwrap_or((line, ""));
+    match mark {
+        "#" => {}
+        "$" => push_words(alloc, &mut run.words, text)?,
+        "<" => push_bytes(alloc, &mut run.input, text)?,
+        "x" => {
+            run.is_binary = true;
+            run.input = hex::decode(alloc, text).unwrap_or(Vec::new(alloc));
+        }
+        "r" => run.random = hex::decode(alloc, text).unwrap_or(Vec::new(alloc)),
+        "f" => run.files.push(file_of(alloc, text, false)?)?,
+        "d" => run.files.push(file_of(alloc, text, true)?)?,
+        "-" => {
+            if let Some(file) = run.files.last_mut() {
+                push_line(alloc, &mut file.text, text)?;
+            }
+        }
+        "~" => {
+            if let Some(file) = run.files.last_mut() {
+                file.text.push_str(text)?;
+            }
+        }
+        "?" => run.fails = true,
+        _ => {
+            run.wanted.push_str(line)?;
+            run.wanted.push('\n')?;
+        }
+    }
+    Ok(())
+}
+
+/// A file or a folder without content by its name, and by its mode in octal digits where that is not 644.
+fn file_of(alloc: Global, text: &str, is_folder: bool) -> Result<File> {
+    let (name, mode) = text.split_once(' ').unwrap_or((text, "644"));
+    Ok(File {
+        name: name.to_string(alloc)?,
+        text: String::new(alloc),
+        mode: u32::from_str_radix(mode, 8).unwrap_or(0o644),
+        is_folder,
+    })
+}
+
+/// Adds a line and its end to bytes.
+fn push_bytes(alloc: Global, bytes: &mut Vec<u8>, text: &str) -> Result<()> {
+    bytes.extend_from_slice(unescaped(alloc, text)?.as_bytes())?;
+    bytes.push(b'\n')?;
+    Ok(())
+}
+
+/// Adds a line and its end.
+fn push_line(alloc: Global, lines: &mut String, text: &str) -> Result<()> {
+    lines.push_str(&unescaped(alloc, text)?)?;
+    lines.push('\n')?;
+    Ok(())
+}
+
+/// A text without its signs for line feeds, tabs and spaces.
+fn unescaped(alloc: Global, text: &str) -> std::result::Result<String, AllocError> {
+    let text = text.replace(alloc, "\\n", "\n")?;
+    let text = text.replace(alloc, "\\t", "\t")?;
+    text.replace(alloc, "\\s", " ")
+}
+
+/// Adds words, each cut at one space. Of an empty text there are none.
+fn push_words(alloc: Global, words: &mut Vec<String>, text: &str) -> Result<()> {
+    if text.is_empty() {
+        return Ok(());
+    }
+    for word in text.split(' ') {
+        words.push(unescaped(alloc, word)?)?;
+    }
+    Ok(())
+}

@@ -1,0 +1,201 @@
+//! A row of a file: its words, which are read one after another, and its answer, which grows by words.
+
+use bytes::BytesMut;
+use fe2o3_sasl::hmac::ScramVersion;
+use fe2o3_sasl::runs::Event;
+use fe2o3_sasl_wire::{Frame, FrameCodec};
+use sasl_lab_lib::digits::digits_of;
+use std::alloc::Global;
+use std::fmt::{Debug, Display, Write};
+use std::mem;
+
+/// A row while it is answered. Where a word is not of its form or a value cannot be made, an empty one
+/// stands in its place, the answer says why, and the row is confirmed no more.
+#[derive(Drop)]
+pub struct Row<'a> {
+    /// What the values of the row are made in.
+    pub alloc: Global,
+
+    /// The words that are not read yet.
+    words: &'a str,
+
+    /// The words of the answer.
+    answer: String,
+
+    /// Whether each word, each value and each answer was right so far.
+    is_sound: bool,
+}
+
+impl<'a> Row<'a> {
+    /// A row of these words, without an answer.
+    pub fn new(alloc: Global, words: &'a str) -> Row<'a> {
+        Row {
+            alloc,
+            words,
+            answer: String::new(alloc),
+            is_sound: true,
+        }
+    }
+
+    /// Goes on to other words, behind the last ones.
+    pub fn turn_to(&mut self, words: &'a str) {
+        self.is_sound &= self.is_over();
+        self.words = words;
+    }
+
+    /// Compares the answer so far, and begins another where it is right.
+    pub fn agree(&mut self, wanted: &str) {
+        self.is_sound &= self.answer.as_str() == wanted;
+        if self.is_sound {
+            self.answer.clear();
+        }
+    }
+
+    /// The answer so far, behind which another begins.
+    pub fn take_answer(&mut self) -> String {
+        mem::replace(&mut self.answer, String::new(self.alloc))
+    }
+
+    /// What is answered in place of the wanted words, where each of them is not answered.
+    pub fn fault(&self) -> Option<&str> {
+        if self.is_sound && self.is_over() && self.answer.is_empty() {
+            return None;
+        }
+        Some(self.answer.as_str())
+    }
+
+    /// Whether these words are left.
+    pub fn is_left(&self, words: &str) -> bool {
+        self.words == words
+    }
+
+    /// Whether the words are a comment.
+    pub fn is_comment(&self) -> bool {
+        self.words.starts_with('#')
+    }
+
+    /// Whether all words are read.
+    pub fn is_over(&self) -> bool {
+        self.words.is_empty()
+    }
+
+    /// The next word, which ends with a space or a colon.
+    pub fn word(&mut self) -> &'a str {
+        self.is_sound &= !self.is_over();
+        let (word, rest) = self
+            .words
+            .split_once([' ', ':'])
+            .unwrap_or((self.words, ""));
+        self.words = rest;
+        word
+    }
+
+    /// All words that are left.
+    pub fn rest(&mut self) -> &'a str {
+        let words = self.words;
+        self.words = "";
+        words
+    }
+
+    /// The bytes of hexadecimal digits, where `-` is none.
+    pub fn bytes(&mut self) -> Vec<u8> {
+        let digits = match self.word() {
+            "-" => "",
+            digits => digits,
+        };
+        self.made(hex::decode(self.alloc, digits), Vec::new(self.alloc))
+    }
+
+    /// The text of hexadecimal digits, where `-` is the empty text.
+    pub fn text(&mut self) -> String {
+        let text = String::from_utf8(self.bytes());
+        self.made(text, String::new(self.alloc))
+    }
+
+    /// The hostname, where one is left that is not `none`.
+    pub fn hostname(&mut self) -> Option<String> {
+        if self.is_over() || self.words == "none" {
+            self.words = "";
+            return None;
+        }
+        Some(self.text())
+    }
+
+    /// The 32 bytes of hexadecimal digits, or of two digits that stand for each of them.
+    pub fn nonce(&mut self) -> [u8; 32] {
+        let bytes = self.bytes();
+        match bytes.as_slice() {
+            [byte] => [*byte; 32],
+            bytes => self.made(<[u8; 32]>::try_from(bytes), [0; 32]),
+        }
+    }
+
+    /// The event of a nonce and a body.
+    pub fn event(&mut self) -> Event {
+        let (nonce, body) = (self.nonce(), self.bytes());
+        Event { body, nonce }
+    }
+
+    /// The number of decimal digits.
+    pub fn number(&mut self) -> u32 {
+        let number = self.word().parse::<u32>();
+        self.made(number, 0)
+    }
+
+    /// The version of SCRAM that a word names.
+    pub fn version(&mut self) -> ScramVersion {
+        let version = self.word().parse::<ScramVersion>();
+        self.made(version, ScramVersion::Sha1)
+    }
+
+    /// The value that was made, or this one in its place.
+    pub fn made<T: Drop, E: Debug + Drop>(&mut self, made: Result<T, E>, instead: T) -> T {
+        match made {
+            Ok(value) => value,
+            Err(error) => {
+                self.refuse(error);
+                instead
+            }
+        }
+    }
+
+    /// Bytes of their own.
+    pub fn own(&mut self, bytes: &[u8]) -> Vec<u8> {
+        let bytes = bytes.to_vec(self.alloc);
+        self.made(bytes, Vec::new(self.alloc))
+    }
+
+    /// Adds an item to a list.
+    pub fn push<T: Drop>(&mut self, list: &mut Vec<T>, item: T) {
+        self.is_sound &= list.push(item).is_ok();
+    }
+
+    /// Says why the row is not confirmed.
+    pub fn refuse<E: Debug + Drop>(&mut self, why: E) {
+        self.is_sound = false;
+        self.say(format_args!("{why:?}"));
+    }
+
+    /// Adds a word to the answer.
+    pub fn say<T: Display + Drop>(&mut self, word: T) {
+        let said = if self.answer.is_empty() {
+            write!(self.answer, "{word}")
+        } else {
+            write!(self.answer, " {word}")
+        };
+        self.is_sound &= said.is_ok();
+    }
+
+    /// Adds bytes in hexadecimal digits to the answer, where `-` is none.
+    pub fn say_bytes(&mut self, bytes: &[u8]) {
+        let digits = self.made(digits_of(self.alloc, bytes), String::new(self.alloc));
+        self.say(digits);
+    }
+
+    /// Adds the body of a frame to the answer.
+    pub fn say_frame(&mut self, frame: Frame) {
+        let mut body = BytesMut::new(self.alloc);
+        self.made(FrameCodec {}.encode(frame, &mut body), ());
+        self.say_bytes(body.as_slice());
+    }
+}

@@ -1,0 +1,122 @@
+//! Servers and acceptors.
+
+use crate::replies::{Reply, agree_all};
+use crate::rows::Row;
+use crate::runs::{Part, Run, Side, check_side};
+use fe2o3_sasl::credentials::{
+    ScramCredentialProvider, RecordStore, ScramRecord, SingleScramCredential,
+};
+use fe2o3_sasl::hmac::ScramVersion;
+use fe2o3_sasl::runs::{Event, acceptor_step, run_acceptor, scram_server_run_with_cbind_flag_y};
+use fe2o3_sasl::sasl_acceptor::{SaslAcceptor, SaslAnonymousMechanism, SaslPlainMechanism};
+use fe2o3_sasl::scram_messages::ServerScramErrorKind;
+use fe2o3_sasl::scram_server::ScramAuthenticator;
+use std::rc::Rc;
+
+/// An acceptor as a side.
+#[derive(Clone, Drop)]
+struct Accepting<A: SaslAcceptor>(A);
+
+impl<A: SaslAcceptor + Drop> Side for Accepting<A> {
+    fn answer_all(&mut self, row: &mut Row<'_>, (events, wanted): Part<'_>) {
+        let replies = run_acceptor(row.alloc, &mut self.0, events);
+        let replies = row.made(replies, Vec::new(row.alloc));
+        agree_all(row, &replies, wanted);
+    }
+
+    fn answer(&mut self, row: &mut Row<'_>, event: &Event) {
+        acceptor_step(row.alloc, &mut self.0, event).say(row);
+    }
+
+    fn copies_answer(&self, row: &mut Row<'_>, event: &Event, wanted: &str) {
+        match self.clone() {
+            Ok(mut copy) => copy.answer(row, event),
+            Err(error) => row.refuse(error),
+        }
+        row.agree(wanted);
+    }
+}
+
+/// Checks an acceptor.
+fn check_acceptor<A: SaslAcceptor + Drop>(row: &mut Row<'_>, run: &Run<'_>, acceptor: A) {
+    check_side(row, run, &mut Accepting(acceptor));
+}
+
+/// Checks an acceptor of ANONYMOUS, or one of PLAIN: `MECHANISM`, `MECHANISM USER PASSWORD`.
+pub fn check_plain(row: &mut Row<'_>, run: &Run<'_>) {
+    if row.word() == "ANONYMOUS" {
+        return check_acceptor(row, run, SaslAnonymousMechanism::default());
+    }
+    let (user, password) = (row.text(), row.text());
+    check_side(
+        row,
+        run,
+        &mut Accepting(SaslPlainMechanism::new(user, password)),
+    );
+}
+
+/// The credential of a server: `USER PASSWORD SALT`.
+pub fn credential_of(
+    row: &mut Row<'_>,
+    version: ScramVersion,
+) -> Result<SingleScramCredential, ServerScramErrorKind> {
+    let (user, password, salt) = (row.text(), row.text(), row.nonce());
+    SingleScramCredential::new(row.alloc, user, &password, version, salt)
+}
+
+/// Checks a server of one user, which takes clients that could bind a channel or not:
+/// `VERSION USER PASSWORD SALT`.
+pub fn check_one(row: &mut Row<'_>, run: &Run<'_>, accept_cbind_flag_y: bool) {
+    let version = row.version();
+    match credential_of(row, version) {
+        Ok(credential) => check_shared(row, run, accept_cbind_flag_y, credential),
+        Err(error) => row.refuse(error),
+    }
+}
+
+/// Checks a server whose store has these records, in their order: `VERSION RECORD..`, of which each is a name,
+/// a salt, a count, a stored key and a server key with colons between them.
+pub fn check_records(row: &mut Row<'_>, run: &Run<'_>) {
+    let version = row.version();
+    let mut store = RecordStore::new(row.alloc, version);
+    for record in row.rest().split(' ') {
+        row.turn_to(record);
+        let (name, salt, count) = (row.text(), row.bytes(), row.number());
+        let record = ScramRecord::from_parts(version, salt, count, row.bytes(), row.bytes());
+        row.made(store.add(name, record), ());
+    }
+    check_shared(row, run, false, store);
+}
+
+/// Checks a server of these credentials, by themselves, shared, and as an acceptor.
+fn check_shared<C: ScramCredentialProvider + Drop>(
+    row: &mut Row<'_>,
+    run: &Run<'_>,
+    accept_cbind_flag_y: bool,
+    credentials: C,
+) {
+    check_run(row, run, accept_cbind_flag_y, &credentials);
+    let Ok(shared) = Rc::new(row.alloc, credentials) else {
+        return row.refuse("no memory");
+    };
+    check_run(row, run, accept_cbind_flag_y, &shared);
+    let fresh = ScramAuthenticator::new(shared);
+    if accept_cbind_flag_y {
+        check_acceptor(row, run, fresh.accept_cbind_flag_y());
+    } else {
+        check_acceptor(row, run, fresh);
+    }
+}
+
+/// Checks what a server of these credentials answers in a run.
+fn check_run<C: ScramCredentialProvider>(
+    row: &mut Row<'_>,
+    run: &Run<'_>,
+    accept_cbind_flag_y: bool,
+    credentials: &C,
+) {
+    let alloc = row.alloc;
+    let replies = scram_server_run_with_cbind_flag_y(alloc, accept_cbind_flag_y, credentials, &run.events);
+    let replies = row.made(replies, Vec::new(alloc));
+    agree_all(row, &replies, &run.wanted);
+}

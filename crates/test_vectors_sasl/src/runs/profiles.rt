@@ -1,0 +1,164 @@
+//! Profiles.
+
+use crate::replies::{Reply, agree_all, say_negotiation};
+use crate::rows::Row;
+use crate::runs::{Part, Run, Side, check_side};
+use fe2o3_sasl::cached_keys::CachedKeys;
+use fe2o3_sasl::hmac::{Meter, ScramVersion};
+use fe2o3_sasl::runs::{Event, profile_step, run_profile};
+use fe2o3_sasl::sasl_profile::{SaslProfile, SaslScramSha256};
+use fe2o3_sasl::scram_client::ScramClient;
+use fe2o3_sasl_wire::view_frame;
+
+/// A profile as a side, and the hostname of its init.
+#[derive(Clone, Drop)]
+struct Profile {
+    profile: Box<SaslProfile>,
+    hostname: Option<String>,
+}
+
+impl Side for Profile {
+    fn answer_all(&mut self, row: &mut Row<'_>, (events, wanted): Part<'_>) {
+        let hostname = self.hostname.as_deref();
+        let replies = run_profile(row.alloc, &mut self.profile, events, hostname);
+        let replies = row.made(replies, Vec::new(row.alloc));
+        agree_all(row, &replies, wanted);
+    }
+
+    fn answer(&mut self, row: &mut Row<'_>, event: &Event) {
+        let hostname = self.hostname.as_deref();
+        profile_step(row.alloc, &mut self.profile, event, hostname).say(row);
+    }
+
+    /// A copy answers to the frame of a body, and a copy to its view, where it is read.
+    fn copies_answer(&self, row: &mut Row<'_>, event: &Event, wanted: &str) {
+        let (alloc, hostname) = (row.alloc, self.hostname.as_deref());
+        let Ok((view, _)) = view_frame(&event.body) else {
+            return;
+        };
+        let copy: Result<_, _> = self.profile.clone();
+        match (copy, view.to_frame(alloc)) {
+            (Ok(mut copy), Ok(frame)) => {
+                say_negotiation(row, copy.on_frame(alloc, frame, hostname, &event.nonce));
+            }
+            _ => row.refuse("no memory"),
+        }
+        row.agree(wanted);
+        match self.profile.clone() {
+            Ok(mut copy) => {
+                say_negotiation(row, copy.on_view(alloc, view, hostname, &event.nonce));
+            }
+            Err(error) => row.refuse(error),
+        }
+        row.agree(wanted);
+    }
+}
+
+/// Checks a profile: the words of `profile_of`, and its hostname.
+pub fn check(row: &mut Row<'_>, run: &Run<'_>, kind: &str) {
+    let profile = profile_of(row, kind);
+    let hostname = row.hostname();
+    match profile.map(|profile| Box::new(row.alloc, profile)) {
+        Some(Ok(profile)) => check_side(row, run, &mut Profile { profile, hostname }),
+        _ => row.refuse("no profile"),
+    }
+}
+
+/// The profile of a user by a secret of a kind:
+///
+/// - `profile`: `MECHANISM USER PASSWORD LIMIT`;
+/// - `keyed`: `MECHANISM USER KEYS LIMIT`;
+/// - `both`: `MECHANISM USER PASSWORD KEYS LEAST LIMIT`;
+/// - `prepared`: `MECHANISM USER PASSWORD`, with a prepared password;
+/// - `prepared-both`: `MECHANISM USER PASSWORD KEYS`, with prepared passwords.
+///
+/// The iteration counts that it accepts go from the least to the limit.
+pub fn profile_of(row: &mut Row<'_>, kind: &str) -> Option<SaslProfile> {
+    let (mechanism, user) = (row.word(), row.text());
+    let password = match kind {
+        "keyed" => String::new(row.alloc),
+        _ => row.text(),
+    };
+    let keys = match kind {
+        "keyed" | "both" | "prepared-both" => keys_of(row, mechanism, kind),
+        _ => None,
+    };
+    let least = if kind == "both" { row.number() } else { 1 };
+    let limit = if row.is_over() {
+        u32::MAX
+    } else {
+        row.number()
+    };
+    match mechanism {
+        "ANONYMOUS" => Some(SaslProfile::Anonymous),
+        "EXTERNAL" => Some(SaslProfile::External),
+        "PLAIN" => Some(SaslProfile::plain(user, password)),
+        "SCRAM-SHA-256" => {
+            let scram = scram_of(kind, user, password, keys)?;
+            let scram = scram
+                .with_min_iterations(least)
+                .with_iteration_limit(limit);
+            Some(SaslProfile::from(scram))
+        }
+        name => {
+            let version = ScramVersion::from_mechanism(name)?;
+            let client = client_of(version, kind, user, password, keys)?;
+            let client = client
+                .with_min_iterations(least)
+                .with_iteration_limit(limit);
+            Some(SaslProfile::from(client))
+        }
+    }
+}
+
+/// Keys: `PASSWORD SALT COUNT`, of a password that is prepared where that of the kind is.
+fn keys_of(row: &mut Row<'_>, mechanism: &str, kind: &str) -> Option<CachedKeys> {
+    let (alloc, version) = (row.alloc, ScramVersion::from_mechanism(mechanism)?);
+    let (password, salt, count) = (row.text(), row.bytes(), row.number());
+    let meter = &mut Meter::new();
+    let keys = if kind == "prepared-both" {
+        CachedKeys::from_prepared_password(alloc, version, &password, &salt, count, meter)
+    } else {
+        CachedKeys::from_password(alloc, version, &password, &salt, count, meter)
+    };
+    keys.ok()
+}
+
+/// A profile of SCRAM-SHA-256.
+fn scram_of(
+    kind: &str,
+    user: String,
+    password: String,
+    keys: Option<CachedKeys>,
+) -> Option<SaslScramSha256> {
+    match (kind, keys) {
+        ("profile", None) => Some(SaslScramSha256::new(user, password)),
+        ("prepared", None) => Some(SaslScramSha256::with_prepared_password(user, password)),
+        ("keyed", Some(keys)) => SaslScramSha256::with_keys(user, keys),
+        ("both", Some(keys)) => SaslScramSha256::with_password_and_keys(user, password, keys),
+        ("prepared-both", Some(keys)) => {
+            SaslScramSha256::with_prepared_password_and_keys(user, password, keys)
+        }
+        _ => None,
+    }
+}
+
+/// A client of SCRAM of another version, for a profile.
+fn client_of(
+    version: ScramVersion,
+    kind: &str,
+    user: String,
+    password: String,
+    keys: Option<CachedKeys>,
+) -> Option<ScramClient> {
+    match (kind, keys) {
+        ("profile", None) => Some(ScramClient::new(user, password, version)),
+        ("prepared", None) => Some(ScramClient::with_prepared_password(user, password, version)),
+        ("keyed", Some(keys)) => Some(ScramClient::with_keys(user, keys)),
+        ("both", Some(keys)) => Some(ScramClient::with_password_and_keys(user, password, keys)),
+        ("prepared-both", Some(keys)) => {
+            Some(ScramClient::with_prepared_password_and_keys(user, password, keys))
+        }
+        _ => None,
+    }
+}
