@@ -4,7 +4,7 @@ use Rattle.std.specs.Prelude.{ℕ, List, ◌≡◌, ◌≢◌, ◌⊎◌, Some, 
 use Rattle.fe2o3_scram.specs.ClientFinal.{ClientFinal, ReadsClientFinal, keys_for, without_proof}
 use Rattle.fe2o3_scram.specs.ClientFirst.{ClientFirst, ReadsClientFirst, client_first_bare}
 use Rattle.fe2o3_scram.specs.ClientKeys.{ClientKeys}
-use Rattle.fe2o3_scram.specs.Credentials.{Provider, Record, record_at}
+use Rattle.fe2o3_scram.specs.Credentials.{Provider, Record}
 use Rattle.fe2o3_scram.specs.declared.scram_messages.channel_binding_flag.ChannelBindingFlag.TheVariants.{NotSupported}
 use Rattle.fe2o3_scram.specs.Extensions.{NoneMisplaced}
 use Rattle.fe2o3_scram.specs.Hmac.{hmac_of}
@@ -32,7 +32,7 @@ pub record AcceptedTexts (provider : Provider) (nonce init response last : List 
   pub done : ServerState
   pub first : List ℕ
   pub challenges : ChallengesFrom state provider nonce init (Ok (Some first)) waiting
-  pub accepts : ConcludesFrom waiting provider response (Ok (Some last)) done
+  pub accepts : ConcludesFrom waiting provider.version response (Ok (Some last)) done
 
 -- what the client knows: what the server-first message named to it
 pub record ClientKnows (side : ClientSide) (nonce text : List ℕ) : Type 0 where
@@ -46,9 +46,9 @@ pub record ServerKnows (provider : Provider) (nonce init response : List ℕ) : 
   pub stored : Record
   pub final : ClientFinal
   pub reads_init : ReadsClientFirst provider.cbind_flag_y init (Ok client)
-  pub known : record_at provider.records client.user ≡ Some stored
+  pub known : provider.records client.user ≡ Some stored
   pub reads : let challenge = challenge_of client (base64_text nonce) stored in
-      ReadsClientFinal (server_against provider challenge stored) response (Ok final)
+      ReadsClientFinal (server_against provider.version challenge stored) response (Ok final)
 
 -- the keys that the client answered by (RFC 5802, section 3)
 abbrev pub keys_known : {side : ClientSide} {nonce text : List ℕ} → ClientKnows side nonce text → ClientKeys

@@ -91,16 +91,22 @@ pub record Store : Type 0 where
   pub version : ScramVersion
   pub records : Records
 
--- what a server answers by: the version and the records of its store, and whether it takes a client that could bind a
--- channel and believes that the server cannot (RFC 5802, section 6)
+-- what a server answers by: a version, the record of each user name, how many HMAC values it makes to look a name up,
+-- and whether it takes a client that could bind a channel and believes that the server cannot (RFC 5802, section 6)
 pub record Provider : Type 0 where
   pub version : ScramVersion
-  pub records : Records
+  pub records : List ℕ → Option Record
+  pub look_up_cost : ℕ
   pub cbind_flag_y : Bool
 
 -- a server over this store
 abbrev pub serving : Bool → Store → Provider
-serving cbind_flag_y store = record { version = store.version; records = store.records; cbind_flag_y = cbind_flag_y }
+serving cbind_flag_y store = record {
+  version = store.version;
+  records = record_at store.records;
+  look_up_cost = 0;
+  cbind_flag_y = cbind_flag_y;
+}
 
 -- the record that a stored password is
 abbrev pub kept : StoredPassword → Record

@@ -24,7 +24,6 @@ pub mod ServerFirstAnswers
 pub mod ServerFinal
 pub mod ScramClient
 pub mod ScramServer
-pub mod HidingServer
 pub mod Exchanges
 pub mod Logins
 pub mod Agreement

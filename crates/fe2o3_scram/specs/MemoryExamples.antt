@@ -5,7 +5,7 @@ use Rattle.fe2o3_scram.specs.declared.hmac.ScramVersion.{ScramVersion}
 use Rattle.fe2o3_scram.specs.declared.scram_messages.channel_binding_flag.ChannelBindingFlag.TheVariants.{NotSupported}
 use Rattle.fe2o3_scram.specs.ClientFinal.{client_final_of, without_proof}
 use Rattle.fe2o3_scram.specs.ClientKeys.{ClientKeys}
-use Rattle.fe2o3_scram.specs.Credentials.{Provider}
+use Rattle.fe2o3_scram.specs.Credentials.{Record, serving}
 use Rattle.fe2o3_scram.specs.RecordLines.{ReachesUser}
 use Rattle.fe2o3_scram.specs.RecordText.{ReachesValues}
 use Rattle.fe2o3_scram.specs.ScramClient.{ClientFinalSent, ReachesSaltIn, ReachesVerifierIn}
@@ -25,7 +25,7 @@ AnsweredClientsTakeNone = (signature text : List ℕ) (keys : Option ClientKeys)
 -- a client-first message without escapes, of a user whom the server does not know (RFC 5802, section 5.1)
 abbrev pub UnknownUsersTakeNone : Type 0
 UnknownUsersTakeNone = (version : ScramVersion) (cbind_flag_y : Bool)
-    → ¬ ReachesChallenge (record { version = version; records = []; cbind_flag_y = cbind_flag_y }) (codes "n,,n=user,r=abc")
+    → ¬ ReachesChallenge (serving cbind_flag_y (record { version = version; records = [] })) (codes "n,,n=user,r=abc")
 
 -- the challenge with the nonce abc, to whatever user
 abbrev pub challenge_abc : List ℕ → List ℕ → List ℕ → ServerChallenge
@@ -34,14 +34,14 @@ challenge_abc user bare first =
 
 -- a client-final message with the nonce of another exchange (RFC 5802, section 5.1)
 abbrev pub OtherNoncesTakeNone : Type 0
-OtherNoncesTakeNone = (provider : Provider) (user bare first : List ℕ)
-    → ¬ ReachesBase64In (ServerFirstSent (challenge_abc user bare first)) provider
+OtherNoncesTakeNone = (stored : Record) (user bare first : List ℕ)
+    → ¬ ReachesBase64In (ServerFirstSent (challenge_abc user bare first) stored)
     (client_final_of (without_proof (codes "abd")) [])
 
 -- a client-final message without a channel binding (RFC 5802, section 7)
 abbrev pub UnboundTextsTakeNone : Type 0
-UnboundTextsTakeNone = (provider : Provider) (user bare first : List ℕ)
-    → ¬ ReachesBase64In (ServerFirstSent (challenge_abc user bare first)) provider (codes "r=abc,p=AA==")
+UnboundTextsTakeNone = (stored : Record) (user bare first : List ℕ)
+    → ¬ ReachesBase64In (ServerFirstSent (challenge_abc user bare first) stored) (codes "r=abc,p=AA==")
 
 -- a record of an unknown mechanism (RFC 5803, section 2)
 abbrev pub UnknownMechanismsTakeNone : Type 0

@@ -1,6 +1,6 @@
 -- The mock record of a name, by which a server answers an unknown user as it answers a known one. RFC 5802 leaves open
 -- what a server answers to an unknown user.
-use Rattle.std.specs.Prelude.{ℕ, List, ◌++◌, codes, map, take}
+use Rattle.std.specs.Prelude.{ℕ, List, ◌++◌, Option, Some, None, codes, option_map, take}
 use Rattle.fe2o3_scram.specs.declared.hmac.ScramVersion.{ScramVersion}
 use Rattle.fe2o3_scram.specs.declared.hmac.ScramVersion.TheVariants.{Sha512}
 use Rattle.fe2o3_scram.specs.Credentials.{Record, Provider}
@@ -26,12 +26,21 @@ mock_record mock name = record {
   server_key = hmac_of mock.version mock.secret (codes "ServerKey:" ++ name);
 }
 
--- the provider with the mock records of these names after its own: a name that it has keeps its own, since the first of
--- a name counts
-abbrev pub with_mock : Provider → MockSettings → List (List ℕ) → Provider
-with_mock provider mock names = record {
+-- a stored record, or where there is none this mock record, if there is one
+abbrev pub stored_or : Option Record → Option Record → Option Record
+stored_or (Some mock) None = Some mock
+stored_or mock stored = stored
+
+-- the HMAC values of one look-up: with mock authentication those of a mock record, for a known user too
+abbrev pub mock_cost : Option MockSettings → ℕ
+mock_cost None = 0
+mock_cost (Some mock) = 3
+
+-- the provider with mock authentication, where there are settings of it: a name without a record has its mock record
+abbrev pub mocking : Option MockSettings → Provider → Provider
+mocking settings provider = record {
   version = provider.version;
+  records = λ name. stored_or (option_map (λ mock. mock_record mock name) settings) (provider.records name);
+  look_up_cost = mock_cost settings;
   cbind_flag_y = provider.cbind_flag_y;
-  records =
-      provider.records ++ map (λ name. (name, mock_record mock name)) names;
 }

@@ -1,22 +1,26 @@
 -- A SCRAM server from message to message (RFC 5802, section 5).
-use Rattle.std.specs.Prelude.{ℕ, List, Bool, ◌≡◌, ◌⊎◌, Option, Some, None, MatchOption, Result, Ok, Err}
+use Rattle.std.specs.Prelude.{ℕ, List, Bool, ◌≡◌, ◌≤◌, ◌+◌, Option, Some, None, Result, Ok, Err}
 use Rattle.std.specs.String.{string_bytes}
 use Rattle.fe2o3_scram.specs.declared.scram_messages.error.ServerScramErrorKind.{ServerScramErrorKind}
-use Rattle.fe2o3_scram.specs.declared.scram_messages.error.ServerScramErrorKind.TheVariants.{AuthenticationFailed, IllegalAuthenticatorState}
+use Rattle.fe2o3_scram.specs.declared.scram_messages.error.ServerScramErrorKind.TheVariants.{IllegalAuthenticatorState, OutOfMemory}
+use Rattle.fe2o3_scram.specs.declared.hmac.ScramVersion.{ScramVersion}
 use Rattle.fe2o3_scram.specs.declared.scram_server.ScramAuthenticatorState.{ScramAuthenticatorState}
 use Rattle.fe2o3_scram.specs.declared.scram_server.ScramAuthenticatorState.TheVariants.{Initial as CodeInitial, ServerFirstSent as CodeServerFirstSent, ServerFinalSent as CodeServerFinalSent}
 use Rattle.fe2o3_scram.specs.Texts.{base64_text}
+use Rattle.fe2o3_scram.specs.ClientFirst.{ReadsClientFirst}
 use Rattle.fe2o3_scram.specs.ServerFirst.{ServerChallenge, AnswersClientFirst}
-use Rattle.fe2o3_scram.specs.Credentials.{Record, Store, Provider, record_at, serving}
+use Rattle.fe2o3_scram.specs.Credentials.{Record, Store, Provider, serving}
+use Rattle.fe2o3_scram.specs.MockSettings.{MockSettings, mocking}
 use Rattle.fe2o3_scram.specs.ClientFinal.{ReachesBase64, Server, server_of}
 use Rattle.fe2o3_scram.specs.ServerFinal.{AnswersClientFinal, FinalCosts}
 use Rattle.fe2o3_scram.specs.declared.scram_server.ScramAuthenticator.{ScramAuthenticator}
 use Rattle.fe2o3_scram.specs.declared.scram_server.open_challenge.OpenChallenge.{OpenChallenge}
 
--- what a server has sent last (RFC 5802, section 5): an open challenge, or the end of the login of a user
+-- what a server has sent last (RFC 5802, section 5): an open challenge, made with this record of its user, or the end of
+-- the login of a user
 pub data ServerState : Type 0 where
   Initial : ServerState
-  ServerFirstSent : (challenge : ServerChallenge) → ServerState
+  ServerFirstSent : (challenge : ServerChallenge) → (stored : Record) → ServerState
   ServerFinalSent : (user : List ℕ) → ServerState
 
 -- who has logged in, where no later challenge has opened the login anew
@@ -26,13 +30,18 @@ logged_in state = None
 
 -- the challenge that is open
 abbrev pub open_challenge : ServerState → Option ServerChallenge
-open_challenge (ServerFirstSent challenge) = Some challenge
+open_challenge (ServerFirstSent challenge stored) = Some challenge
 open_challenge state = None
 
--- a server's open challenge and who has logged in are all of its state
+-- the record that it was made with
+abbrev pub open_record : ServerState → Option Record
+open_record (ServerFirstSent challenge stored) = Some stored
+open_record state = None
+
+-- a server's open challenge, the record of this and who has logged in are all of its state
 abbrev pub StatesAreReported : Type 0
 StatesAreReported = (state other : ServerState) → open_challenge state ≡ open_challenge other
-    → logged_in state ≡ logged_in other → state ≡ other
+    → open_record state ≡ open_record other → logged_in state ≡ logged_in other → state ≡ other
 
 -- what a server answers to a client-first message in whatever state (RFC 5802, section 5), and its state after it: a
 -- challenge takes the place of an earlier one, an unknown user and a refusal change nothing
@@ -40,57 +49,59 @@ abbrev pub ChallengesFrom : ServerState → Provider → List ℕ → List ℕ �
     → ServerState → Type 0
 ChallengesFrom state provider nonce text (Ok (Some message)) next =
     (challenge : ServerChallenge) × AnswersClientFirst provider (base64_text nonce) text (Ok (Some challenge))
-    × (message ≡ challenge.first) × (next ≡ ServerFirstSent challenge)
+    × (message ≡ challenge.first) × ((stored : Record) × (provider.records challenge.user ≡ Some stored)
+    × (next ≡ ServerFirstSent challenge stored))
 ChallengesFrom state provider nonce text (Ok None) next =
     AnswersClientFirst provider (base64_text nonce) text (Ok None) × (next ≡ state)
 ChallengesFrom state provider nonce text (Err fault) next =
     AnswersClientFirst provider (base64_text nonce) text (Err fault) × (next ≡ state)
 
--- what a server holds against a client-final message, of an open challenge and the record of its user
-abbrev pub server_against : Provider → ServerChallenge → Record → Server
-server_against provider challenge stored =
-    server_of provider.version challenge.header challenge.bare challenge.first challenge.nonce stored
+-- the HMAC values of that answer, as a meter shows them before and after: those of the look-up where the message is
+-- read, and none where it is refused; where memory ran out from none to so many for one that is read
+abbrev pub FirstCosts : {A : Type 0} → Provider → List ℕ → Result A ServerScramErrorKind → ℕ → ℕ → Type 0
+FirstCosts provider text (Ok answer) before after = after ≡ before + provider.look_up_cost
+FirstCosts provider text (Err OutOfMemory) before after = (before ≤ after) × (after ≤ before + provider.look_up_cost)
+    × ((fault : ServerScramErrorKind) → ReadsClientFirst provider.cbind_flag_y text (Err fault) → after ≡ before)
+FirstCosts provider text (Err fault) before after = after ≡ before
+
+-- what a server holds against a client-final message, of an open challenge and the record that it was made with
+abbrev pub server_against : ScramVersion → ServerChallenge → Record → Server
+server_against version challenge stored =
+    server_of version challenge.header challenge.bare challenge.first challenge.nonce stored
 
 -- what a server answers to a client-final message (RFC 5802, section 5), and its state after it: an accepted one
 -- closes the challenge and logs its user in, a refused one changes nothing, and without an open challenge it is
 -- refused unread
-abbrev pub ConcludesFrom : ServerState → Provider → List ℕ → Result (Option (List ℕ)) ServerScramErrorKind → ServerState
-    → Type 0
-ConcludesFrom (ServerFirstSent challenge) provider text (Ok (Some message)) next =
-    (stored : Record) × (record_at provider.records challenge.user ≡ Some stored)
-    × AnswersClientFinal (server_against provider challenge stored) text
-    (Ok message) × (next ≡ ServerFinalSent challenge.user)
-ConcludesFrom (ServerFirstSent challenge) provider text (Err fault) next =
-    (((stored : Record) × (record_at provider.records challenge.user ≡ Some stored)
-    × AnswersClientFinal (server_against provider challenge stored) text
-    (Err fault)) ⊎ ((record_at provider.records challenge.user ≡ None) × (fault ≡ AuthenticationFailed)))
-    × (next ≡ ServerFirstSent challenge)
-ConcludesFrom state provider text (Ok message) next = ⊥
-ConcludesFrom state provider text (Err fault) next = (fault ≡ IllegalAuthenticatorState) × (next ≡ state)
+abbrev pub ConcludesFrom : ServerState → ScramVersion → List ℕ → Result (Option (List ℕ)) ServerScramErrorKind
+    → ServerState → Type 0
+ConcludesFrom (ServerFirstSent challenge stored) version text (Ok (Some message)) next =
+    AnswersClientFinal (server_against version challenge stored) text (Ok message)
+    × (next ≡ ServerFinalSent challenge.user)
+ConcludesFrom (ServerFirstSent challenge stored) version text (Err fault) next =
+    AnswersClientFinal (server_against version challenge stored) text (Err fault)
+    × (next ≡ ServerFirstSent challenge stored)
+ConcludesFrom state version text (Ok message) next = ⊥
+ConcludesFrom state version text (Err fault) next = (fault ≡ IllegalAuthenticatorState) × (next ≡ state)
 
--- a server in this state comes to ask for memory for that answer (RFC 5802, section 5): with an open challenge, of a
--- user whom the provider has, it does where it comes to a base64 text, and otherwise never
-abbrev pub ReachesBase64In : ServerState → Provider → List ℕ → Type 0
-ReachesBase64In (ServerFirstSent challenge) provider text =
-    ((stored : Record) × (record_at provider.records challenge.user ≡ Some stored))
-    × ReachesBase64 challenge.header challenge.nonce text
-ReachesBase64In state provider text = ⊥
+-- a server in this state comes to ask for memory for that answer (RFC 5802, section 5): with an open challenge it does
+-- where it comes to a base64 text, and otherwise never
+abbrev pub ReachesBase64In : ServerState → List ℕ → Type 0
+ReachesBase64In (ServerFirstSent challenge stored) text = ReachesBase64 challenge.header challenge.nonce text
+ReachesBase64In state text = ⊥
 
 -- the HMAC values of that answer (RFC 5802, section 3), as a meter shows them before and after the call: those of the
--- proof and the signature where a challenge is open and the provider has its user, and none elsewhere
-abbrev pub FinalCostsFrom : {A : Type 0} → ServerState → Provider → List ℕ → Result A ServerScramErrorKind → ℕ → ℕ
+-- proof and the signature where a challenge is open, and none elsewhere
+abbrev pub FinalCostsFrom : {A : Type 0} → ServerState → ScramVersion → List ℕ → Result A ServerScramErrorKind → ℕ → ℕ
     → Type 0
-FinalCostsFrom (ServerFirstSent challenge) provider text result before after =
-    MatchOption (record_at provider.records challenge.user) (after ≡ before)
-    (λ stored. FinalCosts (server_against provider challenge stored) text
-    result before after)
-FinalCostsFrom state provider text result before after = after ≡ before
+FinalCostsFrom (ServerFirstSent challenge stored) version text result before after =
+    FinalCosts (server_against version challenge stored) text result before after
+FinalCostsFrom state version text result before after = after ≡ before
 
 -- the state that the code's state is
 abbrev pub server_state_of : ScramAuthenticatorState → ServerState
 server_state_of CodeInitial = Initial
-server_state_of (CodeServerFirstSent user header bare nonce first) = ServerFirstSent
-    (record { user = string_bytes user; header = header; bare = bare; first = first; nonce = nonce })
+server_state_of (CodeServerFirstSent user header bare nonce first stored) = ServerFirstSent
+    (record { user = string_bytes user; header = header; bare = bare; first = first; nonce = nonce }) stored
 server_state_of (CodeServerFinalSent user) = ServerFinalSent (string_bytes user)
 
 -- the challenge of plain texts
@@ -111,9 +122,14 @@ provider_in authenticator = authenticator.credentials
 abbrev pub cbind_flag_y_in : {C : Type 0} → ScramAuthenticator C → Bool
 cbind_flag_y_in authenticator = authenticator.accept_cbind_flag_y
 
+-- its settings of mock authentication, if it has them
+abbrev pub mock_in : {C : Type 0} → ScramAuthenticator C → Option MockSettings
+mock_in authenticator = authenticator.mock
+
 -- what it answers by, where stores mean this
 abbrev pub served_by : {C : Type 0} → (C → Store) → ScramAuthenticator C → Provider
-served_by meaning authenticator = serving (cbind_flag_y_in authenticator) (meaning (provider_in authenticator))
+served_by meaning authenticator =
+    mocking (mock_in authenticator) (serving (cbind_flag_y_in authenticator) (meaning (provider_in authenticator)))
 
 -- its state
 abbrev pub state_in : {C : Type 0} → ScramAuthenticator C → ServerState

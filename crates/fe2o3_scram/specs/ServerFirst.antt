@@ -12,7 +12,7 @@ use Rattle.std.specs.Fmt.{decimal}
 use Rattle.fe2o3_scram.specs.declared.scram_messages.error.ServerScramErrorKind.{ServerScramErrorKind}
 use Rattle.fe2o3_scram.specs.ClientFirst.{ClientFirst, ReadsClientFirst, HasEscapes}
 use Rattle.fe2o3_scram.specs.declared.scram_messages.channel_binding_flag.ChannelBindingFlag.{ChannelBindingFlag}
-use Rattle.fe2o3_scram.specs.Credentials.{Record, Provider, record_at}
+use Rattle.fe2o3_scram.specs.Credentials.{Record, Provider}
 use Rattle.fe2o3_scram.specs.declared.client_secret.IterationLimits.{IterationLimits}
 use Rattle.fe2o3_scram.specs.ClientKeys.{ClientKeys}
 use Rattle.fe2o3_scram.specs.ClientSecret.{Secret, Password, Keys, Both}
@@ -133,14 +133,14 @@ challenge_of client server_nonce stored =
 abbrev pub ReachesChallenge : Provider → List ℕ → Type 0
 ReachesChallenge provider text = HasEscapes provider.cbind_flag_y text
     ⊎ ((client : ClientFirst) × (stored : Record) × ReadsClientFirst provider.cbind_flag_y text (Ok client)
-    × (record_at provider.records client.user ≡ Some stored))
+    × (provider.records client.user ≡ Some stored))
 
 -- what the server answers to a client-first message (RFC 5802, section 5): the first refusal, nothing to a user whom
 -- it does not know, or the challenge
 abbrev pub AnswersClientFirst : Provider → List ℕ → List ℕ → Result (Option ServerChallenge) ServerScramErrorKind → Type 0
 AnswersClientFirst provider server_nonce text (Ok None) = (client : ClientFirst)
-    × ReadsClientFirst provider.cbind_flag_y text (Ok client) × (record_at provider.records client.user ≡ None)
+    × ReadsClientFirst provider.cbind_flag_y text (Ok client) × (provider.records client.user ≡ None)
 AnswersClientFirst provider server_nonce text (Ok (Some challenge)) =
     (client : ClientFirst) × (stored : Record) × ReadsClientFirst provider.cbind_flag_y text (Ok client)
-    × (record_at provider.records client.user ≡ Some stored) × (challenge ≡ challenge_of client server_nonce stored)
+    × (provider.records client.user ≡ Some stored) × (challenge ≡ challenge_of client server_nonce stored)
 AnswersClientFirst provider server_nonce text (Err fault) = ReadsClientFirst provider.cbind_flag_y text (Err fault)

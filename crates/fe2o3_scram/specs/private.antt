@@ -2,7 +2,6 @@
 pub mod Answers
 pub mod ByName
 pub mod Hashers
-pub mod MadeUp
 pub mod Pieces
 pub mod Serving
 pub mod Tests

@@ -3,7 +3,7 @@
 
 ghost use Rattle.std.specs.Prelude.{◌≡◌};
 ghost use Rattle.fe2o3_scram.specs.Agreement.{VerifiedTextsAgree};
-ghost use Rattle.fe2o3_scram.specs.Logins.{AcceptedTextsLogIn, HiddenTextsLogIn, VerifiedTextsAreSigned};
+ghost use Rattle.fe2o3_scram.specs.Logins.{AcceptedTextsLogIn, VerifiedTextsAreSigned};
 ghost use Rattle.fe2o3_scram.specs.Laws.{OneVersion, OneFinalText, OneSignature, DigestsAreSized, MacsAreSized, OneBytesOfBase64, Base64IsReadAgain, NoCommaInBase64, PartsExist, OneListOfParts, OneEscapedName, NoCommaInEscapedNames, OneClientFirst, OneServerFirst, OneClientFinal, OneServerFinal, SomeClientFirst, SomeServerFirst, SomeClientFinal, SomeServerFinal, UnalteredExchangesSucceed, MadeRecordsAreReadable, OneRecord, OneSpelling, RecordsAreReadAgain, SomeRecord, OneUsersAnswer, SomeUsersAnswer, UsersAreReadAgain, OneMixedAnswer, SomeMixedAnswer, MixedAreReadAgain, MixedAreWrittenBack, NoMismatch, KeysStandForPassword, KeysAnswerAsPassword, BothAnswerAsPassword, OneRecordOfPassword, OneAnswerOfPassword};
 ghost use Rattle.fe2o3_scram.specs.ScramServer.{StatesAreReported};
 ghost use Rattle.fe2o3_scram.specs.MemoryExamples.{AnsweredClientsTakeNone, CommasTakeNone, ErrorsTakeNone, OtherNoncesTakeNone, UnboundTextsTakeNone, UnknownMechanismsTakeNone, UnknownUsersTakeNone};
@@ -59,9 +59,9 @@ pub fn one_answer_each()
 {}
 
 /// States what an accepted message means. A server accepts a client-final message only if a challenge
-/// is open and the proof meets the record of its user, whom it then names; a server with mock
-/// authentication too. A client accepts a server-final message only with the signature of the answer
-/// that it waits for. A caller's own proof cites these from `proofs/lemmas/messages/LoginLemmas.antt`.
+/// is open and the proof meets the record that it was made with, and then names the user of the
+/// challenge. A client accepts a server-final message only with the signature of the answer that it
+/// waits for. A caller's own proof cites these from `proofs/lemmas/messages/LoginLemmas.antt`.
 ///
 /// If a client accepted the message by which a server accepted, both agree on version, user name and
 /// client nonce, or their own differing AuthMessages share one HMAC value. They agree on the nonce of
@@ -69,7 +69,6 @@ pub fn one_answer_each()
 /// attribute that RFC 5802 defines in the place of an extension; in the second case also on the header.
 pub fn accepted_messages()
     ensures server { AcceptedTextsLogIn }
-    ensures hiding { HiddenTextsLogIn }
     ensures client { VerifiedTextsAreSigned }
     ensures agreement { VerifiedTextsAgree }
 {}
@@ -145,8 +144,9 @@ pub fn texts_without_memory()
     ensures commas { CommasTakeNone }
 {}
 
-/// States that what a server reports of its state is all of it. Two servers with one open challenge and one
-/// user who has logged in are in one state, so `open_challenge` and `user` are enough to save a server.
+/// States what the state of a server is. Two servers with one open challenge, one record that it was made
+/// with and one user who has logged in are in one state, so `open_challenge`, the record and
+/// `authenticated_user` are enough to restore a server.
 pub fn saved_servers()
     ensures { StatesAreReported }
 {}

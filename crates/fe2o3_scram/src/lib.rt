@@ -31,20 +31,20 @@ mod texts;
 pub use crate::client_secret::{ClientSecret, IterationLimits};
 pub use crate::credentials::{
     AddRecordError, DEFAULT_SCRAM_ITERATIONS, MultiRecordStore, ReadLinesError, ReadLinesErrorKind,
-    RecordTextError, RecordStore, ScramRecord, SingleScramCredential, UserRecord,
-    WriteLinesError,
+    RecordStore, RecordTextError, ScramRecord, SingleScramCredential, UserRecord, WriteLinesError,
 };
 pub use crate::hmac::{DigestBytes, Meter, ScramVersion, UnknownMechanism, XorLengthMismatch};
-pub use crate::keys::{RecordError, CachedKeys, auth_message};
+pub use crate::keys::{CachedKeys, RecordError, auth_message};
 pub use crate::pbkdf2_hi::KeyError;
 pub use crate::provider::{ScramCredentialProvider, StoredPassword};
 pub use crate::saslprep_ascii::{NormalizeError, saslprep};
 pub use crate::scram_client::ScramClient;
 pub use crate::scram_messages::{
-    ClientAnswer, ClientFinal, ClientFirst, ChannelBindingFlag, ScramErrorKind, ServerFinal, ServerFirst,
-    ServerFirstMessage, ServerScramErrorKind, UnescapeError, escape_username, unescape_username,
+    ChannelBindingFlag, ClientAnswer, ClientFinal, ClientFirst, ScramErrorKind, ServerFinal,
+    ServerFirst, ServerFirstMessage, ServerScramErrorKind, UnescapeError, escape_username,
+    unescape_username,
 };
-pub use crate::scram_server::ScramAuthenticator;
-pub use crate::scram_server::hiding::{HidingAuthenticator, SaltTooLong};
 pub use crate::scram_server::open_challenge::OpenChallenge;
+pub use crate::scram_server::{SaltTooLong, ScramAuthenticator};
+pub use crate::texts::base64_of_nonce;
 pub use std::alloc::AllocError as OutOfMemory;

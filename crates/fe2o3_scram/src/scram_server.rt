@@ -1,25 +1,31 @@
 //! The SCRAM server as a machine: one message after the other (RFC 5802, section 5).
 
-ghost use Rattle.std.specs.Prelude.{◌≡◌, ◌≤◌, ◌^◌, IfOk, OnErr, false, true, option_map};
-ghost use Rattle.fe2o3_scram.specs.ScramServer.{provider_in, served_by, state_in, cbind_flag_y_in, Initial, ServerFirstSent, ServerFinalSent, logged_in, ChallengesFrom, ConcludesFrom, FinalCostsFrom, ReachesBase64In, server_state_of};
-ghost use Rattle.fe2o3_scram.specs.ServerFirst.{ServerChallenge, ReachesChallenge, challenge_values};
+ghost use Rattle.std.specs.Prelude.{◌≡◌, ◌≤◌, ◌^◌, IfOk, OnErr, None, false, option_map};
+ghost use Rattle.fe2o3_scram.specs.ClientFirst.{client_first_values};
+ghost use Rattle.fe2o3_scram.specs.Credentials.{Record, kept};
+ghost use Rattle.fe2o3_scram.specs.ScramServer.{provider_in, served_by, state_in, cbind_flag_y_in, mock_in, Initial, ServerFirstSent, ServerFinalSent, logged_in, ChallengesFrom, ConcludesFrom, FirstCosts, FinalCostsFrom, ReachesBase64In, server_state_of};
+ghost use Rattle.fe2o3_scram.specs.ServerFirst.{ServerChallenge, ReachesChallenge, challenge_of, challenge_values};
 ghost use Rattle.fe2o3_scram.specs.Readings.{Gives};
 
-pub mod hiding;
-mod hiding_store;
+mod kept_record;
+mod mock_users;
 pub mod open_challenge;
 
 use crate::OutOfMemory;
 use crate::hmac::Meter;
-use crate::provider::ScramCredentialProvider;
+use crate::provider::{ScramCredentialProvider, StoredPassword};
 use crate::scram_messages::error::ServerScramErrorKind;
-use crate::scram_messages::{ChannelBindingFlag, ServerFirstMessage, challenge};
+use crate::scram_messages::{ChannelBindingFlag, ClientFirst, ServerFirstMessage, challenge_to};
+use crate::scram_server::kept_record::KeptRecord;
+pub use crate::scram_server::mock_users::SaltTooLong;
+use crate::scram_server::mock_users::{MockUsers, look_up, mock_values};
 use crate::texts::base64_of_nonce;
 use bytes::Bytes;
 use std::alloc::{AllocError, Global};
 use std::{fmt, mem};
 
-/// What a server has sent last.
+/// What a server has sent last. An open challenge has the record that it was made with: the store may
+/// change before the client-final message.
 #[derive(Drop)]
 enum ScramAuthenticatorState {
     Initial,
@@ -29,6 +35,7 @@ enum ScramAuthenticatorState {
         client_first_message_bare: Bytes,
         client_server_nonce: Bytes,
         server_first_message: Bytes,
+        stored: KeptRecord,
     },
     ServerFinalSent {
         username: String,
@@ -48,12 +55,14 @@ impl ScramAuthenticatorState {
                 client_first_message_bare,
                 client_server_nonce,
                 server_first_message,
+                stored,
             } => ScramAuthenticatorState::ServerFirstSent {
                 username: username.clone()?,
                 header: *header,
                 client_first_message_bare: client_first_message_bare.clone()?,
                 client_server_nonce: client_server_nonce.clone()?,
                 server_first_message: server_first_message.clone()?,
+                stored: stored.clone()?,
             },
             ScramAuthenticatorState::ServerFinalSent { username } => {
                 ScramAuthenticatorState::ServerFinalSent {
@@ -65,7 +74,8 @@ impl ScramAuthenticatorState {
 
     /// The state once the open challenge is accepted: its user has logged in.
     fn accepted(self) -> ScramAuthenticatorState
-        ensures { (challenge : ServerChallenge) → server_state_of self ≡ ServerFirstSent challenge
+        ensures { (challenge : ServerChallenge) (stored : Record)
+            → server_state_of self ≡ ServerFirstSent challenge stored
             → server_state_of result ≡ ServerFinalSent challenge.user }
     {
         match self {
@@ -77,14 +87,32 @@ impl ScramAuthenticatorState {
     }
 }
 
-/// Returns the message of a challenge, and the state in which the challenge is open. No store is a
-/// parameter, so that what memory is asked for does not depend on one.
+/// Returns the message of a challenge to a client-first message, and the state in which the challenge
+/// is open. No store is a parameter, so that the requests for memory do not depend on one.
+fn challenged(
+    alloc: Global,
+    client_first: ClientFirst<'_>,
+    nonce: &str,
+    stored: &StoredPassword<'_>,
+) -> Result<(Vec<u8>, ScramAuthenticatorState), OutOfMemory>
+    ensures message { IfOk result (λ made. made.0.items
+        ≡ (challenge_of (client_first_values client_first.entry) nonce.now (kept stored.now)).first) }
+    ensures state { IfOk result (λ made. server_state_of made.1 ≡ ServerFirstSent
+        (challenge_of (client_first_values client_first.entry) nonce.now (kept stored.now)) (kept stored.now)) }
+{
+    let server_first = challenge_to(alloc, client_first, nonce, stored)?;
+    opened(alloc, server_first, stored)
+}
+
+/// Returns the message of a challenge, and the state in which the challenge is open with this record.
 fn opened(
     alloc: Global,
     server_first: ServerFirstMessage<'_>,
+    stored: &StoredPassword<'_>,
 ) -> Result<(Vec<u8>, ScramAuthenticatorState), OutOfMemory>
     ensures message { IfOk result (λ made. made.0.items ≡ (challenge_values server_first.entry).first) }
-    ensures state { IfOk result (λ made. server_state_of made.1 ≡ ServerFirstSent (challenge_values server_first.entry)) }
+    ensures state { IfOk result (λ made. server_state_of made.1
+        ≡ ServerFirstSent (challenge_values server_first.entry) (kept stored.now)) }
 {
     let ServerFirstMessage {
         username,
@@ -94,9 +122,10 @@ fn opened(
         message,
     } = server_first;
     let username = username.into_owned(alloc)?;
-    let client_first_message_bare = Bytes::copy_from_slice(
+    let (client_first_message_bare, stored) = KeptRecord::behind(
         alloc,
         client_first_message_bare.as_bytes(),
+        stored,
     )?;
     let answer = message.to_vec(alloc)?;
     let state = ScramAuthenticatorState::ServerFirstSent {
@@ -105,6 +134,7 @@ fn opened(
         client_first_message_bare,
         client_server_nonce,
         server_first_message: message,
+        stored,
     };
     Ok((answer, state))
 }
@@ -112,39 +142,49 @@ fn opened(
 /// A server over a store of credentials. A client-first message opens a challenge, in place of an
 /// earlier one, and an accepted client-final message closes it. A call that returns an error leaves
 /// the authenticator unchanged.
+///
+/// Each login looks its user up once, at the client-first message. The open challenge keeps a copy of
+/// the record that it was made with, so the store may change between two messages of one login: a
+/// user who is removed or gets another record can still end a login that has begun.
 #[derive(Drop)]
 pub struct ScramAuthenticator<C: ScramCredentialProvider> {
     credentials: C,
     accept_cbind_flag_y: bool,
+    mock: Option<MockUsers>,
     state: ScramAuthenticatorState,
 }
 
 impl<C: ScramCredentialProvider> ScramAuthenticator<C> {
-    /// Returns a server without an open challenge. It accepts clients whose GS2 header is `n,,`.
+    /// Returns a server without an open challenge. It accepts clients whose GS2 header is `n,,`, and
+    /// answers an unknown user with `None`.
     pub fn new(credentials: C) -> Self
         ensures provider { provider_in result ≡ credentials }
         ensures cbind_flag_y { cbind_flag_y_in result ≡ false }
+        ensures mock { mock_in result ≡ None }
         ensures state { state_in result ≡ Initial }
     {
         Self {
             credentials,
             accept_cbind_flag_y: false,
+            mock: None,
             state: ScramAuthenticatorState::Initial,
         }
     }
 
-    /// Returns this server, but one that accepts the GS2 header `y,,` too. A client with that header
-    /// supports channel binding, and believes that the server does not, since it was offered no
-    /// mechanism with `-PLUS` (RFC 5802, section 6). Its client-final message has to repeat the header.
-    /// A server that offers such a mechanism must not accept that client.
-    pub fn accept_cbind_flag_y(self) -> Self
+    /// Returns this server, but with this option: whether it accepts the GS2 header `y,,` too. A client
+    /// with that header supports channel binding, and believes that the server does not, since it was
+    /// offered no mechanism with `-PLUS` (RFC 5802, section 6). Its client-final message has to repeat
+    /// the header. A server that offers such a mechanism must not accept that client.
+    pub fn accept_cbind_flag_y(self, accept: bool) -> Self
         ensures provider { provider_in result ≡ provider_in self }
-        ensures cbind_flag_y { cbind_flag_y_in result ≡ true }
+        ensures cbind_flag_y { cbind_flag_y_in result ≡ accept }
+        ensures mock { mock_in result ≡ mock_in self }
         ensures state { state_in result ≡ state_in self }
     {
         Self {
             credentials: self.credentials,
-            accept_cbind_flag_y: true,
+            accept_cbind_flag_y: accept,
+            mock: self.mock,
             state: self.state,
         }
     }
@@ -170,12 +210,12 @@ impl<C: ScramCredentialProvider> ScramAuthenticator<C> {
     }
 
     /// Answers a client-first message with the server-first message (RFC 5802, sections 5 and 7), or
-    /// with `None` if the user is unknown. The message is the client's text as received, with its GS2
-    /// header. The nonce is 32 bytes, new for each exchange. It is written in base64, as 44 symbols,
-    /// after the client's.
+    /// with `None` if the user is unknown. With mock authentication no user is. The message is the
+    /// client's text as received, with its GS2 header. The nonce is 32 bytes, new for each exchange. It
+    /// is written in base64, as 44 symbols, after the client's.
     ///
     /// The errors are those of `ClientFirst::parse`, in its order, in every state. `OutOfMemory` is
-    /// returned only if the user name is escaped, or for a known user.
+    /// returned only if the user name is escaped, or if the user has a record or a mock record.
     pub fn compute_server_first_message(
         &mut self,
         alloc: Global,
@@ -189,21 +229,54 @@ impl<C: ScramCredentialProvider> ScramAuthenticator<C> {
             client_first_message.now answer (state_in self.new)) }
         ensures provider { provider_in self.new ≡ provider_in self.old }
         ensures cbind_flag_y { cbind_flag_y_in self.new ≡ cbind_flag_y_in self.old }
+        ensures mock { mock_in self.new ≡ mock_in self.old }
         ensures err { OnErr result (state_in self.new ≡ state_in self.old) }
     {
-        let mut room = [0; 44];
-        let nonce = base64_of_nonce(nonce, &mut room);
-        let Some(server_first) = challenge(
+        self.compute_server_first_message_metered(
             alloc,
             client_first_message,
             nonce,
+            &mut Meter::new(),
+        )
+    }
+
+    /// Like `compute_server_first_message`, with a meter. The meter, of at most 2^63, counts the HMAC
+    /// values. There are none without mock authentication. With it there are three if the message is
+    /// read, for a known user too, none if it is rejected, and at most three if the call runs out of
+    /// memory.
+    pub fn compute_server_first_message_metered(
+        &mut self,
+        alloc: Global,
+        client_first_message: &[u8],
+        nonce: &[u8; 32],
+        meter: &mut Meter,
+    ) -> Result<Option<Vec<u8>>, ServerScramErrorKind>
+        requires { meter.old ≤ 2 ^ 63 }
+        ensures answer { Gives ServerScramErrorKind.OutOfMemory
+            (ReachesChallenge (served_by C.meaning self.old) client_first_message.now)
+            (option_map (λ message. message.items)) result
+            (λ answer. ChallengesFrom (state_in self.old) (served_by C.meaning self.old) nonce.now
+            client_first_message.now answer (state_in self.new)) }
+        ensures provider { provider_in self.new ≡ provider_in self.old }
+        ensures cbind_flag_y { cbind_flag_y_in self.new ≡ cbind_flag_y_in self.old }
+        ensures mock { mock_in self.new ≡ mock_in self.old }
+        ensures err { OnErr result (state_in self.new ≡ state_in self.old) }
+        ensures cost { FirstCosts (served_by C.meaning self.old) client_first_message.now result meter.old meter.new }
+    {
+        let mut room = [0; 44];
+        let nonce = base64_of_nonce(nonce, &mut room);
+        let client_first = ClientFirst::parse_with_cbind_flag_y(
+            alloc,
+            client_first_message,
             self.accept_cbind_flag_y,
-            &self.credentials,
-        )?
-        else {
+        )?;
+        // Memory is asked for only by functions that have no store: the parser before the look-up, and
+        // `challenged` after it. So known users and mock users make the same requests.
+        let mock = mock_values(&self.mock, &client_first.username, meter);
+        let Some(stored) = look_up(&self.credentials, &client_first.username, &mock) else {
             return Ok(None);
         };
-        let (answer, state) = opened(alloc, server_first)?;
+        let (answer, state) = challenged(alloc, client_first, nonce, &stored)?;
         self.state = state;
         Ok(Some(answer))
     }
@@ -211,23 +284,26 @@ impl<C: ScramCredentialProvider> ScramAuthenticator<C> {
     /// Answers a client-final message with the server-final message (RFC 5802, sections 5 and 7), and
     /// never with `None`. The message is the client's text as received.
     ///
-    /// The errors are, in this order: `IllegalAuthenticatorState` if no challenge is open;
-    /// `AuthenticationFailed` if the store no longer has the user; those of `ClientFinal::parse`, in
-    /// its order; `XorLengthMismatch` if the proof is not as long as a digest; and
-    /// `AuthenticationFailed` if the proof does not meet the stored key. `OutOfMemory` is returned only
-    /// where `ClientFinal::parse` asks for memory.
+    /// The proof is tested against the record that the challenge was made with, whatever the store has
+    /// by now.
+    ///
+    /// The errors are, in this order: `IllegalAuthenticatorState` if no challenge is open; those of
+    /// `ClientFinal::parse`, in its order; `XorLengthMismatch` if the proof is not as long as a digest;
+    /// and `AuthenticationFailed` if the proof does not meet the stored key. `OutOfMemory` is returned
+    /// only where `ClientFinal::parse` asks for memory.
     pub fn compute_server_final_message(
         &mut self,
         alloc: Global,
         client_final_message: &[u8],
     ) -> Result<Option<Vec<u8>>, ServerScramErrorKind>
         ensures answer { Gives ServerScramErrorKind.OutOfMemory
-            (ReachesBase64In (state_in self.old) (served_by C.meaning self.old) client_final_message.now)
+            (ReachesBase64In (state_in self.old) client_final_message.now)
             (option_map (λ message. message.items)) result
-            (λ answer. ConcludesFrom (state_in self.old) (served_by C.meaning self.old)
+            (λ answer. ConcludesFrom (state_in self.old) (served_by C.meaning self.old).version
             client_final_message.now answer (state_in self.new)) }
         ensures provider { provider_in self.new ≡ provider_in self.old }
         ensures cbind_flag_y { cbind_flag_y_in self.new ≡ cbind_flag_y_in self.old }
+        ensures mock { mock_in self.new ≡ mock_in self.old }
         ensures err { OnErr result (state_in self.new ≡ state_in self.old) }
     {
         self.compute_server_final_message_metered(alloc, client_final_message, &mut Meter::new())
@@ -243,27 +319,26 @@ impl<C: ScramCredentialProvider> ScramAuthenticator<C> {
     ) -> Result<Option<Vec<u8>>, ServerScramErrorKind>
         requires { meter.old ≤ 2 ^ 63 }
         ensures answer { Gives ServerScramErrorKind.OutOfMemory
-            (ReachesBase64In (state_in self.old) (served_by C.meaning self.old) client_final_message.now)
+            (ReachesBase64In (state_in self.old) client_final_message.now)
             (option_map (λ message. message.items)) result
-            (λ answer. ConcludesFrom (state_in self.old) (served_by C.meaning self.old)
+            (λ answer. ConcludesFrom (state_in self.old) (served_by C.meaning self.old).version
             client_final_message.now answer (state_in self.new)) }
         ensures provider { provider_in self.new ≡ provider_in self.old }
         ensures cbind_flag_y { cbind_flag_y_in self.new ≡ cbind_flag_y_in self.old }
+        ensures mock { mock_in self.new ≡ mock_in self.old }
         ensures err { OnErr result (state_in self.new ≡ state_in self.old) }
-        ensures cost { FinalCostsFrom (state_in self.old) (served_by C.meaning self.old)
+        ensures cost { FinalCostsFrom (state_in self.old) (served_by C.meaning self.old).version
             client_final_message.now result meter.old meter.new }
     {
         match &self.state {
             ScramAuthenticatorState::ServerFirstSent {
-                username,
+                username: _,
                 header,
                 client_first_message_bare,
                 client_server_nonce,
                 server_first_message,
+                stored,
             } => {
-                let Some(stored_password) = self.credentials.get_stored_password(username) else {
-                    return Err(ServerScramErrorKind::AuthenticationFailed);
-                };
                 let server_final_message = self
                     .credentials
                     .scram_version()
@@ -274,7 +349,7 @@ impl<C: ScramCredentialProvider> ScramAuthenticator<C> {
                         client_server_nonce,
                         client_first_message_bare,
                         server_first_message,
-                        &stored_password,
+                        &stored.as_stored_password(),
                         meter,
                     )?;
                 let open = mem::replace(&mut self.state, ScramAuthenticatorState::Initial);
@@ -287,7 +362,7 @@ impl<C: ScramCredentialProvider> ScramAuthenticator<C> {
 }
 
 impl<C: ScramCredentialProvider> fmt::Debug for ScramAuthenticator<C> {
-    /// Writes the version, without the store of credentials and the state.
+    /// Writes the version, without the store of credentials, the settings and the state.
     fn fmt<W: fmt::Write>(&self, f: &mut fmt::Formatter<W>) -> fmt::Result {
         let version = *self.credentials.scram_version();
         write!(f, "ScramAuthenticator {{ scram_version: {version:?}, .. }}")
@@ -296,12 +371,14 @@ impl<C: ScramCredentialProvider> fmt::Debug for ScramAuthenticator<C> {
 
 impl<C: ScramCredentialProvider> Clone for ScramAuthenticator<C> {
     ghost is_clone = { λ authenticator copy. C.is_clone (provider_in authenticator) (provider_in copy)
-        × (cbind_flag_y_in copy ≡ cbind_flag_y_in authenticator) × (state_in copy ≡ state_in authenticator) };
+        × (cbind_flag_y_in copy ≡ cbind_flag_y_in authenticator) × (state_in copy ≡ state_in authenticator)
+        × (mock_in copy ≡ mock_in authenticator) };
 
     fn clone(&self) -> Result<Self, AllocError> {
         Ok(Self {
             credentials: self.credentials.clone()?,
             accept_cbind_flag_y: self.accept_cbind_flag_y,
+            mock: self.mock.clone()?,
             state: self.state.copy()?,
         })
     }

@@ -38,8 +38,9 @@ pub(crate) fn after<'a>(text: &'a str, prefix: &str) -> Option<&'a str>
     text.strip_prefix(prefix)
 }
 
-/// The base64 text of 32 bytes, in the room that is lent. It takes no memory.
-pub(crate) fn base64_of_nonce<'a>(nonce: &[u8; 32], room: &'a mut [u8; 44]) -> &'a str
+/// Writes a nonce of 32 bytes in base64 into the 44 bytes of `room`, and returns the text: it is the
+/// part that a side adds to the nonce of both. The call needs no memory.
+pub fn base64_of_nonce<'a>(nonce: &[u8; 32], room: &'a mut [u8; 44]) -> &'a str
     ensures { result.now ≡ base64_text nonce.now }
 {
     // 32 bytes take 44 symbols, so neither can fail.

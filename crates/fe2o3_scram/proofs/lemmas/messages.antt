@@ -3,8 +3,8 @@ pub mod AnswerCostLemmas
 pub mod ClientFinalLemmas
 pub mod ClientFirstLemmas
 pub mod ExchangeLemmas
+pub mod FirstCostLemmas
 pub mod FittingKeyLemmas
-pub mod HidingServerLemmas
 pub mod KeptKeyLemmas
 pub mod LineListLemmas
 pub mod LoginLemmas

@@ -1,5 +1,5 @@
 pub mod ByNameLemmas
-pub mod HidingLemmas
 pub mod LookUpLemmas
 pub mod MixedLemmas
+pub mod MockLemmas
 pub mod PasswordLemmas

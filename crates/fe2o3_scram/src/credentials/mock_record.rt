@@ -1,7 +1,7 @@
 //! The mock record of a name.
 
 ghost use Rattle.std.specs.Prelude.{◌≡◌, ◌≤◌, ◌<◌, ◌+◌, ◌^◌, ◌++◌, IfOk, codes, take};
-ghost use Rattle.fe2o3_scram.specs.Credentials.{versioned};
+ghost use Rattle.fe2o3_scram.specs.Credentials.{kept, versioned};
 ghost use Rattle.fe2o3_scram.specs.Hmac.{digest_bytes, hmac_of};
 ghost use Rattle.fe2o3_scram.specs.MockSettings.{mock_record};
 
@@ -9,7 +9,9 @@ use crate::OutOfMemory;
 use crate::credentials::scram_record::ScramRecord;
 use crate::hmac::keyed::HmacKey;
 use crate::hmac::{DigestBytes, Meter, ScramVersion};
+use crate::provider::StoredPassword;
 use std::alloc::Global;
+use std::marker::Model;
 
 /// The beginning of the label of a mock salt. The mechanism's name and [`SALT_LABEL_END`] follow.
 const SALT_LABEL: &[u8] = b"Salt:";
@@ -89,19 +91,88 @@ impl ScramRecord {
         }) username.now)) }
         ensures counted { meter.new ≡ meter.old + 3 }
     {
+        let values = MockValues::new(scram_version, secret, username, salt_len, iterations, meter);
+        let stored = values.as_stored_password();
+        Ok(ScramRecord::from_parts(
+            scram_version,
+            stored.salt.to_vec(alloc)?,
+            iterations,
+            stored.stored_key.to_vec(alloc)?,
+            stored.server_key.to_vec(alloc)?,
+        ))
+    }
+}
+
+/// The values of a mock record, which take no memory.
+#[derive(Drop)]
+pub(crate) struct MockValues {
+    salt: DigestBytes,
+    salt_len: usize,
+    iterations: u32,
+    stored_key: DigestBytes,
+    server_key: DigestBytes,
+}
+
+impl Model for MockValues {
+    ghost use Rattle.std.specs.Prelude.{take};
+    ghost use Rattle.fe2o3_scram.specs.Credentials.{Record};
+    ghost use Rattle.fe2o3_scram.specs.Hmac.{digest_bytes};
+
+    ghost Value = { Record };
+
+    ghost view = { λ values. record {
+      salt = take values.salt_len (digest_bytes values.salt);
+      count = values.iterations;
+      stored_key = digest_bytes values.stored_key;
+      server_key = digest_bytes values.server_key;
+    } };
+}
+
+impl MockValues {
+    /// Computes the mock record of a name, as `ScramRecord::mock` does. The meter, of at most 2^63,
+    /// counts three HMAC values.
+    pub(crate) fn new(
+        scram_version: ScramVersion,
+        secret: &[u8],
+        username: &str,
+        salt_len: usize,
+        iterations: u32,
+        meter: &mut Meter,
+    ) -> Self
+        requires { meter.old ≤ 2 ^ 63 }
+        ensures record { result ≡ mock_record (record {
+          version = scram_version;
+          secret = secret.now;
+          salt_len = salt_len;
+          count = iterations;
+        }) username.now }
+        ensures counted { meter.new ≡ meter.old + 3 }
+    {
         let name = username.as_bytes();
         let mechanism = scram_version.mechanism().as_bytes();
         let salt = mock_salt(secret, mechanism, name, meter);
         let key = HmacKey::new(scram_version, secret);
         let stored_key = key.mac(&[STORED_KEY_LABEL, name], meter);
         let server_key = key.mac(&[SERVER_KEY_LABEL, name], meter);
-        Ok(ScramRecord::from_parts(
-            scram_version,
-            first_bytes(salt.as_slice(), salt_len).to_vec(alloc)?,
+        MockValues {
+            salt,
+            salt_len,
             iterations,
-            stored_key.as_slice().to_vec(alloc)?,
-            server_key.as_slice().to_vec(alloc)?,
-        ))
+            stored_key,
+            server_key,
+        }
+    }
+
+    /// Returns the record.
+    pub(crate) fn as_stored_password(&self) -> StoredPassword<'_>
+        ensures { kept result ≡ self.now }
+    {
+        StoredPassword {
+            salt: first_bytes(self.salt.as_slice(), self.salt_len),
+            iterations: self.iterations,
+            stored_key: self.stored_key.as_slice(),
+            server_key: self.server_key.as_slice(),
+        }
     }
 }
 

@@ -12,8 +12,8 @@ ghost use Rattle.fe2o3_scram.specs.declared.credentials.record_lines.ReadLinesEr
 ghost use Rattle.fe2o3_scram.specs.declared.credentials.record_lines.WriteLinesError.TheVariants.{OutOfMemory as OutOfMemoryError};
 
 use crate::OutOfMemory;
-use crate::credentials::record_text::{RecordTextError, record_text};
 use crate::credentials::record_store::{AddRecordError, RecordStore};
+use crate::credentials::record_text::{RecordTextError, record_text};
 use crate::credentials::scram_record::ScramRecord;
 use crate::credentials::users::User;
 use crate::hmac::ScramVersion;

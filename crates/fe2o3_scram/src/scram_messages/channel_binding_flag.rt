@@ -44,7 +44,10 @@ impl ChannelBindingFlag {
 
 /// The header of a client-first message and what stands behind it, where the header is taken: that of a
 /// client that supports channel binding only where `accept_cbind_flag_y` says so.
-pub(crate) fn cut_header(text: &str, accept_cbind_flag_y: bool) -> Option<(ChannelBindingFlag, &str)>
+pub(crate) fn cut_header(
+    text: &str,
+    accept_cbind_flag_y: bool,
+) -> Option<(ChannelBindingFlag, &str)>
     ensures { MatchOption result
         ((header : ChannelBindingFlag) → TakesHeader accept_cbind_flag_y header → ¬ StartsWith text.now (header_text header))
         (λ cut. TakesHeader accept_cbind_flag_y cut.0 × (text.now ≡ header_text cut.0 ++ cut.1.now)) }

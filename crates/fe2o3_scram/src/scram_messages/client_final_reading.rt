@@ -8,8 +8,8 @@ ghost use Rattle.fe2o3_scram.specs.ClientFirst.{header_text};
 ghost use Rattle.fe2o3_scram.specs.Texts.{Part, LastPart, HasBase64};
 
 use crate::scram_messages::attributes::{CHANNEL_BINDING_KEY, NONCE_KEY, PROOF_KEY};
-use crate::scram_messages::error::ServerScramErrorKind;
 use crate::scram_messages::channel_binding_flag::ChannelBindingFlag;
+use crate::scram_messages::error::ServerScramErrorKind;
 use crate::texts::{after, attribute, bytes_of, last_part};
 use std::alloc::Global;
 
@@ -43,7 +43,12 @@ impl<'a> ClientFinal<'a> {
             (ReachesBase64 ChannelBindingFlag.NotSupported client_server_nonce.now text.now) client_final_values result
             (ReadsFinalText ChannelBindingFlag.NotSupported client_server_nonce.now text.now) }
     {
-        ClientFinal::parse_with_gs2_header(alloc, ChannelBindingFlag::NotSupported, client_server_nonce, text)
+        ClientFinal::parse_with_gs2_header(
+            alloc,
+            ChannelBindingFlag::NotSupported,
+            client_server_nonce,
+            text,
+        )
     }
 
     /// As `parse`, behind a client-first message with this GS2 header: in place of `biws` the channel

@@ -6,9 +6,9 @@ ghost use Rattle.fe2o3_scram.specs.ClientFirst.{HasEscapes, ReadsClientFirst, cl
 ghost use Rattle.fe2o3_scram.specs.Readings.{Gives};
 
 use crate::scram_messages::attributes::{NONCE_KEY, USERNAME_KEY};
+use crate::scram_messages::channel_binding_flag::{ChannelBindingFlag, cut_header};
 use crate::scram_messages::error::ServerScramErrorKind;
 use crate::scram_messages::escape::{UnescapeError, unescape_username};
-use crate::scram_messages::channel_binding_flag::{ChannelBindingFlag, cut_header};
 use crate::texts::attribute;
 use std::alloc::Global;
 use std::borrow::CowStr;
@@ -61,8 +61,10 @@ impl<'a> ClientFirst<'a> {
         let Ok(client_first) = str::from_utf8(text) else {
             return Err(ServerScramErrorKind::Utf8Error);
         };
-        let Some((header, client_first_message_bare)) = cut_header(client_first, accept_cbind_flag_y)
-        else {
+        let Some((header, client_first_message_bare)) = cut_header(
+            client_first,
+            accept_cbind_flag_y,
+        ) else {
             return Err(ServerScramErrorKind::CannotParseGs2Header);
         };
         let Some(escaped) = attribute(client_first_message_bare, 0, USERNAME_KEY) else {

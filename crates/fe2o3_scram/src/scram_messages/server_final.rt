@@ -16,9 +16,9 @@ use crate::hmac::{Meter, ScramVersion};
 use crate::keys::auth_pieces;
 use crate::provider::StoredPassword;
 use crate::scram_messages::attributes::VERIFIER_KEY;
+use crate::scram_messages::channel_binding_flag::ChannelBindingFlag;
 use crate::scram_messages::client_final_reading::ClientFinal;
 use crate::scram_messages::error::ServerScramErrorKind;
-use crate::scram_messages::channel_binding_flag::ChannelBindingFlag;
 use crate::texts::{base64_len, push_base64};
 use std::alloc::Global;
 

@@ -10,9 +10,9 @@ use crate::OutOfMemory;
 use crate::hmac::ScramVersion;
 use crate::provider::{ScramCredentialProvider, StoredPassword};
 use crate::scram_messages::attributes::{ITERATION_COUNT_KEY, NONCE_KEY, SALT_KEY};
+use crate::scram_messages::channel_binding_flag::ChannelBindingFlag;
 use crate::scram_messages::client_first_reading::ClientFirst;
 use crate::scram_messages::error::ServerScramErrorKind;
-use crate::scram_messages::channel_binding_flag::ChannelBindingFlag;
 use crate::texts::{base64_len, push_base64};
 use bytes::Bytes;
 use std::alloc::Global;
@@ -91,7 +91,7 @@ impl ScramVersion {
 }
 
 /// The challenge to a client-first message, or `None` where the user is unknown.
-pub(crate) fn challenge<'a, C: ScramCredentialProvider>(
+fn challenge<'a, C: ScramCredentialProvider>(
     alloc: Global,
     client_first: &'a [u8],
     base64_server_nonce: &str,
@@ -104,7 +104,11 @@ pub(crate) fn challenge<'a, C: ScramCredentialProvider>(
         (AnswersClientFirst (serving accept_cbind_flag_y (C.meaning credentials.now)) base64_server_nonce.now
         client_first.now) }
 {
-    let client_first = ClientFirst::parse_with_cbind_flag_y(alloc, client_first, accept_cbind_flag_y)?;
+    let client_first = ClientFirst::parse_with_cbind_flag_y(
+        alloc,
+        client_first,
+        accept_cbind_flag_y,
+    )?;
     let Some(stored_password) = credentials.get_stored_password(&client_first.username) else {
         return Ok(None);
     };
@@ -112,8 +116,8 @@ pub(crate) fn challenge<'a, C: ScramCredentialProvider>(
     Ok(Some(message))
 }
 
-/// The challenge to a client-first message that was read, of a known user.
-fn challenge_to<'a>(
+/// The challenge to a client-first message that was read, of a user with this record.
+pub(crate) fn challenge_to<'a>(
     alloc: Global,
     client_first: ClientFirst<'a>,
     base64_server_nonce: &str,

@@ -1,11 +1,13 @@
 //! Saves a server between two messages as plain texts, and restores it.
 
 ghost use Rattle.std.specs.Prelude.{◌≡◌, IfOk, option_map};
-ghost use Rattle.fe2o3_scram.specs.ScramServer.{ServerFinalSent, ServerFirstSent, challenge_kept, open_challenge, provider_in, state_in, cbind_flag_y_in};
+ghost use Rattle.fe2o3_scram.specs.Credentials.{kept};
+ghost use Rattle.fe2o3_scram.specs.ScramServer.{ServerFinalSent, ServerFirstSent, challenge_kept, open_challenge, provider_in, state_in, cbind_flag_y_in, mock_in};
 
 use crate::OutOfMemory;
-use crate::provider::ScramCredentialProvider;
+use crate::provider::{ScramCredentialProvider, StoredPassword};
 use crate::scram_messages::ChannelBindingFlag;
+use crate::scram_server::kept_record::KeptRecord;
 use crate::scram_server::{ScramAuthenticator, ScramAuthenticatorState};
 use bytes::Bytes;
 use std::alloc::Global;
@@ -32,7 +34,7 @@ pub struct OpenChallenge<'a> {
 
 impl<C: ScramCredentialProvider> ScramAuthenticator<C> {
     /// Returns the open challenge, or `None` if the server-first message is not what the server sent
-    /// last. `waiting_for` restores a server from it.
+    /// last. `restore_challenge` restores a server from it, and from the record of its user.
     pub fn open_challenge(&self) -> Option<OpenChallenge<'_>>
         ensures { option_map challenge_kept result ≡ open_challenge (state_in self.now) }
     {
@@ -43,6 +45,7 @@ impl<C: ScramCredentialProvider> ScramAuthenticator<C> {
                 client_first_message_bare,
                 client_server_nonce,
                 server_first_message,
+                stored: _,
             } => Some(OpenChallenge {
                 username,
                 header: *header,
@@ -54,52 +57,67 @@ impl<C: ScramCredentialProvider> ScramAuthenticator<C> {
         }
     }
 
-    /// Returns this server with this open challenge, as `open_challenge` returned it. Texts that no
-    /// server has sent are a challenge like any other, and a client has to prove its password for it.
-    /// The caller vouches for the texts: they name the user.
+    /// Returns this server with this open challenge, as `open_challenge` returned it, and with this
+    /// record of its user. Look the user up again by `challenge.username`: no key is part of the
+    /// challenge. For an unknown user at a server with mock authentication pass the mock record of the
+    /// name (`ScramRecord::mock`).
+    ///
+    /// The client's proof is tested against this record. If it is not the one that the challenge was
+    /// made with, as after a change of the password, a login with the old password fails with
+    /// `AuthenticationFailed`. Texts that no server has sent are a challenge like any other, and a
+    /// client has to prove its password for it. The caller vouches for the texts: they name the user.
     ///
     /// `OutOfMemory` is the only error.
-    pub fn waiting_for(
+    pub fn restore_challenge(
         self,
         alloc: Global,
         challenge: &OpenChallenge<'_>,
+        stored: &StoredPassword<'_>,
     ) -> Result<Self, OutOfMemory>
-        ensures { IfOk result (λ server. (provider_in server ≡ provider_in self)
-            × (cbind_flag_y_in server ≡ cbind_flag_y_in self) × (state_in server ≡ ServerFirstSent
-            (challenge_kept challenge.now))) }
+        ensures provider { IfOk result (λ server. provider_in server ≡ provider_in self) }
+        ensures cbind_flag_y { IfOk result (λ server. cbind_flag_y_in server ≡ cbind_flag_y_in self) }
+        ensures mock { IfOk result (λ server. mock_in server ≡ mock_in self) }
+        ensures state { IfOk result (λ server. state_in server
+            ≡ ServerFirstSent (challenge_kept challenge.now) (kept stored.now)) }
     {
+        let (client_first_message_bare, stored) = KeptRecord::behind(
+            alloc,
+            challenge.client_first_message_bare,
+            stored,
+        )?;
         Ok(Self {
             credentials: self.credentials,
             accept_cbind_flag_y: self.accept_cbind_flag_y,
+            mock: self.mock,
             state: ScramAuthenticatorState::ServerFirstSent {
                 username: challenge.username.to_string(alloc)?,
                 header: challenge.header,
-                client_first_message_bare: Bytes::copy_from_slice(
-                    alloc,
-                    challenge.client_first_message_bare,
-                )?,
+                client_first_message_bare,
                 client_server_nonce: Bytes::copy_from_slice(alloc, challenge.client_server_nonce)?,
                 server_first_message: Bytes::copy_from_slice(
                     alloc,
                     challenge.server_first_message,
                 )?,
+                stored,
             },
         })
     }
 
     /// Returns this server as a login of this user leaves it: it names that user. The caller vouches for
-    /// the name, since no message is checked. Pass the name that `user` returned when the server was
+    /// the name, since no message is checked. Pass the name that `authenticated_user` returned when the server was
     /// saved. No password, key or record is needed beside it.
     ///
     /// `OutOfMemory` is the only error.
     pub fn restore_authenticated(self, alloc: Global, username: &str) -> Result<Self, OutOfMemory>
         ensures provider { IfOk result (λ server. provider_in server ≡ provider_in self) }
         ensures cbind_flag_y { IfOk result (λ server. cbind_flag_y_in server ≡ cbind_flag_y_in self) }
+        ensures mock { IfOk result (λ server. mock_in server ≡ mock_in self) }
         ensures state { IfOk result (λ server. state_in server ≡ ServerFinalSent username.now) }
     {
         Ok(Self {
             credentials: self.credentials,
             accept_cbind_flag_y: self.accept_cbind_flag_y,
+            mock: self.mock,
             state: ScramAuthenticatorState::ServerFinalSent {
                 username: username.to_string(alloc)?,
             },

@@ -1,12 +1,9 @@
-use Rattle.fe2o3_scram.proofs.lemmas.messages.LoginLemmas.{accepted_texts_log_in, hidden_texts_log_in, verified_texts_are_signed}
+use Rattle.fe2o3_scram.proofs.lemmas.messages.LoginLemmas.{accepted_texts_log_in, verified_texts_are_signed}
 use Rattle.fe2o3_scram.proofs.lemmas.messages.AgreementLemmas.{verified_texts_agree}
 use Rattle.fe2o3_scram.proofs.laws.accepted_messages.Goals as goal
 
 pub returns-clause-server : goal.returns-clause-server
 returns-clause-server c = accepted_texts_log_in
-
-pub returns-clause-hiding : goal.returns-clause-hiding
-returns-clause-hiding c = hidden_texts_log_in
 
 pub returns-clause-client : goal.returns-clause-client
 returns-clause-client c = verified_texts_are_signed

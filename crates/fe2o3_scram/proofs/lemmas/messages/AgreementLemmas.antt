@@ -10,7 +10,7 @@ use Rattle.fe2o3_scram.specs.declared.scram_messages.channel_binding_flag.Channe
 use Rattle.fe2o3_scram.specs.Agreement.{TextsAgree, VerifiedTextsAgree, ClientKnows, InParts, IsPlain, ServerKnows, challenge_known, client_auth_message, keys_known, server_auth_message}
 use Rattle.fe2o3_scram.specs.ClientFinal.{Answer, ClientFinal, answer_of, server_of, without_proof}
 use Rattle.fe2o3_scram.specs.ClientFirst.{ClientFirst, NamesClientFirst, client_first_bare, header_text}
-use Rattle.fe2o3_scram.specs.Credentials.{Provider, Record, record_at}
+use Rattle.fe2o3_scram.specs.Credentials.{Provider, Record}
 use Rattle.fe2o3_scram.specs.Escape.{escaped}
 use Rattle.fe2o3_scram.specs.Extensions.{NoneMisplaced}
 use Rattle.fe2o3_scram.specs.Hmac.{digest_len, hmac_of}
@@ -374,7 +374,7 @@ server_has provider its init response server =
       response = response;
       plain = no_comma-base64_text its;
       first = names_client_first provider.cbind_flag_y init server.client server.reads_init;
-      names = names_client_final (server_against provider challenge server.stored) response server.final server.reads;
+      names = names_client_final (server_against provider.version challenge server.stored) response server.final server.reads;
     }
 
 -- where the AuthMessages are equal, both sides agree
@@ -408,17 +408,17 @@ shown side waiting done answer own last same is verifies =
 
 -- what a server accepted it read against its challenge
 concluded : (provider : Provider) (waiting done : ServerState) (challenge : ServerChallenge) (client : ClientFirst)
-    (nonce response last : List ℕ) (stored : Record) → waiting ≡ ServerFirstSent challenge
-    → challenge ≡ challenge_of client nonce stored → record_at provider.records client.user ≡ Some stored
-    → ConcludesFrom waiting provider response (Ok (Some last)) done
+    (nonce response last : List ℕ) (stored own : Record) → waiting ≡ ServerFirstSent challenge own
+    → provider.records challenge.user ≡ Some own
+    → challenge ≡ challenge_of client nonce stored → provider.records client.user ≡ Some stored
+    → ConcludesFrom waiting provider.version response (Ok (Some last)) done
     → let known = challenge_of client nonce stored in
-    AnswersClientFinal (server_against provider known stored) response (Ok last)
-concluded provider waiting done challenge client nonce response last stored is same known from =
-    let own = challenge_of client nonce stored in
-    let at = subst (λ (state : ServerState). ConcludesFrom state provider response (Ok (Some last)) done)
-    (is ∙ ap ServerFirstSent same) from in
-    subst (λ (kept : Record). AnswersClientFinal (server_against provider own kept) response (Ok last))
-    (same_Some at.0 stored (sym at.1 ∙ known)) at.2
+    AnswersClientFinal (server_against provider.version known stored) response (Ok last)
+concluded provider waiting done challenge client nonce response last stored own is has same known from =
+    let user : challenge.user ≡ client.user = ap (λ (x : ServerChallenge). x.user) same in
+    let one : own ≡ stored = same_Some own stored (sym has ∙ (ap provider.records user ∙ known)) in
+    (subst (λ (state : ServerState). ConcludesFrom state provider.version response (Ok (Some last)) done)
+    (is ∙ (λ i. ServerFirstSent (same i) (one i))) from).0
 
 pub verified_texts_agree : VerifiedTextsAgree
 verified_texts_agree side provider own text last its init response verifier verified accepted part =
@@ -426,7 +426,8 @@ verified_texts_agree side provider own text last its init response verifier veri
     let client : ClientKnows side own text = record { first = answer.0; reads = answer.1 } in
     let opened = accepted.challenges.1 in
     let final = concluded provider accepted.waiting accepted.done accepted.challenges.0 opened.0 (base64_text its)
-    response verifier opened.1 accepted.challenges.3 opened.4 opened.3 accepted.accepts in
+    response verifier opened.1 accepted.challenges.3.0 accepted.challenges.3.2 accepted.challenges.3.1 opened.4 opened.3
+    accepted.accepts in
     let server : ServerKnows provider its init response = record {
       client = opened.0;
       stored = opened.1;

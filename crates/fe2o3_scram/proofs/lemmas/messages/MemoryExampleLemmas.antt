@@ -67,7 +67,7 @@ cbind_flag_y rest has =
     omega (arith, letter)
 
 pub unbound_texts_take_none : UnboundTextsTakeNone
-unbound_texts_take_none provider user bare first has = go has.1.1
+unbound_texts_take_none stored user bare first has = go has.1
   where
     go : ReachesBinding NotSupported (codes "r=abc,p=AA==")
         ⊎ ReachesProof NotSupported (codes "abc") (codes "r=abc,p=AA==") → ⊥
@@ -96,7 +96,7 @@ other_nonce has =
     omega (arith, letter)
 
 pub other_nonces_take_none : OtherNoncesTakeNone
-other_nonces_take_none provider user bare first has = go has.1.1
+other_nonces_take_none stored user bare first has = go has.1
   where
     bound : HasBase64 other_text 0 (codes "c=") (codes "n,,")
     bound = (IsBytes-literal (codes "n,,") refl, (_, other_parts, refl))
