@@ -5,25 +5,26 @@ ghost use Rattle.std.specs.String.{string_bytes};
 ghost use Rattle.fe2o3_scram.specs.Credentials.{record_of};
 ghost use Rattle.fe2o3_scram.specs.SaslprepAscii.{IsPrintable};
 
-pub mod multi_record_store;
-pub mod multi_record_lines;
 pub mod mock_record;
+pub mod multi_record_lines;
+pub mod multi_record_store;
 pub mod password_check;
 pub mod record_lines;
-pub mod record_text;
 pub mod record_store;
+pub mod record_text;
 pub mod scram_record;
 pub mod user_record;
 mod users;
 
 pub use crate::credentials::multi_record_store::MultiRecordStore;
 pub use crate::credentials::record_lines::{ReadLinesError, ReadLinesErrorKind, WriteLinesError};
-pub use crate::credentials::record_text::RecordTextError;
 pub use crate::credentials::record_store::{AddRecordError, RecordStore};
+pub use crate::credentials::record_text::RecordTextError;
 pub use crate::credentials::scram_record::ScramRecord;
 pub use crate::credentials::user_record::UserRecord;
-use crate::hmac::ScramVersion;
+use crate::hmac::{Meter, ScramVersion};
 pub use crate::keys::RecordError;
+use crate::passwords::Password;
 pub use crate::provider::{ScramCredentialProvider, StoredPassword};
 use crate::scram_messages::error::ServerScramErrorKind;
 use std::alloc::{AllocError, Global};
@@ -74,9 +75,10 @@ impl SingleScramCredential {
         let kept = ScramRecord::from_password(
             alloc,
             scram_version,
-            password,
+            Password::Typed(password),
             &salt,
             DEFAULT_SCRAM_ITERATIONS,
+            &mut Meter::new(),
         );
         match kept {
             Ok(kept) => Ok(Self {
