@@ -6,6 +6,7 @@ use bytes::BytesMut;
 use fe2o3_sasl::credentials::{ScramRecord, UserRecord};
 use fe2o3_sasl::external_server::ExternalServer;
 use fe2o3_sasl::hmac::{Meter, ScramVersion};
+use fe2o3_sasl::passwords::Password;
 use fe2o3_sasl::restrict_mechanisms::RestrictMechanisms;
 use fe2o3_sasl::any_mechanism::{HasMechanism, AnyMechanism, Selected};
 use fe2o3_sasl::plain_server::PlainServer;
@@ -61,7 +62,8 @@ static EXTERNAL_LOGIN: [&str; 2] = [SASL, EXTERNAL_INIT];
 /// Returns the store of the user.
 fn stored<R: Abort + AllocGlobal>(rt: &R) -> UserRecord {
     let (alloc, version) = (rt.alloc(), ScramVersion::Sha256);
-    let record = ScramRecord::from_password(alloc, version, PASSWORD, &[3; 32], 1);
+    let (password, meter) = (Password::Typed(PASSWORD), &mut Meter::new());
+    let record = ScramRecord::from_password(alloc, version, password, &[3; 32], 1, meter);
     UserRecord::new(text(rt, USER), record.expect(rt, "a record"))
 }
 

@@ -4,7 +4,7 @@
 /// The items by their modules.
 pub mod by_module {
     pub use fe2o3_sasl::cached_keys::CachedKeys;
-    pub use fe2o3_sasl::client_secret::{ClientSecret, IterationLimits};
+    pub use fe2o3_sasl::client_secret::{ClientSecret, ClientSecretError, IterationLimits};
     pub use fe2o3_sasl::credentials::{
         AddRecordError, DEFAULT_SCRAM_ITERATIONS, ReadLinesError, ReadLinesErrorKind, RecordError,
         RecordTextError, ScramCredentialProvider, RecordStore, ScramRecord,
@@ -14,6 +14,7 @@ pub mod by_module {
         DigestBytes, Meter, SCRAM_SHA_1, SCRAM_SHA_256, SCRAM_SHA_512, ScramVersion,
         UnknownMechanism,
     };
+    pub use fe2o3_sasl::passwords::Password;
     pub use fe2o3_sasl::pbkdf2_hi::KeyError;
     pub use fe2o3_sasl::runs::{
         AuditError, ClientReply, Event, EventError, Finding, FindingKind, Parameters, ServerReply,
@@ -48,9 +49,9 @@ pub mod by_audit {
 pub mod at_root {
     pub use fe2o3_sasl::{
         AddRecordError, AuditError, ClientAnswer, ClientFinal, ClientFirst, ClientReply,
-        ClientSecret, DEFAULT_SCRAM_ITERATIONS, DigestBytes, Event, EventError, Finding,
+        ClientSecret, ClientSecretError, DEFAULT_SCRAM_ITERATIONS, DigestBytes, Event, EventError, Finding,
         FindingKind, IterationLimits, KeyError, Meter, Negotiation, NormalizeError, OutOfMemory,
-        Parameters, ProfileError, ReadLinesError, ReadLinesErrorKind, RecordError, RecordTextError,
+        Parameters, Password, ProfileError, ReadLinesError, ReadLinesErrorKind, RecordError, RecordTextError,
         SaslAcceptor, SaslAcceptorExt, SaslAnonymousMechanism, SaslPlainMechanism, SaslProfile,
         SaslScramSha1, SaslScramSha256, SaslScramSha512, SaslServerFrame, ScramAuthenticator,
         ScramClient, CachedKeys, ScramCredentialProvider, RecordStore, ScramErrorKind,

@@ -5,6 +5,7 @@ use crate::runs::profiles::profile_of;
 use bytes::BytesMut;
 use fe2o3_sasl::credentials::{ScramRecord, UserRecord};
 use fe2o3_sasl::hmac::{Meter, ScramVersion};
+use fe2o3_sasl::passwords::Password;
 use fe2o3_sasl::sasl_acceptor::{AuthenticatedUser, SaslAnonymousMechanism, SaslPlainMechanism};
 use fe2o3_sasl::sasl_profile::ProfileError;
 use fe2o3_sasl::scram_server::ScramAuthenticator;
@@ -130,7 +131,8 @@ fn play_server<P: Play>(row: &mut Row<'_>, play: &mut P) {
 pub fn stored(row: &mut Row<'_>, version: &str) -> Option<UserRecord> {
     let version = ScramVersion::from_mechanism(version)?;
     let (user, password, salt, count) = (row.text(), row.text(), row.bytes(), row.number());
-    let record = ScramRecord::from_password(row.alloc, version, &password, &salt, count);
+    let (password, meter) = (Password::Typed(&password), &mut Meter::new());
+    let record = ScramRecord::from_password(row.alloc, version, password, &salt, count, meter);
     record
         .ok()
         .map(|record| UserRecord::new(user, record))
