@@ -77,7 +77,7 @@ class Meters(unittest.TestCase):
                      (PLAIN_OF_CLIENT, f"let mut meter = Meter::new();\n        let _ = {one};\n        {one}"))
 
     def test_a_record_that_stretches_twice(self):
-        self.refused(["from_password: Meter::new", "from_password: salted_password"],
+        self.refused(["from_password: Meter::new", "from_password: salted_password x2"],
                      SCRAM + "credentials/scram_record.rt",
                      first("let stored_key = scram_version.stored_key(", "let _ = scram_version.salted_password("
                            "text.as_bytes(), salt, iterations, &mut Meter::new());\n        "))
