@@ -6,7 +6,8 @@ ghost use Rattle.scram_lib.specs.Stop.{status_of};
 use fe2o3_sasl::AuditError;
 use fe2o3_sasl_negotiation::CloseReason;
 use fe2o3_scram::{
-    ClientSecretError, ReadLinesError, ReadLinesErrorKind, RecordError, ScramErrorKind, ServerScramErrorKind,
+    ClientSecretError, ReadLinesError, ReadLinesErrorKind, RecordError, ScramErrorKind,
+    ServerScramErrorKind,
 };
 use mock_secret::SecretError;
 use std::alloc::{AllocError, AllocFailed};

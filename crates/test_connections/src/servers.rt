@@ -7,7 +7,7 @@ use fe2o3_sasl::hmac::{Meter, ScramVersion};
 use fe2o3_sasl::passwords::Password;
 use fe2o3_sasl::sasl_acceptor::{AuthenticatedUser, SaslPlainMechanism};
 use fe2o3_sasl_negotiation::{
-    CloseReason, Negotiated, Piece, ServerNegotiation, Progress, scram_server_connection,
+    CloseReason, Negotiated, Piece, Progress, ServerNegotiation, scram_server_connection,
     server_connection,
 };
 use fe2o3_sasl_wire::SaslCode;

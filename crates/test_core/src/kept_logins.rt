@@ -10,8 +10,8 @@ use fe2o3_sasl::sasl_profile::{ProfileError, SaslProfile, SaslScramSha256};
 use fe2o3_sasl::scram_messages::ScramErrorKind;
 use fe2o3_sasl::{ScramClient, ScramVersion};
 use fe2o3_sasl_wire::SaslCode;
-use test_help_bodies::bodies::*;
 use std::process::Abort;
+use test_help_bodies::bodies::*;
 
 /// The challenge of a server that has the salt of 32 bytes 04, the response to it, and its outcome, as
 /// computed with Python's `hashlib` and `hmac`.
@@ -137,7 +137,10 @@ fn by_password<R: Abort + AllocGlobal>(rt: &R) -> Box<SaslProfile> {
 /// A profile with a secret.
 fn by_secret<R: Abort + AllocGlobal>(rt: &R, secret: ClientSecret<'_>) -> Box<SaslProfile> {
     let scram = SaslScramSha256::with_secret(rt.alloc(), text(rt, USER), secret);
-    boxed(rt, SaslProfile::from(scram.expect(rt, "keys of its version")))
+    boxed(
+        rt,
+        SaslProfile::from(scram.expect(rt, "keys of its version")),
+    )
 }
 
 /// A copy of keys that a profile shows.

@@ -13,10 +13,10 @@ use fe2o3_sasl::runs::{
 };
 use fe2o3_sasl::sasl_profile::{Negotiation, ProfileError, SaslProfile, SaslScramSha256};
 use fe2o3_sasl_wire::{Frame, view_frame};
-use test_help_bodies::bodies::*;
-use test_help_bodies::replies::{event, is_client_reply, is_negotiated};
 use std::alloc::Global;
 use std::test::Fail;
+use test_help_bodies::bodies::*;
+use test_help_bodies::replies::{event, is_client_reply, is_negotiated};
 
 const VERSION: ScramVersion = ScramVersion::Sha256;
 

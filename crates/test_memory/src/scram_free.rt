@@ -6,8 +6,7 @@ use crate::scram_values::*;
 use crate::users::{record, stored, two_names, two_of};
 use fe2o3_scram::cached_keys::CachedKeys;
 use fe2o3_scram::credentials::{
-    RecordError, RecordTextError, ScramCredentialProvider, RecordStore, ScramRecord,
-    UserRecord,
+    RecordError, RecordStore, RecordTextError, ScramCredentialProvider, ScramRecord, UserRecord,
 };
 use fe2o3_scram::hmac::{Meter, ScramVersion};
 use fe2o3_scram::scram_client::ScramClient;
@@ -160,8 +159,9 @@ fn client_of(making: &Making, parts: &mut Parts) -> Option<ScramClient> {
     let keys = CachedKeys::from_parts(VERSION, salt, 1, &CLIENT_KEY, &SERVER_KEY).ok()?;
     let signature = parts.keys.pop()?;
     Some(match making {
-        Making::RestoredClient => ScramClient::new(user, password, VERSION)
-            .restore_client_final_sent(signature, Some(keys)),
+        Making::RestoredClient => ScramClient::new(
+            user, password, VERSION,
+        ).restore_client_final_sent(signature, Some(keys)),
         _ => ScramClient::new(user, password, VERSION)
             .with_min_iterations(1)
             .with_iteration_limit(1),

@@ -6,8 +6,8 @@ use crate::scram_values::*;
 use crate::users::{new_users, record, stored, two_names};
 use fe2o3_scram::OutOfMemory;
 use fe2o3_scram::credentials::{
-    AddRecordError, ReadLinesErrorKind, RecordError, RecordTextError, RecordStore,
-    ScramRecord, SingleScramCredential, UserRecord, WriteLinesError,
+    AddRecordError, ReadLinesErrorKind, RecordError, RecordStore, RecordTextError, ScramRecord,
+    SingleScramCredential, UserRecord, WriteLinesError,
 };
 use fe2o3_scram::hmac::{Meter, ScramVersion};
 use fe2o3_scram::passwords::Password;
@@ -150,11 +150,7 @@ impl Expected for RecordStore {
 }
 
 /// The answer of a call that puts in the user's record, or that of the other one in place of its own.
-fn put(
-    is_replaced: bool,
-    users: &mut RecordStore,
-    new: Option<(String, ScramRecord)>,
-) -> Answer {
+fn put(is_replaced: bool, users: &mut RecordStore, new: Option<(String, ScramRecord)>) -> Answer {
     let none = AddRecordError::OutOfMemory;
     match new {
         Some((_, record)) if is_replaced => told(users.replace(OTHER_USER, record), none),

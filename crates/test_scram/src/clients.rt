@@ -84,13 +84,7 @@ fn keys_are_made_of_a_password_and_of_a_salted_password(rt: HostRuntime) {
     );
     let keys = keys.expect(&rt, "keys");
     assert!(rt; PUBLISHED.are(rt.alloc(), &keys) && meter.count() == 4098);
-    let keys = CachedKeys::from_salted_password(
-        VERSION,
-        salt,
-        4096,
-        &salted_password,
-        &mut meter,
-    );
+    let keys = CachedKeys::from_salted_password(VERSION, salt, 4096, &salted_password, &mut meter);
     assert!(rt; PUBLISHED.are(rt.alloc(), &keys) && meter.count() == 4100);
 }
 

@@ -3,8 +3,8 @@
 
 use crate::clients::{Secret, client, keys};
 use fe2o3_scram::credentials::{
-    MultiRecordStore, ScramCredentialProvider, RecordStore, ScramRecord,
-    SingleScramCredential, StoredPassword, UserRecord,
+    MultiRecordStore, RecordStore, ScramCredentialProvider, ScramRecord, SingleScramCredential,
+    StoredPassword, UserRecord,
 };
 use fe2o3_scram::hmac::{Meter, ScramVersion};
 use fe2o3_scram::passwords::Password;

@@ -75,14 +75,7 @@ fn a_record_of_a_password_has_the_keys(rt: HostRuntime) {
     let salt = bytes_of(&rt, SALT);
     let mut meter = Meter::new();
     let password = Password::Typed("pencil");
-    let made = ScramRecord::from_password(
-        rt.alloc(),
-        VERSION,
-        password,
-        &salt,
-        4096,
-        &mut meter,
-    );
+    let made = ScramRecord::from_password(rt.alloc(), VERSION, password, &salt, 4096, &mut meter);
     let record = made.expect(&rt, "a record");
     let kept = record.as_stored_password();
     assert!(rt; spells(rt.alloc(), STORED_KEY, kept.stored_key) && meter.count() == 4098);

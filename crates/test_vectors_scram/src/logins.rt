@@ -2,7 +2,7 @@
 
 use crate::rows::{Answers, Row};
 use fe2o3_scram::credentials::{
-    ScramCredentialProvider, RecordStore, ScramRecord, SingleScramCredential,
+    RecordStore, ScramCredentialProvider, ScramRecord, SingleScramCredential,
 };
 use fe2o3_scram::hmac::{Meter, ScramVersion};
 use fe2o3_scram::passwords::Password;

@@ -72,7 +72,13 @@ pub fn client_secret(row: &mut Row<'_>) {
     let Some(secret) = secret_of(kind, &password, &keys) else {
         return row.refuse("no secret");
     };
-    let (bare, limits) = (bare(row, nonce), IterationLimits { min_iterations, max_iterations });
+    let (bare, limits) = (
+        bare(row, nonce),
+        IterationLimits {
+            min_iterations,
+            max_iterations,
+        },
+    );
     let (bare, mut meter) = (bare.as_bytes(), Meter::new());
     let answer = version.answer_server_first(
         alloc, nonce, secret, message, bare, limits, &mut meter,

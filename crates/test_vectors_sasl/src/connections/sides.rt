@@ -10,7 +10,7 @@ use fe2o3_sasl::sasl_acceptor::{AuthenticatedUser, SaslAnonymousMechanism, SaslP
 use fe2o3_sasl::sasl_profile::ProfileError;
 use fe2o3_sasl::scram_server::ScramAuthenticator;
 use fe2o3_sasl_negotiation::{
-    ClientNegotiation, CloseReason, Received, ServerNegotiation, Progress,
+    ClientNegotiation, CloseReason, Progress, Received, ServerNegotiation,
 };
 use std::alloc::{AllocError, Global};
 use std::rc::Rc;
@@ -106,7 +106,11 @@ pub fn play_side<'a, P: Play>(row: &mut Row<'a>, side: &'a str, play: &mut P) {
 }
 
 /// Plays with a server of an acceptor.
-fn play_acceptor<A: AuthenticatedUser + Drop, P: Play>(row: &mut Row<'_>, acceptor: A, play: &mut P) {
+fn play_acceptor<A: AuthenticatedUser + Drop, P: Play>(
+    row: &mut Row<'_>,
+    acceptor: A,
+    play: &mut P,
+) {
     let mut server = ServerNegotiation::new(row.alloc, acceptor);
     play.play(row, &mut server);
 }
@@ -133,9 +137,7 @@ pub fn stored(row: &mut Row<'_>, version: &str) -> Option<UserRecord> {
     let (user, password, salt, count) = (row.text(), row.text(), row.bytes(), row.number());
     let (password, meter) = (Password::Typed(&password), &mut Meter::new());
     let record = ScramRecord::from_password(row.alloc, version, password, &salt, count, meter);
-    record
-        .ok()
-        .map(|record| UserRecord::new(user, record))
+    record.ok().map(|record| UserRecord::new(user, record))
 }
 
 /// Plays with a client: `MECHANISM USER PASSWORD LIMIT HOSTNAME`.

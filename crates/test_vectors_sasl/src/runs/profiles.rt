@@ -98,9 +98,7 @@ pub fn profile_of(row: &mut Row<'_>, kind: &str) -> Option<SaslProfile> {
         "SCRAM-SHA-256" => {
             let secret = secret_of(kind, &password, &keys)?;
             let scram = SaslScramSha256::with_secret(row.alloc, user, secret).ok()?;
-            let scram = scram
-                .with_min_iterations(least)
-                .with_iteration_limit(limit);
+            let scram = scram.with_min_iterations(least).with_iteration_limit(limit);
             Some(SaslProfile::from(scram))
         }
         name => {
