@@ -91,7 +91,7 @@ static RECORDS: [(ScramVersion, u32); 5] = [
 #[test]
 fn finds_each_record_of_a_name(rt: HostRuntime) {
     let mut store = store(&rt);
-    assert!(rt; has(&store, "user", &RECORDS) && has(&store, "mock", &[]));
+    assert!(rt; has(&store, "user", &RECORDS) && has(&store, "nobody", &[]));
     assert!(rt; has(&store, "a,b=c", &[(ScramVersion::Sha1, 2)]));
     let (version, password) = (ScramVersion::Sha512, Password::Typed("pencil"));
     let meter = &mut Meter::new();
