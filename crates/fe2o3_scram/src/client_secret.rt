@@ -3,7 +3,7 @@
 ghost use Rattle.std.specs.Prelude.{◌≡◌, ◌↔◌, IfOk, IsTrue};
 ghost use Rattle.fe2o3_scram.specs.ClientSecret.{IsOfVersion, kept_password, kept_secret, no_limit, secret_of, up_to};
 ghost use Rattle.fe2o3_scram.specs.Passwords.{password_of};
-ghost use Rattle.fe2o3_scram.specs.declared.client_secret.SecretError.TheVariants.{OutOfMemory as OutOfMemoryError};
+ghost use Rattle.fe2o3_scram.specs.declared.client_secret.ClientSecretError.TheVariants.{OutOfMemory as OutOfMemoryError};
 
 use crate::OutOfMemory;
 use crate::hmac::ScramVersion;
@@ -34,7 +34,7 @@ pub enum ClientSecret<'a> {
 
 /// Why no client is made of a secret.
 #[derive(Debug, Clone, Copy, PartialEq, Eq, Error)]
-pub enum SecretError {
+pub enum ClientSecretError {
     /// The keys are of another version than the client.
     #[error("Version mismatch")]
     VersionMismatch,
@@ -44,11 +44,11 @@ pub enum SecretError {
     OutOfMemory,
 }
 
-impl From<AllocError> for SecretError {
+impl From<AllocError> for ClientSecretError {
     ghost from_gives = { λ _ error. error ≡ OutOfMemoryError };
 
     fn from(_error: AllocError) -> Self {
-        SecretError::OutOfMemory
+        ClientSecretError::OutOfMemory
     }
 }
 

@@ -29,7 +29,7 @@ pub mod scram_messages;
 pub mod scram_server;
 mod texts;
 
-pub use crate::client_secret::{ClientSecret, IterationLimits, SecretError};
+pub use crate::client_secret::{ClientSecret, ClientSecretError, IterationLimits};
 pub use crate::credentials::{
     AddRecordError, DEFAULT_SCRAM_ITERATIONS, MultiRecordStore, ReadLinesError, ReadLinesErrorKind,
     RecordStore, RecordTextError, ScramRecord, SingleScramCredential, UserRecord, WriteLinesError,

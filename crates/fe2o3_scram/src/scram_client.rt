@@ -11,7 +11,9 @@ ghost use Rattle.fe2o3_scram.specs.ScramClient.{ClientFirstSent, ClientFinalSent
 ghost use Rattle.fe2o3_scram.specs.Readings.{Gives};
 
 use crate::OutOfMemory;
-use crate::client_secret::{ClientSecret, IterationLimits, KeptPassword, KeptSecret, SecretError};
+use crate::client_secret::{
+    ClientSecret, ClientSecretError, IterationLimits, KeptPassword, KeptSecret,
+};
 use crate::hmac::{Meter, ScramVersion};
 use crate::keys::CachedKeys;
 use crate::scram_messages::error::ScramErrorKind;
@@ -123,14 +125,14 @@ impl ScramClient {
         username: String,
         secret: ClientSecret<'_>,
         scram_version: ScramVersion,
-    ) -> Result<Self, SecretError>
+    ) -> Result<Self, ClientSecretError>
         ensures ok { IfOk result (λ client. IsOfVersion scram_version (secret_of secret.entry)
             × (client ≡ fresh_client (string_bytes username) scram_version (secret_of secret.entry))) }
-        ensures mismatch { (result ≡ Err SecretError.VersionMismatch)
+        ensures mismatch { (result ≡ Err ClientSecretError.VersionMismatch)
             ↔ ¬ IsOfVersion scram_version (secret_of secret.entry) }
     {
         if !secret.is_of_version(scram_version) {
-            return Err(SecretError::VersionMismatch);
+            return Err(ClientSecretError::VersionMismatch);
         }
         let secret = KeptSecret::of(alloc, secret)?;
         Ok(ScramClient::by(username, secret, scram_version))
