@@ -125,7 +125,6 @@ pub use fe2o3_scram::scram_messages::escape_username;
 pub use fe2o3_scram::scram_messages::unescape_username;
 pub use fe2o3_scram::scram_server;
 pub use fe2o3_scram::scram_server::ScramAuthenticator;
-pub use fe2o3_scram::scram_server::hiding::HidingAuthenticator;
-pub use fe2o3_scram::scram_server::hiding::SaltTooLong;
+pub use fe2o3_scram::scram_server::SaltTooLong;
 pub use fe2o3_scram::scram_server::open_challenge::OpenChallenge;
 pub use std::alloc::AllocError as OutOfMemory;

@@ -25,12 +25,12 @@ MeteredCalls {S} Answers Costs side (call ∷ calls) stream before after =
     × Costs side (take call.handed stream) call.nonce before between
     × MeteredCalls Answers Costs next calls (drop taken stream) between after
 
--- a connection of a SCRAM server takes two HMAC values at most (RFC 5802, section 3)
+-- a connection of a SCRAM server takes the HMAC values of one look-up and two more at most (RFC 5802, section 3)
 abbrev pub ServersCost : Type 0
 ServersCost = (provider : Provider) (state : ServerState) (limit : ℕ) (calls : List Call) (stream : List ℕ)
     (before after : ℕ) → MeteredCalls (ServerSideAnswers acceptor_names acceptor_machine) (ServerCosts acceptor_hmacs)
     (fresh limit (ScramAcceptor provider state)) calls stream before after
-    → (before ≤ after) × (after ≤ before + 2)
+    → (before ≤ after) × (after ≤ before + (provider.look_up_cost + 2))
 
 -- and one of a SCRAM client as many as its limit of iterations and four more
 abbrev pub ClientsCost : Type 0

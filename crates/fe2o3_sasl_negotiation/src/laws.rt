@@ -63,7 +63,8 @@ pub fn users_of_any_mechanism<A: HasMechanism, B: HasMechanism>()
 {}
 
 /// What a connection costs, whatever its bytes are and in whatever calls they are handed in: a SCRAM server makes
-/// two HMAC values at most, and a SCRAM client as many as its limit of iterations and four more. The sum is over
+/// two HMAC values at most, and with mock authentication five. A SCRAM client makes as many as its limit of
+/// iterations and four more. The sum is over
 /// the calls that are answered; what one costs that wants memory stands in its own contract.
 pub fn costs()
     ensures server { ServersCost }

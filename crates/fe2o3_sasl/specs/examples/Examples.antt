@@ -9,7 +9,7 @@ use Rattle.fe2o3_scram.specs.Texts.{base64_text, joined}
 use Rattle.fe2o3_scram.specs.ClientSecret.{Password, no_limit, up_to}
 use Rattle.fe2o3_scram.specs.declared.scram_messages.channel_binding_flag.ChannelBindingFlag.TheVariants.{NotSupported}
 use Rattle.fe2o3_scram.specs.Passwords.{Typed}
-use Rattle.fe2o3_scram.specs.Credentials.{Record, Provider, record_of}
+use Rattle.fe2o3_scram.specs.Credentials.{Record, Provider, record_of, serving}
 use Rattle.fe2o3_sasl_core.specs.ClientHistory.{Answering, answer_at, OpenAnswer}
 use Rattle.fe2o3_sasl_core.specs.Events.{Given, Login, IsLogin, IsRecord, Challenged, Concluded, Failed, Started, Answered, Reported, Refused}
 use Rattle.fe2o3_sasl_core.specs.Bodies.{carried}
@@ -61,7 +61,7 @@ stored = record_of Sha256 (codes "pencil") salt 4096
 
 -- a provider with that record alone
 abbrev pub provider : Provider
-provider = record { version = Sha256; records = (codes "user", stored) ∷ []; cbind_flag_y = false }
+provider = serving false (record { version = Sha256; records = (codes "user", stored) ∷ [] })
 
 -- ---- messages
 
@@ -247,7 +247,7 @@ refused_sides = record {
   client_events = event_of client_bytes offers ∷ event_of client_bytes sends_auth ∷ silent client_bytes ∷ [];
   client_replies = Started (body_of (sends_init (joined (names (codes "user"))))) ∷ Reported outcomes.Auth None
       ∷ Refused (Frame (fault_of [])) ∷ [];
-  provider = record { version = Sha256; records = []; cbind_flag_y = false };
+  provider = serving false (record { version = Sha256; records = [] });
   server_events = event_of server_bytes (sends_init (joined (names (codes "user")))) ∷ silent server_bytes ∷ [];
   server_replies = Concluded outcomes.Auth (body_of sends_auth) ∷ Failed (fault_of []) ∷ [];
 }

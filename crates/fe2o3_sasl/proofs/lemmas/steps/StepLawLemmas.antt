@@ -1,5 +1,5 @@
--- What an Ok of one step means, for a caller's own proof: `oks_log_in` of a server, `hidden_oks_log_in` of one that
--- hides unknown users, `plain_oks_log_in` of PLAIN over records, `reported_oks_are_signed` of a client.
+-- What an Ok of one step means, for a caller's own proof: `oks_log_in` of a server, `plain_oks_log_in` of PLAIN over
+-- records, `reported_oks_are_signed` of a client.
 use Rattle.std.proofs.Common.{◌≡◌, ◌≢◌, ℕ, Option, Some, None, List, refl, ap, ◌∙◌, subst, inl, inr, Result, Ok, Err}
 use Rattle.fe2o3_sasl_wire.specs.declared.amqp_types.SaslCode.{SaslCode}
 use Rattle.fe2o3_sasl_wire.specs.declared.amqp_types.SaslCode.TheVariants as outcomes
@@ -9,15 +9,12 @@ use Rattle.fe2o3_sasl_wire.specs.SaslFrames as frames
 use Rattle.fe2o3_scram.specs.Credentials.{Provider}
 use Rattle.fe2o3_scram.specs.declared.scram_messages.error.ScramErrorKind.{ScramErrorKind}
 use Rattle.fe2o3_scram.specs.declared.scram_messages.error.ServerScramErrorKind.{ServerScramErrorKind}
-use Rattle.fe2o3_scram.specs.HidingServer.{HidingServer, NamedBy, hiding_name}
 use Rattle.fe2o3_scram.specs.ScramClient.{ClientSide, VerifiesIn}
 use Rattle.fe2o3_scram.specs.ScramServer.{ServerState, ServerFinalSent, ConcludesFrom}
 use Rattle.fe2o3_scram.specs.Logins.{IsSigned}
-use Rattle.fe2o3_scram.proofs.lemmas.messages.LoginLemmas.{accepted_texts_log_in, hidden_text_logs_in, verified_texts_are_signed}
+use Rattle.fe2o3_scram.proofs.lemmas.messages.LoginLemmas.{accepted_texts_log_in, verified_texts_are_signed}
 use Rattle.fe2o3_sasl_core.specs.Bodies.{SpellsBody, carried, server_says}
 use Rattle.fe2o3_sasl_core.specs.Events.{Given, ServerSays, Concluded, Failed, ClientSays, Reported, Refused}
-use Rattle.fe2o3_sasl_core.specs.HidingAcceptor.{with_name}
-use Rattle.fe2o3_sasl_core.specs.HidingLaws.{HiddenBodyLogsIn, HiddenOksLogIn}
 use Rattle.fe2o3_sasl_core.specs.PlainServer.{PlainLogsIn, PlainState, plain_machine}
 use Rattle.fe2o3_sasl_core.specs.Profiles.{Profile, ScramProfile, client_frame, profile_machine}
 use Rattle.fe2o3_sasl_core.specs.Runs.{Replies, SendsCanonical}
@@ -84,14 +81,14 @@ init_is_no_ok provider state nonce mechanism (Some text) hostname reply moved ne
 response_logs_in : (provider : Provider) (state after : ServerState) (event : Given) (text : List ℕ)
     (answer : Result (Option (List ℕ)) ServerScramErrorKind) (reply : SaslFrame) (moved next : Acceptor)
     (body : List ℕ) → SpellsBody event.body (Ok (frames.Response text))
-    → ConcludesFrom state provider text answer after
+    → ConcludesFrom state provider.version text answer after
     → reply ≡ server_frame (λ message. frames.Outcome outcomes.Ok (Some message)) answer
     → moved ≡ ScramAcceptor provider after → SendsOk reply (ScramAcceptor provider state) moved body next
-    → (user : List ℕ) × BodyLogsIn provider state event.body user
+    → (user : List ℕ) × BodyLogsIn provider.version state event.body user
     × (next ≡ ScramAcceptor provider (ServerFinalSent user))
 response_logs_in provider state after event text (Ok (Some message)) reply moved next body spells from is to said =
     let sent = subst (λ (f : SaslFrame). SendsOk f (ScramAcceptor provider state) moved body next) is said in
-    let logs = accepted_texts_log_in state after provider text (Some message) from in (
+    let logs = accepted_texts_log_in state after provider.version text (Some message) from in (
       logs.0,
       (text, spells, logs.1),
       sent_moves (canonical (frames.Outcome outcomes.Ok (Some message))) outcomes.Ok body
@@ -121,64 +118,6 @@ oks_log_in provider state event body next (Ok (frames.Response text), spells, in
 oks_log_in provider state event body next (Ok (frames.Response text), spells, inr gives) =
     response_logs_in provider state gives.2.1 event text gives.2.0 gives.0 gives.1 next body spells gives.2.2 gives.2.3
     gives.2.4 gives.3
-
--- ---- a server that hides unknown users
-
--- what its machine says of an answer to a response, by the name that counts
-abbrev Concludes : HidingServer → List ℕ → Result (Option (List ℕ)) ServerScramErrorKind → ServerState → List ℕ → Type 0
-Concludes server text answer after name =
-    NamedBy server.state name × ConcludesFrom server.state (hiding_name server name) text answer after
-
-hidden_response_logs_in : (server next : HidingServer) (to after : ServerState) (event : Given) (text name : List ℕ)
-    (answer : Result (Option (List ℕ)) ServerScramErrorKind) (reply : SaslFrame) (body : List ℕ)
-    → SpellsBody event.body (Ok (frames.Response text)) → Concludes server text answer after name
-    → reply ≡ server_frame (λ message. frames.Outcome outcomes.Ok (Some message)) answer
-    → ScramAcceptor (hiding_name server name) to ≡ ScramAcceptor (hiding_name server name) after
-    → SendsCanonical (Failed faults.TooLarge) (server_says reply) (canonical reply) server (record server { state = to })
-    (Concluded outcomes.Ok body) next
-    → (user : List ℕ) × HiddenBodyLogsIn server event.body user
-    × (next ≡ record server { state = ServerFinalSent user })
-hidden_response_logs_in server next to after event text name (Ok (Some message)) reply body spells (counts, from) is same
-    said =
-    let logs = hidden_text_logs_in server after text name (Some message) counts from in
-    let sent = subst (λ (f : SaslFrame). SendsCanonical (Failed faults.TooLarge) (server_says f) (canonical f) server
-    (record server { state = to }) (Concluded outcomes.Ok body) next) is said in
-    let ends : to ≡ ServerFinalSent logs.0 = cc in (
-      logs.0,
-      (text, spells, logs.1),
-      sent_moves (canonical (frames.Outcome outcomes.Ok (Some message))) outcomes.Ok body server
-          (record server { state = to }) next sent
-          ∙ ap (λ (state : ServerState). record server { state = state }) ends,
-    )
-hidden_response_logs_in server next to after event text name (Ok None) reply body spells from is same said =
-    absurd (auth_is_no_ok reply (with_name server name) (with_name server name) _ body is (said.0, refl))
-hidden_response_logs_in server next to after event text name (Err fault) reply body spells from is same said =
-    absurd (auth_is_no_ok reply (with_name server name) (with_name server name) _ body is (said.0, refl))
-
-pub hidden_oks_log_in : HiddenOksLogIn
-hidden_oks_log_in server next event body (Err fault, spells, gives) = let no = gives.0 in absurd (cc)
-hidden_oks_log_in server next event body (Ok (frames.Mechanisms names), spells, gives) =
-    let no = gives.0 in absurd (cc)
-hidden_oks_log_in server next event body (Ok (frames.Challenge text), spells, gives) =
-    let no = gives.0 in absurd (cc)
-hidden_oks_log_in server next event body (Ok (frames.Outcome code more), spells, gives) =
-    let no = gives.0 in absurd (cc)
-hidden_oks_log_in server next event body (Ok (frames.Init mechanism response hostname), spells, inl wants) =
-    let no = wants.0 in absurd (cc)
-hidden_oks_log_in server next event body
-    (Ok (frames.Init mechanism response hostname), spells, inr (reply, moved, (name, to, counts, machine, is), said)) =
-    absurd (init_is_no_ok (hiding_name server name) server.state event.nonce mechanism response hostname reply
-    (ScramAcceptor (hiding_name server name) to) _ body machine (said.0, refl))
-hidden_oks_log_in server next event body (Ok (frames.Response text), spells, inl wants) =
-    let no = wants.0 in absurd (cc)
-hidden_oks_log_in server next event body (
-  Ok (frames.Response text),
-  spells,
-  inr (reply, moved, (name, to, counts, (answer, after, from, replies, same), is), said),
-) =
-    hidden_response_logs_in server next to after event text name answer reply body spells (counts, from) replies same
-    (subst (λ (end : HidingServer). SendsCanonical (Failed faults.TooLarge) (server_says reply) (canonical reply) server end
-    (Concluded outcomes.Ok body) next) is said)
 
 -- ---- a server of PLAIN over records
 
