@@ -11,8 +11,8 @@ ghost use Rattle.fe2o3_sasl_core.specs.PlainServer.{AsksPlain, HasPassword, IsTa
 ghost use Rattle.fe2o3_sasl_core.specs.SaslAcceptor.{sent_frame};
 
 use crate::OutOfMemory;
-use crate::mechanism_names::PLAIN;
 use crate::any_mechanism::HasMechanism;
+use crate::mechanism_names::PLAIN;
 use crate::sasl_acceptor::{AuthenticatedUser, SaslAcceptor, SaslServerFrame, one_name, outcome};
 use fe2o3_sasl_wire::{Array, SaslCode, SaslInit, SaslResponse, Symbol};
 use fe2o3_scram::credentials::ScramCredentialProvider;

@@ -32,7 +32,7 @@ use fe2o3_scram::hmac::{Meter, ScramVersion};
 use fe2o3_scram::scram_client::ScramClient;
 use fe2o3_scram::scram_messages::ScramErrorKind;
 pub use scram::{SaslScram, SaslScramSha1, SaslScramSha256, SaslScramSha512};
-use scram_frames::{answer, verify, first_message, outcome_refusal_unread, refusal_unread};
+use scram_frames::{answer, first_message, outcome_refusal_unread, refusal_unread, verify};
 use std::alloc::{AllocError, Global};
 use std::fmt;
 use url::Url;

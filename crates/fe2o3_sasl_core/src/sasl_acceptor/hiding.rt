@@ -12,7 +12,8 @@ ghost use Rattle.fe2o3_sasl_core.specs.SaslAcceptor.{sent_frame};
 
 use crate::OutOfMemory;
 use crate::sasl_acceptor::{
-    AuthenticatedUser, SaslAcceptor, SaslServerFrame, challenge, conclusion, one_name, outcome, refusal,
+    AuthenticatedUser, SaslAcceptor, SaslServerFrame, challenge, conclusion, one_name, outcome,
+    refusal,
 };
 use fe2o3_sasl_wire::{Array, SaslCode, SaslInit, SaslResponse, Symbol};
 use fe2o3_scram::credentials::ScramCredentialProvider;
