@@ -42,7 +42,7 @@ pub use crate::runs::scram_server_run_with_cbind_flag_y;
 pub use fe2o3_sasl_core::any_mechanism;
 pub use fe2o3_sasl_core::any_mechanism::AnyMechanism;
 pub use fe2o3_sasl_core::any_mechanism::HasMechanism;
-pub use fe2o3_sasl_core::any_mechanism::Part;
+pub use fe2o3_sasl_core::any_mechanism::Selected;
 pub use fe2o3_sasl_core::client_policy;
 pub use fe2o3_sasl_core::client_policy::ChoiceError;
 pub use fe2o3_sasl_core::client_policy::ClientPolicy;
