@@ -15,8 +15,8 @@ abbrev pub endpoint_in : {E R : Type 0} {role : Ghosts R} → ConnectionSide E R
 endpoint_in side = side.endpoint
 
 -- the side that a value is, by the state of its endpoint
-abbrev pub side_in : {E R S : Type 0} {role : Ghosts R} → (E → S) → ConnectionSide E R role → Side S
-side_in state side = record {
+abbrev pub connection_side : {E R S : Type 0} {role : Ghosts R} → (E → S) → ConnectionSide E R role → Side S
+connection_side state side = record {
   progress = side.progress;
   expected = side.expected;
   limit = side.limit;
@@ -37,7 +37,7 @@ acceptor_in server = endpoint_in server
 
 -- the side that a server is, by the state of its acceptor
 abbrev pub server_side : {A S : Type 0} → (A → S) → ServerConnectionSide A → Side S
-server_side state server = side_in state server
+server_side state server = connection_side state server
 
 -- the profile that a client logs in by, and the hostname that its init carries, if any
 abbrev pub endpoint_profile : ClientEndpoint → Profile
@@ -51,4 +51,4 @@ hostname_in client = endpoint_hostname (endpoint_in client)
 
 -- the side that a client is, by the profile that its value is
 abbrev pub client_side : ClientConnectionSide → Side Profile
-client_side client = side_in endpoint_profile client
+client_side client = connection_side endpoint_profile client

@@ -241,7 +241,7 @@ impl ClientNegotiation {
         } }
         ensures hostname { hostname_in result ≡ option_map string_bytes hostname }
     {
-        Self::begin(alloc, ClientEndpoint { profile, hostname }, limit)
+        ConnectionSide::begin(alloc, ClientEndpoint { profile, hostname }, limit)
     }
 
     /// Returns the profile.
@@ -285,7 +285,7 @@ impl ClientNegotiation {
         if !kept.is_client() {
             return Err(RestoreError::InvalidSnapshot);
         }
-        Self::restored(alloc, ClientEndpoint { profile, hostname }, kept)
+        ConnectionSide::restored(alloc, ClientEndpoint { profile, hostname }, kept)
     }
 
     /// Appends the header of SASL, which a client sends first, and asks for room for the longest frame after it.

@@ -215,7 +215,7 @@ impl<A: AuthenticatedUser> ServerNegotiation<A> {
           state = A.state acceptor;
         } }
     {
-        Self::begin(alloc, acceptor, limit)
+        ConnectionSide::begin(alloc, acceptor, limit)
     }
 
     /// Returns the acceptor.
@@ -277,6 +277,6 @@ impl<A: AuthenticatedUser> ServerNegotiation<A> {
         {
             return Err(RestoreError::OtherUser);
         }
-        Self::restored(alloc, acceptor, kept)
+        ConnectionSide::restored(alloc, acceptor, kept)
     }
 }

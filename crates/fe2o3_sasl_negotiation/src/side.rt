@@ -102,13 +102,13 @@ pub struct ConnectionSide<E, R: Role> {
 
 impl<E: Endpoint<R>, R: Role> ConnectionSide<E, R> {
     ghost use Rattle.fe2o3_sasl_negotiation.specs.Memory.{HasRoom, room_in};
-    ghost use Rattle.fe2o3_sasl_negotiation.specs.Sides.{endpoint_in, side_in};
+    ghost use Rattle.fe2o3_sasl_negotiation.specs.Sides.{endpoint_in, connection_side};
     ghost use Rattle.fe2o3_sasl_negotiation.specs.Snapshot.{IsKept, EndsEmpty, side_of};
 
     /// Makes a side of a new connection.
     pub(crate) fn begin(alloc: Global, endpoint: E, limit: usize) -> Self
         requires { IsTrue (R.fits InProgress Header) }
-        ensures side { side_in E.state result ≡ record {
+        ensures side { connection_side E.state result ≡ record {
           progress = InProgress;
           expected = Header;
           limit = min limit 512;
@@ -138,7 +138,7 @@ impl<E: Endpoint<R>, R: Role> ConnectionSide<E, R> {
         requires kept { IsKept kept.now }
         requires fits { IsTrue (R.fits kept.now.progress kept.now.expected) }
         requires empty { EndsEmpty kept.now }
-        ensures side { IfOk result (λ side. side_in E.state side ≡ side_of kept.now (E.state endpoint)) }
+        ensures side { IfOk result (λ side. connection_side E.state side ≡ side_of kept.now (E.state endpoint)) }
         ensures endpoint { IfOk result (λ side. endpoint_in side ≡ endpoint) }
         ensures err { IfErr result (λ error. error ≡ RestoreError.OutOfMemory) }
     {
@@ -155,7 +155,7 @@ impl<E: Endpoint<R>, R: Role> ConnectionSide<E, R> {
 
     /// Returns how far the negotiation is.
     pub fn progress(&self) -> Progress
-        ensures { result ≡ (side_in E.state self.now).progress }
+        ensures { result ≡ (connection_side E.state self.now).progress }
     {
         self.progress
     }
@@ -178,20 +178,20 @@ impl<E: Endpoint<R>, R: Role> ConnectionSide<E, R> {
     ) -> Result<Received, OutOfMemory>
         requires { meter.old ≤ 2 ^ 63 }
         ensures ok { IfOk result (λ received. (sent : List ℕ) × (out.new.items ≡ out.old.items ++ sent)
-            × Receives (E.answers (E.config (endpoint_in self.old))) (side_in E.state self.old) bytes.now nonce.now
-            received.taken sent (side_in E.state self.new)) }
+            × Receives (E.answers (E.config (endpoint_in self.old))) (connection_side E.state self.old) bytes.now nonce.now
+            received.taken sent (connection_side E.state self.new)) }
         ensures within { IfOk result (λ received. received.taken ≤ length bytes.now) }
-        ensures moves { IfOk result (λ received. (side_in E.state self.old).progress ≡ InProgress
+        ensures moves { IfOk result (λ received. (connection_side E.state self.old).progress ≡ InProgress
             → 0 < length bytes.now → 0 < received.taken) }
-        ensures progress { IfOk result (λ received. received.progress ≡ (side_in E.state self.new).progress) }
+        ensures progress { IfOk result (λ received. received.progress ≡ (connection_side E.state self.new).progress) }
         ensures unsent { OnErr result (out.new.items ≡ out.old.items) }
-        ensures unchanged { OnErr result (side_in E.state self.new ≡ side_in E.state self.old) }
+        ensures unchanged { OnErr result (connection_side E.state self.new ≡ connection_side E.state self.old) }
         ensures config { E.config (endpoint_in self.new) ≡ E.config (endpoint_in self.old) }
-        ensures memory { OnErr result (E.asks (room_in self.old) (side_in E.state self.old) bytes.now) }
-        ensures room { OnOk result ((side_in E.state self.old).progress ≡ InProgress
-            → HasRoom (room_in self.new) (side_in E.state self.old)) }
+        ensures memory { OnErr result (E.asks (room_in self.old) (connection_side E.state self.old) bytes.now) }
+        ensures room { OnOk result ((connection_side E.state self.old).progress ≡ InProgress
+            → HasRoom (room_in self.new) (connection_side E.state self.old)) }
         ensures room_stays { room_in self.old ≤ room_in self.new }
-        ensures cost { E.costs (side_in E.state self.old) bytes.now nonce.now meter.old meter.new }
+        ensures cost { E.costs (connection_side E.state self.old) bytes.now nonce.now meter.old meter.new }
     {
         let Progress::InProgress = self.progress else {
             return Ok(Received {

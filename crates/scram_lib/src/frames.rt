@@ -1,7 +1,7 @@
 //! `--frames`: a login over the bytes of a connection of AMQP, as they come on the input.
 
 ghost use Rattle.std.specs.Prelude.{◌≡◌, IfOk, OnOk};
-ghost use Rattle.fe2o3_sasl_negotiation.specs.Sides.{client_side, server_side, side_in};
+ghost use Rattle.fe2o3_sasl_negotiation.specs.Sides.{client_side, server_side, connection_side};
 ghost use Rattle.fe2o3_sasl_negotiation.specs.declared.progress.Progress.TheVariants.{Authenticated};
 
 use crate::client::Login;
@@ -34,7 +34,7 @@ where
     K: Role,
     I: BufRead,
     O: Write,
-    ensures { IfOk result (λ progress. progress ≡ (side_in E.state side.new).progress) }
+    ensures { IfOk result (λ progress. progress ≡ (connection_side E.state side.new).progress) }
 {
     for _ in 0..u64::MAX {
         send(output, sent).map_err(Stop::of_output)?;
