@@ -10,17 +10,19 @@ pub mod frame_sizes;
 mod framing;
 pub mod laws;
 mod pieces;
+mod progress;
 mod restored;
 pub mod retries;
 mod server;
+mod side;
 mod snapshot;
-mod progress;
 
-pub use client::ClientNegotiation;
+pub use client::{ClientEndpoint, ClientNegotiation, ClientRole};
 pub use pieces::{
     Negotiated, Piece, client_connection, scram_server_connection, server_connection,
 };
+pub use progress::{CloseReason, Expected, FrameKind, Progress, Received};
 pub use restored::{restored_client, restored_server};
-pub use server::ServerNegotiation;
-pub use snapshot::{Snapshot, RestoreError};
-pub use progress::{CloseReason, Expected, Received, Progress, FrameKind};
+pub use server::{ServerNegotiation, ServerRole};
+pub use side::{ConnectionSide, Endpoint, Role};
+pub use snapshot::{RestoreError, Snapshot};

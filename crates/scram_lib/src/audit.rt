@@ -19,9 +19,7 @@ use fe2o3_sasl::{
     ClientReply, ProfileError, ServerReply, scram_client_run_limited, scram_server_run,
 };
 use fe2o3_sasl_wire::{Error, SaslCode, view_frame};
-use fe2o3_scram::{
-    MultiRecordStore, ScramCredentialProvider, RecordStore, ScramVersion, saslprep,
-};
+use fe2o3_scram::{MultiRecordStore, RecordStore, ScramCredentialProvider, ScramVersion, saslprep};
 use std::alloc::Global;
 use std::io::{BufRead, Result as Written, Write};
 use std::rt::Files;

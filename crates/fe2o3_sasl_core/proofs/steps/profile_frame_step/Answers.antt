@@ -5,7 +5,7 @@ use Rattle.fe2o3_sasl_core.specs.SaslProfile.{profile_of}
 use Rattle.fe2o3_sasl_core.proofs.lemmas.steps.WrittenReplyLemmas.{refused_unread}
 use Rattle.fe2o3_sasl_core.proofs.lemmas.steps.WrittenStepLemmas.{unnamed}
 use Rattle.fe2o3_sasl_core.specs.declared.sasl_profile.error.ProfileError.TheVariants.{NotImplemented}
-use Rattle.fe2o3_sasl_core.proofs.steps.answer_view.Goals as goal
+use Rattle.fe2o3_sasl_core.proofs.steps.profile_frame_step.Goals as goal
 
 pub returns-then-not-contains-clause-answer : goal.returns-then-not-contains-clause-answer
 returns-then-not-contains-clause-answer c =
