@@ -1,12 +1,13 @@
-//! Logins with SCRAM-SHA-256, each of a client and a server in one program: over frame bodies, with
-//! what stands around them, what whole lists of them say, over the bytes of a connection, and over
-//! SCRAM's texts alone.
+//! Logins with SCRAM-SHA-256, each of a client and a server in one program: over the bytes of a
+//! connection, over frame bodies, with what stands around them, and over SCRAM's texts; by whole lists of
+//! bodies, and from a store of the caller's own.
 #![tactic(auto)]
 
 mod audit;
 mod client;
 mod connection;
 mod login;
+mod own_store;
 mod runs;
 mod scram_client;
 mod scram_server;
@@ -152,5 +153,5 @@ fn main(rt: HostRuntime) -> Result<()> {
     over_connection(&rt, rt.alloc(), &mut output)?;
     let given = over_frames(&rt, rt.alloc(), &mut output)?;
     over_lists(rt.alloc(), &given, &mut output)?;
-    over_both(rt.alloc(), &given, &mut output)
+    own_store::report_all(&rt, rt.alloc(), &mut output)
 }

@@ -1,3 +1,2 @@
--- MockSettings has to believe these: they say what the code holds, and only private contracts cite them.
-pub mod Audit
+-- Only private contracts cite these: no reader of a public contract has to believe them.
 pub mod Passwords

@@ -10,9 +10,8 @@ use crate::nonces;
 use crate::server::Service;
 use crate::stop::Stop;
 use bytes::BytesMut;
-use fe2o3_sasl::{Meter, AuthenticatedUser, SaslProfile};
 use fe2o3_sasl_negotiation::{
-    ClientNegotiation, CloseReason, Received, ServerNegotiation, Progress,
+    AuthenticatedUser, ClientNegotiation, CloseReason, Meter, Progress, Received, SaslProfile, ServerNegotiation,
 };
 use fe2o3_scram::{OutOfMemory, ScramClient};
 use std::alloc::Global;

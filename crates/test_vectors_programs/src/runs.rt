@@ -2,7 +2,7 @@
 
 use crate::disk::Disk;
 use example_broker_lib::log_in;
-use scram_lib::run;
+use scram_audit_lib::run;
 use std::alloc::{AllocError, Global};
 use std::fs::Metadata;
 use std::io::{BufRead, BufReader, Result, Write};

@@ -5,7 +5,8 @@ ghost use Rattle.fe2o3_scram.specs.HidingServer.{hiding_server};
 ghost use Rattle.fe2o3_scram.specs.Logins.{HiddenTextLogsIn};
 ghost use Rattle.fe2o3_scram.specs.ScramServer.{logged_in};
 
-use crate::accounts::{Account, Accounts};
+use super::accounts::{Account, Accounts};
+use crate::login::fresh;
 use anyhow::{Context, Result};
 use fe2o3_scram::{
     DEFAULT_SCRAM_ITERATIONS, HidingAuthenticator, ScramClient, ScramRecord, ScramVersion,
@@ -50,7 +51,7 @@ pub struct Broker {
 
 impl Broker {
     /// A broker of the accounts. Its secret, by which unknown users are answered as known ones, is random
-    /// bytes, which are told to nobody and kept for as long as the accounts are.
+    /// bytes. Keep it secret, and for as long as the accounts are kept.
     pub fn new(alloc: Global, secret: [u8; 32]) -> Result<Broker> {
         let mut accounts = Accounts::new(alloc, ScramVersion::Sha256);
         for (name, text, sessions) in kept() {
@@ -83,7 +84,7 @@ pub fn log_in<R: RandomSource>(
     let mut server = broker.server(alloc)?;
     let mut client = client(alloc, name, password)?;
     exchange(alloc, rt, &mut client, &mut server)?;
-    let user = server.authenticated_user().context("mock")?;
+    let user = server.authenticated_user().context("no user")?;
     let account = broker.accounts.account(user).context("no account")?;
     Ok(account.sessions)
 }
@@ -95,13 +96,6 @@ fn client(alloc: Global, name: &str, password: &str) -> Result<ScramClient> {
     let client = ScramClient::new(name, password, ScramVersion::Sha256);
     let client = client.with_min_iterations(4096);
     Ok(client.with_iteration_limit(100_000))
-}
-
-/// Fresh random bytes, for a nonce or a secret.
-pub fn fresh<R: RandomSource>(rt: &R) -> Result<[u8; 32]> {
-    let mut bytes = [0; 32];
-    rt.fill_bytes(&mut bytes)?;
-    Ok(bytes)
 }
 
 /// The four messages, with a fresh nonce of each side.

@@ -10,8 +10,8 @@ use Rattle.fe2o3_sasl.specs.declared.audit.FindingKind.{FindingKind}
 use Rattle.fe2o3_sasl.specs.declared.audit.FindingKind.TheVariants as kinds
 use Rattle.fe2o3_sasl.specs.declared.audit.Verdict.{Verdict}
 use Rattle.fe2o3_sasl.specs.declared.audit.Verdict.TheVariants as verdicts
-use Rattle.scram_lib.specs.declared.audit.Login.{Login}
-use Rattle.scram_lib.specs.declared.audit.Sides.{Sides}
+use Rattle.scram_audit_lib.specs.declared.audit.Login.{Login}
+use Rattle.scram_audit_lib.specs.declared.audit.Sides.{Sides}
 
 -- both sides mean one login
 abbrev pub has_agreed : Verdict → Bool
@@ -22,7 +22,7 @@ has_agreed verdict = false
 abbrev pub means_one : Finding → Bool
 means_one finding = has_agreed finding.verdict
 
--- the finding is of a verifier that the client took, by which it believes the server
+-- the finding is of a verifier that the client took, by which it authenticates the server
 abbrev pub verifying : FindingKind → Bool
 verifying kinds.Verifier = true
 verifying kinds.Proof = false
@@ -31,7 +31,7 @@ verifying kinds.Proof = false
 abbrev pub verifies : Finding → Bool
 verifies finding = verifying finding.kind
 
--- each finding is agreed, and by one the client believes the server
+-- each finding is agreed, and by one the client authenticates the server
 abbrev pub is_whole : List Finding → Bool
 is_whole findings = list_all means_one findings && list_any verifies findings
 

@@ -1,16 +1,16 @@
-//! The bodies of one side: those that it was given, and what it answered.
+//! The bodies of one side: those that it received, and what it answered.
 
 ghost use Rattle.std.specs.Prelude.{◌≡◌, ◌≢◌, ℕ, List, length, Ok, IfOk, MatchOption};
 ghost use Rattle.base64.specs.Engines.{standard};
 ghost use Rattle.base64.specs.GeneralPurpose.{decode_of};
 
-use crate::explain::Heard;
-use crate::stop::Stop;
 use base64::DecodeAllocError;
 use base64::engine::general_purpose::STANDARD;
 use fe2o3_sasl::Event;
 use fe2o3_sasl_wire::{FrameView, SaslCode, view_frame};
 use fe2o3_scram::ScramVersion;
+use scram_lib::explain::Heard;
+use scram_lib::stop::Stop;
 use std::alloc::{AllocError, Global};
 use std::io::Write;
 
@@ -23,7 +23,7 @@ pub struct Given {
     /// The user of the last init before it, or in it, plain.
     pub user: String,
 
-    /// Whether it wants an answer, of which none has come yet.
+    /// Whether it needs an answer, of which none has come yet.
     is_open: bool,
 
     /// The text of the answer, where that goes on with a login.
@@ -146,7 +146,7 @@ impl Half {
         Ok(())
     }
 
-    /// Takes the text of an answer: to the last body, where that still wants one, else to the next.
+    /// Takes the text of an answer: to the last body, where that has none yet, otherwise to the next.
     fn answer(&mut self, text: Option<Vec<u8>>) {
         match (self.given.last_mut(), self.events.last_mut()) {
             (Some(given), Some(event)) if given.is_open => {
@@ -165,12 +165,12 @@ impl Half {
         let Some(version) = ScramVersion::from_mechanism(mechanism) else {
             return Ok(());
         };
-        match &self.selected {
+        match &self.asked {
             Some(asked) if asked.version == version && asked.user == self.heard.user => {}
             Some(_) => self.unfit = Some(Stop::TwoLogins),
             None => {
                 let user = self.heard.user.as_str().to_string(alloc)?;
-                self.selected = Some(Asked { user, version });
+                self.asked = Some(Asked { user, version });
             }
         }
         Ok(())
@@ -195,7 +195,7 @@ impl Half {
     }
 }
 
-/// The 32 bytes that a nonce is the base64 of, or none where it is not that of so many.
+/// The 32 bytes that a nonce is the base64 of, or none where it is not that of 32 bytes.
 fn bytes_of(alloc: Global, nonce: &str) -> Result<Option<[u8; 32]>, AllocError>
     ensures { IfOk result (λ found. MatchOption found
         ((bytes : List ℕ) → decode_of standard nonce.now ≡ Ok bytes → length bytes ≢ 32)

@@ -1,14 +1,13 @@
 //! A broker that logs its users in from a store of its own: each record as PostgreSQL 15 writes it,
 //! and what the user may do beside it.
-#![tactic(auto)]
 
 mod accounts;
 mod broker;
 
-use crate::broker::{Broker, fresh, log_in};
+use self::broker::{Broker, log_in};
+use crate::login::fresh;
 use anyhow::Result;
 use std::alloc::Global;
-use std::io;
 use std::io::Write;
 use std::random::RandomSource;
 
@@ -41,11 +40,11 @@ fn report<R: RandomSource, W: Write>(
     Ok(())
 }
 
-fn main(rt: HostRuntime) -> Result<()> {
-    let mut output = io::writer(&rt);
-    let broker = Broker::new(rt.alloc(), fresh(&rt)?)?;
+/// Tries each name and password, and prints what comes of them.
+pub fn report_all<R: RandomSource, W: Write>(rt: &R, alloc: Global, output: &mut W) -> Result<()> {
+    let broker = Broker::new(alloc, fresh(rt)?)?;
     for (name, password) in tries() {
-        report(rt.alloc(), &rt, &broker, name, password, &mut output)?;
+        report(alloc, rt, &broker, name, password, output)?;
     }
     Ok(())
 }

@@ -3,7 +3,7 @@ use Rattle.std.specs.Result.{IfOk}
 use Rattle.fe2o3_scram.specs.HidingServer.{hiding_server}
 use Rattle.fe2o3_scram.specs.ScramServer.{logged_in}
 use Rattle.fe2o3_scram.proofs.lemmas.messages.LoginLemmas.{hidden_texts_log_in}
-use Rattle.example_own_store.proofs.broker.conclude.Goals as goal
+use Rattle.example_quick_start.proofs.own_store.broker.conclude.Goals as goal
 
 -- what holds whatever the result is
 always : {T E : Type 0} {P : Type 0} → P → (result : Result T E) → IfOk result (λ _. P)

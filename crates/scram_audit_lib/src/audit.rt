@@ -1,40 +1,24 @@
-//! `explain --audit`: what the bodies of a client and those of a server say of both. Both sides are made anew, the
-//! client by the password and the server by its users, and given the bodies that the real ones were given.
+//! `explain --audit`: what the bodies of a client and those of a server say of both. Both sides are replayed, the
+//! client by the password and the server by its users, over the bodies that the real ones received.
 
 ghost use Rattle.std.specs.Prelude.{◌≡◌, IfOk, OnOk, is_ok};
 ghost use Rattle.std.specs.List.{list_all, list_any};
-ghost use Rattle.scram_lib.specs.private.Audit.{FindsAll, FindsWhole, verifies, is_whole, means_one};
+ghost use Rattle.scram_audit_lib.specs.private.Audit.{FindsAll, FindsWhole, verifies, is_whole, means_one};
 
-pub mod half;
-pub mod sentences;
-
-use crate::audit::half::{Given, Half, text_of};
-use crate::audit::sentences::sentence_of;
-use crate::explain::body_of;
-use crate::input;
-use crate::stop::Stop;
-use crate::users::lines;
-use fe2o3_sasl::audit::{Finding, FindingKind, Verdict, audit_limited};
-use fe2o3_sasl::{
-    ClientReply, ProfileError, ServerReply, scram_client_run_limited, scram_server_run,
-};
-use fe2o3_sasl_wire::{Error, SaslCode, view_frame};
-use fe2o3_scram::{
-    MultiRecordStore, ScramCredentialProvider, RecordStore, ScramVersion, saslprep,
-};
+use crate::answers::{print_accepted, print_verified};
+use crate::half::{Given, Half};
+use crate::sentences::sentence_of;
+use fe2o3_sasl::audit::{AuditError, Finding, FindingKind, Verdict, audit_limited};
+use fe2o3_sasl::{scram_client_run_limited, scram_server_run};
+use fe2o3_scram::{MultiRecordStore, RecordStore, ScramCredentialProvider, ScramVersion, saslprep};
+use scram_lib::explain::body_of;
+use scram_lib::input;
+use scram_lib::stop::Stop;
+use scram_lib::task::Audited;
+use scram_lib::users::lines;
 use std::alloc::Global;
 use std::io::{BufRead, Result as Written, Write};
 use std::rt::Files;
-
-/// The audit that is asked for.
-#[derive(Clone, Copy)]
-pub struct Audited<'a> {
-    /// The file of the server's users.
-    pub file: &'a str,
-
-    /// The largest iteration count that the client accepts.
-    pub limit: u32,
-}
 
 /// The bodies of both sides.
 #[derive(Drop)]
@@ -75,7 +59,7 @@ where
         client: Half::client(alloc),
         server: Half::server(alloc),
     };
-    sides.run(alloc, &password, &users, asked.limit, input, output)
+    sides.run(alloc, &password, &users, asked.max_iterations, input, output)
 }
 
 impl Sides {
@@ -141,7 +125,7 @@ impl Sides {
         if let Some(stop) = self.client.unfit.or(self.server.unfit) {
             return Err(stop);
         }
-        let Some(asked) = &self.client.selected else {
+        let Some(asked) = &self.client.asked else {
             return Err(Stop::NoLogin);
         };
         let credentials = users.for_version(asked.version);
@@ -157,7 +141,7 @@ impl Sides {
         })
     }
 
-    /// Prints an audit: whom each side believes, and what both agree on. Ok says that both completed a login.
+    /// Prints an audit: whom each side authenticates, and what both agree on. Ok says that both completed a login.
     fn audit<O: Write>(&self, alloc: Global, login: &Login<'_>, output: &mut O) -> Result<(), Stop>
         ensures { OnOk result (FindsWhole self.now login.now) }
     {
@@ -193,17 +177,17 @@ impl Sides {
     fn print<O: Write>(&self, finding: &Finding, sentence: &str, output: &mut O) -> Written<()> {
         let client = line_at(&self.client.given, finding.client);
         let server = line_at(&self.server.given, finding.server);
-        let verified = match finding.kind {
-            FindingKind::Verifier => "the client believes this server",
+        let authenticated = match finding.kind {
+            FindingKind::Verifier => "the client authenticates this server",
             FindingKind::Proof => "the server accepts this client",
         };
         writeln!(
             output,
-            "audit: lines {client} and {server}: {believed}, {sentence}"
+            "audit: lines {client} and {server}: {authenticated}, {sentence}"
         )
     }
 
-    /// Prints whom the client believes.
+    /// Prints whom the client authenticates.
     fn print_client<O: Write>(
         &self,
         alloc: Global,
@@ -236,7 +220,7 @@ impl Sides {
     fn findings(&self, alloc: Global, login: &Login<'_>) -> Result<Vec<Finding>, Stop>
         ensures { IfOk result (λ findings. FindsAll self.now login.now findings.items) }
     {
-        Ok(audit_limited(
+        match audit_limited(
             alloc,
             login.user,
             login.password,
@@ -245,153 +229,10 @@ impl Sides {
             &self.client.events,
             login.credentials,
             &self.server.events,
-        )?)
-    }
-}
-
-/// What a side that is made anew answers to a body.
-#[derive(Clone, Copy)]
-struct Answer<'a> {
-    /// The text by which it goes on with the login, or ends it by Ok.
-    text: Option<&'a [u8]>,
-
-    /// Whether it takes the login for done: the client reports Ok, or the server tells it.
-    is_ok: bool,
-}
-
-impl<'a> Answer<'a> {
-    /// None, or none that goes on.
-    const NONE: Answer<'static> = Answer {
-        text: None,
-        is_ok: false,
-    };
-
-    /// What a client answers.
-    fn of_client(reply: &'a Result<ClientReply, ProfileError>) -> Result<Answer<'a>, Stop> {
-        match reply {
-            Ok(ClientReply::Init { body }) | Ok(ClientReply::Response { body }) => Ok(Answer {
-                text: text_in(body),
-                is_ok: false,
-            }),
-            Ok(ClientReply::Outcome(outcome)) => Ok(Answer {
-                text: None,
-                is_ok: outcome.code == SaslCode::Ok,
-            }),
-            Err(ProfileError::OutOfMemory) => Err(Stop::OutOfMemory),
-            Err(_) => Ok(Answer::NONE),
+        ) {
+            Ok(findings) => Ok(findings),
+            Err(AuditError::OutOfMemory) => Err(Stop::OutOfMemory),
         }
-    }
-
-    /// What a server answers.
-    fn of_server(reply: &'a Result<ServerReply, Error>) -> Result<Answer<'a>, Stop> {
-        match reply {
-            Ok(ServerReply::Challenge { body }) => Ok(Answer {
-                text: text_in(body),
-                is_ok: false,
-            }),
-            Ok(ServerReply::Outcome { code, body }) => Ok(Answer {
-                text: text_in(body),
-                is_ok: *code == SaslCode::Ok,
-            }),
-            Err(Error::OutOfMemory) => Err(Stop::OutOfMemory),
-            Err(_) => Ok(Answer::NONE),
-        }
-    }
-
-    /// Whether the real side answered so.
-    fn is_that_of(&self, given: &Given) -> bool {
-        match (self.text, &given.answer) {
-            (Some(text), Some(answer)) => text == answer.as_slice(),
-            (None, None) => true,
-            _ => false,
-        }
-    }
-}
-
-/// Prints whom the client believes, which gave these replies.
-fn print_verified<O: Write>(
-    given: &[Given],
-    replies: &[Result<ClientReply, ProfileError>],
-    output: &mut O,
-) -> Result<(), Stop> {
-    let mut verifies = false;
-    for (given, reply) in given.iter().zip(replies) {
-        let answer = Answer::of_client(reply)?;
-        verifies |= answer.is_ok;
-        print_client(given, &answer, output).map_err(Stop::of_output)?;
-    }
-    if !verifies {
-        writeln!(output, "audit: the client believes no server").map_err(Stop::of_output)?;
-    }
-    Ok(())
-}
-
-/// Prints whom the server accepts, which gave these replies.
-fn print_accepted<O: Write>(
-    given: &[Given],
-    replies: &[Result<ServerReply, Error>],
-    output: &mut O,
-) -> Result<(), Stop> {
-    let (mut challenged, mut accepts) = (None, false);
-    for (given, reply) in given.iter().zip(replies) {
-        let answer = Answer::of_server(reply)?;
-        accepts |= answer.is_ok;
-        if matches!(reply, Ok(ServerReply::Challenge { .. })) {
-            challenged = Some(given);
-        }
-        print_server(given, challenged, &answer, output).map_err(Stop::of_output)?;
-    }
-    if !accepts {
-        writeln!(output, "audit: the server accepts nobody").map_err(Stop::of_output)?;
-    }
-    Ok(())
-}
-
-/// Prints whether the client answered otherwise than the one that is made anew, and whether it believes a server.
-fn print_client<O: Write>(given: &Given, answer: &Answer<'_>, output: &mut O) -> Written<()> {
-    let line = given.line;
-    if !answer.is_that_of(given) {
-        writeln!(
-            output,
-            "audit: line {line}: the client does not answer as by this password"
-        )?;
-    }
-    if answer.is_ok {
-        writeln!(output, "audit: line {line}: the client believes the server")?;
-    }
-    Ok(())
-}
-
-/// Prints whether the server answered otherwise than the one that is made anew, and whether it accepts the user of the
-/// last body that it challenged.
-fn print_server<O: Write>(
-    given: &Given,
-    challenged: Option<&Given>,
-    answer: &Answer<'_>,
-    output: &mut O,
-) -> Written<()> {
-    let line = given.line;
-    if !answer.is_that_of(given) {
-        writeln!(
-            output,
-            "audit: line {line}: the server does not answer as by these records"
-        )?;
-    }
-    if let (true, Some(challenged)) = (answer.is_ok, challenged) {
-        let user = challenged.user.as_str();
-        writeln!(
-            output,
-            "audit: line {line}: the server accepts the user {user:?}"
-        )?;
-    }
-    Ok(())
-}
-
-/// The text in a body that goes on with a login.
-fn text_in(body: &[u8]) -> Option<&[u8]> {
-    match view_frame(body) {
-        Ok((view, _)) => text_of(&view),
-        Err(_) => None,
     }
 }
 
@@ -400,7 +241,7 @@ fn line_at(given: &[Given], position: usize) -> u64 {
     given.get(position).map_or(0, |given| given.line)
 }
 
-/// Whether both sides completed a login, and each finding is agreed; else what is amiss.
+/// Whether both sides completed a login, and each finding is agreed; otherwise what is amiss.
 fn conclude(findings: &[Finding]) -> Result<(), Stop>
     ensures { is_ok result ≡ is_whole findings.now }
 {
@@ -422,7 +263,7 @@ fn all_agreed(findings: &[Finding]) -> bool
     findings.iter().all(|finding| is_agreed(finding))
 }
 
-/// Whether by some finding the client believes the server.
+/// Whether by some finding the client authenticates the server.
 fn some_verified(findings: &[Finding]) -> bool
     ensures { result ≡ list_any verifies findings.now }
 {
@@ -436,7 +277,7 @@ fn is_agreed(finding: &Finding) -> bool
     matches!(finding.verdict, Verdict::Agreed { .. })
 }
 
-/// Whether the client took a verifier, by which it believes the server.
+/// Whether the client took a verifier, by which it authenticates the server.
 fn is_verified(finding: &Finding) -> bool
     ensures { result ≡ verifies finding.now }
 {

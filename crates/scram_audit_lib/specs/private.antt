@@ -1,0 +1,2 @@
+-- Only private contracts cite these: no reader of a public contract has to believe them.
+pub mod Audit
