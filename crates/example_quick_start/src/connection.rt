@@ -4,8 +4,7 @@ use crate::client::new_client;
 use crate::server::{self, Server};
 use anyhow::Result;
 use bytes::BytesMut;
-use fe2o3_sasl::Meter;
-use fe2o3_sasl_negotiation::{ClientNegotiation, ServerNegotiation, Progress};
+use fe2o3_sasl_negotiation::{ClientNegotiation, Meter, Progress, ServerNegotiation};
 use std::alloc::Global;
 use std::random::RandomSource;
 
@@ -19,8 +18,8 @@ pub fn new_server(
 }
 
 /// Hands a server what has come from its client, and appends what is to be sent. Answers how many bytes
-/// it took: those that are left behind a login are AMQP's. Where `server.progress()` is `LoggedIn`,
-/// `server.authenticated_user()` says who; where it is `Closed`, send the output and close.
+/// it took: those that are left after a login are AMQP's. Where `server.progress()` is `Authenticated`,
+/// `server.authenticated_user()` says who; where it is `Failed`, send the output and close.
 pub fn serve<R: RandomSource>(
     rt: &R,
     alloc: Global,

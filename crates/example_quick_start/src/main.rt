@@ -3,7 +3,6 @@
 //! bodies, and from a store of the caller's own.
 #![tactic(auto)]
 
-mod audit;
 mod client;
 mod connection;
 mod login;
@@ -122,7 +121,7 @@ fn over_connection<R: RandomSource, W: Write>(rt: &R, alloc: Global, output: &mu
     let server = connection::new_server(alloc, fresh(rt)?, fresh(rt)?)?;
     let mut server = Box::new(alloc, server)?;
     connection::meet(rt, alloc, &mut server)?;
-    let user = server.authenticated_user().context("nobody has logged in")?;
+    let user = server.authenticated_user().context("no user")?;
     writeln!(output, "{user} logged in over a connection")?;
     Ok(())
 }
@@ -134,15 +133,6 @@ fn over_lists<W: Write>(alloc: Global, given: &Transcript, output: &mut W) -> Re
     writeln!(output, "the server lets the client in at {let_in:?}")?;
     let logged_in = runs::logs_in(alloc, &given.client)?;
     writeln!(output, "the client is logged in at {logged_in:?}")?;
-    Ok(())
-}
-
-/// What they have in common.
-fn over_both<W: Write>(alloc: Global, given: &Transcript, output: &mut W) -> Result<()> {
-    let user = server::new_user(alloc, given.salt)?;
-    for finding in &audit::findings(alloc, given, &user)? {
-        audit::print(finding, output)?;
-    }
     Ok(())
 }
 

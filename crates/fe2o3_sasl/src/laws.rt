@@ -54,7 +54,7 @@ pub fn runs_are_histories()
 /// PLAIN over records only where the body is an init with the password of its user's record; and a SCRAM
 /// profile reports Ok only on the signature of the answer that it waits on. A caller's own proof cites them as
 /// `oks_log_in`, `plain_oks_log_in` and `reported_oks_are_signed` of
-/// `proofs/lemmas/steps/StepLawLemmas.antt`.
+/// `proofs/lemmas/steps/StepLawLemmas.antt` of `fe2o3_sasl_core`.
 pub fn steps()
     ensures server { OksLogIn }
     ensures plain { PlainOksLogIn }
@@ -113,7 +113,7 @@ pub fn any_mechanism_users<A: HasMechanism, B: HasMechanism>()
 /// history, and `headline` says what it answers Ok to. In such a history an unknown user is accepted only by a
 /// proof whose key has the mock StoredKey as its digest. A step answers Ok only to a response that logs a user in
 /// over that provider, and over the provider only where it has the user; the acceptor then names that user. A
-/// proof of your own cites this as `hidden_oks_log_in` of `proofs/lemmas/steps/StepLawLemmas.antt`.
+/// proof of your own cites this as `hidden_oks_log_in` of `proofs/lemmas/steps/StepLawLemmas.antt` of `fe2o3_sasl_core`.
 pub fn hidden_users()
     ensures runs { HiddenRunsAreRuns }
     ensures histories { HiddenRunsAreHistories }

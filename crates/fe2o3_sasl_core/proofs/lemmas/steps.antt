@@ -7,3 +7,4 @@ pub mod ProfileReplyLemmas
 pub mod WrittenReplyLemmas
 pub mod WrittenStepLemmas
 pub mod CostLemmas
+pub mod StepLawLemmas

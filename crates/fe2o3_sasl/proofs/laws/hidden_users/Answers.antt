@@ -1,5 +1,5 @@
 use Rattle.fe2o3_sasl.proofs.lemmas.machines.HidingRunLemmas.{hidden_runs_are_runs, hidden_runs_are_histories, mock_record_is_met}
-use Rattle.fe2o3_sasl.proofs.lemmas.steps.StepLawLemmas.{hidden_oks_log_in}
+use Rattle.fe2o3_sasl_core.proofs.lemmas.steps.StepLawLemmas.{hidden_oks_log_in}
 use Rattle.fe2o3_sasl.proofs.laws.hidden_users.Goals as goal
 
 pub returns-clause-runs : goal.returns-clause-runs
