@@ -114,7 +114,10 @@ fn print_client<O: Write>(given: &Given, answer: &Answer<'_>, output: &mut O) ->
         )?;
     }
     if answer.is_ok {
-        writeln!(output, "audit: line {line}: the client authenticates the server")?;
+        writeln!(
+            output,
+            "audit: line {line}: the client authenticates the server"
+        )?;
     }
     Ok(())
 }

@@ -59,7 +59,14 @@ where
         client: Half::client(alloc),
         server: Half::server(alloc),
     };
-    sides.run(alloc, &password, &users, asked.max_iterations, input, output)
+    sides.run(
+        alloc,
+        &password,
+        &users,
+        asked.max_iterations,
+        input,
+        output,
+    )
 }
 
 impl Sides {

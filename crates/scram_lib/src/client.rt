@@ -5,7 +5,7 @@ ghost use Rattle.fe2o3_scram.specs.ScramClient.{is_complete};
 
 use crate::stop::Stop;
 use crate::{frames, input, keys, nonces, wire};
-use fe2o3_scram::{ScramClient, CachedKeys, ScramErrorKind, ScramVersion};
+use fe2o3_scram::{CachedKeys, ScramClient, ScramErrorKind, ScramVersion};
 use std::alloc::Global;
 use std::io::{BufRead, Write};
 use std::random::RandomSource;

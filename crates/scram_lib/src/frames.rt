@@ -11,7 +11,8 @@ use crate::server::Service;
 use crate::stop::Stop;
 use bytes::BytesMut;
 use fe2o3_sasl_negotiation::{
-    AuthenticatedUser, ClientNegotiation, CloseReason, Meter, Progress, Received, SaslProfile, ServerNegotiation,
+    AuthenticatedUser, ClientNegotiation, CloseReason, Meter, Progress, Received, SaslProfile,
+    ServerNegotiation,
 };
 use fe2o3_scram::{OutOfMemory, ScramClient};
 use std::alloc::Global;

@@ -69,11 +69,7 @@ impl Change for Kept {
 }
 
 /// Keeps the keys of a login.
-pub fn keep<R: Files + AllocGlobal>(
-    rt: &R,
-    file: &str,
-    keys: &CachedKeys,
-) -> Result<(), Stop> {
+pub fn keep<R: Files + AllocGlobal>(rt: &R, file: &str, keys: &CachedKeys) -> Result<(), Stop> {
     let line = line_of(rt.alloc(), keys)?;
     store::make_change(rt, file, &Kept { line })?;
     Ok(())

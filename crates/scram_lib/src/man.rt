@@ -1,6 +1,6 @@
 //! The page of the manual, in the words of `man` (roff), made of the table of words.
 
-use crate::manual::{ABOUT, NOTES, COMMANDS, Kind, USERS, USERS_COMMANDS, Word, Words};
+use crate::manual::{ABOUT, COMMANDS, Kind, NOTES, USERS, USERS_COMMANDS, Word, Words};
 use std::io::{Result, Write};
 
 /// Prints the page.

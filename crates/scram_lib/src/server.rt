@@ -10,7 +10,7 @@ use crate::stop::Stop;
 use crate::{frames, nonces, store, wire};
 use fe2o3_sasl_negotiation::AuthenticatedUser;
 use fe2o3_scram::{
-    HidingAuthenticator, MultiRecordStore, ScramAuthenticator, RecordStore, ScramVersion,
+    HidingAuthenticator, MultiRecordStore, RecordStore, ScramAuthenticator, ScramVersion,
     ServerScramErrorKind,
 };
 use mock_secret::secret_of;

@@ -162,7 +162,9 @@ fn login<'a>(matches: &ArgMatches<'a>) -> Login<'a> {
 
 /// The maximum iteration count that the words name, or the default.
 fn max_iterations(matches: &ArgMatches<'_>) -> u32 {
-    matches.get_one::<u32>("max-iterations").unwrap_or(1_000_000)
+    matches
+        .get_one::<u32>("max-iterations")
+        .unwrap_or(1_000_000)
 }
 
 /// The server that the words describe.
