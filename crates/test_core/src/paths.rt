@@ -1,5 +1,5 @@
-//! Every public path of this crate's modules, and every item at its root. What is named here and stands
-//! nowhere does not compile.
+//! The public paths of `fe2o3_sasl`: the items by their modules, and at its root. A name that is missing there does not
+//! compile here.
 
 /// The items by their modules.
 pub mod by_module {
