@@ -8,7 +8,7 @@ use Rattle.fe2o3_scram.specs.declared.scram_messages.channel_binding_flag.Channe
 use Rattle.fe2o3_scram.specs.ClientFirst.{HasEscapes}
 use Rattle.fe2o3_scram.specs.Escape.{escaped, NoEquals}
 use Rattle.fe2o3_scram.specs.Hmac.{mechanism_name}
-use Rattle.fe2o3_scram.specs.MemoryExamples.{AnsweredClientsTakeNone, CommasTakeNone, ErrorsTakeNone, OtherNoncesTakeNone, UnboundTextsTakeNone, UnknownMechanismsTakeNone, UnknownUsersTakeNone}
+use Rattle.fe2o3_scram.specs.examples.MemoryExamples.{AnsweredClientsTakeNone, CommasTakeNone, ErrorsTakeNone, OtherNoncesTakeNone, UnboundTextsTakeNone, UnknownMechanismsTakeNone, UnknownUsersTakeNone}
 use Rattle.fe2o3_scram.specs.RecordLines.{ReachesName}
 use Rattle.fe2o3_scram.specs.RecordText.{Fields, HasFields, Plain}
 use Rattle.fe2o3_scram.specs.Texts.{NoComma, Part, Parts, base64_text, HasBase64}
