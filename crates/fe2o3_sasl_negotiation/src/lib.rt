@@ -4,8 +4,8 @@
 //! A [`ServerNegotiation`] and a [`ClientNegotiation`] read headers and sizes of frames, hold no more than one
 //! frame, answer each by an acceptor or a profile of `fe2o3_sasl_core`, and say when to close.
 //!
-//! The items of `fe2o3_sasl_core`, `fe2o3_scram` and `fe2o3_sasl_wire` are re-exported here, so that a server or
-//! a client over a connection names this crate only. [`scram`] and [`wire`] are the latter two as wholes.
+//! The items of `fe2o3_sasl_core`, `fe2o3_scram` and `fe2o3_sasl_wire` that a server or a client needs are
+//! re-exported here, so that it names this crate only.
 #![tactic(auto)]
 
 mod client;
@@ -38,14 +38,12 @@ pub use fe2o3_sasl_core::{
     run_acceptor, run_profile, scram_client_run, scram_client_run_limited, scram_server_run,
     scram_server_run_with_cbind_flag_y, select_mechanism,
 };
-pub use fe2o3_sasl_wire as wire;
 pub use fe2o3_sasl_wire::{
-    Array, Binary, Error as FrameError, Frame, FrameCodec, FrameView, NegotiationError,
+    Array, Binary, Frame, FrameCodec, FrameView, NegotiationError,
     ProtocolHeader, ProtocolHeaderCodec, ProtocolId, SaslChallenge, SaslCode, SaslInit,
     SaslMechanisms, SaslOutcome, SaslResponse, Symbol, SymbolError, SymbolsIter, SymbolsView,
-    view_frame,
+    amqp_types, protocol_header, sasl_frames, view_frame,
 };
-pub use fe2o3_scram as scram;
 pub use fe2o3_scram::{
     AddRecordError, CachedKeys, ClientSecret, DEFAULT_SCRAM_ITERATIONS, DigestBytes,
     HidingAuthenticator, IterationLimits, KeyError, Meter, MultiRecordStore, NormalizeError,

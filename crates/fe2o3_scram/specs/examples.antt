@@ -1,2 +1,2 @@
--- No reader of a contract has to believe these: they are worked examples of the definitions.
+-- A reader need not trust these: they are worked examples of the definitions.
 pub mod MemoryExamples

@@ -1,2 +1,2 @@
--- Only private contracts cite these: no reader of a public contract has to believe them.
+-- A reader need not trust these: they say what the code holds, and only private contracts cite them.
 pub mod Passwords

@@ -72,7 +72,7 @@ pub enum Stop {
     #[error("The secret of mock records, FILE.secret, cannot be used: {0}.")]
     Secret(SecretError),
 
-    /// No user of the file has the name.
+    /// No record has the name.
     #[error("The file has no such record.")]
     NoSuchRecord,
 
