@@ -5,7 +5,7 @@ ghost use Rattle.fe2o3_sasl_core.specs.Hex.{OneBytesOfHex, HexIsReadAgain};
 ghost use Rattle.fe2o3_sasl_core.specs.MechanismLaws.{OneAcceptorReply, OneProfileReply, SomeAcceptorReply, SomeProfileReply, PlainRunsNameUsers, OffersAgree, PlainLetsIn, PlainRefuses, AnonymousLetsIn, SomethingIsOffered, NamesDiffer};
 ghost use Rattle.fe2o3_sasl.specs.examples.ClientExamples.{KeysLogIn, StaleKeysLogInLater};
 ghost use Rattle.fe2o3_sasl.specs.examples.Examples.{PremisesCanBeMet, ShiftedTextsPass};
-ghost use Rattle.fe2o3_sasl.specs.examples.MemoryExamples.{AcceptorsAskForNone, AskForNone, OwnedAskForNone, ClientsWantNone};
+ghost use Rattle.fe2o3_sasl.specs.examples.MemoryExamples.{AcceptorsAskForNone, AskForNone, OwnedAskForNone, ServersWantNone, ClientsWantNone};
 ghost use Rattle.fe2o3_sasl_core.specs.Profiles.{StepAllocates, ViewAllocates};
 ghost use Rattle.fe2o3_sasl_core.specs.Headline.{AnswersOkExactly, ReportsOkExactly, TakenVerifiersAgree};
 ghost use Rattle.fe2o3_sasl_core.specs.CostLaws.{ServerRunsCost, ClientRunsCost};
@@ -270,11 +270,12 @@ pub fn want_of_memory()
 /// Worked examples of frames at which no memory is requested, so that out of memory is no answer to them. An acceptor
 /// requests none at an init of another mechanism and at a response that is not due, and that of PLAIN never. A
 /// profile requests none at a list without its name, a challenge that is not UTF-8, not due or not for SCRAM, an
-/// outcome without data, and one of code Ok for SCRAM that is not UTF-8 or not due. Histories of clients have the like.
+/// outcome without data, and one of code Ok for SCRAM that is not UTF-8 or not due. Histories have the like.
 pub fn no_want_of_memory()
     ensures acceptors { AcceptorsAskForNone }
     ensures owned { OwnedAskForNone }
     ensures views { AskForNone ViewAllocates }
     ensures steps { AskForNone StepAllocates }
+    ensures servers { ServersWantNone }
     ensures clients { ClientsWantNone }
 {}

@@ -14,8 +14,10 @@ use Rattle.fe2o3_scram.specs.ScramServer as server_states
 use Rattle.fe2o3_scram.specs.ScramServer.{ServerState}
 use Rattle.fe2o3_sasl_core.specs.ClientHistory.{ClientAllocates}
 use Rattle.fe2o3_sasl_core.specs.Events.{Login}
+use Rattle.fe2o3_sasl_core.specs.Laws.{WantsAtServer}
 use Rattle.fe2o3_sasl_core.specs.Profiles.{Profile, ScramProfile, PlainProfile, FrameAllocates}
 use Rattle.fe2o3_sasl_core.specs.SaslAcceptor.{ScramAcceptor, PlainAcceptor, AnonymousAcceptor, acceptor_allocates}
+use Rattle.fe2o3_sasl_core.specs.ServerHistory.{ServerAllocates}
 
 -- SCRAM's acceptor asks for none at an init of another mechanism, at one without a text, and at a response where no
 -- challenge is open; that of PLAIN and that of ANONYMOUS at no frame
@@ -53,7 +55,16 @@ OwnedAskForNone = AskForNone FrameAllocates
     × ((user password : List ℕ) (code : SaslCode) (more : Option (List ℕ))
     → ¬ FrameAllocates (PlainProfile user password) (frames.Outcome code more))
 
--- in a client's history at no fault of a body, at an empty list, at a challenge that is not UTF-8, at an outcome
+-- in a server's history it is wanting at no fault of a body, at no list, at no challenge and at no outcome
+abbrev pub ServersWantNone : Type 0
+ServersWantNone = ((fault : Error) → ¬ ServerAllocates (Err fault))
+    × ((names : List (List ℕ)) → ¬ ServerAllocates (Ok (frames.Mechanisms names))
+    × ¬ WantsAtServer (frames.Mechanisms names))
+    × ((text : List ℕ) → ¬ ServerAllocates (Ok (frames.Challenge text)) × ¬ WantsAtServer (frames.Challenge text))
+    × ((code : SaslCode) (more : Option (List ℕ)) → ¬ ServerAllocates (Ok (frames.Outcome code more))
+    × ¬ WantsAtServer (frames.Outcome code more))
+
+-- in a client's history at no fault of a body, not at an empty list, at a challenge that is not UTF-8, at an outcome
 -- without data, or at a response
 abbrev pub ClientsWantNone : Type 0
 ClientsWantNone = (login : Login) → ((fault : Error) → ¬ ClientAllocates login (Err fault))

@@ -1,17 +1,19 @@
 -- Worked examples of frames at which no memory is asked for.
-use Rattle.std.proofs.Common.{◌≡◌, ℕ, true≢false, None, List, [], ◌∷◌, sym, ◌∙◌, subst, arith, Ok}
+use Rattle.std.proofs.Common.{◌≡◌, ℕ, true≢false, Option, None, List, [], ◌∷◌, sym, ◌∙◌, subst, arith, inl, inr, Ok}
 use Rattle.std.specs.List.{Contains}
 use Rattle.std.specs.Str.{IsUtf8, is_utf8, chars}
 use Rattle.std.proofs.lemmas.Str.{is_utf8-from_IsUtf8}
 use Rattle.fe2o3_sasl_wire.specs.declared.amqp_types.SaslCode.{SaslCode}
 use Rattle.fe2o3_sasl_wire.specs.declared.amqp_types.SaslCode.TheVariants as outcomes
 use Rattle.fe2o3_sasl_wire.specs.SaslFrames as frames
+use Rattle.fe2o3_sasl_wire.specs.SaslFrames.{SaslFrame}
 use Rattle.fe2o3_scram.specs.ScramClient as client_states
 use Rattle.fe2o3_scram.specs.ScramClient.{ClientState, ReachesSaltIn, ReachesVerifierIn}
 use Rattle.fe2o3_sasl_core.specs.ClientHistory.{ClientAllocates}
 use Rattle.fe2o3_sasl_core.specs.Events.{Login}
+use Rattle.fe2o3_sasl_core.specs.Laws.{WantsAtServer}
 use Rattle.fe2o3_sasl_core.specs.Profiles.{Profile, ScramProfile, PlainProfile, AnonymousProfile, ExternalProfile, FrameAllocates, ViewAllocates, StepAllocates, IsStarted, IsAnswered}
-use Rattle.fe2o3_sasl.specs.examples.MemoryExamples.{AcceptorsAskForNone, AskForNone, OwnedAskForNone, ClientsWantNone}
+use Rattle.fe2o3_sasl.specs.examples.MemoryExamples.{AcceptorsAskForNone, AskForNone, OwnedAskForNone, ServersWantNone, ClientsWantNone}
 use Rattle.fe2o3_sasl.proofs.lemmas.machines.MechanismLemmas.{other_name}
 
 no_name : (name : List ℕ) → ¬ Contains [] name
@@ -109,6 +111,26 @@ steps_ask_for_none = (
   no_data_in_step,
   λ client asks. no_text asks.0,
   λ client text is asks. not_answered client.state is asks.1,
+)
+
+no_list : (names : List (List ℕ)) → ¬ WantsAtServer (frames.Mechanisms names)
+no_list names (inl wants) = let same = wants.3 in absurd (cc)
+no_list names (inr wants) = let same = wants.1 in absurd (cc)
+
+no_challenge : (text : List ℕ) → ¬ WantsAtServer (frames.Challenge text)
+no_challenge text (inl wants) = let same = wants.3 in absurd (cc)
+no_challenge text (inr wants) = let same = wants.1 in absurd (cc)
+
+no_outcome : (code : SaslCode) (more : Option (List ℕ)) → ¬ WantsAtServer (frames.Outcome code more)
+no_outcome code more (inl wants) = let same = wants.3 in absurd (cc)
+no_outcome code more (inr wants) = let same = wants.1 in absurd (cc)
+
+pub servers_want_none : ServersWantNone
+servers_want_none = (
+  λ fault wants. wants,
+  λ names. (λ wants. wants, no_list names),
+  λ text. (λ wants. wants, no_challenge text),
+  λ code more. (λ wants. wants, no_outcome code more),
 )
 
 no_client_data : (login : Login) (code : SaslCode) → ¬ ClientAllocates login (Ok (frames.Outcome code None))
