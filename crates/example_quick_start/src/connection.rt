@@ -4,9 +4,8 @@ use crate::client::new_client;
 use crate::server::{self, Server};
 use anyhow::Result;
 use bytes::BytesMut;
-use fe2o3_sasl::Meter;
 use fe2o3_sasl_negotiation::{
-    ClientNegotiation, ConnectionSide, Endpoint, Progress, Role, ServerNegotiation,
+    ClientNegotiation, ConnectionSide, Endpoint, Meter, Progress, Role, ServerNegotiation,
 };
 use std::alloc::Global;
 use std::random::RandomSource;

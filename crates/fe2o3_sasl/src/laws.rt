@@ -3,8 +3,8 @@
 
 ghost use Rattle.fe2o3_sasl_core.specs.Hex.{OneBytesOfHex, HexIsReadAgain};
 ghost use Rattle.fe2o3_sasl_core.specs.MechanismLaws.{OneAcceptorReply, OneProfileReply, SomeAcceptorReply, SomeProfileReply, PlainRunsNameUsers, OffersAgree, PlainLetsIn, PlainRefuses, AnonymousLetsIn, SomethingIsOffered, NamesDiffer};
-ghost use Rattle.fe2o3_sasl.specs.examples.ClientExamples.{FloorsRefuse, HostnamesAreSent, KeysLogIn, StaleKeysLogInLater};
-ghost use Rattle.fe2o3_sasl.specs.examples.Examples.{PremisesCanBeMet, RefusalsAreUnaltered, ShiftedTextsPass};
+ghost use Rattle.fe2o3_sasl.specs.examples.ClientExamples.{KeysLogIn, StaleKeysLogInLater};
+ghost use Rattle.fe2o3_sasl.specs.examples.Examples.{PremisesCanBeMet, ShiftedTextsPass};
 ghost use Rattle.fe2o3_sasl.specs.examples.MemoryExamples.{AcceptorsAskForNone, AskForNone, OwnedAskForNone, ServersWantNone, ClientsWantNone};
 ghost use Rattle.fe2o3_sasl_core.specs.Profiles.{StepAllocates, ViewAllocates};
 ghost use Rattle.fe2o3_sasl_core.specs.Headline.{AnswersOkExactly, ReportsOkExactly, TakenVerifiersAgree};
@@ -53,7 +53,7 @@ pub fn runs_are_histories()
 /// PLAIN over records only where the body is an init with the password of its user's record; and a SCRAM
 /// profile reports Ok only on the signature of the answer that it waits on. A caller's own proof cites them as
 /// `oks_log_in`, `plain_oks_log_in` and `reported_oks_are_signed` of
-/// `proofs/lemmas/steps/StepLawLemmas.antt`.
+/// `proofs/lemmas/steps/StepLawLemmas.antt` of `fe2o3_sasl_core`.
 pub fn steps()
     ensures server { OksLogIn }
     ensures plain { PlainOksLogIn }
@@ -197,24 +197,19 @@ pub fn unaltered_runs()
     ensures server { ServersLogIn }
 {}
 
-/// Three worked examples of the definitions: a login that nobody alters, one that the server rejects, and one with a
-/// text that is shifted between two messages. The first meets each premise of the law of unaltered runs. The
-/// second is an unaltered run too: no premise says that a reply sends a body. In the third both sides agree
-/// although they mean two nonces. There they cannot agree on more than user name and client nonce.
+/// Two worked examples of the definitions: an unaltered login, and one with a text that is shifted between two
+/// messages. The first meets each premise of the law of unaltered runs. In the second both sides agree although
+/// they mean two nonces. There they cannot agree on more than user name and client nonce.
 pub fn worked_examples()
     ensures premises_can_be_met { PremisesCanBeMet }
-    ensures refusals_are_unaltered { RefusalsAreUnaltered }
     ensures shifted_texts_pass { ShiftedTextsPass }
 {}
 
-/// Worked examples of clients, each in the first of those logins: one with a hostname, which its init
-/// carries; one with the keys of its password; one with these keys that rejects a challenge with another salt and
-/// logs in by the next one; and one that rejects a count below its minimum.
+/// Worked examples of clients, each in the first of those logins: one with the keys of its password, and one with
+/// these keys that rejects a challenge with another salt and logs in by the next one.
 pub fn worked_clients()
-    ensures hostname { HostnamesAreSent }
     ensures keys { KeysLogIn }
     ensures stale_keys { StaleKeysLogInLater }
-    ensures floor { FloorsRefuse }
 {}
 
 /// What holds of every mechanism: each acceptor and each profile has at most one reply to a frame; a

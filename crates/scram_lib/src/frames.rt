@@ -9,9 +9,9 @@ use crate::nonces;
 use crate::server::Service;
 use crate::stop::Stop;
 use bytes::BytesMut;
-use fe2o3_sasl::{AuthenticatedUser, Meter, SaslProfile};
 use fe2o3_sasl_negotiation::{
-    ClientNegotiation, CloseReason, ConnectionSide, Endpoint, Progress, Role, ServerNegotiation,
+    AuthenticatedUser, ClientNegotiation, CloseReason, ConnectionSide, Endpoint, Meter, Progress, Role,
+    SaslProfile, ServerNegotiation,
 };
 use fe2o3_scram::{OutOfMemory, ScramClient};
 use std::alloc::Global;

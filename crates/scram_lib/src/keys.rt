@@ -18,7 +18,7 @@ pub fn read<R: Files + AllocGlobal>(
 ) -> Result<Option<CachedKeys>, Stop> {
     match store::read(rt, file) {
         Ok(text) => Ok(Some(keys_of(rt.alloc(), &text, version)?)),
-        Err(Stop::MalformedFrame(std::io::ErrorKind::NotFound)) => Ok(None),
+        Err(Stop::Unreadable(std::io::ErrorKind::NotFound)) => Ok(None),
         Err(stop) => Err(stop),
     }
 }

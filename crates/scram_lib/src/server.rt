@@ -8,7 +8,7 @@ pub mod mock;
 use crate::server::mock::Shape;
 use crate::stop::Stop;
 use crate::{frames, nonces, store, wire};
-use fe2o3_sasl::AuthenticatedUser;
+use fe2o3_sasl_negotiation::AuthenticatedUser;
 use fe2o3_scram::{
     HidingAuthenticator, MultiRecordStore, RecordStore, ScramAuthenticator, ScramVersion,
     ServerScramErrorKind,
