@@ -29,7 +29,6 @@ pub use restored::{restored_client, restored_server};
 pub use server::{ServerNegotiation, ServerRole};
 pub use side::{ConnectionSide, Endpoint, Role};
 pub use snapshot::{RestoreError, Snapshot};
-pub use progress::{CloseReason, Expected, Received, Progress, FrameKind};
 
 pub use fe2o3_sasl_core::{
     AnyMechanism, AuthenticatedUser, ChoiceError, ClientPolicy, ClientReply, Event, EventError,
@@ -37,7 +36,7 @@ pub use fe2o3_sasl_core::{
     OfferError, PlainServer, ProfileError, RestrictMechanisms, SaslAcceptor, SaslAcceptorExt,
     SaslAnonymousMechanism, SaslPlainMechanism, SaslProfile, SaslScramSha1, SaslScramSha256,
     SaslScramSha512, SaslServerFrame, Selected, ServerReply, UrlError, acceptor_body_step,
-    acceptor_step, profile_body_step, profile_step,
+    acceptor_frame_step, acceptor_step, profile_body_step, profile_frame_step, profile_step,
     run_acceptor, run_profile, scram_client_run, scram_client_run_limited, scram_server_run,
     scram_server_run_with_cbind_flag_y, select_mechanism,
 };
