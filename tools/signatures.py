@@ -253,7 +253,7 @@ class Library:
             f"# Signatures of `{self.crate}`",
             "",
             "Every public item by module, with the first sentence of its comment. Contracts stand in the sources, and the",
-            "main ones in [CALLING.md](CALLING.md). `python3 tools/signatures.py` writes this page.",
+            "main ones in [README.md](README.md). `python3 tools/signatures.py` writes this page.",
         ]
         for module in self.modules.values():
             if module.public:
