@@ -13,7 +13,7 @@ ghost use Rattle.fe2o3_sasl_negotiation.specs.NamedUsers.{AnyMechanismServersLog
 ghost use Rattle.fe2o3_sasl_negotiation.specs.ScramConnections.{ScramServersServe, ScramClientsReport};
 ghost use Rattle.fe2o3_sasl_negotiation.specs.ServerNegotiation.{ServerSideAnswers, ServerReceives};
 
-use fe2o3_sasl_core::{HasMechanism, AuthenticatedUser};
+use fe2o3_sasl_core::{AuthenticatedUser, HasMechanism};
 
 /// However a stream of bytes is cut into calls, what they take of it is answered as it would be as a whole, unit by unit,
 /// each with the nonce of a call, in order. Which call that is for a frame, [`server_connections`] and
