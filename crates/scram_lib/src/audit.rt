@@ -139,7 +139,7 @@ impl Sides {
         if let Some(stop) = self.client.unfit.or(self.server.unfit) {
             return Err(stop);
         }
-        let Some(asked) = &self.client.selected else {
+        let Some(asked) = &self.client.asked else {
             return Err(Stop::NoLogin);
         };
         let credentials = users.for_version(asked.version);
@@ -197,7 +197,7 @@ impl Sides {
         };
         writeln!(
             output,
-            "audit: lines {client} and {server}: {believed}, {sentence}"
+            "audit: lines {client} and {server}: {verified}, {sentence}"
         )
     }
 

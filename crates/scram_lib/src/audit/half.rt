@@ -165,12 +165,12 @@ impl Half {
         let Some(version) = ScramVersion::from_mechanism(mechanism) else {
             return Ok(());
         };
-        match &self.selected {
+        match &self.asked {
             Some(asked) if asked.version == version && asked.user == self.heard.user => {}
             Some(_) => self.unfit = Some(Stop::TwoLogins),
             None => {
                 let user = self.heard.user.as_str().to_string(alloc)?;
-                self.selected = Some(Asked { user, version });
+                self.asked = Some(Asked { user, version });
             }
         }
         Ok(())

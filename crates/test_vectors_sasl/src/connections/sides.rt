@@ -75,7 +75,11 @@ pub fn play_side<'a, P: Play>(row: &mut Row<'a>, side: &'a str, play: &mut P) {
 }
 
 /// Plays with a server of an acceptor.
-fn play_acceptor<A: AuthenticatedUser + Drop, P: Play>(row: &mut Row<'_>, acceptor: A, play: &mut P) {
+fn play_acceptor<A: AuthenticatedUser + Drop, P: Play>(
+    row: &mut Row<'_>,
+    acceptor: A,
+    play: &mut P,
+) {
     let mut server = ServerNegotiation::new(row.alloc, acceptor);
     play.play(row, &mut server);
 }
@@ -101,9 +105,7 @@ pub fn stored(row: &mut Row<'_>, version: &str) -> Option<UserRecord> {
     let version = ScramVersion::from_mechanism(version)?;
     let (user, password, salt, count) = (row.text(), row.text(), row.bytes(), row.number());
     let record = ScramRecord::from_password(row.alloc, version, &password, &salt, count);
-    record
-        .ok()
-        .map(|record| UserRecord::new(user, record))
+    record.ok().map(|record| UserRecord::new(user, record))
 }
 
 /// Plays with a client: `MECHANISM USER PASSWORD LIMIT HOSTNAME`.

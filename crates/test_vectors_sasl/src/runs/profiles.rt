@@ -95,9 +95,7 @@ pub fn profile_of(row: &mut Row<'_>, kind: &str) -> Option<SaslProfile> {
         "PLAIN" => Some(SaslProfile::plain(user, password)),
         "SCRAM-SHA-256" => {
             let scram = scram_of(kind, user, password, keys)?;
-            let scram = scram
-                .with_min_iterations(least)
-                .with_iteration_limit(limit);
+            let scram = scram.with_min_iterations(least).with_iteration_limit(limit);
             Some(SaslProfile::from(scram))
         }
         name => {
