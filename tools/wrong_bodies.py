@@ -139,7 +139,12 @@ def told_path(crate, path, text, head):
     if len(modules) != 1:
         return ""
     trait = (impl[1] or "").rpartition("::")[2] + (impl[2] or "")[:1].upper() + (impl[2] or "")[1:]
-    return "::".join([crate, *[*modules][0], impl[3] + trait, head[2]])
+    name, alias = impl[3], re.search(rf"^pub type {impl[3]}<(\w+)> =", text, re.M)
+    if re.match(rf"impl<[^{{]*?\b{name}\b:", impl[0]):
+        name = "Any"
+    elif alias:
+        name += f"+{alias[1]}"
+    return "::".join([crate, *[*modules][0], name + trait, head[2]])
 
 
 def function_around(crate, path, text, at):

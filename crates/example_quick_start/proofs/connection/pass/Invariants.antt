@@ -1,5 +1,5 @@
 use Rattle.std.proofs.Common.{length, ◌-◌, ◌≤◌}
-use Rattle.example_quick_start.proofs.connection.log_in.Given as goal
+use Rattle.example_quick_start.proofs.connection.pass.Given as goal
 
 abbrev pub invariant-loop-taken : goal.invariant-loop-taken
 invariant-loop-taken g l = l.taken ≤ length l.input
