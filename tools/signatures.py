@@ -301,7 +301,9 @@ class Library:
             return out + signature(item.lines)
         if item.kind == "trait":
             return out + self.trait(item)
-        if item.kind in ("const", "static", "type"):
+        if item.kind == "type":
+            return out + [" ".join(line.strip() for line in item.lines)] + self.methods(item)
+        if item.kind in ("const", "static"):
             return out + [re.sub(r"\s*=.*", ";", " ".join(line.strip() for line in item.lines))
                           if item.kind == "static" else " ".join(line.strip() for line in item.lines)]
         return out + fields(item.lines) + self.traits(item) + self.methods(item)
