@@ -4,9 +4,9 @@
 use anyhow::{Context, Result, bail, ensure};
 use bytes::BytesMut;
 use fe2o3_sasl_negotiation::{
-    AnyMechanism, AuthenticatedUser, CloseReason, HasMechanism, HidingAuthenticator, Meter,
-    MultiRecordStore, PlainServer, Progress, RecordStore, RestrictMechanisms, SaslCode,
-    ScramVersion, ServerNegotiation,
+    AnyMechanism, AuthenticatedUser, CloseReason, HasMechanism, Meter, MultiRecordStore, PlainServer,
+    Progress, RecordStore, RestrictMechanisms, SaslCode, ScramAuthenticator, ScramVersion,
+    ServerNegotiation,
 };
 use mock_secret::{file_of, secret_of};
 use std::fs;
@@ -57,9 +57,10 @@ pub fn log_in<'a, R: Files + RandomSource + AllocGlobal, I: BufRead, O: Write>(
 
 impl<R: RandomSource + AllocGlobal, I: BufRead, O: Write> Broker<'_, R, I, O> {
     /// SCRAM over the records of a version, which does not tell which users it knows.
-    fn scram(&self, version: ScramVersion) -> Result<HidingAuthenticator<RecordStore>> {
+    fn scram(&self, version: ScramVersion) -> Result<ScramAuthenticator<RecordStore>> {
         let records = self.records.for_version(version).clone()?;
-        Ok(HidingAuthenticator::new(records, self.secret.clone()?, 16, 4096)?)
+        let server = ScramAuthenticator::new(records);
+        Ok(server.mock_unknown_users(self.secret.clone()?, 16, 4096)?)
     }
 
     /// Serves one connection by both, and by PLAIN: who has logged in, or `None` if that was refused.

@@ -2,7 +2,7 @@
 
 use anyhow::{Context, Result};
 use fe2o3_scram::{
-    DEFAULT_SCRAM_ITERATIONS, HidingAuthenticator, ScramVersion, SingleScramCredential,
+    DEFAULT_SCRAM_ITERATIONS, ScramAuthenticator, ScramVersion, SingleScramCredential,
 };
 use std::alloc::Global;
 
@@ -10,7 +10,7 @@ use std::alloc::Global;
 /// as it was.
 #[derive(Drop)]
 pub struct Server {
-    authenticator: HidingAuthenticator<SingleScramCredential>,
+    authenticator: ScramAuthenticator<SingleScramCredential>,
 }
 
 impl Server {
@@ -21,13 +21,9 @@ impl Server {
         let secret = secret.to_vec(alloc)?;
         let version = ScramVersion::Sha256;
         let user = SingleScramCredential::new(alloc, username, "pencil", version, salt)?;
+        let server = ScramAuthenticator::new(user);
         Ok(Server {
-            authenticator: HidingAuthenticator::new(
-                user,
-                secret,
-                salt.len(),
-                DEFAULT_SCRAM_ITERATIONS,
-            )?,
+            authenticator: server.mock_unknown_users(secret, salt.len(), DEFAULT_SCRAM_ITERATIONS)?,
         })
     }
 

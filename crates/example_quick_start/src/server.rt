@@ -2,19 +2,18 @@
 
 ghost use Rattle.std.specs.Prelude.{◌≡◌, ℕ, List, Some, IfOk};
 ghost use Rattle.fe2o3_sasl_wire.specs.declared.amqp_types.SaslCode.TheVariants.{Ok as OkCode};
-ghost use Rattle.fe2o3_scram.specs.HidingServer.{hiding_server};
-ghost use Rattle.fe2o3_scram.specs.ScramServer.{logged_in};
-ghost use Rattle.fe2o3_sasl_core.specs.HidingLaws.{HiddenBodyLogsIn};
+ghost use Rattle.fe2o3_scram.specs.ScramServer.{logged_in, provider_in, state_in};
+ghost use Rattle.fe2o3_sasl_core.specs.StepLaws.{BodyLogsIn};
 
 use anyhow::Result;
 use fe2o3_sasl_negotiation::{
-    DEFAULT_SCRAM_ITERATIONS, Event, HidingAuthenticator, SaslCode, ScramVersion, ServerReply,
+    DEFAULT_SCRAM_ITERATIONS, Event, SaslCode, ScramAuthenticator, ScramVersion, ServerReply,
     SingleScramCredential, acceptor_step,
 };
 use std::alloc::Global;
 
 /// The server of one connection.
-pub type Server = HidingAuthenticator<SingleScramCredential>;
+pub type Server = ScramAuthenticator<SingleScramCredential>;
 
 /// What the server keeps of `user`. A salt is random bytes, fresh for each record.
 pub fn new_user(alloc: Global, salt: [u8; 32]) -> Result<SingleScramCredential> {
@@ -27,8 +26,8 @@ pub fn new_user(alloc: Global, salt: [u8; 32]) -> Result<SingleScramCredential> 
 /// for as long as the records are kept.
 pub fn new_server(alloc: Global, salt: [u8; 32], secret: [u8; 32]) -> Result<Server> {
     let secret = secret.to_vec(alloc)?;
-    let user = new_user(alloc, salt)?;
-    Ok(HidingAuthenticator::new(user, secret, salt.len(), DEFAULT_SCRAM_ITERATIONS)?)
+    let server = ScramAuthenticator::new(new_user(alloc, salt)?);
+    Ok(server.mock_unknown_users(secret, salt.len(), DEFAULT_SCRAM_ITERATIONS)?)
 }
 
 /// The body to send back, and how the login ended, if it did. After an outcome that is not Ok,
@@ -39,8 +38,8 @@ pub fn answer(
     event: &Event,
 ) -> Result<(Vec<u8>, Option<SaslCode>)>
     ensures { IfOk result (λ answer. answer.1 ≡ Some OkCode → (user : List ℕ)
-        × HiddenBodyLogsIn (hiding_server (λ store. store) server.old) event.now.body.items user
-        × (logged_in server.new.state ≡ Some user)) }
+        × BodyLogsIn (provider_in server.old).version (state_in server.old) event.now.body.items user
+        × (logged_in (state_in server.new) ≡ Some user)) }
 {
     match acceptor_step(alloc, server, event)? {
         ServerReply::Challenge { body } => Ok((body, None)),

@@ -124,7 +124,7 @@ pub use fe2o3_scram::scram_messages::XorLengthMismatch;
 pub use fe2o3_scram::scram_messages::escape_username;
 pub use fe2o3_scram::scram_messages::unescape_username;
 pub use fe2o3_scram::scram_server;
-pub use fe2o3_scram::scram_server::ScramAuthenticator;
 pub use fe2o3_scram::scram_server::SaltTooLong;
+pub use fe2o3_scram::scram_server::ScramAuthenticator;
 pub use fe2o3_scram::scram_server::open_challenge::OpenChallenge;
 pub use std::alloc::AllocError as OutOfMemory;

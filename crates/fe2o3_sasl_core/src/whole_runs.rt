@@ -111,7 +111,9 @@ pub fn scram_server_run_with_cbind_flag_y<C: ScramCredentialProvider>(
         (map given events.now) (map server_answer replies.items)) }
 {
     let provider = credentials.clone()?;
-    let mut authenticator = ScramAuthenticator::new(provider).accept_cbind_flag_y(accept_cbind_flag_y);
+    let mut authenticator = ScramAuthenticator::new(provider).accept_cbind_flag_y(
+        accept_cbind_flag_y,
+    );
     run_acceptor(alloc, &mut authenticator, events)
 }
 

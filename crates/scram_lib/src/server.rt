@@ -1,6 +1,6 @@
 //! `server`: serves a login for the users of a file, in which the messages of the client come on the input.
 
-ghost use Rattle.std.specs.Prelude.{◌≡◌, ℕ, List, Option, Some, IfOk, IsOk, OnOk};
+ghost use Rattle.std.specs.Prelude.{◌≡◌, ℕ, List, Some, IfOk, IsOk, OnOk};
 ghost use Rattle.fe2o3_scram.specs.ScramServer.{logged_in, state_in};
 
 pub mod mock;
@@ -10,8 +10,7 @@ use crate::stop::Stop;
 use crate::{frames, nonces, store, wire};
 use fe2o3_sasl_negotiation::AuthenticatedUser;
 use fe2o3_scram::{
-    HidingAuthenticator, MultiRecordStore, RecordStore, ScramAuthenticator, ScramVersion,
-    ServerScramErrorKind,
+    MultiRecordStore, RecordStore, ScramAuthenticator, ScramVersion, ServerScramErrorKind,
 };
 use mock_secret::secret_of;
 use std::alloc::Global;
@@ -38,70 +37,6 @@ pub struct Service<'a> {
     pub frames: bool,
 }
 
-/// A server's side of an exchange.
-pub trait Exchange {
-    ghost accepted: { Self → Option (List ℕ) };
-
-    /// Answers a client-first message, or says that the user is unknown.
-    fn challenge(
-        &mut self,
-        alloc: Global,
-        message: &[u8],
-        nonce: &[u8; 32],
-    ) -> Result<Option<Vec<u8>>, ServerScramErrorKind>;
-
-    /// Answers a client-final message, or says that the user is unknown. After an answer a user has logged in.
-    fn conclude(
-        &mut self,
-        alloc: Global,
-        message: &[u8],
-    ) -> Result<Option<Vec<u8>>, ServerScramErrorKind>
-        ensures user { IfOk result (λ _. (user : List ℕ) × (accepted self.new ≡ Some user)) };
-}
-
-impl Exchange for ScramAuthenticator<RecordStore> {
-    ghost accepted = { λ server. logged_in (state_in server) };
-
-    fn challenge(
-        &mut self,
-        alloc: Global,
-        message: &[u8],
-        nonce: &[u8; 32],
-    ) -> Result<Option<Vec<u8>>, ServerScramErrorKind> {
-        self.compute_server_first_message(alloc, message, nonce)
-    }
-
-    fn conclude(
-        &mut self,
-        alloc: Global,
-        message: &[u8],
-    ) -> Result<Option<Vec<u8>>, ServerScramErrorKind> {
-        self.compute_server_final_message(alloc, message)
-    }
-}
-
-impl Exchange for HidingAuthenticator<RecordStore> {
-    ghost accepted = { λ server. logged_in server.state };
-
-    fn challenge(
-        &mut self,
-        alloc: Global,
-        message: &[u8],
-        nonce: &[u8; 32],
-    ) -> Result<Option<Vec<u8>>, ServerScramErrorKind> {
-        self.compute_server_first_message(alloc, message, nonce)
-    }
-
-    fn conclude(
-        &mut self,
-        alloc: Global,
-        message: &[u8],
-    ) -> Result<Option<Vec<u8>>, ServerScramErrorKind> {
-        let answer = self.compute_server_final_message(alloc, message)?;
-        Ok(answer)
-    }
-}
-
 /// Serves a login.
 pub fn serve<R, I, O>(
     rt: &R,
@@ -114,28 +49,24 @@ where
     I: BufRead,
     O: Write,
 {
-    if service.tells_unknown_users {
-        return serve_by(rt, service, telling(rt, service)?, input, output);
+    let server = server(rt, service)?;
+    if service.frames {
+        return frames::serve(rt, service, server, input, output);
     }
-    serve_by(rt, service, hiding(rt, service)?, input, output)
+    over_lines(rt, service, server, input, output)
 }
 
-/// The server that refuses an unknown user.
-fn telling<R: Files + AllocGlobal>(
+/// The server of the users of a file. With mock authentication, if that is not turned off, it answers an unknown user as
+/// a known one.
+fn server<R: Files + RandomSource + AllocGlobal>(
     rt: &R,
     service: &Service<'_>,
 ) -> Result<ScramAuthenticator<RecordStore>, Stop> {
     let text = store::read(rt, service.file)?;
-    Ok(ScramAuthenticator::new(users(rt.alloc(), service, &text)?))
-}
-
-/// The server that answers an unknown user as a known one.
-fn hiding<R: Files + RandomSource + AllocGlobal>(
-    rt: &R,
-    service: &Service<'_>,
-) -> Result<HidingAuthenticator<RecordStore>, Stop> {
-    let text = store::read(rt, service.file)?;
     let users = users(rt.alloc(), service, &text)?;
+    if service.tells_unknown_users {
+        return Ok(ScramAuthenticator::new(users));
+    }
     let shape = Shape::of(rt.alloc(), &text, service.version)?;
     let secret = secret_of(rt, service.file)?;
     Ok(shape.hide(users, secret))
@@ -147,37 +78,16 @@ fn users(alloc: Global, service: &Service<'_>, text: &str) -> Result<RecordStore
     Ok(users.for_version(service.version).clone()?)
 }
 
-/// Serves a login by a server.
-fn serve_by<R, S, I, O>(
-    rt: &R,
-    service: &Service<'_>,
-    server: S,
-    input: &mut I,
-    output: &mut O,
-) -> Result<(), Stop>
-where
-    R: RandomSource + AllocGlobal,
-    S: Exchange + AuthenticatedUser + Drop,
-    I: BufRead,
-    O: Write,
-{
-    if service.frames {
-        return frames::serve(rt, service, server, input, output);
-    }
-    over_lines(rt, service, server, input, output)
-}
-
 /// Serves a login over lines.
-fn over_lines<R, S, I, O>(
+fn over_lines<R, I, O>(
     rt: &R,
     service: &Service<'_>,
-    server: S,
+    server: ScramAuthenticator<RecordStore>,
     input: &mut I,
     output: &mut O,
 ) -> Result<(), Stop>
 where
     R: RandomSource + AllocGlobal,
-    S: Exchange + Drop,
     I: BufRead,
     O: Write,
 {
@@ -188,30 +98,41 @@ where
 }
 
 /// Answers the client's first message with a challenge.
-fn challenge<S: Exchange, I: BufRead, O: Write>(
+fn challenge<I: BufRead, O: Write>(
     alloc: Global,
-    server: &mut S,
+    server: &mut ScramAuthenticator<RecordStore>,
     nonce: &[u8; 32],
     input: &mut I,
     output: &mut O,
 ) -> Result<(), Stop> {
     let message = wire::receive(alloc, input)?;
-    let answer = server.challenge(alloc, &message, nonce);
+    let answer = server.compute_server_first_message(alloc, &message, nonce);
     reply(alloc, answer, output)
 }
 
 /// Answers the client's response with the signature. Where it succeeds, the server names the user who has logged in.
-fn conclude<S: Exchange, I: BufRead, O: Write>(
+fn conclude<I: BufRead, O: Write>(
     alloc: Global,
-    server: &mut S,
+    server: &mut ScramAuthenticator<RecordStore>,
     input: &mut I,
     output: &mut O,
 ) -> Result<(), Stop>
-    ensures { OnOk result ((user : List ℕ) × (S.accepted server.new ≡ Some user)) }
+    ensures { OnOk result ((user : List ℕ) × (logged_in (state_in server.new) ≡ Some user)) }
 {
     let message = wire::receive(alloc, input)?;
-    let answer = server.conclude(alloc, &message);
+    let answer = answer(alloc, server, &message);
     reply(alloc, answer, output)
+}
+
+/// Answers a client-final message. After an answer a user has logged in.
+fn answer(
+    alloc: Global,
+    server: &mut ScramAuthenticator<RecordStore>,
+    message: &[u8],
+) -> Result<Option<Vec<u8>>, ServerScramErrorKind>
+    ensures { IfOk result (λ _. (user : List ℕ) × (logged_in (state_in server.new) ≡ Some user)) }
+{
+    server.compute_server_final_message(alloc, message)
 }
 
 /// Sends an answer, or why there is none (RFC 5802, section 7, `server-error`).

@@ -4,7 +4,7 @@ use crate::cuts::{bytes_of, text};
 use crate::units::*;
 use bytes::BytesMut;
 use fe2o3_sasl::any_mechanism::{AnyMechanism, HasMechanism, Selected};
-use fe2o3_sasl::credentials::{ScramRecord, UserRecord};
+use fe2o3_sasl::credentials::{ScramCredentialProvider, ScramRecord, UserRecord};
 use fe2o3_sasl::external_server::ExternalServer;
 use fe2o3_sasl::hmac::{Meter, ScramVersion};
 use fe2o3_sasl::passwords::Password;
@@ -12,7 +12,6 @@ use fe2o3_sasl::plain_server::PlainServer;
 use fe2o3_sasl::restrict_mechanisms::RestrictMechanisms;
 use fe2o3_sasl::sasl_acceptor::{AuthenticatedUser, SaslAnonymousMechanism, SaslPlainMechanism};
 use fe2o3_sasl::scram_server::ScramAuthenticator;
-use fe2o3_sasl::scram_server::hiding::HidingAuthenticator;
 use fe2o3_sasl_negotiation::{Piece, Progress, RestoreError, ServerNegotiation, server_connection};
 use std::process::Abort;
 
@@ -77,9 +76,11 @@ fn scram<R: Abort + AllocGlobal>(rt: &R) -> ScramAuthenticator<UserRecord> {
 }
 
 /// Returns a new server of SCRAM with mock authentication.
-fn hiding<R: Abort + AllocGlobal>(rt: &R) -> HidingAuthenticator<UserRecord> {
+fn mocking<R: Abort + AllocGlobal>(rt: &R) -> ScramAuthenticator<UserRecord> {
     let secret = bytes_of(rt, &[SASL]);
-    HidingAuthenticator::new(stored(rt), secret, 32, 1).expect(rt, "a short salt")
+    scram(rt)
+        .mock_unknown_users(secret, 32, 1)
+        .expect(rt, "a short salt")
 }
 
 /// Returns a new server of PLAIN over the store.
@@ -111,8 +112,8 @@ fn scram_logins_are_restored(rt: HostRuntime) {
 
 #[test]
 fn logins_with_mock_authentication_are_restored(rt: HostRuntime) {
-    let restored = hiding(&rt).restore_authenticated(rt.alloc(), USER);
-    let servers = (hiding(&rt), restored.expect(&rt, "memory"), hiding(&rt));
+    let restored = mocking(&rt).restore_authenticated(rt.alloc(), USER);
+    let servers = (mocking(&rt), restored.expect(&rt, "memory"), mocking(&rt));
     is_restored(&rt, servers, &SCRAM_LOGIN, Some(USER));
 }
 
@@ -147,9 +148,9 @@ fn external_logins_are_restored(rt: HostRuntime) {
 fn both<R: Abort + AllocGlobal, A: HasMechanism + Drop>(
     rt: &R,
     first: A,
-    asked: Option<Selected>,
+    selected: Option<Selected>,
 ) -> AnyMechanism<A, SaslPlainMechanism> {
-    AnyMechanism::with_selected(first, plain_of(rt, USER), asked)
+    AnyMechanism::with_selected(first, plain_of(rt, USER), selected)
 }
 
 /// Returns that server, which offers SCRAM only.
@@ -211,10 +212,11 @@ fn a_side_without_a_login_keeps_no_user(rt: HostRuntime) {
 
 #[test]
 fn open_challenges_with_mock_authentication_are_restored(rt: HostRuntime) {
-    let side = served(&rt, hiding(&rt), &[SASL, INIT]);
+    let side = served(&rt, mocking(&rt), &[SASL, INIT]);
     let challenge = side.acceptor().open_challenge().expect(&rt, "a challenge");
-    let mut meter = Meter::new();
-    let restored = hiding(&rt).waiting_for(rt.alloc(), &challenge, &mut meter);
+    let store = stored(&rt);
+    let record = store.get_stored_password(USER).expect(&rt, "a record");
+    let restored = mocking(&rt).restore_challenge(rt.alloc(), &challenge, &record);
     let restored = ServerNegotiation::restore(
         rt.alloc(),
         restored.expect(&rt, "memory"),
@@ -222,9 +224,10 @@ fn open_challenges_with_mock_authentication_are_restored(rt: HostRuntime) {
     );
     let mut restored = restored.expect(&rt, "a side");
     let mut output = BytesMut::new(rt.alloc());
+    let mut meter = Meter::new();
     let response = bytes_of(&rt, &[RESPONSE]);
     let received = restored.receive(rt.alloc(), &response, &[9; 32], &mut meter, &mut output);
     assert!(rt; received.expect(&rt, "memory").progress == Progress::Authenticated);
     assert!(rt; output.as_slice() == bytes_of(&rt, &[OUTCOME]).as_slice());
-    assert!(rt; restored.authenticated_user() == Some(USER) && meter.count() == 5);
+    assert!(rt; restored.authenticated_user() == Some(USER) && meter.count() == 2);
 }

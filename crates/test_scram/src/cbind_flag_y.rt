@@ -9,7 +9,7 @@ use fe2o3_scram::provider::{ScramCredentialProvider, StoredPassword};
 use fe2o3_scram::scram_messages::{
     ChannelBindingFlag, ClientFinal, ClientFirst, ServerFirstMessage, ServerScramErrorKind,
 };
-use fe2o3_scram::{HidingAuthenticator, ScramAuthenticator, SingleScramCredential};
+use fe2o3_scram::{ScramAuthenticator, SingleScramCredential};
 use std::alloc::Global;
 use std::process::Abort;
 
@@ -59,16 +59,15 @@ fn opens<C: ScramCredentialProvider>(alloc: Global, server: &mut ScramAuthentica
     }
 }
 
-/// The second server, where the challenge of the first is its own.
+/// The second server with the open challenge of the first and the record of its user, or `None` if there is none.
 fn taken_up<C: ScramCredentialProvider + Drop>(
     alloc: Global,
     first: &ScramAuthenticator<C>,
     second: ScramAuthenticator<C>,
 ) -> Option<ScramAuthenticator<C>> {
-    match first.open_challenge() {
-        Some(open) => second.waiting_for(alloc, &open).ok(),
-        None => None,
-    }
+    let open = first.open_challenge()?;
+    let stored = first.credentials().get_stored_password(open.username)?;
+    second.restore_challenge(alloc, &open, &stored).ok()
 }
 
 /// Whether a server ends the login, and names the user, who has the salt.
@@ -89,7 +88,7 @@ fn concludes<C: ScramCredentialProvider>(
 
 #[test]
 fn a_server_opens_the_login_and_another_ends_it(rt: HostRuntime) {
-    let mut first = ScramAuthenticator::new(credential(&rt)).accept_cbind_flag_y();
+    let mut first = ScramAuthenticator::new(credential(&rt)).accept_cbind_flag_y(true);
     assert!(rt; opens(rt.alloc(), &mut first));
     let second = ScramAuthenticator::new(credential(&rt));
     let second = taken_up(rt.alloc(), &first, second);
@@ -97,20 +96,20 @@ fn a_server_opens_the_login_and_another_ends_it(rt: HostRuntime) {
     assert!(rt; concludes(rt.alloc(), &mut second));
 }
 
-/// Whether a server that hides unknown users takes the login.
-fn hides<C: ScramCredentialProvider>(alloc: Global, server: &mut HidingAuthenticator<C>) -> bool {
+/// Whether a server takes the login.
+fn logs_in<C: ScramCredentialProvider>(alloc: Global, server: &mut ScramAuthenticator<C>) -> bool {
     let first = server.compute_server_first_message(alloc, CLIENT_FIRST, &[2; 32]);
     let last = server.compute_server_final_message(alloc, CLIENT_FINAL);
     is(&first, SERVER_FIRST) && is(&last, SERVER_FINAL)
 }
 
 #[test]
-fn so_does_one_that_hides_users(rt: HostRuntime) {
+fn so_does_one_with_mock_authentication(rt: HostRuntime) {
     let secret = b"a secret of 32 bytes, kept apart".to_vec(rt.alloc());
     let secret = secret.expect(&rt, "memory");
-    let server = HidingAuthenticator::new(credential(&rt), secret, 32, 4096);
+    let server = ScramAuthenticator::new(credential(&rt)).mock_unknown_users(secret, 32, 4096);
     let server = server.expect(&rt, "a salt of at most 64 bytes");
-    assert!(rt; hides(rt.alloc(), &mut server.accept_cbind_flag_y()));
+    assert!(rt; logs_in(rt.alloc(), &mut server.accept_cbind_flag_y(true)));
 }
 
 #[test]

@@ -1,15 +1,14 @@
 //! The broker's side of a login, and a client's.
 
 ghost use Rattle.std.specs.Prelude.{◌≡◌, ℕ, List, Some, IfOk};
-ghost use Rattle.fe2o3_scram.specs.HidingServer.{hiding_server};
-ghost use Rattle.fe2o3_scram.specs.Logins.{HiddenTextLogsIn};
-ghost use Rattle.fe2o3_scram.specs.ScramServer.{logged_in};
+ghost use Rattle.fe2o3_scram.specs.Logins.{TextLogsIn};
+ghost use Rattle.fe2o3_scram.specs.ScramServer.{logged_in, provider_in, state_in};
 
 use super::accounts::{Account, Accounts};
 use crate::login::fresh;
 use anyhow::{Context, Result};
 use fe2o3_scram::{
-    DEFAULT_SCRAM_ITERATIONS, HidingAuthenticator, ScramClient, ScramRecord, ScramVersion,
+    DEFAULT_SCRAM_ITERATIONS, ScramAuthenticator, ScramClient, ScramRecord, ScramVersion,
 };
 use std::alloc::Global;
 use std::random::RandomSource;
@@ -40,7 +39,7 @@ fn kept() -> &'static [(&'static str, &'static str, u32)] {
 const SALT_LEN: usize = 16;
 
 /// The server of one connection.
-type Server = HidingAuthenticator<Rc<Accounts>>;
+type Server = ScramAuthenticator<Rc<Accounts>>;
 
 /// What all connections share.
 #[derive(Drop)]
@@ -69,7 +68,8 @@ impl Broker {
     fn server(&self, alloc: Global) -> Result<Server> {
         let secret = self.secret.to_vec(alloc)?;
         let accounts = self.accounts.clone()?;
-        Ok(HidingAuthenticator::new(accounts, secret, SALT_LEN, DEFAULT_SCRAM_ITERATIONS)?)
+        let server = ScramAuthenticator::new(accounts);
+        Ok(server.mock_unknown_users(secret, SALT_LEN, DEFAULT_SCRAM_ITERATIONS)?)
     }
 }
 
@@ -130,8 +130,8 @@ fn challenge(
 /// then names.
 fn conclude(alloc: Global, server: &mut Server, client_final: &[u8]) -> Result<Vec<u8>>
     ensures { IfOk result (λ _. (user : List ℕ)
-        × HiddenTextLogsIn (hiding_server (λ store. store.value) server.old) client_final.now user
-        × (logged_in server.new.state ≡ Some user)) }
+        × TextLogsIn (provider_in server.old).value.version (state_in server.old) client_final.now user
+        × (logged_in (state_in server.new) ≡ Some user)) }
 {
     let signature = server.compute_server_final_message(alloc, client_final)?;
     signature.context("no answer")

@@ -1,11 +1,12 @@
 //! Mock records: what a server that answers unknown users as known ones takes for their records.
 
-ghost use Rattle.std.specs.Prelude.{◌≡◌, ◌≤◌, IfOk};
+ghost use Rattle.std.specs.Prelude.{◌≡◌, ◌≤◌, IfOk, Some, option_map};
+ghost use Rattle.fe2o3_scram.specs.ScramServer.{mock_in};
 
 use crate::record::{ITERATIONS, SALT_LEN};
 use crate::stop::Stop;
 use crate::users::lines::UserLine;
-use fe2o3_scram::{HidingAuthenticator, RecordStore, ScramRecord, ScramVersion};
+use fe2o3_scram::{RecordStore, ScramAuthenticator, ScramRecord, ScramVersion};
 use std::alloc::Global;
 
 /// The longest salt of a mock record, in bytes.
@@ -60,13 +61,14 @@ impl Shape {
     }
 
     /// Returns the server of these users, with mock records by a secret.
-    pub fn hide(self, users: RecordStore, secret: Vec<u8>) -> HidingAuthenticator<RecordStore>
+    pub fn hide(self, users: RecordStore, secret: Vec<u8>) -> ScramAuthenticator<RecordStore>
         requires { self.salt_len ≤ 64 }
-        ensures secret { result.mock.secret ≡ secret.items }
-        ensures salt_len { result.mock.salt_len ≡ self.salt_len }
-        ensures iterations { result.mock.count ≡ self.iterations }
+        ensures secret { option_map (λ mock. mock.secret) (mock_in result) ≡ Some secret.items }
+        ensures salt_len { option_map (λ mock. mock.salt_len) (mock_in result) ≡ Some self.salt_len }
+        ensures iterations { option_map (λ mock. mock.count) (mock_in result) ≡ Some self.iterations }
     {
-        match HidingAuthenticator::new(users, secret, self.salt_len, self.iterations) {
+        let server = ScramAuthenticator::new(users);
+        match server.mock_unknown_users(secret, self.salt_len, self.iterations) {
             Ok(server) => server,
             Err(_) => unreachable!(),
         }
