@@ -1,6 +1,6 @@
 """SCRAM (RFC 5802, RFC 7677), and the SASL layer of AMQP 1.0, by the library of `fe2o3_sasl.h`, called by `ctypes`.
 
-The library is the file that the environment variable FE2O3_SASL_LIB names, or else `libfe2o3_sasl.so.0` where the
+The library is the file that the environment variable FE2O3_SASL_LIB names, or else `libfe2o3_sasl.so.1` where the
 system finds it. It is loaded with the module, and refused where its structs have other sizes than those below.
 
 A client:
@@ -32,20 +32,20 @@ The client's side of a connection of AMQP 1.0, before its first frame of AMQP:
     side = ClientConnection(client, hostname="broker.example")   # or ClientConnection.plain("user", "pencil")
     socket.sendall(side.open())
     rest = b""
-    while side.progress == Progress.WANTING:
+    while side.progress == Progress.IN_PROGRESS:
         answer, rest = side.receive(socket.recv(4096))
         socket.sendall(answer)
-    # logged in where side.progress is Progress.LOGGED_IN, and `rest` is AMQP's; else side.why says why not
+    # logged in where side.progress is Progress.AUTHENTICATED, and `rest` is AMQP's; else side.why says why not
 
 The same over the bodies of frames, each from the data offset on, for who reads and writes the frames:
 
     side = ClientSteps(client, hostname="broker.example")
     for _ in range(3):                  # the mechanisms, a challenge, and the outcome
         answer = side.on_frame(receive_body())
-        if side.progress != Progress.WANTING:
+        if side.progress != Progress.IN_PROGRESS:
             break
         send_body(answer)
-    # logged in where side.progress is Progress.LOGGED_IN; else side.why says why not
+    # logged in where side.progress is Progress.AUTHENTICATED; else side.why says why not
 
 A call that the library refuses raises `Refused` and leaves the object as it was. A call that does not raise is done.
 An argument that is none (another type, a number outside of its C type) raises TypeError or ValueError before any call.
@@ -88,21 +88,17 @@ __all__ = [
     "view_frame",
 ]
 
+# ---- written by tools/header.py --python, from here ----
+
 SHA_1 = 1
 SHA_256 = 256
 SHA_512 = 512
 
-_DIGEST_LENGTHS = {SHA_1: 20, SHA_256: 32, SHA_512: 64}
-
-#: A text as its characters or as the bytes of its UTF-8.
-Text = Union[str, bytes, bytearray, memoryview]
-Bytes = Union[bytes, bytearray, memoryview]
-
 
 class Status(enum.IntEnum):
-    """What a call of the library answers, as the header names it. The header says what each one means."""
+    """What a call of the library returns. The header says what each means."""
 
-    DONE = 0
+    OK = 0
     OUT_OF_MEMORY = 1
     ROOM_TOO_SMALL = 2
     NOT_UTF8 = 3
@@ -116,8 +112,8 @@ class Status(enum.IntEnum):
     OTHER_PASSWORD = 11
     NO_SUCH_MECHANISM = 12
     ENDED = 13
-    NOT_KEPT = 14
-    NAMES_NOBODY = 15
+    INVALID_SNAPSHOT = 14
+    NAMES_NO_USER = 15
     CLIENT_UTF8_ERROR = 20
     CLIENT_INSUFFICIENT_PARTS = 21
     CLIENT_EXTENSION_NOT_SUPPORTED = 22
@@ -130,7 +126,7 @@ class Status(enum.IntEnum):
     CLIENT_ITERATION_COUNT_TOO_SMALL = 29
     CLIENT_ITERATION_COUNT_TOO_LARGE = 30
     CLIENT_NORMALIZE_ERROR = 31
-    CLIENT_OTHER_KEYS = 32
+    CLIENT_STALE_KEYS = 32
     CLIENT_HMAC_ERROR_INVALID_LENGTH = 33
     CLIENT_XOR_LENGTH_MISMATCH = 34
     CLIENT_ILLEGAL_CLIENT_STATE = 35
@@ -159,11 +155,11 @@ class Status(enum.IntEnum):
     INVALID_NAME = 67
     NO_SUCH_USER = 68
     NOT_WRITABLE = 69
-    OTHER_HEADER = 70
+    PROTOCOL_HEADER_MISMATCH = 70
     FRAME_SIZE = 71
-    OUT_OF_TURN = 72
+    UNEXPECTED_FRAME = 72
     REPLY_TOO_LARGE = 73
-    FRAME_UNREAD = 74
+    MALFORMED_FRAME = 74
     NO_SASL_FRAME = 75
     FRAME_TOO_LARGE = 76
     NOT_IMPLEMENTED = 77
@@ -178,12 +174,522 @@ class Status(enum.IntEnum):
 
 
 class Progress(enum.IntEnum):
-    """How a login stands: more is wanted of the other side, the client is logged in, or the connection is to be
-    closed."""
+    """How far a login on a connection is."""
 
-    WANTING = 0
-    LOGGED_IN = 1
-    CLOSED = 2
+    IN_PROGRESS = 0
+    AUTHENTICATED = 1
+    FAILED = 2
+
+
+class _Mechanism(enum.IntEnum):
+    """The mechanism of a client on a connection."""
+
+    SCRAM = 0
+    PLAIN = 1
+    ANONYMOUS = 2
+    EXTERNAL = 3
+
+
+class _Secret(enum.IntEnum):
+    """What a client logs in with."""
+
+    BY_PASSWORD = 0
+    BY_KEYS = 1
+    BY_PASSWORD_AND_KEYS = 2
+    BY_PREPARED = 3
+    BY_PREPARED_AND_KEYS = 4
+
+
+class _ScramServerState(enum.IntEnum):
+    """How far the exchange of a SCRAM server is. Other values count as FE2O3_SCRAM_SERVER_INITIAL. A challenge is open in two of these states."""
+
+    SERVER_INITIAL = 0
+    SERVER_CHALLENGE_OPEN = 1
+    SERVER_AUTHENTICATED = 2
+    SERVER_CHALLENGE_OPEN_CBIND_FLAG_Y = 3
+
+
+class _TextStruct(ctypes.Structure):
+    _fields_ = [
+        ("bytes", ctypes.c_void_p),
+        ("bytes_len", ctypes.c_size_t),
+    ]
+
+
+class _ScramRecordStruct(ctypes.Structure):
+    _fields_ = [
+        ("version", ctypes.c_uint32),
+        ("iterations", ctypes.c_uint32),
+        ("salt_len", ctypes.c_uint32),
+        ("salt", ctypes.c_uint8 * 128),
+        ("stored_key", ctypes.c_uint8 * 64),
+        ("server_key", ctypes.c_uint8 * 64),
+    ]
+
+
+class _ScramKeysStruct(ctypes.Structure):
+    _fields_ = [
+        ("version", ctypes.c_uint32),
+        ("iterations", ctypes.c_uint32),
+        ("salt_len", ctypes.c_uint32),
+        ("salt", ctypes.c_uint8 * 128),
+        ("client_key", ctypes.c_uint8 * 64),
+        ("server_key", ctypes.c_uint8 * 64),
+    ]
+
+
+class _LoginStruct(ctypes.Structure):
+    _fields_ = [
+        ("version", ctypes.c_uint32),
+        ("secret", ctypes.c_uint32),
+        ("min_iterations", ctypes.c_uint32),
+        ("max_iterations", ctypes.c_uint32),
+        ("username", ctypes.c_char_p),
+        ("username_len", ctypes.c_size_t),
+        ("password", ctypes.c_char_p),
+        ("password_len", ctypes.c_size_t),
+        ("keys", ctypes.POINTER(_ScramKeysStruct)),
+    ]
+
+
+class _ScramClientStruct(ctypes.Structure):
+    _fields_ = [
+        ("state", ctypes.c_uint32),
+        ("signature_len", ctypes.c_uint32),
+        ("nonce", ctypes.c_uint8 * 32),
+        ("signature", ctypes.c_uint8 * 64),
+        ("keys", _ScramKeysStruct),
+    ]
+
+
+class _ScramServerStruct(ctypes.Structure):
+    _fields_ = [
+        ("state", ctypes.c_uint32),
+        ("user_len", ctypes.c_uint32),
+        ("bare_len", ctypes.c_uint32),
+        ("nonce_len", ctypes.c_uint32),
+        ("first_len", ctypes.c_uint32),
+        ("user", ctypes.c_uint8 * 256),
+        ("bare", ctypes.c_uint8 * 1024),
+        ("nonce", ctypes.c_uint8 * 512),
+        ("first", ctypes.c_uint8 * 1024),
+    ]
+
+
+class _ConnectionStruct(ctypes.Structure):
+    _fields_ = [
+        ("progress", ctypes.c_uint32),
+        ("why", ctypes.c_uint32),
+        ("expected", ctypes.c_uint32),
+        ("held_len", ctypes.c_uint32),
+        ("held", ctypes.c_uint8 * 512),
+    ]
+
+
+class _SaslLoginStruct(ctypes.Structure):
+    _fields_ = [
+        ("mechanism", ctypes.c_uint32),
+        ("hostname", ctypes.c_char_p),
+        ("hostname_len", ctypes.c_size_t),
+        ("login", _LoginStruct),
+    ]
+
+
+class _SaslClientStruct(ctypes.Structure):
+    _fields_ = [
+        ("connection", _ConnectionStruct),
+        ("scram", _ScramClientStruct),
+    ]
+
+
+class _SaslServerConfigStruct(ctypes.Structure):
+    _fields_ = [
+        ("mechanisms", ctypes.c_uint32),
+        ("version", ctypes.c_uint32),
+        ("iterations", ctypes.c_uint32),
+        ("username", ctypes.c_char_p),
+        ("username_len", ctypes.c_size_t),
+        ("record", ctypes.POINTER(_ScramRecordStruct)),
+        ("external_authcid", ctypes.c_char_p),
+        ("external_authcid_len", ctypes.c_size_t),
+    ]
+
+
+class _SaslServerStruct(ctypes.Structure):
+    _fields_ = [
+        ("connection", _ConnectionStruct),
+        ("scram", _ScramServerStruct),
+    ]
+
+
+class _SaslFrameViewStruct(ctypes.Structure):
+    _fields_ = [
+        ("kind", ctypes.c_uint32),
+        ("code", ctypes.c_uint32),
+        ("has_message", ctypes.c_uint32),
+        ("has_hostname", ctypes.c_uint32),
+        ("count", ctypes.c_size_t),
+        ("taken", ctypes.c_size_t),
+        ("mechanism", ctypes.c_void_p),
+        ("mechanism_len", ctypes.c_size_t),
+        ("message", ctypes.c_void_p),
+        ("message_len", ctypes.c_size_t),
+        ("hostname", ctypes.c_void_p),
+        ("hostname_len", ctypes.c_size_t),
+    ]
+
+
+# The structs in the order of the numbers of `fe2o3_size`.
+_SIZED = (
+    _LoginStruct,
+    _ScramClientStruct,
+    _ScramKeysStruct,
+    _ScramServerStruct,
+    _ScramRecordStruct,
+    _ConnectionStruct,
+    _SaslLoginStruct,
+    _SaslClientStruct,
+    _SaslFrameViewStruct,
+    _SaslServerConfigStruct,
+    _SaslServerStruct,
+)
+
+# What each export returns and takes.
+_EXPORTS: dict[str, tuple[Any, list[Any]]] = {
+    "fe2o3_version": (ctypes.c_uint32, []),
+    "fe2o3_size": (ctypes.c_size_t, [ctypes.c_uint32]),
+    "fe2o3_status_text": (None, [ctypes.c_uint32, ctypes.POINTER(_TextStruct)]),
+    "fe2o3_saslprep": (
+        ctypes.c_uint32,
+        [
+            ctypes.c_char_p,
+            ctypes.c_size_t,
+            ctypes.c_uint32,
+            ctypes.c_void_p,
+            ctypes.c_size_t,
+            ctypes.POINTER(ctypes.c_size_t),
+        ],
+    ),
+    "fe2o3_scram_record_make": (
+        ctypes.c_uint32,
+        [
+            ctypes.c_uint32,
+            ctypes.c_char_p,
+            ctypes.c_size_t,
+            ctypes.c_char_p,
+            ctypes.c_size_t,
+            ctypes.c_uint32,
+            ctypes.POINTER(_ScramRecordStruct),
+        ],
+    ),
+    "fe2o3_scram_record_make_prepared": (
+        ctypes.c_uint32,
+        [
+            ctypes.c_uint32,
+            ctypes.c_char_p,
+            ctypes.c_size_t,
+            ctypes.c_char_p,
+            ctypes.c_size_t,
+            ctypes.c_uint32,
+            ctypes.POINTER(_ScramRecordStruct),
+        ],
+    ),
+    "fe2o3_scram_record_mock": (
+        ctypes.c_uint32,
+        [
+            ctypes.c_uint32,
+            ctypes.c_char_p,
+            ctypes.c_size_t,
+            ctypes.c_char_p,
+            ctypes.c_size_t,
+            ctypes.c_size_t,
+            ctypes.c_uint32,
+            ctypes.POINTER(_ScramRecordStruct),
+        ],
+    ),
+    "fe2o3_scram_record_parse": (
+        ctypes.c_uint32,
+        [
+            ctypes.c_char_p,
+            ctypes.c_size_t,
+            ctypes.POINTER(_ScramRecordStruct),
+        ],
+    ),
+    "fe2o3_scram_record_text": (
+        ctypes.c_uint32,
+        [
+            ctypes.POINTER(_ScramRecordStruct),
+            ctypes.c_void_p,
+            ctypes.c_size_t,
+            ctypes.POINTER(ctypes.c_size_t),
+        ],
+    ),
+    "fe2o3_scram_record_verify": (
+        ctypes.c_uint32,
+        [
+            ctypes.POINTER(_ScramRecordStruct),
+            ctypes.c_char_p,
+            ctypes.c_size_t,
+        ],
+    ),
+    "fe2o3_scram_record_verify_prepared": (
+        ctypes.c_uint32,
+        [
+            ctypes.POINTER(_ScramRecordStruct),
+            ctypes.c_char_p,
+            ctypes.c_size_t,
+        ],
+    ),
+    "fe2o3_scram_lines_find": (
+        ctypes.c_uint32,
+        [
+            ctypes.c_char_p,
+            ctypes.c_size_t,
+            ctypes.c_char_p,
+            ctypes.c_size_t,
+            ctypes.c_uint32,
+            ctypes.POINTER(ctypes.c_size_t),
+            ctypes.POINTER(_ScramRecordStruct),
+        ],
+    ),
+    "fe2o3_scram_line": (
+        ctypes.c_uint32,
+        [
+            ctypes.c_char_p,
+            ctypes.c_size_t,
+            ctypes.POINTER(_ScramRecordStruct),
+            ctypes.c_void_p,
+            ctypes.c_size_t,
+            ctypes.POINTER(ctypes.c_size_t),
+        ],
+    ),
+    "fe2o3_scram_keys_make": (
+        ctypes.c_uint32,
+        [
+            ctypes.c_uint32,
+            ctypes.c_char_p,
+            ctypes.c_size_t,
+            ctypes.c_char_p,
+            ctypes.c_size_t,
+            ctypes.c_uint32,
+            ctypes.POINTER(_ScramKeysStruct),
+        ],
+    ),
+    "fe2o3_scram_keys_make_prepared": (
+        ctypes.c_uint32,
+        [
+            ctypes.c_uint32,
+            ctypes.c_char_p,
+            ctypes.c_size_t,
+            ctypes.c_char_p,
+            ctypes.c_size_t,
+            ctypes.c_uint32,
+            ctypes.POINTER(_ScramKeysStruct),
+        ],
+    ),
+    "fe2o3_scram_client_first": (
+        ctypes.c_uint32,
+        [
+            ctypes.POINTER(_LoginStruct),
+            ctypes.POINTER(_ScramClientStruct),
+            ctypes.c_char_p,
+            ctypes.c_void_p,
+            ctypes.c_size_t,
+            ctypes.POINTER(ctypes.c_size_t),
+        ],
+    ),
+    "fe2o3_scram_client_final": (
+        ctypes.c_uint32,
+        [
+            ctypes.POINTER(_LoginStruct),
+            ctypes.POINTER(_ScramClientStruct),
+            ctypes.c_char_p,
+            ctypes.c_size_t,
+            ctypes.c_void_p,
+            ctypes.c_size_t,
+            ctypes.POINTER(ctypes.c_size_t),
+        ],
+    ),
+    "fe2o3_scram_client_verify": (
+        ctypes.c_uint32,
+        [
+            ctypes.POINTER(_LoginStruct),
+            ctypes.POINTER(_ScramClientStruct),
+            ctypes.c_char_p,
+            ctypes.c_size_t,
+        ],
+    ),
+    "fe2o3_scram_client_get_keys": (
+        ctypes.c_uint32,
+        [
+            ctypes.POINTER(_ScramClientStruct),
+            ctypes.POINTER(_ScramKeysStruct),
+        ],
+    ),
+    "fe2o3_scram_server_claimed_user": (
+        ctypes.c_uint32,
+        [
+            ctypes.c_char_p,
+            ctypes.c_size_t,
+            ctypes.c_void_p,
+            ctypes.c_size_t,
+            ctypes.POINTER(ctypes.c_size_t),
+        ],
+    ),
+    "fe2o3_scram_server_first": (
+        ctypes.c_uint32,
+        [
+            ctypes.POINTER(_ScramRecordStruct),
+            ctypes.POINTER(_ScramServerStruct),
+            ctypes.c_char_p,
+            ctypes.c_char_p,
+            ctypes.c_size_t,
+            ctypes.c_void_p,
+            ctypes.c_size_t,
+            ctypes.POINTER(ctypes.c_size_t),
+        ],
+    ),
+    "fe2o3_scram_server_first_with_cbind_flag_y": (
+        ctypes.c_uint32,
+        [
+            ctypes.POINTER(_ScramRecordStruct),
+            ctypes.POINTER(_ScramServerStruct),
+            ctypes.c_char_p,
+            ctypes.c_char_p,
+            ctypes.c_size_t,
+            ctypes.c_void_p,
+            ctypes.c_size_t,
+            ctypes.POINTER(ctypes.c_size_t),
+        ],
+    ),
+    "fe2o3_scram_server_final": (
+        ctypes.c_uint32,
+        [
+            ctypes.POINTER(_ScramRecordStruct),
+            ctypes.POINTER(_ScramServerStruct),
+            ctypes.c_char_p,
+            ctypes.c_size_t,
+            ctypes.c_void_p,
+            ctypes.c_size_t,
+            ctypes.POINTER(ctypes.c_size_t),
+        ],
+    ),
+    "fe2o3_scram_server_authenticated_user": (
+        ctypes.c_uint32,
+        [
+            ctypes.POINTER(_ScramServerStruct),
+            ctypes.c_void_p,
+            ctypes.c_size_t,
+            ctypes.POINTER(ctypes.c_size_t),
+        ],
+    ),
+    "fe2o3_sasl_client_open": (ctypes.c_uint32, [ctypes.c_void_p, ctypes.c_size_t, ctypes.POINTER(ctypes.c_size_t)]),
+    "fe2o3_sasl_client_receive": (
+        ctypes.c_uint32,
+        [
+            ctypes.POINTER(_SaslLoginStruct),
+            ctypes.POINTER(_SaslClientStruct),
+            ctypes.c_char_p,
+            ctypes.c_size_t,
+            ctypes.c_char_p,
+            ctypes.POINTER(ctypes.c_size_t),
+            ctypes.c_void_p,
+            ctypes.c_size_t,
+            ctypes.POINTER(ctypes.c_size_t),
+        ],
+    ),
+    "fe2o3_sasl_server_claimed_user": (
+        ctypes.c_uint32,
+        [
+            ctypes.POINTER(_SaslServerStruct),
+            ctypes.c_char_p,
+            ctypes.c_size_t,
+            ctypes.c_void_p,
+            ctypes.c_size_t,
+            ctypes.POINTER(ctypes.c_size_t),
+        ],
+    ),
+    "fe2o3_sasl_server_receive": (
+        ctypes.c_uint32,
+        [
+            ctypes.POINTER(_SaslServerConfigStruct),
+            ctypes.POINTER(_SaslServerStruct),
+            ctypes.c_char_p,
+            ctypes.c_size_t,
+            ctypes.c_char_p,
+            ctypes.POINTER(ctypes.c_size_t),
+            ctypes.c_void_p,
+            ctypes.c_size_t,
+            ctypes.POINTER(ctypes.c_size_t),
+        ],
+    ),
+    "fe2o3_sasl_client_step": (
+        ctypes.c_uint32,
+        [
+            ctypes.POINTER(_SaslLoginStruct),
+            ctypes.POINTER(_ScramClientStruct),
+            ctypes.c_char_p,
+            ctypes.c_size_t,
+            ctypes.c_char_p,
+            ctypes.POINTER(ctypes.c_uint32),
+            ctypes.c_void_p,
+            ctypes.c_size_t,
+            ctypes.POINTER(ctypes.c_size_t),
+        ],
+    ),
+    "fe2o3_sasl_server_offer": (
+        ctypes.c_uint32,
+        [
+            ctypes.POINTER(_SaslServerConfigStruct),
+            ctypes.c_void_p,
+            ctypes.c_size_t,
+            ctypes.POINTER(ctypes.c_size_t),
+        ],
+    ),
+    "fe2o3_sasl_server_step_claimed_user": (
+        ctypes.c_uint32,
+        [
+            ctypes.POINTER(_ScramServerStruct),
+            ctypes.c_char_p,
+            ctypes.c_size_t,
+            ctypes.c_void_p,
+            ctypes.c_size_t,
+            ctypes.POINTER(ctypes.c_size_t),
+        ],
+    ),
+    "fe2o3_sasl_server_step": (
+        ctypes.c_uint32,
+        [
+            ctypes.POINTER(_SaslServerConfigStruct),
+            ctypes.POINTER(_ScramServerStruct),
+            ctypes.c_char_p,
+            ctypes.c_size_t,
+            ctypes.c_char_p,
+            ctypes.POINTER(ctypes.c_uint32),
+            ctypes.c_void_p,
+            ctypes.c_size_t,
+            ctypes.POINTER(ctypes.c_size_t),
+        ],
+    ),
+    "fe2o3_sasl_view_frame": (
+        ctypes.c_uint32,
+        [
+            ctypes.c_char_p,
+            ctypes.c_size_t,
+            ctypes.POINTER(_SaslFrameViewStruct),
+        ],
+    ),
+    "fe2o3_sasl_offers": (ctypes.c_uint32, [ctypes.c_char_p, ctypes.c_size_t, ctypes.c_char_p, ctypes.c_size_t]),
+}
+
+
+# ---- to here ----
+
+_DIGEST_LENGTHS = {SHA_1: 20, SHA_256: 32, SHA_512: 64}
+
+#: A text as its characters or as the bytes of its UTF-8.
+Text = Union[str, bytes, bytearray, memoryview]
+Bytes = Union[bytes, bytearray, memoryview]
 
 
 class Refused(Exception):
@@ -202,198 +708,10 @@ class Refused(Exception):
         return f"{self.text} ({self.status})"
 
 
-# The structs, as the header has them.
-
-
-class _KeysStruct(ctypes.Structure):
-    _fields_ = [
-        ("version", ctypes.c_uint32),
-        ("iterations", ctypes.c_uint32),
-        ("salt_len", ctypes.c_uint32),
-        ("salt", ctypes.c_uint8 * 128),
-        ("client_key", ctypes.c_uint8 * 64),
-        ("server_key", ctypes.c_uint8 * 64),
-    ]
-
-
-class _RecordStruct(ctypes.Structure):
-    _fields_ = [
-        ("version", ctypes.c_uint32),
-        ("iterations", ctypes.c_uint32),
-        ("salt_len", ctypes.c_uint32),
-        ("salt", ctypes.c_uint8 * 128),
-        ("stored_key", ctypes.c_uint8 * 64),
-        ("server_key", ctypes.c_uint8 * 64),
-    ]
-
-
-class _ServerStruct(ctypes.Structure):
-    _fields_ = [
-        ("stands", ctypes.c_uint32),
-        ("user_len", ctypes.c_uint32),
-        ("bare_len", ctypes.c_uint32),
-        ("nonce_len", ctypes.c_uint32),
-        ("first_len", ctypes.c_uint32),
-        ("user", ctypes.c_uint8 * 256),
-        ("bare", ctypes.c_uint8 * 1024),
-        ("nonce", ctypes.c_uint8 * 512),
-        ("first", ctypes.c_uint8 * 1024),
-    ]
-
-
-class _TextStruct(ctypes.Structure):
-    _fields_ = [("bytes", ctypes.c_void_p), ("bytes_len", ctypes.c_size_t)]
-
-
-class _LoginStruct(ctypes.Structure):
-    # The bytes and the keys that are assigned to a field are kept alive by the struct.
-    _fields_ = [
-        ("version", ctypes.c_uint32),
-        ("secret", ctypes.c_uint32),
-        ("min_iterations", ctypes.c_uint32),
-        ("max_iterations", ctypes.c_uint32),
-        ("username", ctypes.c_char_p),
-        ("username_len", ctypes.c_size_t),
-        ("password", ctypes.c_char_p),
-        ("password_len", ctypes.c_size_t),
-        ("keys", ctypes.POINTER(_KeysStruct)),
-    ]
-
-
-class _ClientStruct(ctypes.Structure):
-    _fields_ = [
-        ("sent", ctypes.c_uint32),
-        ("signature_len", ctypes.c_uint32),
-        ("nonce", ctypes.c_uint8 * 32),
-        ("signature", ctypes.c_uint8 * 64),
-        ("keys", _KeysStruct),
-    ]
-
-
-class _ConnectionStruct(ctypes.Structure):
-    _fields_ = [
-        ("progress", ctypes.c_uint32),
-        ("why", ctypes.c_uint32),
-        ("due", ctypes.c_uint32),
-        ("held_len", ctypes.c_uint32),
-        ("held", ctypes.c_uint8 * 512),
-    ]
-
-
-class _SaslLoginStruct(ctypes.Structure):
-    _fields_ = [
-        ("mechanism", ctypes.c_uint32),
-        ("hostname", ctypes.c_char_p),
-        ("hostname_len", ctypes.c_size_t),
-        ("login", _LoginStruct),
-    ]
-
-
-class _SaslClientStruct(ctypes.Structure):
-    _fields_ = [("connection", _ConnectionStruct), ("scram", _ClientStruct)]
-
-
-class _SaslHostStruct(ctypes.Structure):
-    _fields_ = [
-        ("mechanisms", ctypes.c_uint32),
-        ("version", ctypes.c_uint32),
-        ("iterations", ctypes.c_uint32),
-        ("username", ctypes.c_char_p),
-        ("username_len", ctypes.c_size_t),
-        ("record", ctypes.POINTER(_RecordStruct)),
-        ("peer", ctypes.c_char_p),
-        ("peer_len", ctypes.c_size_t),
-    ]
-
-
-class _SaslServerStruct(ctypes.Structure):
-    _fields_ = [("connection", _ConnectionStruct), ("scram", _ServerStruct)]
-
-
-class _FrameViewStruct(ctypes.Structure):
-    # (addresses as numbers: a text may hold zeros)
-    _fields_ = [
-        ("kind", ctypes.c_uint32),
-        ("code", ctypes.c_uint32),
-        ("has_message", ctypes.c_uint32),
-        ("has_hostname", ctypes.c_uint32),
-        ("count", ctypes.c_size_t),
-        ("taken", ctypes.c_size_t),
-        ("mechanism", ctypes.c_void_p),
-        ("mechanism_len", ctypes.c_size_t),
-        ("message", ctypes.c_void_p),
-        ("message_len", ctypes.c_size_t),
-        ("hostname", ctypes.c_void_p),
-        ("hostname_len", ctypes.c_size_t),
-    ]
-
-
-# What `fe2o3_size` is asked for, in the order of its numbers.
-_SIZED = (
-    _LoginStruct,
-    _ClientStruct,
-    _KeysStruct,
-    _ServerStruct,
-    _RecordStruct,
-    _ConnectionStruct,
-    _SaslLoginStruct,
-    _SaslClientStruct,
-    _FrameViewStruct,
-    _SaslHostStruct,
-    _SaslServerStruct,
-)
-
-
 def _load(name: str) -> ctypes.CDLL:
-    """The library of this name, with the types of what it exports. OSError where it is not there or does not fit."""
+    """The library of this name, with the types of its exports. OSError if it is not there or does not fit."""
     library = ctypes.CDLL(name)
-    number, length = ctypes.c_uint32, ctypes.c_size_t
-    # An address of bytes that are only read, and one of a room.
-    read, room = ctypes.c_char_p, ctypes.c_void_p
-    written = [room, length, ctypes.POINTER(length)]
-    login, client = ctypes.POINTER(_LoginStruct), ctypes.POINTER(_ClientStruct)
-    keys, record = ctypes.POINTER(_KeysStruct), ctypes.POINTER(_RecordStruct)
-    server, text = ctypes.POINTER(_ServerStruct), ctypes.POINTER(_TextStruct)
-    sasl_login, sasl_client = ctypes.POINTER(_SaslLoginStruct), ctypes.POINTER(_SaslClientStruct)
-    host, sasl_server = ctypes.POINTER(_SaslHostStruct), ctypes.POINTER(_SaslServerStruct)
-    count, stands = ctypes.POINTER(length), ctypes.POINTER(number)
-    exports: dict[str, tuple[Any, list[Any]]] = {
-        "fe2o3_scram_client_first": (number, [login, client, read, *written]),
-        "fe2o3_scram_client_final": (number, [login, client, read, length, *written]),
-        "fe2o3_scram_client_verify": (number, [login, client, read, length]),
-        "fe2o3_scram_client_get_keys": (number, [client, keys]),
-        "fe2o3_saslprep": (number, [read, length, number, *written]),
-        "fe2o3_scram_keys_make": (number, [number, read, length, read, length, number, keys]),
-        "fe2o3_scram_keys_make_prepared": (number, [number, read, length, read, length, number, keys]),
-        "fe2o3_scram_record_make": (number, [number, read, length, read, length, number, record]),
-        "fe2o3_scram_record_make_prepared": (number, [number, read, length, read, length, number, record]),
-        "fe2o3_scram_record_parse": (number, [read, length, record]),
-        "fe2o3_scram_record_text": (number, [record, *written]),
-        "fe2o3_scram_record_mock": (number, [number, read, length, read, length, length, number, record]),
-        "fe2o3_scram_record_verify": (number, [record, read, length]),
-        "fe2o3_scram_record_verify_prepared": (number, [record, read, length]),
-        "fe2o3_scram_lines_find": (number, [read, length, read, length, number, count, record]),
-        "fe2o3_scram_line": (number, [read, length, record, *written]),
-        "fe2o3_scram_server_first": (number, [record, server, read, read, length, *written]),
-        "fe2o3_scram_server_first_with_cbind_flag_y": (number, [record, server, read, read, length, *written]),
-        "fe2o3_scram_server_claimed_user": (number, [read, length, *written]),
-        "fe2o3_scram_server_final": (number, [record, server, read, length, *written]),
-        "fe2o3_scram_server_authenticated_user": (number, [server, *written]),
-        "fe2o3_sasl_client_open": (number, written),
-        "fe2o3_sasl_client_receive": (number, [sasl_login, sasl_client, read, length, read, count, *written]),
-        "fe2o3_sasl_server_receive": (number, [host, sasl_server, read, length, read, count, *written]),
-        "fe2o3_sasl_server_claimed_user": (number, [sasl_server, read, length, *written]),
-        "fe2o3_sasl_client_step": (number, [sasl_login, client, read, length, read, stands, *written]),
-        "fe2o3_sasl_server_offer": (number, [host, *written]),
-        "fe2o3_sasl_server_step": (number, [host, server, read, length, read, stands, *written]),
-        "fe2o3_sasl_server_step_claimed_user": (number, [server, read, length, *written]),
-        "fe2o3_sasl_view_frame": (number, [read, length, ctypes.POINTER(_FrameViewStruct)]),
-        "fe2o3_sasl_offers": (number, [read, length, read, length]),
-        "fe2o3_status_text": (None, [number, text]),
-        "fe2o3_version": (number, []),
-        "fe2o3_size": (length, [number]),
-    }
-    for export, (answers, takes) in exports.items():
+    for export, (answers, takes) in _EXPORTS.items():
         try:
             function = getattr(library, export)
         except AttributeError:
@@ -407,7 +725,7 @@ def _load(name: str) -> ctypes.CDLL:
     return library
 
 
-_library = _load(os.environ.get("FE2O3_SASL_LIB") or "libfe2o3_sasl.so.0")
+_library = _load(os.environ.get("FE2O3_SASL_LIB") or "libfe2o3_sasl.so.1")
 
 
 def library_version() -> tuple[int, int, int]:
@@ -425,7 +743,7 @@ def _status_text(status: int) -> str:
 
 
 def _done(status: int) -> None:
-    if status != Status.DONE:
+    if status != Status.OK:
         raise Refused(status, _status_text(status))
 
 
@@ -499,14 +817,14 @@ class Keys:
             raise ValueError("the salt has more than 128 bytes")
         if len(client_key) != digest_length or len(server_key) != digest_length:
             raise ValueError("a key is not as long as a digest of the version")
-        struct = _KeysStruct(version=version, iterations=_number(iterations), salt_len=len(salt))
+        struct = _ScramKeysStruct(version=version, iterations=_number(iterations), salt_len=len(salt))
         ctypes.memmove(struct.salt, salt, len(salt))
         ctypes.memmove(struct.client_key, client_key, digest_length)
         ctypes.memmove(struct.server_key, server_key, digest_length)
         self._struct = struct
 
     @classmethod
-    def _of(cls, struct: _KeysStruct) -> Keys:
+    def _of(cls, struct: _ScramKeysStruct) -> Keys:
         keys = cls.__new__(cls)
         keys._struct = struct
         return keys
@@ -514,14 +832,14 @@ class Keys:
     @classmethod
     def make(cls, version: int, password: Text, salt: Bytes, iterations: int) -> Keys:
         """The keys that stand in place of a password, for a server that keeps this salt and this count."""
-        struct = _KeysStruct()
+        struct = _ScramKeysStruct()
         _make(_library.fe2o3_scram_keys_make, struct, version, password, salt, iterations)
         return cls._of(struct)
 
     @classmethod
     def make_prepared(cls, version: int, password: Text, salt: Bytes, iterations: int) -> Keys:
         """The same of a prepared password (`saslprep`): any text, which is taken as it stands."""
-        struct = _KeysStruct()
+        struct = _ScramKeysStruct()
         _make(_library.fe2o3_scram_keys_make_prepared, struct, version, password, salt, iterations)
         return cls._of(struct)
 
@@ -563,17 +881,17 @@ class Record:
         raise TypeError("a record is made by Record.make, Record.parse or Record.mock")
 
     @classmethod
-    def _of(cls, struct: _RecordStruct) -> Record:
+    def _of(cls, struct: _ScramRecordStruct) -> Record:
         record = cls.__new__(cls)
         record._struct = struct
         return record
 
-    _struct: _RecordStruct
+    _struct: _ScramRecordStruct
 
     @classmethod
     def make(cls, version: int, password: Text, *, salt: Optional[Bytes] = None, iterations: int = 4096) -> Record:
         """The record of a password. Where no salt is given it is 16 random bytes."""
-        struct = _RecordStruct()
+        struct = _ScramRecordStruct()
         _make(_library.fe2o3_scram_record_make, struct, version, password, _salt(salt), iterations)
         return cls._of(struct)
 
@@ -583,14 +901,14 @@ class Record:
     ) -> Record:
         """The same of a prepared password (`saslprep`): any text, which is taken as it stands. A client logs in by that
         very text alone."""
-        struct = _RecordStruct()
+        struct = _ScramRecordStruct()
         _make(_library.fe2o3_scram_record_make_prepared, struct, version, password, _salt(salt), iterations)
         return cls._of(struct)
 
     @classmethod
     def parse(cls, text: Text) -> Record:
         """The record of a text, as PostgreSQL writes it (RFC 5803, section 2)."""
-        struct, spelled = _RecordStruct(), _text(text)
+        struct, spelled = _ScramRecordStruct(), _text(text)
         _done(_library.fe2o3_scram_record_parse(spelled, len(spelled), ctypes.byref(struct)))
         return cls._of(struct)
 
@@ -601,7 +919,7 @@ class Record:
         """A record for a name that a server does not know, so that it can answer as to one that it knows: the login
         is refused at its proof. The secret is 32 random bytes or more, the same for all names and kept as long as the
         records; the length of the salt, of at most 64, and the count are those of the server's other records."""
-        struct, secret, name = _RecordStruct(), _bytes(secret), _text(username)
+        struct, secret, name = _ScramRecordStruct(), _bytes(secret), _text(username)
         if len(secret) < 32:
             raise ValueError("the secret has fewer than 32 bytes")
         _done(
@@ -622,11 +940,11 @@ class Record:
     def find(cls, lines: Text, username: Text, version: int) -> Record:
         """The record of this version that a user has in a text of users, a line for each, as `line` writes them. Raises
         `Refused`: NO_SUCH_USER where there is none, and where a line is not read why, the first of them."""
-        struct, text, name, at = _RecordStruct(), _text(lines), _text(username), ctypes.c_size_t()
+        struct, text, name, at = _ScramRecordStruct(), _text(lines), _text(username), ctypes.c_size_t()
         status = _library.fe2o3_scram_lines_find(
             text, len(text), name, len(name), _number(version), ctypes.byref(at), ctypes.byref(struct)
         )
-        if status != Status.DONE and at.value:
+        if status != Status.OK and at.value:
             raise Refused(status, f"Line {at.value}: {_status_text(status)}")
         _done(status)
         return cls._of(struct)
@@ -713,7 +1031,7 @@ class Client:
         # 0 is the password, 1 the keys, 2 both; 3 and 4 are 0 and 2 with a prepared password.
         secret = 0 if keys is None else 1 if given is None else 2
         secret += 0 if prepared_password is None else 3 if keys is None else 2
-        held = _KeysStruct() if keys is None else keys._struct
+        held = _ScramKeysStruct() if keys is None else keys._struct
         self._login = _LoginStruct(
             version=_number(version),
             secret=secret,
@@ -725,7 +1043,7 @@ class Client:
             password_len=len(typed),
             keys=ctypes.pointer(held),
         )
-        self._struct = _ClientStruct()
+        self._struct = _ScramClientStruct()
         self._lock = threading.RLock()
 
     def first(self) -> bytes:
@@ -757,7 +1075,7 @@ class Client:
     def keys(self) -> Keys:
         """The keys of a login whose server was believed: with them the next login to a server that keeps its salt and
         its count takes no password, and little time. Whoever has them can log in."""
-        struct = _KeysStruct()
+        struct = _ScramKeysStruct()
         with self._lock:
             _done(_library.fe2o3_scram_client_get_keys(self._struct, ctypes.byref(struct)))
         return Keys._of(struct)
@@ -796,7 +1114,7 @@ class Frame(NamedTuple):
 
 def view_frame(body: Bytes) -> Frame:
     """What the body of a frame says, which begins with its data offset, behind the four bytes of its size."""
-    given, view = _bytes(body), _FrameViewStruct()
+    given, view = _bytes(body), _SaslFrameViewStruct()
     _done(_library.fe2o3_sasl_view_frame(given, len(given), ctypes.byref(view)))
     mechanism, message, hostname = (
         ctypes.string_at(at, size) if size else b""
@@ -847,7 +1165,7 @@ class _Login:
     def why(self) -> Optional[Refused]:
         """Why the connection is to be closed, and None where it is not."""
         progress, why = self._ends()
-        return Refused(why, _status_text(why)) if progress == Progress.CLOSED else None
+        return Refused(why, _status_text(why)) if progress == Progress.FAILED else None
 
     def __repr__(self) -> str:
         return f"{type(self).__name__}(progress={self.progress})"
@@ -870,10 +1188,10 @@ class _Steps(_Login):
     _stands: int
 
     def _ends(self) -> tuple[int, int]:
-        return min(self._stands, int(Progress.CLOSED)), self._stands
+        return min(self._stands, int(Progress.FAILED)), self._stands
 
     def _goes_on(self) -> None:
-        if self.progress != Progress.WANTING:
+        if self.progress != Progress.IN_PROGRESS:
             _done(Status.ENDED)
 
     def _stepped(self, call: Callable[..., int]) -> bytes:
@@ -934,7 +1252,7 @@ class _ClientSide(_Login):
 
     def keys(self) -> Keys:
         """The keys of a login by SCRAM, as `Client.keys` hands them out."""
-        struct = _KeysStruct()
+        struct = _ScramKeysStruct()
         with self._lock:
             _done(_library.fe2o3_scram_client_get_keys(ctypes.byref(self._scram()), ctypes.byref(struct)))
         return Keys._of(struct)
@@ -962,7 +1280,7 @@ class ClientConnection(_Connection, _ClientSide):
         behind a login what is AMQP's."""
         rest, answers, taken = _bytes(data), [], ctypes.c_size_t()
         with self._lock:
-            while rest and self.progress == Progress.WANTING:
+            while rest and self.progress == Progress.IN_PROGRESS:
                 nonce = secrets.token_bytes(32)
                 answers.append(
                     _written(
@@ -986,9 +1304,9 @@ class ClientSteps(_Steps, _ClientSide):
 
     __slots__ = ("_stands",)
 
-    def _fresh(self) -> _ClientStruct:
+    def _fresh(self) -> _ScramClientStruct:
         self._stands = 0
-        return _ClientStruct()
+        return _ScramClientStruct()
 
     def _scram(self) -> Any:
         return self._struct
@@ -1050,17 +1368,17 @@ class _ServerSide(_Login):
     def _scram(self) -> Any:
         raise NotImplementedError
 
-    def _host(self, name: Optional[str]) -> _SaslHostStruct:
+    def _host(self, name: Optional[str]) -> _SaslServerConfigStruct:
         """What the library is lent, with the record of this name, if there is one."""
         record = None if name is None else self._record_of(name)
         known = b"" if name is None else _text(name)
-        return _SaslHostStruct(
+        return _SaslServerConfigStruct(
             mechanisms=self._mechanisms,
             version=self._version,
             iterations=self._iterations,
             username=known,
             username_len=len(known),
-            record=ctypes.pointer(_RecordStruct() if record is None else record._struct),
+            record=ctypes.pointer(_ScramRecordStruct() if record is None else record._struct),
             peer=self._peer,
             peer_len=len(self._peer),
         )
@@ -1071,7 +1389,7 @@ class _ServerSide(_Login):
         try:
             return _written(512, call).decode("utf-8")
         except Refused as why:
-            if why.status == Status.NAMES_NOBODY:
+            if why.status == Status.NAMES_NO_USER:
                 return None
             raise
 
@@ -1079,7 +1397,7 @@ class _ServerSide(_Login):
         """The plain name of the user who has logged in; None by ANONYMOUS. Raises `Refused` before."""
         with self._lock:
             scram = self._scram()
-            if self.progress == Progress.LOGGED_IN and not scram.stands:
+            if self.progress == Progress.AUTHENTICATED and not scram.stands:
                 return None
             name = _written(256, lambda *room: _library.fe2o3_scram_server_authenticated_user(ctypes.byref(scram), *room))
         return name.decode("utf-8")
@@ -1101,7 +1419,7 @@ class ServerConnection(_Connection, _ServerSide):
         """What is to be sent for bytes that came, and those of them that are left, as `ClientConnection.receive`."""
         rest, answers = _bytes(data), []
         with self._lock:
-            while rest and self.progress == Progress.WANTING:
+            while rest and self.progress == Progress.IN_PROGRESS:
                 answer, taken = self._step(rest)
                 answers.append(answer)
                 rest = rest[taken:]
@@ -1128,9 +1446,9 @@ class ServerSteps(_Steps, _ServerSide):
 
     __slots__ = ("_stands",)
 
-    def _fresh(self) -> _ServerStruct:
+    def _fresh(self) -> _ScramServerStruct:
         self._stands = 0
-        return _ServerStruct()
+        return _ScramServerStruct()
 
     def _scram(self) -> Any:
         return self._struct
@@ -1163,7 +1481,7 @@ class Server:
         """A server without an open challenge."""
         # The record that a challenge was made of, and the struct of the challenge: set at once, so that no challenge
         # is ever answered by the record of another.
-        self._exchange = Record._of(_RecordStruct()), _ServerStruct()
+        self._exchange = Record._of(_ScramRecordStruct()), _ScramServerStruct()
         self._lock = threading.RLock()
 
     @staticmethod
@@ -1180,7 +1498,7 @@ class Server:
         The GS2 header of the message has to be `n,,`. With `unbound` it may be `y,,` too: that of a client which could
         bind a channel, and was offered no mechanism with `-PLUS` (RFC 5802, section 6). Only for a server that offers
         none."""
-        message, nonce, opened = _bytes(client_first), secrets.token_bytes(32), _ServerStruct()
+        message, nonce, opened = _bytes(client_first), secrets.token_bytes(32), _ScramServerStruct()
         call = _library.fe2o3_scram_server_first_with_cbind_flag_y if unbound else _library.fe2o3_scram_server_first
         answer = _written(1024, lambda *room: call(record._struct, opened, nonce, message, len(message), *room))
         with self._lock:

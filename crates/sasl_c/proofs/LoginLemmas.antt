@@ -8,7 +8,7 @@ use Rattle.sasl_c.specs.declared.status.Status.TheVariants as statuses
 use Rattle.fe2o3_scram.specs.ClientSecret.{Password, Keys, Both}
 use Rattle.fe2o3_scram.specs.Passwords.{Prepared, Typed}
 use Rattle.fe2o3_scram.specs.Readings.{IsFirst, NoneHolds}
-use Rattle.sasl_c.specs.declared.keys.ClientKeys.{ClientKeys as KeysStruct}
+use Rattle.sasl_c.specs.declared.keys.ScramKeys.{ScramKeys as KeysStruct}
 use Rattle.sasl_c.specs.Client.{HasSecret, HoldsNone, IsNoLogin, IsNoSecret, keys_tests, name_tests}
 use Rattle.sasl_c.specs.Keys.{ShowsSomeKeys, shown_keys}
 use Rattle.sasl_c.specs.Records.{IsVersion}

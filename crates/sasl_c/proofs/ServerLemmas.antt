@@ -24,7 +24,7 @@ use Rattle.sasl_c.specs.declared.status.Status.{Status}
 use Rattle.sasl_c.specs.declared.status.Status.TheVariants as statuses
 use Rattle.sasl_c.specs.Records.{ShowsRecord, SpellsStruct}
 use Rattle.sasl_c.specs.declared.server.ScramServer.{ScramServer as Struct}
-use Rattle.sasl_c.specs.Server.{MakesChallenge, Challenges, ConcludesLogin, Concludes, FinalAsks, HasLoggedIn, MemoryCosts, ChallengeHasRoom, IsOpen, NotChallenged, logged_in_struct, one_user}
+use Rattle.sasl_c.specs.Server.{MakesChallenge, Challenges, ConcludesLogin, Concludes, FinalAsks, IsAuthenticated, MemoryCosts, ChallengeHasRoom, IsOpen, NotChallenged, authenticated_struct, one_user}
 use Rattle.sasl_c.proofs.StatusLemmas.{carried, server_is_memory}
 use Rattle.sasl_c.specs.Status.{server_status}
 
@@ -182,11 +182,11 @@ memory_costs A kept before text challenge shown why status counted after is show
 )
 
 -- the struct of a server that has logged its user in
-logged_in : (user : List ℕ) → length user ≤ 256 → HasLoggedIn (logged_in_struct user) user
+logged_in : (user : List ℕ) → length user ≤ 256 → IsAuthenticated (authenticated_struct user) user
 logged_in user few = (refl, few, sym (take-append_seam user (replicate (256 - length user) 0)))
 
 pub concludes : (kept : Kept) (before after : Struct) (text message user : List ℕ)
-    → ConcludesLogin kept before text message user → after ≡ logged_in_struct (take before.user_len before.user)
+    → ConcludesLogin kept before text message user → after ≡ authenticated_struct (take before.user_len before.user)
     → Concludes kept text before after (Ok message)
 unfolding Concludes ConcludesLogin
 concludes kept before after text message user held written =
@@ -194,5 +194,5 @@ concludes kept before after text message user held written =
     held.4 ∙ ap (λ (challenge : ServerChallenge). challenge.user) held.2.2 in
     let few : length user ≤ 256 =
     omega (arith, ap length named, length-take before.user_len before.user, held.2.1.0) in
-    let same : after ≡ logged_in_struct user = written ∙ ap logged_in_struct (sym named) in
-    (user, held, carried (λ s. HasLoggedIn s user) (logged_in_struct user) after (sym same) (logged_in user few), same)
+    let same : after ≡ authenticated_struct user = written ∙ ap authenticated_struct (sym named) in
+    (user, held, carried (λ s. IsAuthenticated s user) (authenticated_struct user) after (sym same) (logged_in user few), same)

@@ -39,13 +39,13 @@ pub fn head(array: &[u8], len: u32) -> Option<&[u8]>
 
 /// Writes the bytes at the head of the room, and how many they are. Where there is too little room,
 /// `RoomTooSmall`, the length alone is written.
-pub fn put(bytes: &[u8], out: &mut [u8], len: &mut usize) -> Result<(), Status>
-    ensures len { len.new ≡ length bytes.now }
+pub fn put(bytes: &[u8], out: &mut [u8], out_len: &mut usize) -> Result<(), Status>
+    ensures len { out_len.new ≡ length bytes.now }
     ensures ok { IfOk result (λ _. (length bytes.now ≤ length out.old) × (out.new ≡ with_written bytes.now out.old)) }
     ensures err { IfErr result (λ status. (status ≡ RoomTooSmall) × (length out.old < length bytes.now)
         × (out.new ≡ out.old)) }
 {
-    *len = bytes.len();
+    *out_len = bytes.len();
     if bytes.len() > out.len() {
         return Err(Status::RoomTooSmall);
     }

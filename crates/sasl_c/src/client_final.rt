@@ -202,7 +202,7 @@ fn answered(
     ensures memory { AsksWhere (IsTestedLogin login.now × (client.now.sent ≡ 1)) result }
     ensures room { IfErr result (λ status. status ≢ RoomTooSmall) }
 {
-    if client.sent != 1 {
+    if client.state != 1 {
         return Err(not_due(login, client));
     }
     let version = match login.tested() {
@@ -221,19 +221,19 @@ fn answer(
     server_first: &[u8],
     meter: &mut Meter,
     out: &mut [u8],
-    len: &mut usize,
+    out_len: &mut usize,
 ) -> Result<(), Status>
     requires { meter.old ≤ 2 ^ 63 }
     ensures text { FillsWithin (length server_first.now + 128)
-        (Responds login.now server_first.now client.old client.new) (record { bytes = out.old; len = len.old })
-        (record { bytes = out.new; len = len.new }) result }
+        (Responds login.now server_first.now client.old client.new) (record { bytes = out.old; len = out_len.old })
+        (record { bytes = out.new; len = out_len.new }) result }
     ensures stays { OnErr result (client.new ≡ client.old) }
     ensures first { IfErr result (λ status. status ≡ RoomTooSmall → meter.new ≡ meter.old) }
     ensures memory { AsksWhere (AnswerAsks login.now server_first.now client.old) result }
 {
     let suffices = server_first.len() + ANSWER_MORE;
     if out.len() < suffices {
-        *len = suffices;
+        *out_len = suffices;
         return Err(Status::RoomTooSmall);
     }
     let Ok(text) = str::from_utf8(server_first) else {
@@ -243,13 +243,13 @@ fn answer(
     let Some(waiting) = ScramClient::answered(&answer) else {
         return Err(Status::TooLong);
     };
-    put(&answer.message, out, len)?;
+    put(&answer.message, out, out_len)?;
     *client = waiting;
     Ok(())
 }
 
-/// Answers the server-first message with the client-final message. A room of 128 bytes more than the server-first
-/// message suffices, and is asked for before any hash is made.
+/// Answers the server-first message with the client-final message. `out` needs 128 bytes more than the server-first
+/// message has, which is tested before anything is hashed.
 #[unsafe(no_mangle)]
 pub extern "C" fn fe2o3_scram_client_final(
     alloc: Global,
@@ -257,13 +257,13 @@ pub extern "C" fn fe2o3_scram_client_final(
     client: &mut ScramClient,
     server_first: &[u8],
     out: &mut [u8],
-    len: &mut usize,
+    out_len: &mut usize,
 ) -> u32
     ensures { Answers result (λ answer. FillsWithin (length server_first.now + 128)
-        (Responds login.now server_first.now client.old client.new) (record { bytes = out.old; len = len.old })
-        (record { bytes = out.new; len = len.new }) answer × OnErr answer (client.new ≡ client.old)
+        (Responds login.now server_first.now client.old client.new) (record { bytes = out.old; len = out_len.old })
+        (record { bytes = out.new; len = out_len.new }) answer × OnErr answer (client.new ≡ client.old)
         × AsksWhere (AnswerAsks login.now server_first.now client.old) answer) }
 {
     let mut meter = Meter::new();
-    number(answer(alloc, login, client, server_first, &mut meter, out, len))
+    number(answer(alloc, login, client, server_first, &mut meter, out, out_len))
 }

@@ -132,37 +132,38 @@ fn step(
     meter: &mut Meter,
     progress: &mut u32,
     out: &mut [u8],
-    len: &mut usize,
+    out_len: &mut usize,
 ) -> Result<(), Status>
     requires { meter.old ≤ 2 ^ 63 }
     ensures text { FillsWithin 508 (ClientSteps login.now (record { body = body.now; nonce = nonce.now }) client.old
-        client.new progress.new) (record { bytes = out.old; len = len.old })
-        (record { bytes = out.new; len = len.new }) result }
+        client.new progress.new) (record { bytes = out.old; len = out_len.old })
+        (record { bytes = out.new; len = out_len.new }) result }
     ensures stays { OnErr result ((client.new ≡ client.old) × (progress.new ≡ progress.old)) }
     ensures first { IfErr result (λ status. status ≡ RoomTooSmall → meter.new ≡ meter.old) }
     ensures memory { AsksWhere (¬ HasNoHostname login.now) result }
 {
-    has_room(out, len)?;
+    has_room(out, out_len)?;
     let made = match answered(alloc, login, client, body, nonce, meter) {
         Ok(made) => made,
         Err(status) => return Err(status),
     };
-    put(&made.sent, out, len)?;
+    put(&made.sent, out, out_len)?;
     *progress = number_of(made.progress);
     *client = made.next;
     Ok(())
 }
 
-/// Takes the body of a frame that the server sent, behind the four bytes of the frame's size, and writes the body that
-/// is to be sent: the init to its mechanisms, the response to its challenge, and nothing (a length of 0) to its outcome.
-/// Progress is 0 while the login goes on, 1 once the client is logged in, and the number of a refusal (81 to 84) where
-/// the outcome is one; hand in no body after that. A room of 508 bytes suffices, and is asked for before any hash is
-/// made. The nonce is 32 random bytes, fresh for each call.
+/// Takes a frame body that the server sent, without the four bytes of the frame's size, and writes the body to send:
+/// the init for the mechanisms, the response for a challenge, and nothing (`out_len` is 0) for the outcome. `out`
+/// needs 508 bytes, which is tested before anything is hashed. `nonce` is 32 fresh random bytes.
 ///
-/// It is for who reads the frames, refuses those of more than 512 bytes, and knows whose turn it is: a login takes three
-/// bodies of the server, for PLAIN, ANONYMOUS and EXTERNAL two, and a server that may send more can have a challenge
-/// hashed again and again. SCRAM stands at 1 only where the server has shown that it has the verifier (RFC 5802, section
-/// 5). The others take any outcome at its word, also one before the init.
+/// `progress` is FE2O3_IN_PROGRESS while the login goes on, FE2O3_AUTHENTICATED once it is complete, and from
+/// FE2O3_REFUSED_AUTH to FE2O3_REFUSED_SYS_TEMP if the outcome refuses it. Pass no body after that.
+///
+/// This call is for programs that read frames themselves, reject those above 512 bytes, and limit their number. A
+/// login takes three bodies of the server for SCRAM, and two for the other mechanisms. A server that may send more can
+/// make the client hash again and again. For SCRAM, FE2O3_AUTHENTICATED means that the server is authenticated (RFC
+/// 5802, section 5). The other mechanisms accept any outcome, even one before the init.
 #[unsafe(no_mangle)]
 pub extern "C" fn fe2o3_sasl_client_step(
     alloc: Global,
@@ -172,16 +173,16 @@ pub extern "C" fn fe2o3_sasl_client_step(
     nonce: &[u8; 32],
     progress: &mut u32,
     out: &mut [u8],
-    len: &mut usize,
+    out_len: &mut usize,
 ) -> u32
     ensures { Answers result (λ answer. FillsWithin 508 (ClientSteps login.now
         (record { body = body.now; nonce = nonce.now }) client.old client.new progress.new)
-        (record { bytes = out.old; len = len.old }) (record { bytes = out.new; len = len.new }) answer
+        (record { bytes = out.old; len = out_len.old }) (record { bytes = out.new; len = out_len.new }) answer
         × OnErr answer ((client.new ≡ client.old) × (progress.new ≡ progress.old))
         × AsksWhere (¬ HasNoHostname login.now) answer) }
 {
     let mut meter = Meter::new();
     number(step(
-        alloc, login, client, body, nonce, &mut meter, progress, out, len,
+        alloc, login, client, body, nonce, &mut meter, progress, out, out_len,
     ))
 }

@@ -133,10 +133,12 @@ fn find(
     }
 }
 
-/// Finds the record of this version that a user has in a text of users, a line for each: the name, with each comma as
-/// `=2C` and each equals sign as `=3D`, a space, the text of the record, and a line feed. Of several lines for one name
-/// and version the first counts. Where nothing is found, `line` says which line is not read, counted from 1, or 0 where
-/// each is.
+/// Finds the record of a user in a text that has a line for each record: the name with each comma as `=2C` and each
+/// equals sign as `=3D`, a space, the text of the record, and a line feed. Of several lines for a name and version,
+/// the first counts.
+///
+/// If nothing is found, `line` is the number of the line that cannot be parsed, counted from 1, or 0 if every line
+/// can.
 #[unsafe(no_mangle)]
 pub extern "C" fn fe2o3_scram_lines_find(
     alloc: Global,
@@ -185,28 +187,28 @@ fn write(
     username: &[u8],
     kept: &ScramRecord,
     out: &mut [u8],
-    len: &mut usize,
+    out_len: &mut usize,
 ) -> Result<(), Status>
-    ensures text { Fills (SpellsLine username.now kept.now) (record { bytes = out.old; len = len.old })
-        (record { bytes = out.new; len = len.new }) result }
+    ensures text { Fills (SpellsLine username.now kept.now) (record { bytes = out.old; len = out_len.old })
+        (record { bytes = out.new; len = out_len.new }) result }
     ensures memory { AsksWhere (IsUtf8 username.now) result }
 {
     let line = line_of(alloc, username, kept)?;
-    put(&line, out, len)
+    put(&line, out, out_len)
 }
 
-/// Writes the line of a user and a record, with its line feed, as `fe2o3_scram_lines_find` reads it. `NOT_WRITABLE`
-/// where a line feed stands in the name, or the count is 0.
+/// Writes the line of a user and a record, with its line feed, as `fe2o3_scram_lines_find` reads it. Returns
+/// FE2O3_NOT_WRITABLE if the name contains a line feed or the iteration count is 0.
 #[unsafe(no_mangle)]
 pub extern "C" fn fe2o3_scram_line(
     alloc: Global,
     username: &[u8],
     kept: &ScramRecord,
     out: &mut [u8],
-    len: &mut usize,
+    out_len: &mut usize,
 ) -> u32
-    ensures { Answers result (λ answer. Fills (SpellsLine username.now kept.now) (record { bytes = out.old; len = len.old })
-        (record { bytes = out.new; len = len.new }) answer × AsksWhere (IsUtf8 username.now) answer) }
+    ensures { Answers result (λ answer. Fills (SpellsLine username.now kept.now) (record { bytes = out.old; len = out_len.old })
+        (record { bytes = out.new; len = out_len.new }) answer × AsksWhere (IsUtf8 username.now) answer) }
 {
-    number(write(alloc, username, kept, out, len))
+    number(write(alloc, username, kept, out, out_len))
 }

@@ -17,26 +17,26 @@ use crate::status::{Status, digest_len, number, number_of, text, version_of};
 use fe2o3_scram::{RecordTextError, ScramVersion, StoredPassword};
 use std::alloc::Global;
 
-/// What a server keeps of a password.
+/// What a server stores of a password: a SCRAM record (RFC 5802, section 3).
 #[repr(C)]
 #[derive(Drop)]
 pub struct ScramRecord {
-    /// 1, 256 or 512, for the mechanism's hash.
+    /// The hash of the mechanism: one of enum fe2o3_scram_version.
     pub version: u32,
 
     /// The iteration count.
     pub iterations: u32,
 
-    /// How many bytes of `salt` there are.
+    /// The number of bytes of `salt` in use, at most 128.
     pub salt_len: u32,
 
     /// The salt.
     pub salt: [u8; 128],
 
-    /// The StoredKey, as long as a digest of the hash.
+    /// The StoredKey, with as many bytes as a digest of the hash.
     pub stored_key: [u8; 64],
 
-    /// The ServerKey, as long as a digest of the hash.
+    /// The ServerKey, with as many bytes as a digest of the hash.
     pub server_key: [u8; 64],
 }
 
@@ -156,7 +156,7 @@ fn make(
     }
 }
 
-/// Makes the record of a password. Where the number is not 0, the struct stays as it was.
+/// Computes the record of a typed password. The password has to be printable ASCII.
 #[unsafe(no_mangle)]
 pub extern "C" fn fe2o3_scram_record_make(
     alloc: Global,
@@ -180,8 +180,8 @@ pub extern "C" fn fe2o3_scram_record_make(
     ))
 }
 
-/// Makes the record of a prepared password (RFC 4013), as `fe2o3_saslprep` writes one that is stored: any text, which is
-/// taken as it stands. A client logs in by that very text alone.
+/// Computes the record of a prepared password (`fe2o3_saslprep`): any text, used without change. A client logs in with
+/// exactly that text.
 #[unsafe(no_mangle)]
 pub extern "C" fn fe2o3_scram_record_make_prepared(
     alloc: Global,
@@ -229,7 +229,7 @@ fn parse(alloc: Global, bytes: &[u8], kept: &mut ScramRecord) -> Result<(), Stat
     Ok(())
 }
 
-/// Reads the text of a record, as PostgreSQL writes it (RFC 5803, section 2).
+/// Parses the text of a record, as PostgreSQL writes it (RFC 5803, section 2).
 #[unsafe(no_mangle)]
 pub extern "C" fn fe2o3_scram_record_parse(
     alloc: Global,
@@ -242,14 +242,14 @@ pub extern "C" fn fe2o3_scram_record_parse(
 }
 
 /// Writes the text of the record that the struct shows.
-fn spell(alloc: Global, kept: &ScramRecord, out: &mut [u8], len: &mut usize) -> Result<(), Status>
-    ensures text { Fills (SpellsStruct kept.now) (record { bytes = out.old; len = len.old })
-        (record { bytes = out.new; len = len.new }) result }
+fn spell(alloc: Global, kept: &ScramRecord, out: &mut [u8], out_len: &mut usize) -> Result<(), Status>
+    ensures text { Fills (SpellsStruct kept.now) (record { bytes = out.old; len = out_len.old })
+        (record { bytes = out.new; len = out_len.new }) result }
     ensures memory { AsksWhere (ShowsSomeRecord kept.now) result }
 {
     let kept = kept.read(alloc)?;
     let text = kept.to_text(alloc)?;
-    put(text.as_bytes(), out, len)
+    put(text.as_bytes(), out, out_len)
 }
 
 /// Writes the text of a record, as PostgreSQL reads it (RFC 5803, section 2): at most 384 bytes.
@@ -258,12 +258,12 @@ pub extern "C" fn fe2o3_scram_record_text(
     alloc: Global,
     kept: &ScramRecord,
     out: &mut [u8],
-    len: &mut usize,
+    out_len: &mut usize,
 ) -> u32
-    ensures { Answers result (λ answer. Fills (SpellsStruct kept.now) (record { bytes = out.old; len = len.old })
-        (record { bytes = out.new; len = len.new }) answer × AsksWhere (ShowsSomeRecord kept.now) answer) }
+    ensures { Answers result (λ answer. Fills (SpellsStruct kept.now) (record { bytes = out.old; len = out_len.old })
+        (record { bytes = out.new; len = out_len.new }) answer × AsksWhere (ShowsSomeRecord kept.now) answer) }
 {
-    number(spell(alloc, kept, out, len))
+    number(spell(alloc, kept, out, out_len))
 }
 
 /// The struct of the record that is made up for a name.
@@ -273,15 +273,15 @@ fn made_up(
     version: u32,
     secret: &[u8],
     username: &[u8],
-    made_salt_len: usize,
+    salt_len: usize,
     iterations: u32,
 ) -> Result<ScramRecord, Status>
-    ensures { Gives StatusOutOfMemory (NoneHolds (mock_tests version username.now made_salt_len))
-        (λ (kept : Struct). kept) result (MakesUp version secret.now username.now made_salt_len iterations) }
+    ensures { Gives StatusOutOfMemory (NoneHolds (mock_tests version username.now salt_len))
+        (λ (kept : Struct). kept) result (MakesUp version secret.now username.now salt_len iterations) }
 {
     let version = version_of(version).ok_or(Status::NoSuchVersion)?;
     let username = text(username)?;
-    if made_salt_len > 64 {
+    if salt_len > 64 {
         return Err(Status::TooLong);
     }
     let made = fe2o3_scram::ScramRecord::mock(
@@ -289,7 +289,7 @@ fn made_up(
         version,
         secret,
         username,
-        made_salt_len,
+        salt_len,
         iterations,
     );
     let Ok(kept) = made else {
@@ -307,14 +307,14 @@ fn make_up(
     version: u32,
     secret: &[u8],
     username: &[u8],
-    made_salt_len: usize,
+    salt_len: usize,
     iterations: u32,
     kept: &mut ScramRecord,
 ) -> Result<(), Status>
-    ensures { Makes (NoneHolds (mock_tests version username.now made_salt_len))
-        (MakesUp version secret.now username.now made_salt_len iterations) kept.old kept.new result }
+    ensures { Makes (NoneHolds (mock_tests version username.now salt_len))
+        (MakesUp version secret.now username.now salt_len iterations) kept.old kept.new result }
 {
-    match made_up(alloc, version, secret, username, made_salt_len, iterations) {
+    match made_up(alloc, version, secret, username, salt_len, iterations) {
         Ok(made) => {
             *kept = made;
             Ok(())
@@ -323,28 +323,30 @@ fn make_up(
     }
 }
 
-/// Makes up a record for a name that a server does not know, so that it can answer as to one that it knows: the login
-/// is refused at its proof. The secret is 32 random bytes, the same for all names and kept as long as the records;
-/// `made_salt_len`, of at most 64, and the count are those of the server's other records.
+/// Computes a mock record for a name that the server does not know, so that it answers unknown users like known ones.
+/// The login then fails at its proof.
+///
+/// `secret` is 32 random bytes, one value for all names, kept as long as the records. `salt_len`, at most 64, and
+/// `iterations` are those of the server's other records.
 #[unsafe(no_mangle)]
 pub extern "C" fn fe2o3_scram_record_mock(
     alloc: Global,
     version: u32,
     secret: &[u8],
     username: &[u8],
-    made_salt_len: usize,
+    salt_len: usize,
     iterations: u32,
     kept: &mut ScramRecord,
 ) -> u32
-    ensures { Answers result (Makes (NoneHolds (mock_tests version username.now made_salt_len))
-        (MakesUp version secret.now username.now made_salt_len iterations) kept.old kept.new) }
+    ensures { Answers result (Makes (NoneHolds (mock_tests version username.now salt_len))
+        (MakesUp version secret.now username.now salt_len iterations) kept.old kept.new) }
 {
     number(make_up(
         alloc,
         version,
         secret,
         username,
-        made_salt_len,
+        salt_len,
         iterations,
         kept,
     ))
@@ -365,8 +367,9 @@ fn verify(kept: &ScramRecord, form: PasswordForm, password: &[u8]) -> Result<(),
     }
 }
 
-/// Whether a password that was told, as by PLAIN, is that of the record: 0 where it is. It hashes as often as the
-/// record's count says, so the record is to be one of the caller's own.
+/// Compares a typed password, for instance one received by PLAIN, with a record: FE2O3_OK if it is the record's,
+/// FE2O3_OTHER_PASSWORD if not. It hashes as often as the record's iteration count says, so pass only records of your
+/// own.
 #[unsafe(no_mangle)]
 pub extern "C" fn fe2o3_scram_record_verify(kept: &ScramRecord, password: &[u8]) -> u32
     ensures { Answers result (Verifies kept.now (Typed password.now)) }
@@ -374,7 +377,7 @@ pub extern "C" fn fe2o3_scram_record_verify(kept: &ScramRecord, password: &[u8])
     number(verify(kept, PasswordForm::Typed, password))
 }
 
-/// Whether a prepared password (RFC 4013), which is taken as it stands, is that of the record: 0 where it is.
+/// Compares a prepared password with a record, like `fe2o3_scram_record_verify`. The text is used without change.
 #[unsafe(no_mangle)]
 pub extern "C" fn fe2o3_scram_record_verify_prepared(kept: &ScramRecord, password: &[u8]) -> u32
     ensures { Answers result (Verifies kept.now (Prepared password.now)) }

@@ -23,28 +23,28 @@ use fe2o3_sasl_wire::ProtocolHeader;
 use fe2o3_scram::Meter;
 use std::alloc::Global;
 
-/// Who logs in on a connection, and by which mechanism: lent for each call, and the same for all of them.
+/// How a client logs in on a connection. You lend the struct to each call, always with the same values.
 #[repr(C)]
 #[derive(Drop)]
 pub struct SaslLogin<'a> {
-    /// 0 for SCRAM of the login's version, 1 for PLAIN, 2 for ANONYMOUS, and 3 for EXTERNAL.
+    /// One of enum fe2o3_mechanism. FE2O3_SCRAM uses the hash of `login`.
     pub mechanism: u32,
 
-    /// The hostname that the init names. Where it is empty the init names none.
+    /// The hostname of the init frame. If empty, the init has none.
     pub hostname: &'a [u8],
 
-    /// The user and the secret. PLAIN takes the name and the password of it, ANONYMOUS and EXTERNAL nothing.
+    /// The user and the secret. PLAIN uses the name and the password. ANONYMOUS and EXTERNAL use nothing of it.
     pub login: Login<'a>,
 }
 
-/// What a client keeps of a connection between its calls. All zeros is one of which no byte has come.
+/// The client's side of a connection between calls. All zeros is a connection that has received nothing.
 #[repr(C)]
 #[derive(Drop)]
 pub struct SaslClient {
     /// The connection.
     pub connection: Connection,
 
-    /// What SCRAM keeps. Once the client is logged in, it hands out the keys (`fe2o3_scram_client_get_keys`).
+    /// The SCRAM client. After the login it holds the keys (`fe2o3_scram_client_get_keys`).
     pub scram: ScramClient,
 }
 
@@ -151,21 +151,21 @@ impl SaslClient {
 }
 
 /// Writes the header of SASL.
-fn open(out: &mut [u8], len: &mut usize) -> Result<(), Status>
-    ensures text { Fills OpensConnection (record { bytes = out.old; len = len.old })
-        (record { bytes = out.new; len = len.new }) result }
+fn open(out: &mut [u8], out_len: &mut usize) -> Result<(), Status>
+    ensures text { Fills OpensConnection (record { bytes = out.old; len = out_len.old })
+        (record { bytes = out.new; len = out_len.new }) result }
     ensures memory { AsksWhere ⊥ result }
 {
-    put(&<[u8; 8]>::from(ProtocolHeader::sasl()), out, len)
+    put(&<[u8; 8]>::from(ProtocolHeader::sasl()), out, out_len)
 }
 
-/// Writes the header of SASL, with which a client begins a connection.
+/// Writes the SASL protocol header, with which a client begins a connection.
 #[unsafe(no_mangle)]
-pub extern "C" fn fe2o3_sasl_client_open(out: &mut [u8], len: &mut usize) -> u32
-    ensures { Answers result (λ answer. Fills OpensConnection (record { bytes = out.old; len = len.old })
-        (record { bytes = out.new; len = len.new }) answer × AsksWhere ⊥ answer) }
+pub extern "C" fn fe2o3_sasl_client_open(out: &mut [u8], out_len: &mut usize) -> u32
+    ensures { Answers result (λ answer. Fills OpensConnection (record { bytes = out.old; len = out_len.old })
+        (record { bytes = out.new; len = out_len.new }) answer × AsksWhere ⊥ answer) }
 {
-    number(open(out, len))
+    number(open(out, out_len))
 }
 
 /// What a call makes of bytes.
@@ -250,35 +250,35 @@ fn receive(
     meter: &mut Meter,
     taken: &mut usize,
     out: &mut [u8],
-    len: &mut usize,
+    out_len: &mut usize,
 ) -> Result<(), Status>
     requires { meter.old ≤ 2 ^ 63 }
     ensures text { FillsWithin 512 (ReceivesAsClient login.now bytes.now nonce.now client.old client.new taken.new)
-        (record { bytes = out.old; len = len.old }) (record { bytes = out.new; len = len.new }) result }
+        (record { bytes = out.old; len = out_len.old }) (record { bytes = out.new; len = out_len.new }) result }
     ensures stays { OnErr result ((client.new ≡ client.old) × (taken.new ≡ taken.old)) }
     ensures first { IfErr result (λ status. status ≡ RoomTooSmall → meter.new ≡ meter.old) }
     ensures memory { AsksWhere (ReadsClient login.now client.old) result }
 {
     if out.len() < FRAME_MOST {
-        *len = FRAME_MOST;
+        *out_len = FRAME_MOST;
         return Err(Status::RoomTooSmall);
     }
     let made = match received(alloc, login, client, bytes, nonce, meter) {
         Ok(made) => made,
         Err(status) => return Err(status),
     };
-    put(&made.sent, out, len)?;
+    put(&made.sent, out, out_len)?;
     *taken = made.taken;
     *client = made.next;
     Ok(())
 }
 
-/// Takes bytes of the connection as they came, to the end of the header or of the frame that is expected, and writes what is
-/// to be sent, of at most 512 bytes, a room that is asked for before any hash is made. The number is 0 also where these
-/// bytes close the connection, whose struct says so. Behind an outcome the connection stands at 1 where its code is Ok
-/// and, by SCRAM, it shows the signature that is waited for; else at 2, and `why` says which. What is left of the bytes
-/// is to be handed in again while more are wanted; behind a login it is AMQP's. The nonce is 32 random bytes, fresh for
-/// each call.
+/// Takes received bytes, to the end of the expected header or frame, and writes the bytes to send, at most 512. `out`
+/// needs 512 bytes, which is tested before anything is hashed. `nonce` is 32 fresh random bytes.
+///
+/// FE2O3_OK does not mean that the login succeeds: look at `progress` and `why` of the connection. `taken` is how many
+/// bytes were used. While `progress` is FE2O3_IN_PROGRESS, pass the rest in the next call; after the login it belongs
+/// to AMQP.
 #[unsafe(no_mangle)]
 pub extern "C" fn fe2o3_sasl_client_receive(
     alloc: Global,
@@ -288,16 +288,16 @@ pub extern "C" fn fe2o3_sasl_client_receive(
     nonce: &[u8; 32],
     taken: &mut usize,
     out: &mut [u8],
-    len: &mut usize,
+    out_len: &mut usize,
 ) -> u32
     ensures { Answers result (λ answer. FillsWithin 512
         (ReceivesAsClient login.now bytes.now nonce.now client.old client.new taken.new)
-        (record { bytes = out.old; len = len.old }) (record { bytes = out.new; len = len.new }) answer
+        (record { bytes = out.old; len = out_len.old }) (record { bytes = out.new; len = out_len.new }) answer
         × OnErr answer ((client.new ≡ client.old) × (taken.new ≡ taken.old))
         × AsksWhere (ReadsClient login.now client.old) answer) }
 {
     let mut meter = Meter::new();
     number(receive(
-        alloc, login, client, bytes, nonce, &mut meter, taken, out, len,
+        alloc, login, client, bytes, nonce, &mut meter, taken, out, out_len,
     ))
 }

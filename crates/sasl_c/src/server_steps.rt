@@ -5,15 +5,15 @@ ghost use Rattle.fe2o3_sasl_core.specs.Events.{ServerSays};
 ghost use Rattle.fe2o3_sasl_core.specs.Runs.{AcceptorSteps, server_reply};
 ghost use Rattle.fe2o3_sasl_negotiation.specs.ServerNegotiation.{offer_body};
 ghost use Rattle.fe2o3_sasl_negotiation.specs.declared.progress.FrameKind.TheVariants.{Init, Response};
-ghost use Rattle.sasl_c.specs.SaslServer.{BodyAsks, BodyNames, BodyNamesNoUser, host_tests};
+ghost use Rattle.sasl_c.specs.SaslServer.{BodyAsks, BodyNames, BodyNamesNoUser, config_tests};
 ghost use Rattle.fe2o3_scram.specs.Readings.{NoneHolds};
 ghost use Rattle.sasl_c.specs.Status.{Answers, AsksWhere, Fills, FillsWithin};
-ghost use Rattle.sasl_c.specs.Steps.{IsStepped, NotStepped, HostOffers, ServerHides, ServerNotStepped, ServerStepped, ServerSteps, ServerTells, StepNames, progress_number};
+ghost use Rattle.sasl_c.specs.Steps.{IsStepped, NotStepped, ConfigOffers, ServerHides, ServerNotStepped, ServerStepped, ServerSteps, ServerTells, StepNames, progress_number};
 ghost use Rattle.sasl_c.specs.declared.status.Status.TheVariants.{FrameTooLarge, OutOfMemory as StatusOutOfMemory, RoomTooSmall};
 
 use crate::arrays::put;
 use crate::connection::of_frame;
-use crate::sasl_server::{SaslHost, Shows};
+use crate::sasl_server::{SaslServerConfig, Shows};
 use crate::server::ScramServer;
 use crate::server_user::body_user;
 use crate::status::{Status, number};
@@ -41,14 +41,14 @@ fn offer_of<A: SaslAcceptor + Drop>(alloc: Global, acceptor: A) -> Result<BytesM
     }
 }
 
-/// The body with which a host offers its mechanisms.
-fn offered(alloc: Global, host: &SaslHost<'_>) -> Result<BytesMut, Status>
-    ensures offers { MatchResult result (λ body. HostOffers host.now (Ok body.items))
-        (λ status. status ≢ StatusOutOfMemory → HostOffers host.now (Err status)) }
-    ensures memory { AsksWhere (NoneHolds (host_tests host.now)) result }
+/// The body with which a configuration offers its mechanisms.
+fn offered(alloc: Global, config: &SaslServerConfig<'_>) -> Result<BytesMut, Status>
+    ensures offers { MatchResult result (λ body. ConfigOffers config.now (Ok body.items))
+        (λ status. status ≢ StatusOutOfMemory → ConfigOffers config.now (Err status)) }
+    ensures memory { AsksWhere (NoneHolds (config_tests config.now)) result }
     ensures room { IfErr result (λ status. status ≢ RoomTooSmall) }
 {
-    let acceptor = match host.acceptor(alloc, &ScramServer::fresh()) {
+    let acceptor = match config.acceptor(alloc, &ScramServer::fresh()) {
         Ok(acceptor) => acceptor,
         Err(status) => return Err(status),
     };
@@ -58,31 +58,31 @@ fn offered(alloc: Global, host: &SaslHost<'_>) -> Result<BytesMut, Status>
     }
 }
 
-/// Writes the body with which a host offers its mechanisms.
-fn offer(alloc: Global, host: &SaslHost<'_>, out: &mut [u8], len: &mut usize) -> Result<(), Status>
-    ensures text { Fills (HostOffers host.now) (record { bytes = out.old; len = len.old })
-        (record { bytes = out.new; len = len.new }) result }
-    ensures memory { AsksWhere (NoneHolds (host_tests host.now)) result }
+/// Writes the body with which a configuration offers its mechanisms.
+fn offer(alloc: Global, config: &SaslServerConfig<'_>, out: &mut [u8], out_len: &mut usize) -> Result<(), Status>
+    ensures text { Fills (ConfigOffers config.now) (record { bytes = out.old; len = out_len.old })
+        (record { bytes = out.new; len = out_len.new }) result }
+    ensures memory { AsksWhere (NoneHolds (config_tests config.now)) result }
 {
-    let body = match offered(alloc, host) {
+    let body = match offered(alloc, config) {
         Ok(body) => body,
         Err(status) => return Err(status),
     };
-    put(&body, out, len)
+    put(&body, out, out_len)
 }
 
-/// Writes the body of the frame with which a server offers its mechanisms, to whoever has sent the header of SASL.
+/// Writes the frame body with which a server offers its mechanisms. Send it after the client's SASL header.
 #[unsafe(no_mangle)]
 pub extern "C" fn fe2o3_sasl_server_offer(
     alloc: Global,
-    host: &SaslHost<'_>,
+    config: &SaslServerConfig<'_>,
     out: &mut [u8],
-    len: &mut usize,
+    out_len: &mut usize,
 ) -> u32
-    ensures { Answers result (λ answer. Fills (HostOffers host.now) (record { bytes = out.old; len = len.old })
-        (record { bytes = out.new; len = len.new }) answer × AsksWhere (NoneHolds (host_tests host.now)) answer) }
+    ensures { Answers result (λ answer. Fills (ConfigOffers config.now) (record { bytes = out.old; len = out_len.old })
+        (record { bytes = out.new; len = out_len.new }) answer × AsksWhere (NoneHolds (config_tests config.now)) answer) }
 {
-    number(offer(alloc, host, out, len))
+    number(offer(alloc, config, out, out_len))
 }
 
 /// The body that a reply sends, and how the login stands behind it.
@@ -148,22 +148,22 @@ fn stepped<A: Shows + Drop>(
 /// What a server makes of a body.
 fn answered(
     alloc: Global,
-    host: &SaslHost<'_>,
+    config: &SaslServerConfig<'_>,
     server: &ScramServer,
     body: &[u8],
     nonce: &[u8; 32],
     meter: &mut Meter,
 ) -> Result<Made, Status>
     requires { meter.old ≤ 2 ^ 63 }
-    ensures ok { IfOk result (λ made. ServerStepped host.now (record { body = body.now; nonce = nonce.now })
+    ensures ok { IfOk result (λ made. ServerStepped config.now (record { body = body.now; nonce = nonce.now })
         server.now made.next (progress_number made.progress) made.sent.items) }
     ensures fits { IfOk result (λ made. length made.sent.items ≤ 508) }
     ensures err { IfErr result (λ status. status ≢ StatusOutOfMemory
-        → ServerNotStepped host.now (record { body = body.now; nonce = nonce.now }) server.now status) }
-    ensures memory { AsksWhere (NoneHolds (host_tests host.now)) result }
+        → ServerNotStepped config.now (record { body = body.now; nonce = nonce.now }) server.now status) }
+    ensures memory { AsksWhere (NoneHolds (config_tests config.now)) result }
     ensures room { IfErr result (λ status. status ≢ RoomTooSmall) }
 {
-    let acceptor = match host.acceptor(alloc, server) {
+    let acceptor = match config.acceptor(alloc, server) {
         Ok(acceptor) => acceptor,
         Err(status) => return Err(status),
     };
@@ -176,67 +176,69 @@ fn answered(
 /// Takes the body of a frame, and writes the body that is to be sent.
 fn step(
     alloc: Global,
-    host: &SaslHost<'_>,
+    config: &SaslServerConfig<'_>,
     server: &mut ScramServer,
     body: &[u8],
     nonce: &[u8; 32],
     meter: &mut Meter,
     progress: &mut u32,
     out: &mut [u8],
-    len: &mut usize,
+    out_len: &mut usize,
 ) -> Result<(), Status>
     requires { meter.old ≤ 2 ^ 63 }
-    ensures text { FillsWithin 508 (ServerSteps host.now (record { body = body.now; nonce = nonce.now }) server.old
-        server.new progress.new) (record { bytes = out.old; len = len.old })
-        (record { bytes = out.new; len = len.new }) result }
+    ensures text { FillsWithin 508 (ServerSteps config.now (record { body = body.now; nonce = nonce.now }) server.old
+        server.new progress.new) (record { bytes = out.old; len = out_len.old })
+        (record { bytes = out.new; len = out_len.new }) result }
     ensures stays { OnErr result ((server.new ≡ server.old) × (progress.new ≡ progress.old)) }
     ensures first { IfErr result (λ status. status ≡ RoomTooSmall → meter.new ≡ meter.old) }
-    ensures memory { AsksWhere (NoneHolds (host_tests host.now)) result }
+    ensures memory { AsksWhere (NoneHolds (config_tests config.now)) result }
 {
-    has_room(out, len)?;
-    let made = match answered(alloc, host, server, body, nonce, meter) {
+    has_room(out, out_len)?;
+    let made = match answered(alloc, config, server, body, nonce, meter) {
         Ok(made) => made,
         Err(status) => return Err(status),
     };
-    put(&made.sent, out, len)?;
+    put(&made.sent, out, out_len)?;
     *progress = number_of(made.progress);
     *server = made.next;
     Ok(())
 }
 
-/// Takes the body of a frame that the client sent, behind the four bytes of the frame's size, and writes the body that
-/// is to be sent: a challenge, or the outcome. Progress is 0 while the login goes on, 1 once the client is logged in, and
-/// the number of a refusal (81 to 84) where the outcome is one, which is to be sent too; hand in no body after that. A
-/// room of 508 bytes suffices, and is asked for before any hash is made. Before the call the caller fetches the record
-/// of the user whom the body names (`fe2o3_sasl_server_step_claimed_user`), if it names one. Once the client is logged in, the
-/// struct names the user of any mechanism (`fe2o3_scram_server_authenticated_user`); ANONYMOUS names nobody. The nonce is 32
-/// random bytes, fresh for each call.
+/// Takes a frame body that the client sent, without the four bytes of the frame's size, and writes the body to send: a
+/// challenge, or the outcome. `out` needs 508 bytes, which is tested before anything is hashed. `nonce` is 32 fresh
+/// random bytes.
 ///
-/// It is for who reads the frames, refuses those of more than 512 bytes, and knows whose turn it is: a login takes an
-/// init and for SCRAM one response, and a client that may send more can try again and again. A response without a
-/// challenge is answered by an outcome that refuses, and a frame that no client sends is refused by `NO_SASL_FRAME`.
-/// Where a name or a message has no room in the struct, the call is refused by `TOO_LONG`, and the connection is to be
-/// closed.
+/// Before the call, look up the record of the user that the body claims (`fe2o3_sasl_server_step_claimed_user`).
+/// `progress` is FE2O3_IN_PROGRESS while the login goes on, FE2O3_AUTHENTICATED once it is complete, and from
+/// FE2O3_REFUSED_AUTH to FE2O3_REFUSED_SYS_TEMP if the outcome refuses it. Send that outcome too, and pass no body
+/// after it. After a login by any mechanism the struct holds the authenticated user
+/// (`fe2o3_scram_server_authenticated_user`). ANONYMOUS has none.
+///
+/// This call is for programs that read frames themselves, reject those above 512 bytes, and limit their number. A
+/// login takes an init, and for SCRAM one response. A client that may send more can try passwords again and again. A
+/// response without a challenge is answered by an outcome that refuses. A frame that no client sends returns
+/// FE2O3_NO_SASL_FRAME. If a name or a message does not fit into the struct, the call returns FE2O3_TOO_LONG, and you
+/// have to close the connection.
 #[unsafe(no_mangle)]
 pub extern "C" fn fe2o3_sasl_server_step(
     alloc: Global,
-    host: &SaslHost<'_>,
+    config: &SaslServerConfig<'_>,
     server: &mut ScramServer,
     body: &[u8],
     nonce: &[u8; 32],
     progress: &mut u32,
     out: &mut [u8],
-    len: &mut usize,
+    out_len: &mut usize,
 ) -> u32
-    ensures { Answers result (λ answer. FillsWithin 508 (ServerSteps host.now
+    ensures { Answers result (λ answer. FillsWithin 508 (ServerSteps config.now
         (record { body = body.now; nonce = nonce.now }) server.old server.new progress.new)
-        (record { bytes = out.old; len = len.old }) (record { bytes = out.new; len = len.new }) answer
+        (record { bytes = out.old; len = out_len.old }) (record { bytes = out.new; len = out_len.new }) answer
         × OnErr answer ((server.new ≡ server.old) × (progress.new ≡ progress.old))
-        × AsksWhere (NoneHolds (host_tests host.now)) answer) }
+        × AsksWhere (NoneHolds (config_tests config.now)) answer) }
 {
     let mut meter = Meter::new();
     number(step(
-        alloc, host, server, body, nonce, &mut meter, progress, out, len,
+        alloc, config, server, body, nonce, &mut meter, progress, out, out_len,
     ))
 }
 
@@ -262,33 +264,33 @@ fn user(
     server: &ScramServer,
     body: &[u8],
     out: &mut [u8],
-    len: &mut usize,
+    out_len: &mut usize,
 ) -> Result<(), Status>
-    ensures text { Fills (StepNames server.now body.now) (record { bytes = out.old; len = len.old })
-        (record { bytes = out.new; len = len.new }) result }
+    ensures text { Fills (StepNames server.now body.now) (record { bytes = out.old; len = out_len.old })
+        (record { bytes = out.new; len = out_len.new }) result }
     ensures memory { AsksWhere (BodyAsks server.now Init body.now ⊎ BodyAsks server.now Response body.now) result }
 {
     let name = match named(alloc, server, body) {
         Ok(name) => name,
         Err(status) => return Err(status),
     };
-    put(&name, out, len)
+    put(&name, out, out_len)
 }
 
-/// Writes the plain name of the user whom the body of a frame names, and whose record is to be fetched before it is
-/// taken: that of an init of SCRAM or PLAIN, and for a response that of the open challenge. Where it names nobody, the
-/// number is that of `NAMES_NOBODY`, and no record is needed.
+/// Writes the user name that a frame body claims: that of an init for SCRAM or PLAIN, and for a response that of the
+/// open challenge. Nobody is authenticated yet: use it only to look up the record for `fe2o3_sasl_server_step`.
+/// Returns FE2O3_NAMES_NO_USER if the body claims no name; then no record is needed.
 #[unsafe(no_mangle)]
 pub extern "C" fn fe2o3_sasl_server_step_claimed_user(
     alloc: Global,
     server: &ScramServer,
     body: &[u8],
     out: &mut [u8],
-    len: &mut usize,
+    out_len: &mut usize,
 ) -> u32
-    ensures { Answers result (λ answer. Fills (StepNames server.now body.now) (record { bytes = out.old; len = len.old })
-        (record { bytes = out.new; len = len.new }) answer
+    ensures { Answers result (λ answer. Fills (StepNames server.now body.now) (record { bytes = out.old; len = out_len.old })
+        (record { bytes = out.new; len = out_len.new }) answer
         × AsksWhere (BodyAsks server.now Init body.now ⊎ BodyAsks server.now Response body.now) answer) }
 {
-    number(user(alloc, server, body, out, len))
+    number(user(alloc, server, body, out, out_len))
 }

@@ -166,32 +166,33 @@ fn user(
     server: &SaslServer,
     bytes: &[u8],
     out: &mut [u8],
-    len: &mut usize,
+    out_len: &mut usize,
 ) -> Result<(), Status>
-    ensures text { Fills (Names server.now bytes.now) (record { bytes = out.old; len = len.old })
-        (record { bytes = out.new; len = len.new }) result }
+    ensures text { Fills (Names server.now bytes.now) (record { bytes = out.old; len = out_len.old })
+        (record { bytes = out.new; len = out_len.new }) result }
     ensures memory { AsksWhere (AwaitsFrame server.now.connection) result }
 {
     let name = match named(alloc, server, bytes) {
         Ok(name) => name,
         Err(status) => return Err(status),
     };
-    put(&name, out, len)
+    put(&name, out, out_len)
 }
 
-/// Writes the plain name of the user whom the frame names that these bytes complete, and whose record is to be fetched
-/// before they are taken: that of an init of SCRAM or PLAIN, and for a response that of the open challenge. Where they
-/// complete no frame, or one that names nobody, the number is that of `NAMES_NOBODY`, and no record is needed.
+/// Writes the user name that the next frame claims, if `bytes` complete it: that of an init for SCRAM or PLAIN, and
+/// for a response that of the open challenge. Nobody is authenticated yet: use it only to look up the record for
+/// `fe2o3_sasl_server_receive`. Returns FE2O3_NAMES_NO_USER if the frame is not complete or claims no name; then no
+/// record is needed.
 #[unsafe(no_mangle)]
 pub extern "C" fn fe2o3_sasl_server_claimed_user(
     alloc: Global,
     server: &SaslServer,
     bytes: &[u8],
     out: &mut [u8],
-    len: &mut usize,
+    out_len: &mut usize,
 ) -> u32
-    ensures { Answers result (λ answer. Fills (Names server.now bytes.now) (record { bytes = out.old; len = len.old })
-        (record { bytes = out.new; len = len.new }) answer × AsksWhere (AwaitsFrame server.now.connection) answer) }
+    ensures { Answers result (λ answer. Fills (Names server.now bytes.now) (record { bytes = out.old; len = out_len.old })
+        (record { bytes = out.new; len = out_len.new }) answer × AsksWhere (AwaitsFrame server.now.connection) answer) }
 {
-    number(user(alloc, server, bytes, out, len))
+    number(user(alloc, server, bytes, out, out_len))
 }

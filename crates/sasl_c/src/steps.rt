@@ -13,12 +13,12 @@ use fe2o3_sasl_wire::SaslCode;
 const BODY_MOST: usize = 508;
 
 /// Looks for room for a body that is sent. Where there is too little, the length says what suffices.
-pub fn has_room(out: &[u8], len: &mut usize) -> Result<(), Status>
-    ensures ok { IfOk result (λ _. (508 ≤ length out.now) × (len.new ≡ len.old)) }
-    ensures err { IfErr result (λ status. (status ≡ RoomTooSmall) × (length out.now < 508) × (len.new ≡ 508)) }
+pub fn has_room(out: &[u8], out_len: &mut usize) -> Result<(), Status>
+    ensures ok { IfOk result (λ _. (508 ≤ length out.now) × (out_len.new ≡ out_len.old)) }
+    ensures err { IfErr result (λ status. (status ≡ RoomTooSmall) × (length out.now < 508) × (out_len.new ≡ 508)) }
 {
     if out.len() < BODY_MOST {
-        *len = BODY_MOST;
+        *out_len = BODY_MOST;
         return Err(Status::RoomTooSmall);
     }
     Ok(())

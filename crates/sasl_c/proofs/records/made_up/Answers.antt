@@ -7,5 +7,5 @@ use Rattle.sasl_c.proofs.records.made_up.Goals as goal
 pub returns : goal.returns
 returns c =
     let room = mock_has_room c.in_ok-version.version c.args.secret.now c.in_ok-username.username.now
-    c.args.made_salt_len c.args.iterations (omega arith) in
+    c.args.salt_len c.args.iterations (omega arith) in
     absurd (c.in-None.ensures (carried RecordHasRoom _ c.in-Ok.kept (sym c.in-Ok.ensures) room))
