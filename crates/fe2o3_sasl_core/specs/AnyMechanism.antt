@@ -24,7 +24,7 @@ both_names names others = names ++ filter (λ name. not (has_name names name)) o
 pub record BothStates (S T : Type 0) : Type 0 where
   pub first : S
   pub second : T
-  pub asked : Option Selected
+  pub selected : Option Selected
 
 -- the first of them that has this mechanism
 abbrev pub part_with : List (List ℕ) → List (List ℕ) → List ℕ → Option Selected

@@ -7,5 +7,5 @@ abbrev pub both_states : {A B S T : Type 0} → (A → S) → (B → T) → AnyM
 both_states state other both = record {
   first = state both.first;
   second = other both.second;
-  asked = both.selected;
+  selected = both.selected;
 }

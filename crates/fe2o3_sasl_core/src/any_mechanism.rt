@@ -69,7 +69,7 @@ pub enum Selected {
 pub struct AnyMechanism<A, B> {
     first: A,
     second: B,
-    asked: Option<Selected>,
+    selected: Option<Selected>,
 }
 
 impl<A: HasMechanism, B: HasMechanism> AnyMechanism<A, B> {
@@ -83,20 +83,20 @@ impl<A: HasMechanism, B: HasMechanism> AnyMechanism<A, B> {
         Self {
             first,
             second,
-            asked: None,
+            selected: None,
         }
     }
 
     /// Restores a server of both, of which the last init went to this one, as `asked` returned it when the server was
     /// saved between two calls. Pass each acceptor in the state in which it was.
-    pub fn with_selected(first: A, second: B, asked: Option<Selected>) -> Self
+    pub fn with_selected(first: A, second: B, selected: Option<Selected>) -> Self
         ensures { both_states A.state B.state result
-            ≡ record { first = A.state first; second = B.state second; selected = asked } }
+            ≡ record { first = A.state first; second = B.state second; selected = selected } }
     {
         Self {
             first,
             second,
-            asked,
+            selected,
         }
     }
 
@@ -115,7 +115,7 @@ impl<A: HasMechanism, B: HasMechanism> AnyMechanism<A, B> {
     }
 
     /// The one that the last init went to, and `None` where none went to either.
-    pub fn asked(&self) -> Option<Selected>
+    pub fn selected(&self) -> Option<Selected>
         ensures { result ≡ (both_states A.state B.state self.now).selected }
     {
         self.selected
@@ -144,7 +144,7 @@ impl<A: HasMechanism, B: HasMechanism> Clone for AnyMechanism<A, B> {
         Ok(Self {
             first: self.first.clone()?,
             second: self.second.clone()?,
-            asked: self.selected,
+            selected: self.selected,
         })
     }
 }
@@ -204,13 +204,13 @@ impl<A: HasMechanism, B: HasMechanism> SaslAcceptor for AnyMechanism<A, B> {
         nonce: &[u8; 32],
         meter: &mut Meter,
     ) -> Result<SaslServerFrame, OutOfMemory> {
-        let asked = self.part_with(init.mechanism.as_str());
-        let reply = match asked {
+        let selected = self.part_with(init.mechanism.as_str());
+        let reply = match selected {
             Some(Selected::First) => self.first.on_init_metered(alloc, init, nonce, meter)?,
             Some(Selected::Second) => self.second.on_init_metered(alloc, init, nonce, meter)?,
             None => return Ok(outcome(SaslCode::Auth)),
         };
-        self.selected = asked;
+        self.selected = selected;
         Ok(reply)
     }
 

@@ -329,7 +329,7 @@ impl AuthenticatedUser for SaslPlainMechanism {
     ghost named_by_state = { λ acceptor other same. ap acceptor_user same };
 
     fn authenticated_user(&self) -> Option<&str> {
-        SaslPlainMechanism::user(self)
+        SaslPlainMechanism::authenticated_user(self)
     }
 }
 
@@ -509,7 +509,7 @@ impl<C: ScramCredentialProvider> AuthenticatedUser for ScramAuthenticator<C> {
     ghost named_by_state = { λ acceptor other same. ap acceptor_user same };
 
     fn authenticated_user(&self) -> Option<&str> {
-        ScramAuthenticator::user(self)
+        ScramAuthenticator::authenticated_user(self)
     }
 }
 

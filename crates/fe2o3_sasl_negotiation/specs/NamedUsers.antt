@@ -34,7 +34,7 @@ pub record AnyMechanismLogsIn {S T : Type 0} (names : S → List (List ℕ)) (ot
   where
     pub mechanism : List ℕ
     pub part : Selected
-    pub asked : InitAsksFor events mechanism
+    pub selected : InitAsksFor events mechanism
     pub has : part_with (names state.first) (others state.second) mechanism ≡ Some part
     pub before : BothStates S T
     pub event : Given

@@ -16,7 +16,7 @@ use Rattle.fe2o3_sasl_core.specs.SaslAcceptor.{Acceptor, ScramAcceptor, acceptor
 use Rattle.fe2o3_sasl_core.specs.declared.any_mechanism.Selected.{Selected}
 use Rattle.fe2o3_sasl_core.specs.declared.any_mechanism.Selected.TheVariants.{First, Second}
 use Rattle.fe2o3_sasl_core.proofs.lemmas.machines.OneReplyLemmas.{one_acceptor_reply}
-use Rattle.fe2o3_sasl_core.proofs.lemmas.machines.PlainAuthenticatorLemmas.{one_asked}
+use Rattle.fe2o3_sasl_core.proofs.lemmas.machines.PlainServerLemmas.{one_asked}
 use Rattle.connection_laws.specs.Cuts.{IsFunction}
 use Rattle.connection_laws.specs.Functions.{AnyMechanismIsFunction, OfferingIsFunction}
 

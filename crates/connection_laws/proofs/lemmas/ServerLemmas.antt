@@ -7,7 +7,7 @@ use Rattle.fe2o3_sasl_core.specs.HidingAcceptor.{hiding_machine}
 use Rattle.fe2o3_sasl_core.specs.HidingLaws.{hiding}
 use Rattle.fe2o3_sasl_core.specs.AnyMechanismLaws.{Machine}
 use Rattle.fe2o3_sasl_core.specs.SaslAcceptor.{ScramAcceptor, acceptor_machine, acceptor_user}
-use Rattle.fe2o3_sasl_core.proofs.lemmas.machines.OffersOnlyLemmas.{offering_runs}
+use Rattle.fe2o3_sasl_core.proofs.lemmas.machines.RestrictMechanismsLemmas.{offering_runs}
 use Rattle.fe2o3_sasl_core.proofs.lemmas.machines.AnyMechanismLemmas.{any_mechanism_runs}
 use Rattle.fe2o3_sasl_core.proofs.lemmas.machines.AnyMechanismUserLemmas.{offered_names_users}
 use Rattle.fe2o3_sasl_core.proofs.lemmas.machines.ServerMachineLemmas.{acceptor_runs_are_histories, acceptor_runs_name_users}

@@ -3,7 +3,7 @@ pub mod MemoryLemmas
 pub mod OneReplyLemmas
 pub mod ServerMachineLemmas
 pub mod PlainMessageLemmas
-pub mod PlainAuthenticatorLemmas
+pub mod PlainServerLemmas
 pub mod ZeroPartLemmas
 pub mod SomeRunLemmas
 pub mod ResponseCostLemmas
@@ -14,5 +14,5 @@ pub mod AnyMechanismLemmas
 pub mod AnyMechanismUserLemmas
 pub mod AlikeRunLemmas
 pub mod UnknownUserLemmas
-pub mod OffersOnlyLemmas
+pub mod RestrictMechanismsLemmas
 pub mod ScramInAnyMechanismLemmas

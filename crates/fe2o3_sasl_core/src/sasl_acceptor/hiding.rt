@@ -117,6 +117,6 @@ impl<C: ScramCredentialProvider> AuthenticatedUser for HidingAuthenticator<C> {
     ghost named_by_state = { λ acceptor other same. ap (λ (server : HidingServer). logged_in server.state) same };
 
     fn authenticated_user(&self) -> Option<&str> {
-        HidingAuthenticator::user(self)
+        HidingAuthenticator::authenticated_user(self)
     }
 }

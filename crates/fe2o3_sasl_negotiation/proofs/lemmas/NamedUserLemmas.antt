@@ -234,7 +234,7 @@ module _ {S T : Type 0} (names : S → List (List ℕ)) (others : T → List (Li
       record {
         mechanism = mechanism;
         part = part;
-        asked = (event, [], response, hostname, refl, spells);
+        selected = (event, [], response, hostname, refl, spells);
         has = has;
         before = state;
         event = event;
@@ -264,7 +264,7 @@ module _ {S T : Type 0} (names : S → List (List ℕ)) (others : T → List (Li
       record {
         mechanism = mechanism;
         part = part;
-        asked = (event, second ∷ [], response, hostname, refl, spells);
+        selected = (event, second ∷ [], response, hostname, refl, spells);
         has = has;
         before = mid;
         event = second;

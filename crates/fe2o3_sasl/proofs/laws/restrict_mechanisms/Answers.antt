@@ -1,4 +1,4 @@
-use Rattle.fe2o3_sasl_core.proofs.lemmas.machines.OffersOnlyLemmas.{offering_runs}
+use Rattle.fe2o3_sasl_core.proofs.lemmas.machines.RestrictMechanismsLemmas.{offering_runs}
 use Rattle.fe2o3_sasl.proofs.laws.restrict_mechanisms.Goals as goal
 
 pub returns : goal.returns

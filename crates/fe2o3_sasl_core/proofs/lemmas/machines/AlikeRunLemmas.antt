@@ -62,7 +62,7 @@ module _ {I S T : Type 0} (of : I → S) (to : I → T) (machine : Machine S) (o
 
 -- the states of both
 abbrev pub both_of : {I J S T : Type 0} → (I → S) → (J → T) → I × J × Option Selected → BothStates S T
-both_of of other_of at = record { first = of at.0; second = other_of at.1; asked = at.2 }
+both_of of other_of at = record { first = of at.0; second = other_of at.1; selected = at.2 }
 
 module _ {I J S T X Y : Type 0} (of : I → S) (to : I → T) (other_of : J → X) (other_to : J → Y)
     (names : S → List (List ℕ)) (to_names : T → List (List ℕ)) (others : X → List (List ℕ))

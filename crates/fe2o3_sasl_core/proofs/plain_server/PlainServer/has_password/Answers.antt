@@ -1,7 +1,7 @@
 use Rattle.std.proofs.Common.{sym}
 use Rattle.fe2o3_scram.specs.Credentials.{kept}
 use Rattle.fe2o3_sasl_core.specs.PlainServer.{parts_of}
-use Rattle.fe2o3_sasl_core.proofs.lemmas.machines.PlainAuthenticatorLemmas.{unknown}
+use Rattle.fe2o3_sasl_core.proofs.lemmas.machines.PlainServerLemmas.{unknown}
 use Rattle.fe2o3_sasl_core.proofs.plain_server.PlainServer.has_password.Goals as goal
 
 pub returns-in-None-clause-verdict : goal.returns-in-None-clause-verdict

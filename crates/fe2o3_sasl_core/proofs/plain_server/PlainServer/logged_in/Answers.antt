@@ -1,6 +1,6 @@
 use Rattle.fe2o3_sasl_wire.specs.AmqpTypes.{init_frame}
 use Rattle.fe2o3_sasl_core.specs.PlainServer.{parts_of, plain_state}
-use Rattle.fe2o3_sasl_core.proofs.lemmas.machines.PlainAuthenticatorLemmas.{cost_of_test, most_of_test, not_logged_in}
+use Rattle.fe2o3_sasl_core.proofs.lemmas.machines.PlainServerLemmas.{cost_of_test, most_of_test, not_logged_in}
 use Rattle.fe2o3_sasl_core.proofs.plain_server.PlainServer.logged_in.Goals as goal
 
 pub returns-then-has_password-clause-cost : goal.returns-then-has_password-clause-cost

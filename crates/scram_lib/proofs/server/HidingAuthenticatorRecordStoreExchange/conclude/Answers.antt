@@ -3,7 +3,7 @@ use Rattle.fe2o3_scram.specs.Credentials.{Store}
 use Rattle.fe2o3_scram.specs.HidingServer.{hiding_server}
 use Rattle.fe2o3_scram.specs.ScramServer.{logged_in}
 use Rattle.fe2o3_scram.proofs.lemmas.messages.LoginLemmas.{hidden_texts_log_in}
-use Rattle.scram_lib.proofs.server.HidingAuthenticatorScramCredentialsExchange.conclude.Goals as goal
+use Rattle.scram_lib.proofs.server.HidingAuthenticatorRecordStoreExchange.conclude.Goals as goal
 
 pub returns : goal.returns
 returns c =

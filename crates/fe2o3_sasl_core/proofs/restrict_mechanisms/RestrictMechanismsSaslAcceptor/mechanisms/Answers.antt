@@ -2,7 +2,7 @@ use Rattle.std.proofs.Common.{rules}
 use Rattle.std.proofs.lemmas.Fn.{filter_same}
 use Rattle.fe2o3_sasl_core.specs.AnyMechanism.{has_name}
 use Rattle.fe2o3_sasl_core.specs.RestrictMechanisms.{offering_of}
-use Rattle.fe2o3_sasl_core.proofs.restrict_mechanisms.OffersOnlySaslAcceptor.mechanisms.Goals as goal
+use Rattle.fe2o3_sasl_core.proofs.restrict_mechanisms.RestrictMechanismsSaslAcceptor.mechanisms.Goals as goal
 
 pub returns : goal.returns
 returns g c =

@@ -1,5 +1,5 @@
-use Rattle.fe2o3_sasl_core.proofs.lemmas.machines.PlainAuthenticatorLemmas.{err_where}
-use Rattle.fe2o3_sasl_core.proofs.plain_server.PlainAuthenticatorSaslAcceptor.on_init_metered.Goals as goal
+use Rattle.fe2o3_sasl_core.proofs.lemmas.machines.PlainServerLemmas.{err_where}
+use Rattle.fe2o3_sasl_core.proofs.plain_server.PlainServerSaslAcceptor.on_init_metered.Goals as goal
 
 pub returns-in_err-to_string-clause-memory : goal.returns-in_err-to_string-clause-memory
 returns-in_err-to_string-clause-memory g c =

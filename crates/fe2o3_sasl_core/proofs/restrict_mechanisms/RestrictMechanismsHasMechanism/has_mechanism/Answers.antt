@@ -2,7 +2,7 @@ use Rattle.std.proofs.Common.{arith}
 use Rattle.fe2o3_sasl_core.specs.AnyMechanism.{has_name}
 use Rattle.fe2o3_sasl_core.specs.RestrictMechanisms.{offering_of}
 use Rattle.fe2o3_sasl_core.proofs.lemmas.machines.NameLemmas.{has_name-filter}
-use Rattle.fe2o3_sasl_core.proofs.restrict_mechanisms.OffersOnlyHasMechanism.has_mechanism.Goals as goal
+use Rattle.fe2o3_sasl_core.proofs.restrict_mechanisms.RestrictMechanismsHasMechanism.has_mechanism.Goals as goal
 
 pub returns-then-may_offer : goal.returns-then-may_offer
 returns-then-may_offer g c =
