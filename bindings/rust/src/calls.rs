@@ -2,7 +2,6 @@
 
 use crate::{sys, RecordError, ScramVersion};
 use std::io::Read;
-use std::mem::size_of;
 
 /// 32 bytes of the system's random source, `/dev/urandom`.
 ///
@@ -24,20 +23,7 @@ pub fn generate_nonce() -> [u8; 32] {
 /// assert!(fe2o3_sasl_proved::fits());
 /// ```
 pub fn fits() -> bool {
-    let ours = [
-        size_of::<sys::Login>(),
-        size_of::<sys::ScramClient>(),
-        size_of::<sys::ClientKeys>(),
-        size_of::<sys::ScramServer>(),
-        size_of::<sys::ScramRecord>(),
-        size_of::<sys::Connection>(),
-        size_of::<sys::SaslLogin>(),
-        size_of::<sys::SaslClient>(),
-        size_of::<sys::SaslFrameView>(),
-        size_of::<sys::SaslHost>(),
-        size_of::<sys::SaslServer>(),
-    ];
-    (0..).zip(ours).all(|(which, size)| {
+    (0..).zip(sys::SIZES).all(|(which, size)| {
         // SAFETY: the call takes a number alone, and any number has its answer.
         size == unsafe { sys::fe2o3_size(which) }
     })
@@ -65,7 +51,7 @@ pub(crate) fn text_of(status: u32) -> &'static str {
 
 /// What a call that writes no text has answered.
 pub(crate) fn done(status: u32) -> Result<(), u32> {
-    if status == sys::DONE {
+    if status == sys::OK {
         Ok(())
     } else {
         Err(status)

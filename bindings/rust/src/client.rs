@@ -6,22 +6,15 @@ use crate::{generate_nonce, sys, CachedKeys, ScramErrorKind, ScramVersion};
 use std::fmt;
 use std::marker::PhantomData;
 
-pub(crate) const NOTHING_SENT: sys::ScramClient =
-    sys::ScramClient { sent: 0, signature_len: 0, nonce: [0; 32], signature: [0; 64], keys: NO_KEYS };
-
-/// Which secrets a login has, by the numbers of the library.
-const PASSWORD: u32 = 0;
-const KEYS: u32 = 1;
-const PASSWORD_AND_KEYS: u32 = 2;
-const PREPARED: u32 = 3;
-const PREPARED_AND_KEYS: u32 = 4;
+pub(crate) const INITIAL: sys::ScramClient =
+    sys::ScramClient { state: 0, signature_len: 0, nonce: [0; 32], signature: [0; 64], keys: NO_KEYS };
 
 /// Who logs in, and by what.
 #[derive(Clone)]
 pub(crate) struct Who {
     username: String,
     password: String,
-    keys: sys::ClientKeys,
+    keys: sys::ScramKeys,
     secret: u32,
     version: ScramVersion,
     min_iterations: u32,
@@ -39,7 +32,7 @@ impl Who {
     pub(crate) fn new(
         username: String,
         password: String,
-        keys: sys::ClientKeys,
+        keys: sys::ScramKeys,
         secret: u32,
         version: ScramVersion,
     ) -> Self {
@@ -99,7 +92,7 @@ pub struct ScramClient {
 impl ScramClient {
     /// A client that logs in by a password as it is typed.
     pub fn new(username: impl Into<String>, password: impl Into<String>, scram_version: ScramVersion) -> Self {
-        Self::by(username.into(), password.into(), NO_KEYS, PASSWORD, scram_version)
+        Self::by(username.into(), password.into(), NO_KEYS, sys::BY_PASSWORD, scram_version)
     }
 
     /// A client that logs in by a prepared password ([`saslprep`](crate::saslprep)): any text, which is taken as it
@@ -109,12 +102,12 @@ impl ScramClient {
         password: impl Into<String>,
         scram_version: ScramVersion,
     ) -> Self {
-        Self::by(username.into(), password.into(), NO_KEYS, PREPARED, scram_version)
+        Self::by(username.into(), password.into(), NO_KEYS, sys::BY_PREPARED, scram_version)
     }
 
     /// A client that logs in by the keys of an earlier login.
     pub fn with_keys(username: impl Into<String>, keys: CachedKeys) -> Self {
-        Self::by(username.into(), String::new(), keys.0, KEYS, keys.version())
+        Self::by(username.into(), String::new(), keys.0, sys::BY_KEYS, keys.version())
     }
 
     /// A client that logs in by keys where the server names the salt and the count that they are of, and else by the
@@ -124,7 +117,7 @@ impl ScramClient {
         password: impl Into<String>,
         keys: CachedKeys,
     ) -> Self {
-        Self::by(username.into(), password.into(), keys.0, PASSWORD_AND_KEYS, keys.version())
+        Self::by(username.into(), password.into(), keys.0, sys::BY_PASSWORD_AND_KEYS, keys.version())
     }
 
     /// The same with a prepared password.
@@ -133,11 +126,11 @@ impl ScramClient {
         password: impl Into<String>,
         keys: CachedKeys,
     ) -> Self {
-        Self::by(username.into(), password.into(), keys.0, PREPARED_AND_KEYS, keys.version())
+        Self::by(username.into(), password.into(), keys.0, sys::BY_PREPARED_AND_KEYS, keys.version())
     }
 
-    fn by(username: String, password: String, keys: sys::ClientKeys, secret: u32, version: ScramVersion) -> Self {
-        Self { who: Who::new(username, password, keys, secret, version), state: NOTHING_SENT }
+    fn by(username: String, password: String, keys: sys::ScramKeys, secret: u32, version: ScramVersion) -> Self {
+        Self { who: Who::new(username, password, keys, secret, version), state: INITIAL }
     }
 
     /// The same client, which refuses an iteration count above the limit. Without this there is none.

@@ -1,16 +1,16 @@
 //! The client's side of a connection.
 
 use crate::calls::filled;
-use crate::client::{Who, NOTHING_SENT};
+use crate::client::{Who, INITIAL};
 use crate::keys::NO_KEYS;
 use crate::{generate_nonce, sys, ConnectionError, ScramClient, CachedKeys, ScramVersion};
 use std::fmt;
 use std::marker::PhantomData;
 
 /// A connection of which no byte has come.
-pub(crate) const FRESH: sys::Connection = sys::Connection { progress: 0, why: 0, due: 0, held_len: 0, held: [0; 512] };
+pub(crate) const FRESH: sys::Connection = sys::Connection { progress: 0, why: 0, expected: 0, held_len: 0, held: [0; 512] };
 
-const NEW: sys::SaslClient = sys::SaslClient { connection: FRESH, scram: NOTHING_SENT };
+const NEW: sys::SaslClient = sys::SaslClient { connection: FRESH, scram: INITIAL };
 
 /// The most bytes of a frame (AMQP 1.0, part 5, section 5.3.1), and so of what is sent at once.
 const FRAME_MOST: usize = 512;
@@ -73,12 +73,12 @@ pub(crate) struct LentLogin<'a> {
 impl Login {
     /// The login of a profile. Its init names the hostname, if it is not empty.
     pub(crate) fn new(profile: SaslProfile, hostname: Option<&str>) -> Self {
-        let words = |username, password| Who::new(username, password, NO_KEYS, 0, ScramVersion::Sha256);
+        let words = |username, password| Who::new(username, password, NO_KEYS, sys::BY_PASSWORD, ScramVersion::Sha256);
         let (mechanism, who) = match profile {
-            SaslProfile::Scram(client) => (0, client.who),
-            SaslProfile::Plain { username, password } => (1, words(username, password)),
-            SaslProfile::Anonymous => (2, words(String::new(), String::new())),
-            SaslProfile::External => (3, words(String::new(), String::new())),
+            SaslProfile::Scram(client) => (sys::SCRAM, client.who),
+            SaslProfile::Plain { username, password } => (sys::PLAIN, words(username, password)),
+            SaslProfile::Anonymous => (sys::ANONYMOUS, words(String::new(), String::new())),
+            SaslProfile::External => (sys::EXTERNAL, words(String::new(), String::new())),
         };
         Self { who, mechanism, hostname: hostname.unwrap_or_default().to_owned() }
     }
@@ -94,25 +94,25 @@ impl Login {
     }
 }
 
-/// How a login stands.
+/// How far a login on a connection is.
 #[derive(Clone, Copy, Debug, PartialEq, Eq)]
 pub enum Progress {
-    /// More is wanted of the other side.
+    /// The login goes on: the other side has to send more.
     InProgress,
 
-    /// The client is logged in. What comes next on the connection is AMQP's.
-    LoggedIn,
+    /// The login is complete. What comes next on the connection belongs to AMQP.
+    Authenticated,
 
-    /// The connection is to be closed.
-    Closed(ConnectionError),
+    /// The login has failed, and you have to close the connection.
+    Failed(ConnectionError),
 }
 
-/// How the connection of a struct stands.
-pub(crate) fn standing_of(connection: &sys::Connection) -> Progress {
+/// How far the login of a connection is.
+pub(crate) fn progress_of(connection: &sys::Connection) -> Progress {
     match connection.progress {
-        0 => Progress::InProgress,
-        1 => Progress::LoggedIn,
-        _ => Progress::Closed(ConnectionError::of(connection.why)),
+        sys::IN_PROGRESS => Progress::InProgress,
+        sys::AUTHENTICATED => Progress::Authenticated,
+        _ => Progress::Failed(ConnectionError::of(connection.why)),
     }
 }
 
@@ -217,9 +217,9 @@ impl ClientNegotiation {
         Ok((taken, sent))
     }
 
-    /// How the connection stands.
+    /// How far the login is.
     pub fn progress(&self) -> Progress {
-        standing_of(&self.state.connection)
+        progress_of(&self.state.connection)
     }
 
     /// The keys of a login by SCRAM whose server was believed, as [`ScramClient::keys`] hands them out.

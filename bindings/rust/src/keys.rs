@@ -4,7 +4,7 @@ use crate::calls::{done, head, made, put};
 use crate::{sys, RecordError, ScramVersion};
 use std::fmt;
 
-pub(crate) const NO_KEYS: sys::ClientKeys = sys::ClientKeys {
+pub(crate) const NO_KEYS: sys::ScramKeys = sys::ScramKeys {
     version: 0,
     iterations: 0,
     salt_len: 0,
@@ -26,7 +26,7 @@ pub(crate) const NO_KEYS: sys::ClientKeys = sys::ClientKeys {
 /// # Ok::<(), fe2o3_sasl_proved::RecordError>(())
 /// ```
 #[derive(Clone)]
-pub struct CachedKeys(pub(crate) sys::ClientKeys);
+pub struct CachedKeys(pub(crate) sys::ScramKeys);
 
 impl CachedKeys {
     /// The keys of a password as it is typed.
@@ -63,7 +63,7 @@ impl CachedKeys {
         if client_key.len() != version.digest_len() || server_key.len() != version.digest_len() {
             return Err(RecordError::KeyLengthMismatch);
         }
-        let mut keys = sys::ClientKeys { version: version.number(), iterations, ..NO_KEYS };
+        let mut keys = sys::ScramKeys { version: version.number(), iterations, ..NO_KEYS };
         keys.salt_len = put(salt, &mut keys.salt).ok_or(RecordError::TooLong)?;
         put(client_key, &mut keys.client_key).ok_or(RecordError::TooLong)?;
         put(server_key, &mut keys.server_key).ok_or(RecordError::TooLong)?;

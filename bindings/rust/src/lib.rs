@@ -20,7 +20,7 @@
 //! let server_final = server.compute_server_final_message(&client_final)?.ok_or("no such user")?;
 //! client.validate_server_final(&server_final)?;
 //!
-//! assert_eq!(server.user().as_deref(), Some("user"));
+//! assert_eq!(server.authenticated_user().as_deref(), Some("user"));
 //! # Ok(())
 //! # }
 //! ```

@@ -8,7 +8,7 @@ use std::fmt;
 use std::sync::Arc;
 
 pub(crate) const NO_CHALLENGE: sys::ScramServer = sys::ScramServer {
-    stands: 0,
+    state: 0,
     user_len: 0,
     bare_len: 0,
     nonce_len: 0,
@@ -19,11 +19,11 @@ pub(crate) const NO_CHALLENGE: sys::ScramServer = sys::ScramServer {
     first: [0; 1024],
 };
 
-/// How a server's struct says that a challenge is open: to a client whose GS2 header is `n,,`, and `y,,`.
-const CHALLENGE_IS_OPEN: [u32; 2] = [1, 3];
+/// The states of a server whose challenge is open.
+const CHALLENGE_IS_OPEN: [u32; 2] = [sys::SCRAM_SERVER_CHALLENGE_OPEN, sys::SCRAM_SERVER_CHALLENGE_OPEN_CBIND_FLAG_Y];
 
 /// The GS2 header of a client that could bind a channel, and was offered no mechanism that does (RFC 5802, section 6).
-const UNBOUND: &[u8] = b"y,,";
+const CBIND_FLAG_Y: &[u8] = b"y,,";
 
 /// A store of credentials.
 pub trait ScramCredentialProvider {
@@ -108,7 +108,7 @@ struct MockSettings {
 
 /// A server over a store of credentials.
 ///
-/// With `hiding_unknown_users` a stranger learns no names from its answers:
+/// With `mock_unknown_users` a stranger learns no names from its answers:
 ///
 /// ```
 /// use fe2o3_sasl_proved::*;
@@ -116,8 +116,8 @@ struct MockSettings {
 /// # fn main() -> Result<(), Box<dyn std::error::Error>> {
 /// let credential = SingleScramCredential::new("user", "pencil", ScramVersion::Sha256)?;
 /// let secret = generate_nonce(); // in earnest kept as long as the records
-/// let mut server = ScramAuthenticator::new(credential).hiding_unknown_users(secret, 32, 4096);
-/// let mut client = ScramClient::new("nobody", "pencil", ScramVersion::Sha256);
+/// let mut server = ScramAuthenticator::new(credential).mock_unknown_users(secret, 32, 4096);
+/// let mut client = ScramClient::new("unknown", "pencil", ScramVersion::Sha256);
 ///
 /// let client_first = client.compute_client_first_message();
 /// let server_first = server.compute_server_first_message(&client_first)?.expect("each name is answered");
@@ -130,8 +130,8 @@ struct MockSettings {
 #[derive(Clone)]
 pub struct ScramAuthenticator<C: ScramCredentialProvider + Clone> {
     credentials: C,
-    nobody: Option<MockSettings>,
-    unbound: bool,
+    mock: Option<MockSettings>,
+    cbind_flag_y: bool,
     challenged: String,
     state: sys::ScramServer,
 }
@@ -139,25 +139,25 @@ pub struct ScramAuthenticator<C: ScramCredentialProvider + Clone> {
 impl<C: ScramCredentialProvider + Clone> ScramAuthenticator<C> {
     /// A server without an open challenge, which answers an unknown user by `None`.
     pub fn new(credentials: C) -> Self {
-        Self { credentials, nobody: None, unbound: false, challenged: String::new(), state: NO_CHALLENGE }
+        Self { credentials, mock: None, cbind_flag_y: false, challenged: String::new(), state: NO_CHALLENGE }
     }
 
     /// The same server, which answers an unknown user by a record that is made up ([`ScramRecord::mock`]).
-    pub fn hiding_unknown_users(mut self, secret: [u8; 32], salt_len: usize, iterations: u32) -> Self {
-        self.nobody = Some(MockSettings { secret, salt_len, iterations });
+    pub fn mock_unknown_users(mut self, secret: [u8; 32], salt_len: usize, iterations: u32) -> Self {
+        self.mock = Some(MockSettings { secret, salt_len, iterations });
         self
     }
 
     /// The same server, which takes a client whose GS2 header is `y,,` too: one that could bind a channel, and was
     /// offered no mechanism with `-PLUS` (RFC 5802, section 6). Only for a server that offers none.
     pub fn accept_cbind_flag_y(mut self) -> Self {
-        self.unbound = true;
+        self.cbind_flag_y = true;
         self
     }
 
     /// Whether it takes such a client.
-    pub(crate) fn takes_unbound(&self) -> bool {
-        self.unbound
+    pub(crate) fn accepts_cbind_flag_y(&self) -> bool {
+        self.cbind_flag_y
     }
 
     /// The store of credentials.
@@ -185,16 +185,16 @@ impl<C: ScramCredentialProvider + Clone> ScramAuthenticator<C> {
         nonce: &[u8; 32],
     ) -> Result<Option<Vec<u8>>, ServerScramErrorKind> {
         // (the call that names the user takes both headers)
-        if !self.unbound && client_first.starts_with(UNBOUND) && std::str::from_utf8(client_first).is_ok() {
+        if !self.cbind_flag_y && client_first.starts_with(CBIND_FLAG_Y) && std::str::from_utf8(client_first).is_ok() {
             return Err(ServerScramErrorKind::CannotParseGs2Header);
         }
-        let username = named_user(client_first)?;
+        let username = claimed_user(client_first)?;
         let record = match self.record(&username)? {
             Some(record) => record,
             None => return Ok(None),
         };
         let state = &mut self.state;
-        let answer = if self.unbound { sys::fe2o3_scram_server_first_with_cbind_flag_y } else { sys::fe2o3_scram_server_first };
+        let answer = if self.cbind_flag_y { sys::fe2o3_scram_server_first_with_cbind_flag_y } else { sys::fe2o3_scram_server_first };
         let message = filled(client_first.len() + 256, |out, len| {
             // SAFETY: both exports have the same parameters; the record, the nonce and the message are borrowed and live
             // through the call; the state, the room and its length are borrowed for writing, and so overlap nothing.
@@ -222,7 +222,7 @@ impl<C: ScramCredentialProvider + Clone> ScramAuthenticator<C> {
         &mut self,
         client_final: &[u8],
     ) -> Result<Option<Vec<u8>>, ServerScramErrorKind> {
-        if !CHALLENGE_IS_OPEN.contains(&self.state.stands) {
+        if !CHALLENGE_IS_OPEN.contains(&self.state.state) {
             return Err(ServerScramErrorKind::IllegalAuthenticatorState);
         }
         let record = match self.record(&self.challenged)? {
@@ -250,8 +250,8 @@ impl<C: ScramCredentialProvider + Clone> ScramAuthenticator<C> {
     }
 
     /// The user who has logged in: the one whose challenge was answered.
-    pub fn user(&self) -> Option<String> {
-        logged_in(&self.state)
+    pub fn authenticated_user(&self) -> Option<String> {
+        authenticated_user(&self.state)
     }
 
     /// The record of a user, or one that is made up; `None` where there is none and none is made up.
@@ -260,9 +260,9 @@ impl<C: ScramCredentialProvider + Clone> ScramAuthenticator<C> {
         if let Some(stored) = self.credentials.get_stored_password(username) {
             return Ok(Some(ScramRecord::from_parts(version, &stored)?));
         }
-        match &self.nobody {
-            Some(nobody) => {
-                let MockSettings { secret, salt_len, iterations } = nobody;
+        match &self.mock {
+            Some(settings) => {
+                let MockSettings { secret, salt_len, iterations } = settings;
                 Ok(Some(ScramRecord::mock(version, secret, username, *salt_len, *iterations)?))
             }
             None => Ok(None),
@@ -271,7 +271,7 @@ impl<C: ScramCredentialProvider + Clone> ScramAuthenticator<C> {
 }
 
 /// The user who has logged in, by the struct of a server.
-pub(crate) fn logged_in(state: &sys::ScramServer) -> Option<String> {
+pub(crate) fn authenticated_user(state: &sys::ScramServer) -> Option<String> {
     let name = filled(state.user.len(), |out, len| {
         // SAFETY: the state is borrowed; the room and its length are borrowed for writing, and so overlap nothing.
         unsafe { sys::fe2o3_scram_server_authenticated_user(state, out.as_mut_ptr(), out.len(), len) }
@@ -280,7 +280,7 @@ pub(crate) fn logged_in(state: &sys::ScramServer) -> Option<String> {
 }
 
 /// The plain name of the user whom a client-first message names.
-fn named_user(client_first: &[u8]) -> Result<String, ServerScramErrorKind> {
+fn claimed_user(client_first: &[u8]) -> Result<String, ServerScramErrorKind> {
     let name = filled(client_first.len(), |out, len| {
         // SAFETY: the message is a slice that lives through the call; the room and its length are borrowed for writing,
         // and so overlap nothing.

@@ -1,9 +1,9 @@
 //! The server's side of a connection.
 
 use crate::calls::filled;
-use crate::connection::{standing_of, Received, Progress, FRESH};
+use crate::connection::{progress_of, Received, Progress, FRESH};
 use crate::records::ScramRecord;
-use crate::server::{logged_in, ScramAuthenticator, ScramCredentialProvider, NO_CHALLENGE};
+use crate::server::{authenticated_user, ScramAuthenticator, ScramCredentialProvider, NO_CHALLENGE};
 use crate::{generate_nonce, sys, ConnectionError, DEFAULT_SCRAM_ITERATIONS};
 use std::fmt;
 use std::marker::PhantomData;
@@ -21,9 +21,6 @@ const NO_RECORD: sys::ScramRecord = sys::ScramRecord {
     server_key: [0; 64],
 };
 
-/// What is added to the sum of the mechanisms where SCRAM takes a client whose GS2 header is `y,,`.
-const TAKE_UNBOUND: u32 = 16;
-
 /// Which mechanisms a server offers.
 #[derive(Clone, Copy, Debug, Default, PartialEq, Eq)]
 pub struct Offers {
@@ -36,7 +33,7 @@ pub struct Offers {
     /// ANONYMOUS (RFC 4505).
     pub anonymous: bool,
 
-    /// EXTERNAL (RFC 4422, appendix A), offered only where the transport has authenticated a peer (`with_peer`).
+    /// EXTERNAL (RFC 4422, appendix A), offered only where the transport has authenticated a peer (`with_external_authcid`).
     pub external: bool,
 }
 
@@ -48,32 +45,35 @@ impl Offers {
 
     /// The sum of the library.
     fn sum(self) -> u32 {
-        u32::from(self.scram) + 2 * u32::from(self.plain) + 4 * u32::from(self.anonymous) + 8 * u32::from(self.external)
+        sys::OFFER_SCRAM * u32::from(self.scram)
+            + sys::OFFER_PLAIN * u32::from(self.plain)
+            + sys::OFFER_ANONYMOUS * u32::from(self.anonymous)
+            + sys::OFFER_EXTERNAL * u32::from(self.external)
     }
 }
 
 /// What a server offers, and over which credentials.
 #[derive(Clone)]
-pub(crate) struct Host<C: ScramCredentialProvider + Clone> {
+pub(crate) struct Config<C: ScramCredentialProvider + Clone> {
     authenticator: ScramAuthenticator<C>,
     offers: Offers,
-    peer: Option<String>,
+    external_authcid: Option<String>,
 }
 
-/// A host of the library, whose pointers are to what is borrowed for `'a`.
-pub(crate) struct LentHost<'a> {
-    pub(crate) host: sys::SaslHost,
+/// A config of the library, whose pointers are to what is borrowed for `'a`.
+pub(crate) struct LentConfig<'a> {
+    pub(crate) config: sys::SaslServerConfig,
     from: PhantomData<&'a ()>,
 }
 
-impl<C: ScramCredentialProvider + Clone> Host<C> {
+impl<C: ScramCredentialProvider + Clone> Config<C> {
     pub(crate) fn new(authenticator: ScramAuthenticator<C>, offers: Offers) -> Self {
-        Self { authenticator, offers, peer: None }
+        Self { authenticator, offers, external_authcid: None }
     }
 
-    /// The same host, where EXTERNAL lets in this name.
-    pub(crate) fn with_peer(self, peer: String) -> Self {
-        Self { peer: Some(peer), ..self }
+    /// The same config, where EXTERNAL lets in this name.
+    pub(crate) fn with_external_authcid(self, external_authcid: String) -> Self {
+        Self { external_authcid: Some(external_authcid), ..self }
     }
 
     /// The record of the user whom a frame names, if it names one and there is one.
@@ -84,21 +84,21 @@ impl<C: ScramCredentialProvider + Clone> Host<C> {
         }
     }
 
-    /// The host with the record of a user, if there is one.
-    pub(crate) fn lend<'a>(&'a self, name: Option<&'a str>, record: Option<&'a ScramRecord>) -> LentHost<'a> {
+    /// The config with the record of a user, if there is one.
+    pub(crate) fn lend<'a>(&'a self, name: Option<&'a str>, record: Option<&'a ScramRecord>) -> LentConfig<'a> {
         let username = name.unwrap_or_default();
-        let peer = self.peer.as_deref().unwrap_or_default();
-        let host = sys::SaslHost {
-            mechanisms: self.offers.sum() + TAKE_UNBOUND * u32::from(self.authenticator.takes_unbound()),
+        let external_authcid = self.external_authcid.as_deref().unwrap_or_default();
+        let config = sys::SaslServerConfig {
+            mechanisms: self.offers.sum() + sys::ACCEPT_CBIND_FLAG_Y * u32::from(self.authenticator.accepts_cbind_flag_y()),
             version: self.authenticator.credentials().scram_version().number(),
             iterations: DEFAULT_SCRAM_ITERATIONS,
             username: username.as_ptr(),
             username_len: username.len(),
             record: record.map_or(&NO_RECORD, |record| &record.0),
-            peer: peer.as_ptr(),
-            peer_len: peer.len(),
+            external_authcid: external_authcid.as_ptr(),
+            external_authcid_len: external_authcid.len(),
         };
-        LentHost { host, from: PhantomData }
+        LentConfig { config, from: PhantomData }
     }
 }
 
@@ -109,7 +109,7 @@ pub(crate) fn named(
 ) -> Result<Option<String>, ConnectionError> {
     match filled(room, call) {
         Ok(name) => Ok(String::from_utf8(name).ok()),
-        Err(sys::NAMES_NOBODY) => Ok(None),
+        Err(sys::NAMES_NO_USER) => Ok(None),
         Err(why) => Err(ConnectionError::of(why)),
     }
 }
@@ -128,14 +128,14 @@ pub(crate) fn named(
 ///     let answer = server.receive(&to_server)?.sent;
 ///     to_server = client.receive(&answer)?.sent;
 /// }
-/// assert_eq!((server.progress(), client.progress()), (Progress::LoggedIn, Progress::LoggedIn));
-/// assert_eq!(server.user().as_deref(), Some("user"));
+/// assert_eq!((server.progress(), client.progress()), (Progress::Authenticated, Progress::Authenticated));
+/// assert_eq!(server.authenticated_user().as_deref(), Some("user"));
 /// # Ok(())
 /// # }
 /// ```
 #[derive(Clone)]
 pub struct ServerNegotiation<C: ScramCredentialProvider + Clone> {
-    host: Host<C>,
+    config: Config<C>,
     state: sys::SaslServer,
 }
 
@@ -144,13 +144,13 @@ impl<C: ScramCredentialProvider + Clone> ServerNegotiation<C> {
     /// a channel where the server does. Its own challenge, if one is open, does not count.
     pub fn new(authenticator: ScramAuthenticator<C>, offers: Offers) -> Self {
         let state = sys::SaslServer { connection: FRESH, scram: NO_CHALLENGE };
-        Self { host: Host::new(authenticator, offers), state }
+        Self { config: Config::new(authenticator, offers), state }
     }
 
     /// Sets the name that the transport has authenticated, which EXTERNAL lets in. Without one, and with an empty one,
     /// EXTERNAL is not offered, and an init of it is refused.
-    pub fn with_peer(mut self, peer: impl Into<String>) -> Self {
-        self.host = self.host.with_peer(peer.into());
+    pub fn with_external_authcid(mut self, external_authcid: impl Into<String>) -> Self {
+        self.config = self.config.with_external_authcid(external_authcid.into());
         self
     }
 
@@ -165,7 +165,7 @@ impl<C: ScramCredentialProvider + Clone> ServerNegotiation<C> {
         while received.taken < bytes.len() && self.progress() == Progress::InProgress {
             let rest = &bytes[received.taken..];
             let name = self.named(rest)?;
-            let record = self.host.record(name.as_deref())?;
+            let record = self.config.record(name.as_deref())?;
             let (taken, sent) = self.step(rest, name.as_deref(), record.as_ref())?;
             received.taken += taken;
             received.sent.extend(sent);
@@ -192,7 +192,7 @@ impl<C: ScramCredentialProvider + Clone> ServerNegotiation<C> {
         record: Option<&ScramRecord>,
     ) -> Result<(usize, Vec<u8>), ConnectionError> {
         let nonce = generate_nonce();
-        let lent = self.host.lend(name, record);
+        let lent = self.config.lend(name, record);
         let state = &mut self.state;
         let mut taken = 0;
         let sent = filled(SENT_MOST, |out, len| {
@@ -200,7 +200,7 @@ impl<C: ScramCredentialProvider + Clone> ServerNegotiation<C> {
             // call; the state, the room, its length and the count are borrowed for writing, and so overlap nothing.
             unsafe {
                 sys::fe2o3_sasl_server_receive(
-                    &lent.host,
+                    &lent.config,
                     state,
                     bytes.as_ptr(),
                     bytes.len(),
@@ -218,12 +218,12 @@ impl<C: ScramCredentialProvider + Clone> ServerNegotiation<C> {
 
     /// How the connection stands.
     pub fn progress(&self) -> Progress {
-        standing_of(&self.state.connection)
+        progress_of(&self.state.connection)
     }
 
     /// The user who has logged in; `None` before, and by ANONYMOUS.
-    pub fn user(&self) -> Option<String> {
-        logged_in(&self.state.scram)
+    pub fn authenticated_user(&self) -> Option<String> {
+        authenticated_user(&self.state.scram)
     }
 }
 

@@ -1,11 +1,11 @@
 //! Either side's steps over the bodies of frames, for whoever reads and writes the frames.
 
 use crate::calls::filled;
-use crate::client::NOTHING_SENT;
+use crate::client::INITIAL;
 use crate::connection::{Login, Progress};
 use crate::records::ScramRecord;
-use crate::server::{logged_in, ScramAuthenticator, ScramCredentialProvider, NO_CHALLENGE};
-use crate::serving::{named, Host, Offers};
+use crate::server::{authenticated_user, ScramAuthenticator, ScramCredentialProvider, NO_CHALLENGE};
+use crate::serving::{named, Config, Offers};
 use crate::{generate_nonce, sys, ConnectionError, SaslProfile, CachedKeys};
 use std::fmt;
 
@@ -32,11 +32,11 @@ impl fmt::Debug for Answered {
 }
 
 /// How a login stands, by its number in the library.
-fn standing_of(number: u32) -> Progress {
+fn progress_of(number: u32) -> Progress {
     match number {
-        0 => Progress::InProgress,
-        1 => Progress::LoggedIn,
-        why => Progress::Closed(ConnectionError::of(why)),
+        sys::IN_PROGRESS => Progress::InProgress,
+        sys::AUTHENTICATED => Progress::Authenticated,
+        why => Progress::Failed(ConnectionError::of(why)),
     }
 }
 
@@ -44,7 +44,7 @@ fn standing_of(number: u32) -> Progress {
 fn goes_on(progress: Progress) -> Result<(), ConnectionError> {
     match progress {
         Progress::InProgress => Ok(()),
-        Progress::LoggedIn | Progress::Closed(_) => Err(ConnectionError::of(sys::ENDED)),
+        Progress::Authenticated | Progress::Failed(_) => Err(ConnectionError::of(sys::ENDED)),
     }
 }
 
@@ -52,7 +52,7 @@ fn goes_on(progress: Progress) -> Result<(), ConnectionError> {
 fn stepped(mut call: impl FnMut(&mut u32, &mut [u8], &mut usize) -> u32) -> Result<Answered, ConnectionError> {
     let mut number = 0;
     let body = filled(BODY_MOST, |out, len| call(&mut number, out, len)).map_err(ConnectionError::of)?;
-    Ok(Answered { body, progress: standing_of(number) })
+    Ok(Answered { body, progress: progress_of(number) })
 }
 
 /// The client's side of one login over the bodies of frames, each from the data offset on, behind the four bytes of the
@@ -96,7 +96,7 @@ fn stepped(mut call: impl FnMut(&mut u32, &mut [u8], &mut usize) -> u32) -> Resu
 ///     socket.write_all(&(answered.body.len() as u32 + 4).to_be_bytes())?;
 ///     socket.write_all(&answered.body)?;
 /// }
-/// assert_eq!(side.progress(), Progress::LoggedIn);
+/// assert_eq!(side.progress(), Progress::Authenticated);
 /// # Ok(())
 /// # }
 /// ```
@@ -110,7 +110,7 @@ pub struct ClientSteps {
 impl ClientSteps {
     /// A login by this profile that has not begun. Its init names the hostname, if it is not empty.
     pub fn new(profile: impl Into<SaslProfile>, hostname: Option<&str>) -> Self {
-        Self { login: Login::new(profile.into(), hostname), state: NOTHING_SENT, progress: Progress::InProgress }
+        Self { login: Login::new(profile.into(), hostname), state: INITIAL, progress: Progress::InProgress }
     }
 
     /// Answers the body of a frame: the mechanisms by an init, a challenge by a response, and an outcome by how the
@@ -187,15 +187,15 @@ impl fmt::Debug for ClientSteps {
 ///     let to_server = client.on_frame(&to_client)?.body;
 ///     to_client = server.on_frame(&to_server)?.body;
 /// }
-/// assert_eq!(client.on_frame(&to_client)?.progress, Progress::LoggedIn);
-/// assert_eq!(server.progress(), Progress::LoggedIn);
-/// assert_eq!(server.user().as_deref(), Some("user"));
+/// assert_eq!(client.on_frame(&to_client)?.progress, Progress::Authenticated);
+/// assert_eq!(server.progress(), Progress::Authenticated);
+/// assert_eq!(server.authenticated_user().as_deref(), Some("user"));
 /// # Ok(())
 /// # }
 /// ```
 #[derive(Clone)]
 pub struct ServerSteps<C: ScramCredentialProvider + Clone> {
-    host: Host<C>,
+    config: Config<C>,
     state: sys::ScramServer,
     progress: Progress,
 }
@@ -204,23 +204,23 @@ impl<C: ScramCredentialProvider + Clone> ServerSteps<C> {
     /// A login that has not begun over the credentials of this server, which hides unknown users where the server does.
     /// Its own challenge, if one is open, does not count.
     pub fn new(authenticator: ScramAuthenticator<C>, offers: Offers) -> Self {
-        Self { host: Host::new(authenticator, offers), state: NO_CHALLENGE, progress: Progress::InProgress }
+        Self { config: Config::new(authenticator, offers), state: NO_CHALLENGE, progress: Progress::InProgress }
     }
 
     /// Sets the name that the transport has authenticated, which EXTERNAL lets in. Without one, and with an empty one,
     /// EXTERNAL is not offered, and an init of it is refused.
-    pub fn with_peer(mut self, peer: impl Into<String>) -> Self {
-        self.host = self.host.with_peer(peer.into());
+    pub fn with_external_authcid(mut self, external_authcid: impl Into<String>) -> Self {
+        self.config = self.config.with_external_authcid(external_authcid.into());
         self
     }
 
     /// The body of the frame with which the server offers its mechanisms, to whoever has sent the header of SASL.
     pub fn sasl_mechanisms(&self) -> Result<Vec<u8>, ConnectionError> {
-        let lent = self.host.lend(None, None);
+        let lent = self.config.lend(None, None);
         filled(BODY_MOST, |out, len| {
             // SAFETY: the host's pointers are to what `lent` borrows; the room and its length are borrowed for writing,
             // and so overlap nothing.
-            unsafe { sys::fe2o3_sasl_server_offer(&lent.host, out.as_mut_ptr(), out.len(), len) }
+            unsafe { sys::fe2o3_sasl_server_offer(&lent.config, out.as_mut_ptr(), out.len(), len) }
         })
         .map_err(ConnectionError::of)
     }
@@ -240,7 +240,7 @@ impl<C: ScramCredentialProvider + Clone> ServerSteps<C> {
     pub fn on_frame_with(&mut self, body: &[u8], nonce: &[u8; 32]) -> Result<Answered, ConnectionError> {
         goes_on(self.progress)?;
         let name = self.named(body)?;
-        let record = self.host.record(name.as_deref())?;
+        let record = self.config.record(name.as_deref())?;
         let answered = self.step(body, nonce, name.as_deref(), record.as_ref())?;
         self.progress = answered.progress;
         Ok(answered)
@@ -272,14 +272,14 @@ impl<C: ScramCredentialProvider + Clone> ServerSteps<C> {
         name: Option<&str>,
         record: Option<&ScramRecord>,
     ) -> Result<Answered, ConnectionError> {
-        let lent = self.host.lend(name, record);
+        let lent = self.config.lend(name, record);
         let state = &mut self.state;
         stepped(|progress, out, len| {
             // SAFETY: the host's pointers are to what `lent` borrows, and the body is a slice that lives through the
             // call; the state, the progress, the room and its length are borrowed for writing, and so overlap nothing.
             unsafe {
                 sys::fe2o3_sasl_server_step(
-                    &lent.host,
+                    &lent.config,
                     state,
                     body.as_ptr(),
                     body.len(),
@@ -299,8 +299,8 @@ impl<C: ScramCredentialProvider + Clone> ServerSteps<C> {
     }
 
     /// The user who has logged in; `None` before, and by ANONYMOUS.
-    pub fn user(&self) -> Option<String> {
-        logged_in(&self.state)
+    pub fn authenticated_user(&self) -> Option<String> {
+        authenticated_user(&self.state)
     }
 }
 

@@ -53,7 +53,7 @@ impl ScramVersion {
     }
 
     /// The version of keys that the library wrote.
-    pub(crate) fn of_keys(keys: &sys::ClientKeys) -> Self {
+    pub(crate) fn of_keys(keys: &sys::ScramKeys) -> Self {
         Self::of_number(keys.version)
     }
 

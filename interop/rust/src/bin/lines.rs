@@ -88,7 +88,7 @@ fn serve(channel: TcpStream, users: Users, mechanism: &str, unbound: bool) -> Re
     lines.say(&answer)?;
     // (whether the client believes it is no matter of the server's)
     let _ = lines.line().and_then(|_| lines.say(b""));
-    server.user().ok_or_else(|| "no name".into())
+    server.authenticated_user().ok_or_else(|| "no name".into())
 }
 
 fn run_server(words: &[&str], options: &[&str]) -> Result<i32, Failure> {
