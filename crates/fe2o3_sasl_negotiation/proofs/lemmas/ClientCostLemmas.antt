@@ -104,7 +104,7 @@ keeps : (hostname : Option (List ℕ)) (most : ℕ) (profile next : Profile) (ev
 keeps hostname most profile next event says (client, is, limit) (spelled, spells, gives) =
     let kept = step_keeps hostname client event spelled says next
     (subst (λ (p : Profile). ProfileGives hostname p event spelled says next) is gives) in
-    (kept.0, kept.1, ap (λ (l : IterationLimits). l.most) kept.2 ∙ limit)
+    (kept.0, kept.1, ap (λ (l : IterationLimits). l.max_iterations) kept.2 ∙ limit)
 
 -- what an answer to an early unit is
 asked_early : (hostname : Option (List ℕ)) (most : ℕ) (turn : FrameKind) (profile next : Profile) (event : Given)
