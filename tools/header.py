@@ -323,7 +323,6 @@ def rust_block(reader):
 
 PYTHON_NUMBERS = {"u8": "ctypes.c_uint8", "u32": "ctypes.c_uint32", "usize": "ctypes.c_size_t"}
 PYTHON_MARKS = "# ---- written by tools/header.py --python, from here ----\n", "# ---- to here ----\n"
-PYTHON_ENUMS = {"progress": "Progress", "offer": "Offer", "scram_version": None}  # None: constants of the module
 
 
 def python_part(part, written):
@@ -352,10 +351,15 @@ def python_block(reader):
                             [(one.name, one.number) for one in reader.statuses]))
     out.append(python_class("IntEnum", "Progress", "How far a login on a connection is.",
                             [(one.name, one.number) for one in enums["progress"].values]))
-    for name, words in [("mechanism", ""), ("secret", ""), ("scram_server_state", "SCRAM_")]:
-        values = [(one.name.removeprefix(words), one.number) for one in enums[name].values]
-        title = "_" + "".join(word.capitalize() for word in name.split("_"))
-        out.append(python_class("IntEnum", title, " ".join(enums[name].doc), values))
+    out.append(python_class("IntFlag", "Offer", "What a server offers. PLAIN sends the password in clear, so offer it over TLS"
+                            " only. ACCEPT_CBIND_FLAG_Y\n    is no mechanism: SCRAM also accepts the GS2 header `y,,`, like `Server.first`"
+                            " with `accept_cbind_flag_y`.",
+                            [(one.name.replace("OFFER_", ""), one.number) for one in enums["offer"].values]))
+    for name, title, prefix in [("mechanism", "_Mechanism", ""), ("secret", "_Secret", ""),
+                                ("unassigned", "_Unassigned", "UNASSIGNED_"), ("scram_server_state", "_ServerState",
+                                                                               "SCRAM_SERVER_")]:
+        values = [(one.name.replace(prefix, ""), one.number) for one in enums[name].values]
+        out.append(python_class("IntEnum", title, enums[name].doc[0].split(". ")[0].rstrip(".") + ".", values))
     for one in reader.structs:
         rows = "".join(f'        ("{part.name}", {python_part(part, one.name in written)}),\n' for _, part in one.fields)
         out.append(f"\n\nclass _{one.name}Struct(ctypes.Structure):\n    _fields_ = [\n{rows}    ]\n")

@@ -15,9 +15,9 @@ A server:
 
     server = Server()
     message = receive()
-    send(server.first(record_of(Server.user(message)), message))
+    send(server.first(record_of(Server.claimed_user(message)), message))
     send(server.final(receive()))
-    name = server.logged_in()           # logged in
+    name = server.authenticated_user()           # logged in
 
 where `record_of` answers `Record.mock(..)` for a name that it does not know.
 
@@ -181,6 +181,17 @@ class Progress(enum.IntEnum):
     FAILED = 2
 
 
+class Offer(enum.IntFlag):
+    """What a server offers. PLAIN sends the password in clear, so offer it over TLS only. ACCEPT_CBIND_FLAG_Y
+    is no mechanism: SCRAM also accepts the GS2 header `y,,`, like `Server.first` with `accept_cbind_flag_y`."""
+
+    SCRAM = 1
+    PLAIN = 2
+    ANONYMOUS = 4
+    EXTERNAL = 8
+    ACCEPT_CBIND_FLAG_Y = 16
+
+
 class _Mechanism(enum.IntEnum):
     """The mechanism of a client on a connection."""
 
@@ -200,13 +211,20 @@ class _Secret(enum.IntEnum):
     BY_PREPARED_AND_KEYS = 4
 
 
-class _ScramServerState(enum.IntEnum):
-    """How far the exchange of a SCRAM server is. Other values count as FE2O3_SCRAM_SERVER_INITIAL. A challenge is open in two of these states."""
+class _Unassigned(enum.IntEnum):
+    """What fe2o3_saslprep does with code points that Unicode 3.2 does not assign."""
 
-    SERVER_INITIAL = 0
-    SERVER_CHALLENGE_OPEN = 1
-    SERVER_AUTHENTICATED = 2
-    SERVER_CHALLENGE_OPEN_CBIND_FLAG_Y = 3
+    REFUSED = 0
+    ALLOWED = 1
+
+
+class _ServerState(enum.IntEnum):
+    """How far the exchange of a SCRAM server is."""
+
+    INITIAL = 0
+    CHALLENGE_OPEN = 1
+    AUTHENTICATED = 2
+    CHALLENGE_OPEN_CBIND_FLAG_Y = 3
 
 
 class _TextStruct(ctypes.Structure):
@@ -795,9 +813,9 @@ def saslprep(text: Text, *, unassigned: bool = False) -> str:
     """The text as SASLprep (RFC 4013) prepares it, as a password is before it is compared or hashed: printable ASCII to
     itself, and any other ASCII is refused. Code points that Unicode 3.2 does not assign are refused, as in a text that
     is stored; `unassigned` allows them, as in one that is only compared with stored ones (RFC 3454, section 7)."""
-    typed = _text(text)
+    typed, choice = _text(text), _Unassigned.ALLOWED if unassigned else _Unassigned.REFUSED
     prepared = _written(
-        len(typed), lambda *room: _library.fe2o3_saslprep(typed, len(typed), int(bool(unassigned)), *room)
+        len(typed), lambda *room: _library.fe2o3_saslprep(typed, len(typed), choice, *room)
     )
     return prepared.decode("utf-8")
 
@@ -1028,9 +1046,12 @@ class Client:
             raise ValueError("a login takes one password")
         given = password if prepared_password is None else prepared_password
         name, typed = _text(username), b"" if given is None else _text(given)
-        # 0 is the password, 1 the keys, 2 both; 3 and 4 are 0 and 2 with a prepared password.
-        secret = 0 if keys is None else 1 if given is None else 2
-        secret += 0 if prepared_password is None else 3 if keys is None else 2
+        if given is None:
+            secret = _Secret.BY_KEYS
+        elif prepared_password is None:
+            secret = _Secret.BY_PASSWORD if keys is None else _Secret.BY_PASSWORD_AND_KEYS
+        else:
+            secret = _Secret.BY_PREPARED if keys is None else _Secret.BY_PREPARED_AND_KEYS
         held = _ScramKeysStruct() if keys is None else keys._struct
         self._login = _LoginStruct(
             version=_number(version),
@@ -1185,10 +1206,10 @@ class _Steps(_Login):
     """A login over the bodies of frames, of which the number of the last step tells how it stands."""
 
     __slots__ = ()
-    _stands: int
+    _progress: int
 
     def _ends(self) -> tuple[int, int]:
-        return min(self._stands, int(Progress.FAILED)), self._stands
+        return min(self._progress, int(Progress.FAILED)), self._progress
 
     def _goes_on(self) -> None:
         if self.progress != Progress.IN_PROGRESS:
@@ -1199,7 +1220,7 @@ class _Steps(_Login):
         number = ctypes.c_uint32()
         # 508 bytes are those of a frame of 512 behind its size (AMQP 1.0, part 5, section 5.3.1).
         answer = _written(508, lambda *room: call(ctypes.byref(number), *room))
-        self._stands = number.value
+        self._progress = number.value
         return answer
 
 
@@ -1214,7 +1235,7 @@ class _ClientSide(_Login):
     def __init__(self, client: Client, *, hostname: Text = "") -> None:
         """A login of this client by SCRAM, whose init names the hostname, if it is not empty. The client's own calls
         go on apart from it."""
-        self._begin(0, client._login, hostname)
+        self._begin(_Mechanism.SCRAM, client._login, hostname)
 
     def _begin(self, mechanism: int, login: _LoginStruct, hostname: Text) -> None:
         name = _text(hostname)
@@ -1238,17 +1259,17 @@ class _ClientSide(_Login):
     @classmethod
     def plain(cls: type[_Side], username: Text, password: Text, *, hostname: Text = "") -> _Side:
         """The login of a user by PLAIN (RFC 4616), which sends the password as it is."""
-        return cls._by(1, username, password, hostname)
+        return cls._by(_Mechanism.PLAIN, username, password, hostname)
 
     @classmethod
     def anonymous(cls: type[_Side], *, hostname: Text = "") -> _Side:
         """The login of a user by ANONYMOUS (RFC 4505)."""
-        return cls._by(2, "", "", hostname)
+        return cls._by(_Mechanism.ANONYMOUS, "", "", hostname)
 
     @classmethod
     def external(cls: type[_Side], *, hostname: Text = "") -> _Side:
         """The login of a user by EXTERNAL (RFC 4422, appendix A), as whom the transport knows."""
-        return cls._by(3, "", "", hostname)
+        return cls._by(_Mechanism.EXTERNAL, "", "", hostname)
 
     def keys(self) -> Keys:
         """The keys of a login by SCRAM, as `Client.keys` hands them out."""
@@ -1302,10 +1323,10 @@ class ClientSteps(_Steps, _ClientSide):
     of them, which this allows, lets the server have a challenge hashed again and again.
     """
 
-    __slots__ = ("_stands",)
+    __slots__ = ("_progress",)
 
     def _fresh(self) -> _ScramClientStruct:
-        self._stands = 0
+        self._progress = 0
         return _ScramClientStruct()
 
     def _scram(self) -> Any:
@@ -1328,21 +1349,10 @@ class ClientSteps(_Steps, _ClientSide):
             )
 
 
-class Offer(enum.IntFlag):
-    """The mechanisms of a server. PLAIN shows the password to whoever reads the connection, and is for TLS alone.
-    TAKE_UNBOUND is no mechanism: with it SCRAM takes a client whose GS2 header is `y,,`, as `Server.first` can."""
-
-    SCRAM = 1
-    PLAIN = 2
-    ANONYMOUS = 4
-    EXTERNAL = 8
-    TAKE_UNBOUND = 16
-
-
 class _ServerSide(_Login):
     """What a server offers, and whose records it has."""
 
-    __slots__ = ("_iterations", "_lock", "_mechanisms", "_peer", "_record_of", "_struct", "_version")
+    __slots__ = ("_iterations", "_lock", "_mechanisms", "_external_authcid", "_record_of", "_struct", "_version")
 
     def __init__(
         self,
@@ -1351,7 +1361,7 @@ class _ServerSide(_Login):
         mechanisms: int = Offer.SCRAM,
         version: int = SHA_256,
         iterations: int = 4096,
-        peer: Optional[Text] = None,
+        external_authcid: Optional[Text] = None,
     ) -> None:
         """A login by one of the mechanisms. `record_of` is asked for the record of a name: for one that it does not
         know it answers `Record.mock(..)`, so that nobody learns that, or None. The count is what PLAIN takes for
@@ -1359,7 +1369,7 @@ class _ServerSide(_Login):
         empty, EXTERNAL is not offered, and an init of it is refused."""
         self._record_of, self._mechanisms, self._version = record_of, _number(mechanisms), _number(version)
         self._iterations, self._struct = _number(iterations), self._fresh()
-        self._peer = _text("" if peer is None else peer)
+        self._external_authcid = _text("" if external_authcid is None else external_authcid)
         self._lock = threading.RLock()
 
     def _fresh(self) -> Any:
@@ -1368,7 +1378,7 @@ class _ServerSide(_Login):
     def _scram(self) -> Any:
         raise NotImplementedError
 
-    def _host(self, name: Optional[str]) -> _SaslServerConfigStruct:
+    def _config(self, name: Optional[str]) -> _SaslServerConfigStruct:
         """What the library is lent, with the record of this name, if there is one."""
         record = None if name is None else self._record_of(name)
         known = b"" if name is None else _text(name)
@@ -1379,8 +1389,8 @@ class _ServerSide(_Login):
             username=known,
             username_len=len(known),
             record=ctypes.pointer(_ScramRecordStruct() if record is None else record._struct),
-            peer=self._peer,
-            peer_len=len(self._peer),
+            external_authcid=self._external_authcid,
+            external_authcid_len=len(self._external_authcid),
         )
 
     @staticmethod
@@ -1393,11 +1403,11 @@ class _ServerSide(_Login):
                 return None
             raise
 
-    def logged_in(self) -> Optional[str]:
+    def authenticated_user(self) -> Optional[str]:
         """The plain name of the user who has logged in; None by ANONYMOUS. Raises `Refused` before."""
         with self._lock:
             scram = self._scram()
-            if self.progress == Progress.AUTHENTICATED and not scram.stands:
+            if self.progress == Progress.AUTHENTICATED and scram.state == _ServerState.INITIAL:
                 return None
             name = _written(256, lambda *room: _library.fe2o3_scram_server_authenticated_user(ctypes.byref(scram), *room))
         return name.decode("utf-8")
@@ -1427,11 +1437,11 @@ class ServerConnection(_Connection, _ServerSide):
 
     def _step(self, data: bytes) -> tuple[bytes, int]:
         name = self._named(lambda *room: _library.fe2o3_sasl_server_claimed_user(self._struct, data, len(data), *room))
-        host, nonce, taken = self._host(name), secrets.token_bytes(32), ctypes.c_size_t()
+        config, nonce, taken = self._config(name), secrets.token_bytes(32), ctypes.c_size_t()
         answer = _written(
             520,
             lambda *room: _library.fe2o3_sasl_server_receive(
-                host, self._struct, data, len(data), nonce, ctypes.byref(taken), *room
+                config, self._struct, data, len(data), nonce, ctypes.byref(taken), *room
             ),
         )
         return answer, taken.value
@@ -1444,10 +1454,10 @@ class ServerSteps(_Steps, _ServerSide):
     allows, lets the client try again and again.
     """
 
-    __slots__ = ("_stands",)
+    __slots__ = ("_progress",)
 
     def _fresh(self) -> _ScramServerStruct:
-        self._stands = 0
+        self._progress = 0
         return _ScramServerStruct()
 
     def _scram(self) -> Any:
@@ -1455,8 +1465,8 @@ class ServerSteps(_Steps, _ServerSide):
 
     def offer(self) -> bytes:
         """The body of the frame with which the server offers its mechanisms, to whoever has sent the header of SASL."""
-        host = self._host(None)
-        return _written(508, lambda *room: _library.fe2o3_sasl_server_offer(host, *room))
+        config = self._config(None)
+        return _written(508, lambda *room: _library.fe2o3_sasl_server_offer(config, *room))
 
     def on_frame(self, body: Bytes) -> bytes:
         """The body that is to be sent for one that came: a challenge, or the outcome, behind which `progress` says how
@@ -1465,9 +1475,9 @@ class ServerSteps(_Steps, _ServerSide):
         with self._lock:
             self._goes_on()
             name = self._named(lambda *room: _library.fe2o3_sasl_server_step_claimed_user(self._struct, came, len(came), *room))
-            host = self._host(name)
+            config = self._config(name)
             return self._stepped(
-                lambda *room: _library.fe2o3_sasl_server_step(host, self._struct, came, len(came), nonce, *room)
+                lambda *room: _library.fe2o3_sasl_server_step(config, self._struct, came, len(came), nonce, *room)
             )
 
 
@@ -1485,21 +1495,21 @@ class Server:
         self._lock = threading.RLock()
 
     @staticmethod
-    def user(client_first: Bytes) -> str:
+    def claimed_user(client_first: Bytes) -> str:
         """The plain name of the user whom a client-first message names, and whose record is to be fetched."""
         message = _bytes(client_first)
         name = _written(256, lambda *room: _library.fe2o3_scram_server_claimed_user(message, len(message), *room))
         return name.decode("utf-8")
 
-    def first(self, record: Record, client_first: Bytes, *, unbound: bool = False) -> bytes:
+    def first(self, record: Record, client_first: Bytes, *, accept_cbind_flag_y: bool = False) -> bytes:
         """The server-first message, with a fresh nonce, which answers the client-first message. The record is that of
         the user whom the message names, or `Record.mock`.
 
-        The GS2 header of the message has to be `n,,`. With `unbound` it may be `y,,` too: that of a client which could
+        The GS2 header of the message has to be `n,,`. With `accept_cbind_flag_y` it may be `y,,` too: that of a client which could
         bind a channel, and was offered no mechanism with `-PLUS` (RFC 5802, section 6). Only for a server that offers
         none."""
         message, nonce, opened = _bytes(client_first), secrets.token_bytes(32), _ScramServerStruct()
-        call = _library.fe2o3_scram_server_first_with_cbind_flag_y if unbound else _library.fe2o3_scram_server_first
+        call = _library.fe2o3_scram_server_first_with_cbind_flag_y if accept_cbind_flag_y else _library.fe2o3_scram_server_first
         answer = _written(1024, lambda *room: call(record._struct, opened, nonce, message, len(message), *room))
         with self._lock:
             self._exchange = record, opened
@@ -1515,7 +1525,7 @@ class Server:
                 lambda *room: _library.fe2o3_scram_server_final(record._struct, opened, message, len(message), *room),
             )
 
-    def logged_in(self) -> str:
+    def authenticated_user(self) -> str:
         """The plain name of the user who has logged in: the one whose challenge was answered."""
         with self._lock:
             opened = self._exchange[1]
