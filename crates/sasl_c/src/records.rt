@@ -7,7 +7,7 @@ ghost use Rattle.fe2o3_scram.specs.RecordText.{ReachesValues};
 ghost use Rattle.fe2o3_scram.specs.Passwords.{Prepared, Typed};
 ghost use Rattle.sasl_c.specs.Passwords.{in_form};
 ghost use Rattle.sasl_c.specs.Status.{Answers, AsksWhere, Fills, Makes};
-ghost use Rattle.sasl_c.specs.Records.{RecordHasRoom, ShowsSomeRecord, ShowsRecord, record_struct, struct_making_tests, MakesRecordStruct, MakesUp, mock_tests, ParsesStruct, SpellsStruct, Verifies};
+ghost use Rattle.sasl_c.specs.Records.{RecordHasRoom, ShowsSomeRecord, ShowsRecord, record_struct, struct_making_tests, MakesRecordStruct, MakesUp, mock_tests, ParsesStruct, SpellsStruct, VerifiesPassword};
 ghost use Rattle.sasl_c.specs.declared.records.ScramRecord.{ScramRecord as Struct};
 ghost use Rattle.sasl_c.specs.declared.status.Status.TheVariants.{OutOfMemory as StatusOutOfMemory, RoomTooSmall};
 
@@ -354,7 +354,7 @@ pub extern "C" fn fe2o3_scram_record_mock(
 
 /// Whether a password is that of the record, which takes no memory.
 fn verify(kept: &ScramRecord, form: PasswordForm, password: &[u8]) -> Result<(), Status>
-    ensures { Verifies kept.now (in_form form password.now) result }
+    ensures { VerifiesPassword kept.now (in_form form password.now) result }
 {
     let (version, stored) = kept.lent()?;
     let Ok(password) = text(password) else {
@@ -372,7 +372,7 @@ fn verify(kept: &ScramRecord, form: PasswordForm, password: &[u8]) -> Result<(),
 /// own.
 #[unsafe(no_mangle)]
 pub extern "C" fn fe2o3_scram_record_verify(kept: &ScramRecord, password: &[u8]) -> u32
-    ensures { Answers result (Verifies kept.now (Typed password.now)) }
+    ensures { Answers result (VerifiesPassword kept.now (Typed password.now)) }
 {
     number(verify(kept, PasswordForm::Typed, password))
 }
@@ -380,7 +380,7 @@ pub extern "C" fn fe2o3_scram_record_verify(kept: &ScramRecord, password: &[u8])
 /// Compares a prepared password with a record, like `fe2o3_scram_record_verify`. The text is used without change.
 #[unsafe(no_mangle)]
 pub extern "C" fn fe2o3_scram_record_verify_prepared(kept: &ScramRecord, password: &[u8]) -> u32
-    ensures { Answers result (Verifies kept.now (Prepared password.now)) }
+    ensures { Answers result (VerifiesPassword kept.now (Prepared password.now)) }
 {
     number(verify(kept, PasswordForm::Prepared, password))
 }
