@@ -53,7 +53,7 @@ pub use fe2o3_sasl_core::restrict_mechanisms::RestrictMechanisms;
 pub use fe2o3_sasl_core::any_mechanism;
 pub use fe2o3_sasl_core::any_mechanism::HasMechanism;
 pub use fe2o3_sasl_core::any_mechanism::AnyMechanism;
-pub use fe2o3_sasl_core::any_mechanism::Part;
+pub use fe2o3_sasl_core::any_mechanism::Selected;
 pub use fe2o3_sasl_core::plain_server;
 pub use fe2o3_sasl_core::plain_server::MAX_PASSWORD_LEN;
 pub use fe2o3_sasl_core::plain_server::PlainServer;

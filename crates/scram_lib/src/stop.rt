@@ -73,7 +73,7 @@ pub enum Stop {
     #[error("The secret of mock records, FILE.secret, cannot be used: {0}.")]
     Secret(SecretError),
 
-    /// MockSettings has the name.
+    /// No record has the name.
     #[error("The file has no such record.")]
     MockSettings,
 
