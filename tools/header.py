@@ -141,6 +141,7 @@ class Reader:
         for source in self.sources:
             if "\npub enum Status {\n" in source.text:
                 self.read_statuses(source)
+        self.statuses.sort(key=lambda status: status.number)
         texts = [(source, found) for source in self.sources if (found := TEXTS.search(source.text))]
         if not texts:
             sys.exit(f"{folder}: no `text_of` that is known")
@@ -228,6 +229,11 @@ class Reader:
                 arm = numbers.get((kind, one)) or library.refuse(place, f"`{one}` has no number in {source.path}")
                 if one != "OutOfMemory" or arm[4] != "1":
                     self.add(source, at, doc, KIND_NAMES[kind] + snake(one).upper(), arm)
+
+        for at, doc, name, kind in source.variants("WriteError"):
+            if not kind:
+                arm = re.search(rf"Err\((WriteError)::({name})\)() => (\d+),\n", source.text)
+                self.add(source, at, doc, snake(name).upper(), arm or source.refuse(at, f"`{name}` has no number"))
 
     def add(self, source, at, doc, name, arm):
         if not arm[4] or int(arm[4]) in {status.number for status in self.statuses}:

@@ -1,15 +1,15 @@
 """SCRAM (RFC 5802, RFC 7677), and the SASL layer of AMQP 1.0, by the library of `fe2o3_sasl.h`, called by `ctypes`.
 
-The library is the file that the environment variable FE2O3_SASL_LIB names, or else `libfe2o3_sasl.so.1` where the
-system finds it. It is loaded with the module, and refused where its structs have other sizes than those below.
+The module loads the library that the environment variable FE2O3_SASL_LIB names, otherwise the system's
+`libfe2o3_sasl.so.1`. Importing it fails if the structs of the library have other sizes than those below.
 
 A client:
 
     client = Client(SHA_256, "user", password="pencil")
     send(client.first())
     send(client.final(receive()))
-    client.verify(receive())            # logged in, and the server knew the password too
-    keys = client.keys()                # takes the place of the password at the next login
+    client.verify(receive())            # raises unless the server is authenticated too
+    keys = client.keys()                # replaces the password at the next login
 
 A server:
 
@@ -17,11 +17,11 @@ A server:
     message = receive()
     send(server.first(record_of(Server.claimed_user(message)), message))
     send(server.final(receive()))
-    name = server.authenticated_user()           # logged in
+    name = server.authenticated_user()
 
-where `record_of` answers `Record.mock(..)` for a name that it does not know.
+`record_of` returns `Record.mock(..)` for a name that it does not know.
 
-A password past ASCII is prepared on both sides, before it is kept and before it is handed in:
+Prepare a non-ASCII password on both sides:
 
     password = saslprep("pe\\u0301ncil")
     record = Record.make_prepared(SHA_256, password)
@@ -35,9 +35,9 @@ The client's side of a connection of AMQP 1.0, before its first frame of AMQP:
     while side.progress == Progress.IN_PROGRESS:
         answer, rest = side.receive(socket.recv(4096))
         socket.sendall(answer)
-    # logged in where side.progress is Progress.AUTHENTICATED, and `rest` is AMQP's; else side.why says why not
+    # complete if side.progress is Progress.AUTHENTICATED; then `rest` belongs to AMQP. Otherwise side.why says why not.
 
-The same over the bodies of frames, each from the data offset on, for who reads and writes the frames:
+A login over frame bodies, each from the data offset on, for programs that read and write frames themselves:
 
     side = ClientSteps(client, hostname="broker.example")
     for _ in range(3):                  # the mechanisms, a challenge, and the outcome
@@ -45,14 +45,13 @@ The same over the bodies of frames, each from the data offset on, for who reads 
         if side.progress != Progress.IN_PROGRESS:
             break
         send_body(answer)
-    # logged in where side.progress is Progress.AUTHENTICATED; else side.why says why not
+    # complete if side.progress is Progress.AUTHENTICATED; otherwise side.why says why not
 
-A call that the library refuses raises `Refused` and leaves the object as it was. A call that does not raise is done.
-An argument that is none (another type, a number outside of its C type) raises TypeError or ValueError before any call.
-Any thread may call: calls on one object wait for each other, and what takes long does not hold the interpreter.
+A call that fails raises `Refused` and leaves the object as it was. An argument of a wrong type, or a number that does
+not fit its C type, raises TypeError or ValueError before the library is called. Any thread may call. Calls on one
+object wait for each other, and the interpreter is not locked meanwhile.
 
-No secret is in a `repr` or in an exception of this module. Secrets are not wiped from memory, neither here nor in the
-library nor by Python.
+No `repr` and no exception of this module contains a secret. Secrets are not wiped from memory.
 """
 
 from __future__ import annotations
@@ -711,10 +710,9 @@ Bytes = Union[bytes, bytearray, memoryview]
 
 
 class Refused(Exception):
-    """The library did not do a call. Nothing has changed.
+    """A call of the library failed. Nothing has changed.
 
-    `status` is the number that it answered: one of `Status`, or one that a later library has. `text` says the same in
-    words.
+    `status` is one of `Status`, or a number of a later library. `text` is its text.
     """
 
     def __init__(self, status: int, text: str) -> None:
@@ -766,8 +764,8 @@ def _done(status: int) -> None:
 
 
 def _written(room: int, call: Callable[..., int]) -> bytes:
-    """The text that a call writes: `call` is given the room, its length, and where the length of the text goes. A
-    call for which this room is too small has changed nothing, and is made again with one that suffices."""
+    """Returns the text that a call writes. `call` receives a buffer, its size, and where the text's length goes. If the
+    buffer is too small, the call is repeated with one that suffices."""
     length = ctypes.c_size_t(room)
     for _ in range(2):
         given = length.value
@@ -780,17 +778,17 @@ def _written(room: int, call: Callable[..., int]) -> bytes:
 
 
 def _bytes(value: Bytes) -> bytes:
-    # (`bytes(5)` would be five zeros, and a class of another's could tell another length than there is)
+    # (`bytes(5)` would be five zeros, and a foreign class could report a wrong length)
     return value if type(value) is bytes else memoryview(value).tobytes()
 
 
 def _text(value: Text) -> bytes:
-    # What is no text, such as half of a surrogate pair, the library refuses, without a word of it in an exception.
+    # The library rejects what is not UTF-8, such as half a surrogate pair, with no part of the text in the exception.
     return str.encode(value, "utf-8", "surrogatepass") if isinstance(value, str) else _bytes(value)
 
 
 def _number(value: int, most: int = 0xFFFFFFFF) -> int:
-    # (ctypes would cut off what does not fit)
+    # (ctypes would truncate)
     number = operator.index(value)
     if not 0 <= number <= most:
         raise ValueError(f"not from 0 to {most}")
@@ -804,15 +802,15 @@ def _salt(given: Optional[Bytes]) -> bytes:
 def _make(
     call: Callable[..., int], struct: ctypes.Structure, version: int, password: Text, salt: Bytes, iterations: int
 ) -> None:
-    """Makes the struct of a password."""
+    """Computes the struct of a password."""
     secret, salt = _text(password), _bytes(salt)
     _done(call(_number(version), secret, len(secret), salt, len(salt), _number(iterations), ctypes.byref(struct)))
 
 
 def saslprep(text: Text, *, unassigned: bool = False) -> str:
-    """The text as SASLprep (RFC 4013) prepares it, as a password is before it is compared or hashed: printable ASCII to
-    itself, and any other ASCII is refused. Code points that Unicode 3.2 does not assign are refused, as in a text that
-    is stored; `unassigned` allows them, as in one that is only compared with stored ones (RFC 3454, section 7)."""
+    """Returns the text that SASLprep (RFC 4013) prepares `text` to. Printable ASCII is prepared to itself; other
+    ASCII is rejected. Code points that Unicode 3.2 does not assign are rejected, as a stored text requires;
+    `unassigned` allows them, for a text that is only compared with stored ones (RFC 3454, section 7)."""
     typed, choice = _text(text), _Unassigned.ALLOWED if unassigned else _Unassigned.REFUSED
     prepared = _written(
         len(typed), lambda *room: _library.fe2o3_saslprep(typed, len(typed), choice, *room)
@@ -821,12 +819,12 @@ def saslprep(text: Text, *, unassigned: bool = False) -> str:
 
 
 class Keys:
-    """What a client keeps in place of its password: a secret, with which one can log in. It does not change."""
+    """The keys that a client can cache in place of its password. They are secret: they suffice to log in. Immutable."""
 
     __slots__ = ("_struct",)
 
     def __init__(self, version: int, iterations: int, salt: Bytes, client_key: Bytes, server_key: Bytes) -> None:
-        """The keys of these fields, which an earlier login handed out."""
+        """Keys from the values that an earlier login returned."""
         if version not in _DIGEST_LENGTHS:
             raise ValueError("the version is none of SHA_1, SHA_256 and SHA_512")
         digest_length = _DIGEST_LENGTHS[version]
@@ -849,14 +847,14 @@ class Keys:
 
     @classmethod
     def make(cls, version: int, password: Text, salt: Bytes, iterations: int) -> Keys:
-        """The keys that stand in place of a password, for a server that keeps this salt and this count."""
+        """Derives the keys of a typed password, for a server that uses this salt and iteration count."""
         struct = _ScramKeysStruct()
         _make(_library.fe2o3_scram_keys_make, struct, version, password, salt, iterations)
         return cls._of(struct)
 
     @classmethod
     def make_prepared(cls, version: int, password: Text, salt: Bytes, iterations: int) -> Keys:
-        """The same of a prepared password (`saslprep`): any text, which is taken as it stands."""
+        """Derives the keys of a prepared password (`saslprep`): any text, used without change."""
         struct = _ScramKeysStruct()
         _make(_library.fe2o3_scram_keys_make_prepared, struct, version, password, salt, iterations)
         return cls._of(struct)
@@ -868,22 +866,22 @@ class Keys:
 
     @property
     def iterations(self) -> int:
-        """The iteration count that they are of."""
+        """The iteration count for which the keys were derived."""
         return int(self._struct.iterations)
 
     @property
     def salt(self) -> bytes:
-        """The salt that they are of."""
+        """The salt for which the keys were derived."""
         return bytes(self._struct.salt)[: self._struct.salt_len]
 
     @property
     def client_key(self) -> bytes:
-        """The ClientKey, a secret."""
+        """The ClientKey. It is secret."""
         return bytes(self._struct.client_key)[: _DIGEST_LENGTHS[self.version]]
 
     @property
     def server_key(self) -> bytes:
-        """The ServerKey, a secret."""
+        """The ServerKey. It is secret."""
         return bytes(self._struct.server_key)[: _DIGEST_LENGTHS[self.version]]
 
     def __repr__(self) -> str:
@@ -891,7 +889,7 @@ class Keys:
 
 
 class Record:
-    """What a server keeps of a password. It does not change."""
+    """What a server stores of a password. Immutable."""
 
     __slots__ = ("_struct",)
 
@@ -908,7 +906,7 @@ class Record:
 
     @classmethod
     def make(cls, version: int, password: Text, *, salt: Optional[Bytes] = None, iterations: int = 4096) -> Record:
-        """The record of a password. Where no salt is given it is 16 random bytes."""
+        """Computes the record of a typed password. The salt defaults to 16 random bytes."""
         struct = _ScramRecordStruct()
         _make(_library.fe2o3_scram_record_make, struct, version, password, _salt(salt), iterations)
         return cls._of(struct)
@@ -917,15 +915,15 @@ class Record:
     def make_prepared(
         cls, version: int, password: Text, *, salt: Optional[Bytes] = None, iterations: int = 4096
     ) -> Record:
-        """The same of a prepared password (`saslprep`): any text, which is taken as it stands. A client logs in by that
-        very text alone."""
+        """Computes the record of a prepared password (`saslprep`): any text, used without change. A client logs in with
+        exactly that text."""
         struct = _ScramRecordStruct()
         _make(_library.fe2o3_scram_record_make_prepared, struct, version, password, _salt(salt), iterations)
         return cls._of(struct)
 
     @classmethod
     def parse(cls, text: Text) -> Record:
-        """The record of a text, as PostgreSQL writes it (RFC 5803, section 2)."""
+        """Parses the text of a record, as PostgreSQL writes it (RFC 5803, section 2)."""
         struct, spelled = _ScramRecordStruct(), _text(text)
         _done(_library.fe2o3_scram_record_parse(spelled, len(spelled), ctypes.byref(struct)))
         return cls._of(struct)
@@ -934,9 +932,9 @@ class Record:
     def mock(
         cls, version: int, secret: Bytes, username: Text, *, salt_length: int = 16, iterations: int = 4096
     ) -> Record:
-        """A record for a name that a server does not know, so that it can answer as to one that it knows: the login
-        is refused at its proof. The secret is 32 random bytes or more, the same for all names and kept as long as the
-        records; the length of the salt, of at most 64, and the count are those of the server's other records."""
+        """Computes a mock record for a name that the server does not know, so that it answers unknown users like known
+        ones. The login then fails at its proof. The secret is 32 or more random bytes, one value for all names, kept as
+        long as the records. The salt length, at most 64, and the iteration count are those of the other records."""
         struct, secret, name = _ScramRecordStruct(), _bytes(secret), _text(username)
         if len(secret) < 32:
             raise ValueError("the secret has fewer than 32 bytes")
@@ -956,8 +954,8 @@ class Record:
 
     @classmethod
     def find(cls, lines: Text, username: Text, version: int) -> Record:
-        """The record of this version that a user has in a text of users, a line for each, as `line` writes them. Raises
-        `Refused`: NO_SUCH_USER where there is none, and where a line is not read why, the first of them."""
+        """Finds the record of a user and a version in a text of lines as `line` writes them. Raises `Refused` with
+        NO_SUCH_USER if there is none, or with the reason why the first bad line cannot be parsed."""
         struct, text, name, at = _ScramRecordStruct(), _text(lines), _text(username), ctypes.c_size_t()
         status = _library.fe2o3_scram_lines_find(
             text, len(text), name, len(name), _number(version), ctypes.byref(at), ctypes.byref(struct)
@@ -968,8 +966,8 @@ class Record:
         return cls._of(struct)
 
     def line(self, username: Text) -> str:
-        """The line of a user with this record: the name, its commas and equals signs escaped, a space, the text of the
-        record, and a line feed."""
+        """Returns the line of a user with this record: the name with its commas and equals signs escaped, a space, the
+        text of the record, and a line feed."""
         name = _text(username)
         line = _written(
             3 * len(name) + 384, lambda *room: _library.fe2o3_scram_line(name, len(name), self._struct, *room)
@@ -977,16 +975,17 @@ class Record:
         return line.decode("utf-8")
 
     def text(self) -> str:
-        """The text of the record, as PostgreSQL reads it (RFC 5803, section 2). Whoever has it can try passwords."""
+        """Returns the text of the record, as PostgreSQL reads it (RFC 5803, section 2). Anyone who has it can try
+        passwords."""
         return _written(384, lambda *room: _library.fe2o3_scram_record_text(self._struct, *room)).decode("ascii")
 
     def verify(self, password: Text) -> bool:
-        """Whether a password that was told, as by PLAIN, is that of the record. Raises `Refused` where it is not
-        UTF-8 or memory ran out."""
+        """Returns whether a typed password, for instance one received by PLAIN, is the record's. Raises `Refused` if it
+        is not UTF-8."""
         return self._meets(_library.fe2o3_scram_record_verify, password)
 
     def verify_prepared(self, password: Text) -> bool:
-        """Whether a prepared password is that of the record, as `verify`."""
+        """Returns whether a prepared password is the record's, like `verify`."""
         return self._meets(_library.fe2o3_scram_record_verify_prepared, password)
 
     def _meets(self, call: Callable[..., int], password: Text) -> bool:
@@ -1017,13 +1016,12 @@ class Record:
 
 
 class Client:
-    """One who logs in: by the password, by the keys of an earlier login, or by both: then by the keys where the server
-    names the salt and the count that they are of, and else by the password. The password is one as it is typed, of
-    printable ASCII, or a prepared one (`saslprep`), which is any text, taken as it stands.
+    """A SCRAM client. It logs in with a password, with the keys of an earlier login, or with both: then it uses the
+    keys if they are of the server's salt and iteration count, otherwise the password. The password is a typed one,
+    of printable ASCII, or a prepared one (`saslprep`): any text, used without change.
 
-    The calls come in the order `first`, `final`, `verify`, and `first` starts afresh at any time. `verify` is the one
-    that tells whether the login is done.
-    """
+    Call `first`, `final` and `verify` in this order. `first` starts a new exchange at any time. The login is
+    complete only if `verify` does not raise."""
 
     __slots__ = ("_lock", "_login", "_struct")
 
@@ -1038,8 +1036,8 @@ class Client:
         min_iterations: int = 4096,
         max_iterations: int = 1_000_000,
     ) -> None:
-        """A client that has sent nothing. It answers no iteration count below the least, which a server could name to
-        learn the password sooner (RFC 7677 asks for 4096 at least), and none above the most, which costs time."""
+        """A client that has sent nothing. It rejects an iteration count below the minimum, with which a server could
+        guess the password sooner (RFC 7677 requires at least 4096), and one above the maximum, which costs time."""
         if password is None and prepared_password is None and keys is None:
             raise ValueError("a login takes a password, keys, or both")
         if password is not None and prepared_password is not None:
@@ -1068,7 +1066,7 @@ class Client:
         self._lock = threading.RLock()
 
     def first(self) -> bytes:
-        """The client-first message, with a fresh nonce."""
+        """Returns the client-first message, with a fresh nonce."""
         nonce = secrets.token_bytes(32)
         with self._lock:
             return _written(
@@ -1077,7 +1075,7 @@ class Client:
             )
 
     def final(self, server_first: Bytes) -> bytes:
-        """The client-final message, which answers the server-first message."""
+        """Answers the server-first message with the client-final message."""
         message = _bytes(server_first)
         with self._lock:
             return _written(
@@ -1088,14 +1086,15 @@ class Client:
             )
 
     def verify(self, server_final: Bytes) -> None:
-        """Verifies the server-final message, or raises `Refused`. The login is done only where this does not raise."""
+        """Verifies the server-final message. The login is complete, and the server authenticated, only if this does not
+        raise."""
         message = _bytes(server_final)
         with self._lock:
             _done(_library.fe2o3_scram_client_verify(self._login, self._struct, message, len(message)))
 
     def keys(self) -> Keys:
-        """The keys of a login whose server was believed: with them the next login to a server that keeps its salt and
-        its count takes no password, and little time. Whoever has them can log in."""
+        """Returns the keys of a complete login. As long as the server keeps its salt and iteration count, a login by
+        keys needs no password and little time. The keys are secret: they suffice to log in."""
         struct = _ScramKeysStruct()
         with self._lock:
             _done(_library.fe2o3_scram_client_get_keys(self._struct, ctypes.byref(struct)))
@@ -1174,12 +1173,12 @@ class _Login:
     _struct: Any
 
     def _ends(self) -> tuple[int, int]:
-        """How the login stands, and the status of why it is refused."""
+        """How far the login is, and the status of why it failed."""
         raise NotImplementedError
 
     @property
     def progress(self) -> int:
-        """How the login stands: one of `Progress`."""
+        """How far the login is: one of `Progress`."""
         return self._ends()[0]
 
     @property
@@ -1193,7 +1192,7 @@ class _Login:
 
 
 class _Connection(_Login):
-    """A login over the bytes of a connection, whose struct tells how it stands."""
+    """A login over the bytes of a connection, whose struct says how far it is."""
 
     __slots__ = ()
 
@@ -1203,7 +1202,7 @@ class _Connection(_Login):
 
 
 class _Steps(_Login):
-    """A login over the bodies of frames, of which the number of the last step tells how it stands."""
+    """A login over frame bodies. The number of the last step says how far it is."""
 
     __slots__ = ()
     _progress: int
@@ -1216,7 +1215,7 @@ class _Steps(_Login):
             _done(Status.ENDED)
 
     def _stepped(self, call: Callable[..., int]) -> bytes:
-        """The body that a step writes: `call` is given where the number goes, and what `_written` gives."""
+        """Returns the body that a step writes. `call` receives where the number goes, and what `_written` passes."""
         number = ctypes.c_uint32()
         # 508 bytes are those of a frame of 512 behind its size (AMQP 1.0, part 5, section 5.3.1).
         answer = _written(508, lambda *room: call(ctypes.byref(number), *room))
@@ -1228,18 +1227,18 @@ _Side = TypeVar("_Side", bound="_ClientSide")
 
 
 class _ClientSide(_Login):
-    """Who logs in, and by which mechanism."""
+    """A client's login, and its mechanism."""
 
     __slots__ = ("_lock", "_login", "_struct")
 
     def __init__(self, client: Client, *, hostname: Text = "") -> None:
-        """A login of this client by SCRAM, whose init names the hostname, if it is not empty. The client's own calls
-        go on apart from it."""
+        """A login of this client by SCRAM. The init has the hostname, if it is not empty. The client's own exchange is
+        not affected."""
         self._begin(_Mechanism.SCRAM, client._login, hostname)
 
     def _begin(self, mechanism: int, login: _LoginStruct, hostname: Text) -> None:
         name = _text(hostname)
-        # (the words of a login that is copied into another struct are kept alive by the one that has them)
+        # (the original struct keeps the texts of its copy alive)
         self._login = _SaslLoginStruct(mechanism=mechanism, hostname=name, hostname_len=len(name), login=login), login
         self._struct = self._fresh()
         self._lock = threading.RLock()
@@ -1258,21 +1257,21 @@ class _ClientSide(_Login):
 
     @classmethod
     def plain(cls: type[_Side], username: Text, password: Text, *, hostname: Text = "") -> _Side:
-        """The login of a user by PLAIN (RFC 4616), which sends the password as it is."""
+        """A login by PLAIN (RFC 4616), which sends the password in clear."""
         return cls._by(_Mechanism.PLAIN, username, password, hostname)
 
     @classmethod
     def anonymous(cls: type[_Side], *, hostname: Text = "") -> _Side:
-        """The login of a user by ANONYMOUS (RFC 4505)."""
+        """A login by ANONYMOUS (RFC 4505)."""
         return cls._by(_Mechanism.ANONYMOUS, "", "", hostname)
 
     @classmethod
     def external(cls: type[_Side], *, hostname: Text = "") -> _Side:
-        """The login of a user by EXTERNAL (RFC 4422, appendix A), as whom the transport knows."""
+        """A login by EXTERNAL (RFC 4422, appendix A), as the user that the transport has authenticated."""
         return cls._by(_Mechanism.EXTERNAL, "", "", hostname)
 
     def keys(self) -> Keys:
-        """The keys of a login by SCRAM, as `Client.keys` hands them out."""
+        """Returns the keys of a login by SCRAM, like `Client.keys`."""
         struct = _ScramKeysStruct()
         with self._lock:
             _done(_library.fe2o3_scram_client_get_keys(ctypes.byref(self._scram()), ctypes.byref(struct)))
@@ -1280,8 +1279,8 @@ class _ClientSide(_Login):
 
 
 class ClientConnection(_Connection, _ClientSide):
-    """The client's side of one connection of AMQP 1.0, from its first byte to the end of the login. It owns no
-    socket: what came is handed in, in pieces of any size, and what is to be sent is handed out."""
+    """The client's side of one AMQP 1.0 connection, from its first byte to the end of the login. It does no I/O: you
+    pass in received bytes, in pieces of any size, and send the bytes it returns."""
 
     __slots__ = ()
 
@@ -1293,12 +1292,12 @@ class ClientConnection(_Connection, _ClientSide):
 
     @staticmethod
     def open() -> bytes:
-        """The header of SASL, which a client sends first."""
+        """Returns the SASL protocol header, which a client sends first."""
         return _written(8, lambda *room: _library.fe2o3_sasl_client_open(*room))
 
     def receive(self, data: Bytes) -> tuple[bytes, bytes]:
-        """What is to be sent for bytes that came, and those of them that are left: none while more are wanted, and
-        behind a login what is AMQP's."""
+        """Takes received bytes, and returns the bytes to send and the bytes that are left: none while the login
+        goes on, and after it those that belong to AMQP."""
         rest, answers, taken = _bytes(data), [], ctypes.c_size_t()
         with self._lock:
             while rest and self.progress == Progress.IN_PROGRESS:
@@ -1316,12 +1315,11 @@ class ClientConnection(_Connection, _ClientSide):
 
 
 class ClientSteps(_Steps, _ClientSide):
-    """The client's side of one login over the bodies of frames, each from the data offset on, behind the four bytes of
-    the frame's size.
+    """The client's side of one login over frame bodies, each from the data offset on, without the four bytes of the
+    frame's size.
 
-    A login takes three bodies of the server: its mechanisms, for SCRAM a challenge, and the outcome. Who answers more
-    of them, which this allows, lets the server have a challenge hashed again and again.
-    """
+    A login takes three bodies of the server: its mechanisms, for SCRAM a challenge, and the outcome. If you pass
+    more of them, the server can make the client hash again and again."""
 
     __slots__ = ("_progress",)
 
@@ -1333,12 +1331,12 @@ class ClientSteps(_Steps, _ClientSide):
         return self._struct
 
     def on_frame(self, body: Bytes) -> bytes:
-        """The body that is to be sent for one that came: the init for the mechanisms, the response for a challenge, and
-        nothing for an outcome, behind which `progress` says how the login stands. Where it raises, other than for want
-        of memory, the connection is to be closed.
+        """Takes a received body, and returns the body to send: the init for the mechanisms, the response for a
+        challenge, and nothing for an outcome. Then `progress` says how far the login is. If it raises, other than
+        OUT_OF_MEMORY, close the connection.
 
-        PLAIN, ANONYMOUS and EXTERNAL are logged in by any outcome Ok, also by one that comes first; SCRAM by one alone
-        that shows that the server has the verifier (RFC 5802, section 5)."""
+        PLAIN, ANONYMOUS and EXTERNAL accept any outcome Ok, even one that comes first. SCRAM accepts only an outcome
+        that authenticates the server (RFC 5802, section 5)."""
         came, nonce = _bytes(body), secrets.token_bytes(32)
         with self._lock:
             self._goes_on()
@@ -1350,7 +1348,7 @@ class ClientSteps(_Steps, _ClientSide):
 
 
 class _ServerSide(_Login):
-    """What a server offers, and whose records it has."""
+    """A server's login: what it offers, and its records."""
 
     __slots__ = ("_iterations", "_lock", "_mechanisms", "_external_authcid", "_record_of", "_struct", "_version")
 
@@ -1363,10 +1361,10 @@ class _ServerSide(_Login):
         iterations: int = 4096,
         external_authcid: Optional[Text] = None,
     ) -> None:
-        """A login by one of the mechanisms. `record_of` is asked for the record of a name: for one that it does not
-        know it answers `Record.mock(..)`, so that nobody learns that, or None. The count is what PLAIN takes for
-        an unknown user. EXTERNAL lets in the peer, the name that the transport has authenticated. Where that is None or
-        empty, EXTERNAL is not offered, and an init of it is refused."""
+        """A login by one of the mechanisms. `record_of` returns the record of a name. For an unknown name it returns
+        `Record.mock(..)`, so that the client does not learn which names exist, or None. With the iteration count PLAIN
+        hashes the password of an unknown user. EXTERNAL accepts `external_authcid`, the name that the transport has
+        authenticated. If it is None or empty, EXTERNAL is not offered, and an init for it fails."""
         self._record_of, self._mechanisms, self._version = record_of, _number(mechanisms), _number(version)
         self._iterations, self._struct = _number(iterations), self._fresh()
         self._external_authcid = _text("" if external_authcid is None else external_authcid)
@@ -1379,7 +1377,7 @@ class _ServerSide(_Login):
         raise NotImplementedError
 
     def _config(self, name: Optional[str]) -> _SaslServerConfigStruct:
-        """What the library is lent, with the record of this name, if there is one."""
+        """Returns the configuration for the library, with the record of this name, if there is one."""
         record = None if name is None else self._record_of(name)
         known = b"" if name is None else _text(name)
         return _SaslServerConfigStruct(
@@ -1395,7 +1393,7 @@ class _ServerSide(_Login):
 
     @staticmethod
     def _named(call: Callable[..., int]) -> Optional[str]:
-        """The user whom a call names, if it names one."""
+        """Returns the user that a call says is claimed, if any."""
         try:
             return _written(512, call).decode("utf-8")
         except Refused as why:
@@ -1404,18 +1402,21 @@ class _ServerSide(_Login):
             raise
 
     def authenticated_user(self) -> Optional[str]:
-        """The plain name of the user who has logged in; None by ANONYMOUS. Raises `Refused` before."""
+        """Returns the name of the authenticated user, without escapes; None for ANONYMOUS. Raises `Refused` if no
+        user is authenticated."""
         with self._lock:
             scram = self._scram()
             if self.progress == Progress.AUTHENTICATED and scram.state == _ServerState.INITIAL:
                 return None
-            name = _written(256, lambda *room: _library.fe2o3_scram_server_authenticated_user(ctypes.byref(scram), *room))
+            name = _written(
+                256, lambda *room: _library.fe2o3_scram_server_authenticated_user(ctypes.byref(scram), *room)
+            )
         return name.decode("utf-8")
 
 
 class ServerConnection(_Connection, _ServerSide):
-    """The server's side of one connection of AMQP 1.0, from its first byte to the end of the login. It owns no socket,
-    as `ClientConnection`."""
+    """The server's side of one AMQP 1.0 connection, from its first byte to the end of the login. It does no I/O, like
+    `ClientConnection`."""
 
     __slots__ = ()
 
@@ -1426,7 +1427,8 @@ class ServerConnection(_Connection, _ServerSide):
         return self._struct.scram
 
     def receive(self, data: Bytes) -> tuple[bytes, bytes]:
-        """What is to be sent for bytes that came, and those of them that are left, as `ClientConnection.receive`."""
+        """Takes received bytes, and returns the bytes to send and the bytes that are left, like
+        `ClientConnection.receive`."""
         rest, answers = _bytes(data), []
         with self._lock:
             while rest and self.progress == Progress.IN_PROGRESS:
@@ -1448,10 +1450,10 @@ class ServerConnection(_Connection, _ServerSide):
 
 
 class ServerSteps(_Steps, _ServerSide):
-    """The server's side of one login over the bodies of frames, as `ClientSteps` has them.
+    """The server's side of one login over frame bodies, like `ClientSteps`.
 
-    A login takes two bodies of the client: its init, and for SCRAM a response. Who answers more of them, which this
-    allows, lets the client try again and again.
+    A login takes two bodies of the client: its init, and for SCRAM a response. If you pass more of them, the client can
+    try passwords again and again.
     """
 
     __slots__ = ("_progress",)
@@ -1464,17 +1466,20 @@ class ServerSteps(_Steps, _ServerSide):
         return self._struct
 
     def offer(self) -> bytes:
-        """The body of the frame with which the server offers its mechanisms, to whoever has sent the header of SASL."""
+        """Returns the frame body with which the server offers its mechanisms. Send it after the client's SASL
+        header."""
         config = self._config(None)
         return _written(508, lambda *room: _library.fe2o3_sasl_server_offer(config, *room))
 
     def on_frame(self, body: Bytes) -> bytes:
-        """The body that is to be sent for one that came: a challenge, or the outcome, behind which `progress` says how
-        the login stands. Where it raises, other than for want of memory, the connection is to be closed."""
+        """Takes a received body, and returns the body to send: a challenge, or the outcome. Then `progress` says
+        how far the login is. If it raises, other than OUT_OF_MEMORY, close the connection."""
         came, nonce = _bytes(body), secrets.token_bytes(32)
         with self._lock:
             self._goes_on()
-            name = self._named(lambda *room: _library.fe2o3_sasl_server_step_claimed_user(self._struct, came, len(came), *room))
+            name = self._named(
+                lambda *room: _library.fe2o3_sasl_server_step_claimed_user(self._struct, came, len(came), *room)
+            )
             config = self._config(name)
             return self._stepped(
                 lambda *room: _library.fe2o3_sasl_server_step(config, self._struct, came, len(came), nonce, *room)
@@ -1482,41 +1487,44 @@ class ServerSteps(_Steps, _ServerSide):
 
 
 class Server:
-    """One side of one login at a time, at a server. The calls come in the order `first`, `final`, and `first` starts
-    afresh at any time. The user is logged in only where `final` does not raise."""
+    """A SCRAM server, for one login at a time. Call `first` and then `final`. `first` starts a new exchange at any
+    time. The user is authenticated only if `final` does not raise."""
 
     __slots__ = ("_exchange", "_lock")
 
     def __init__(self) -> None:
         """A server without an open challenge."""
-        # The record that a challenge was made of, and the struct of the challenge: set at once, so that no challenge
-        # is ever answered by the record of another.
+        # The record of a challenge, and the struct of the challenge: set together, so that a challenge is never
+        # answered with the record of another.
         self._exchange = Record._of(_ScramRecordStruct()), _ScramServerStruct()
         self._lock = threading.RLock()
 
     @staticmethod
     def claimed_user(client_first: Bytes) -> str:
-        """The plain name of the user whom a client-first message names, and whose record is to be fetched."""
+        """Returns the user name that a client-first message claims, without escapes. Nobody is authenticated yet:
+        use it only to look up the record."""
         message = _bytes(client_first)
         name = _written(256, lambda *room: _library.fe2o3_scram_server_claimed_user(message, len(message), *room))
         return name.decode("utf-8")
 
     def first(self, record: Record, client_first: Bytes, *, accept_cbind_flag_y: bool = False) -> bytes:
-        """The server-first message, with a fresh nonce, which answers the client-first message. The record is that of
-        the user whom the message names, or `Record.mock`.
+        """Answers the client-first message with the server-first message, with a fresh nonce. The record is that of
+        the claimed user (`claimed_user`), or a `Record.mock` for an unknown one.
 
-        The GS2 header of the message has to be `n,,`. With `accept_cbind_flag_y` it may be `y,,` too: that of a client which could
-        bind a channel, and was offered no mechanism with `-PLUS` (RFC 5802, section 6). Only for a server that offers
-        none."""
+        The GS2 header of the message has to be `n,,`. With `accept_cbind_flag_y` it may also be `y,,`: the client
+        supports channel binding, and was offered no mechanism with `-PLUS` (RFC 5802, section 6). Only for a server
+        that offers none."""
         message, nonce, opened = _bytes(client_first), secrets.token_bytes(32), _ScramServerStruct()
-        call = _library.fe2o3_scram_server_first_with_cbind_flag_y if accept_cbind_flag_y else _library.fe2o3_scram_server_first
+        call = _library.fe2o3_scram_server_first
+        if accept_cbind_flag_y:
+            call = _library.fe2o3_scram_server_first_with_cbind_flag_y
         answer = _written(1024, lambda *room: call(record._struct, opened, nonce, message, len(message), *room))
         with self._lock:
             self._exchange = record, opened
         return answer
 
     def final(self, client_final: Bytes) -> bytes:
-        """The server-final message, which answers the client-final message where its proof meets the record."""
+        """Answers the client-final message with the server-final message, if its proof is right."""
         message = _bytes(client_final)
         with self._lock:
             record, opened = self._exchange
@@ -1526,7 +1534,7 @@ class Server:
             )
 
     def authenticated_user(self) -> str:
-        """The plain name of the user who has logged in: the one whose challenge was answered."""
+        """Returns the name of the authenticated user, without escapes. Raises `Refused` if no user is authenticated."""
         with self._lock:
             opened = self._exchange[1]
             name = _written(256, lambda *room: _library.fe2o3_scram_server_authenticated_user(opened, *room))

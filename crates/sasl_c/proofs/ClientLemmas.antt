@@ -34,7 +34,7 @@ use Rattle.sasl_c.specs.declared.keys.ScramKeys.{ScramKeys as KeysStruct}
 use Rattle.sasl_c.specs.Keys.{shown_keys}
 use Rattle.sasl_c.specs.Records.{IsVersion}
 use Rattle.sasl_c.proofs.LoginLemmas.{no_secrets}
-use Rattle.sasl_c.proofs.StatusLemmas.{carried, client_not_room}
+use Rattle.sasl_c.proofs.StatusLemmas.{carried}
 use Rattle.sasl_c.proofs.TextLemmas.{short, short_text, text_length}
 use Rattle.sasl_c.specs.Status.{client_status}
 use Rattle.fe2o3_scram.proofs.lemmas.hashes.DigestLemmas.{length-hmac_of}
@@ -509,7 +509,7 @@ mapped_err P Q (Err fault) held map = map fault held
 
 pub ruleset secrets = (unanswered, no_secrets)
 
-pub ruleset answers = (answered_by, refused_by, no_login, client_not_room)
+pub ruleset answers = (answered_by, refused_by, no_login)
 
 pub ruleset not_dues = (no_login, not_due)
 

@@ -53,7 +53,6 @@ sum_small choice = omega (
 shows_none : (kept : Kept) (status : Status) (shown : VersionedRecord) → SpellsStruct kept (Err status)
     → ShowsRecord kept shown → ⊥
 shows_none kept statuses.OutOfMemory shown wrong is = absurd wrong
-shows_none kept statuses.RoomTooSmall shown wrong is = absurd wrong
 shows_none kept statuses.NotUtf8 shown wrong is = absurd wrong
 shows_none kept statuses.NoSuchVersion shown wrong is = wrong shown.version is.0
 shows_none kept statuses.TooLong shown wrong is = absurd (omega (arith, wrong, is.1))

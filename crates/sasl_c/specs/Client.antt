@@ -19,6 +19,7 @@ use Rattle.sasl_c.specs.declared.client.Login.{Login}
 use Rattle.sasl_c.specs.declared.keys.ScramKeys.{ScramKeys as KeysStruct}
 use Rattle.sasl_c.specs.declared.status.Status.{Status}
 use Rattle.sasl_c.specs.declared.status.Status.TheVariants as statuses
+use Rattle.sasl_c.specs.declared.status.WriteError.{WriteError}
 use Rattle.sasl_c.specs.Keys.{KeysHaveRoom, ShowsKeys, WritesKeys, no_keys_struct}
 use Rattle.sasl_c.specs.Records.{IsVersion}
 use Rattle.sasl_c.specs.Status.{client_status}
@@ -167,10 +168,10 @@ Starts login nonce (Ok message) = (side : ClientSide) × IsClientOf login side
 Starts login nonce (Err status) = IsNoLogin login status
 
 -- the struct after it
-abbrev pub StartsClient : Login → List ℕ → Struct → Struct → Result (Unit {0}) Status → Type 0
+abbrev pub StartsClient : Login → List ℕ → Struct → Struct → Result (Unit {0}) WriteError → Type 0
 StartsClient login nonce before after (Ok done) = ((side : ClientSide) × IsClientOf login side
     × IsSide login after (started side nonce)) × (after ≡ started_struct nonce)
-StartsClient login nonce before after (Err status) = after ≡ before
+StartsClient login nonce before after (Err why) = after ≡ before
 
 -- a refusal of a client by the library
 abbrev pub Refuses : Login → Struct → (ClientSide → ScramErrorKind → Type 0) → Status → Type 0

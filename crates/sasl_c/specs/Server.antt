@@ -18,7 +18,9 @@ use Rattle.sasl_c.specs.declared.server.ScramServer.{ScramServer as Struct}
 use Rattle.sasl_c.specs.declared.status.Status.{Status}
 use Rattle.sasl_c.specs.declared.status.Status.TheVariants as statuses
 use Rattle.sasl_c.specs.Records.{ShowsSomeRecord, ShowsRecord, SpellsStruct}
-use Rattle.sasl_c.specs.Status.{server_status}
+use Rattle.sasl_c.specs.declared.status.WriteError.{WriteError}
+use Rattle.sasl_c.specs.declared.status.WriteError.TheVariants.{RoomTooSmall, Other}
+use Rattle.sasl_c.specs.Status.{Lacks, Room, server_status, with_written}
 
 -- the store of one user
 abbrev pub one_user : List ℕ → VersionedRecord → Store
@@ -134,12 +136,23 @@ Challenges cbind_flag_y kept nonce text (Ok message) = (challenge : ServerChalle
 Challenges cbind_flag_y kept nonce text (Err status) = NotChallenged cbind_flag_y kept nonce text status
 
 -- the struct after it
-abbrev pub OpensExchange : Bool → Kept → List ℕ → List ℕ → Struct → Struct → Result (Unit {0}) Status → Type 0
+abbrev pub OpensExchange : Bool → Kept → List ℕ → List ℕ → Struct → Struct → Result (Unit {0}) WriteError → Type 0
 OpensExchange cbind_flag_y kept nonce text before after (Ok done) = (challenge : ServerChallenge)
     × MakesChallenge cbind_flag_y kept nonce text challenge × IsOpen after challenge × (after ≡ open_struct challenge)
-OpensExchange cbind_flag_y kept nonce text before after (Err status) = after ≡ before
+OpensExchange cbind_flag_y kept nonce text before after (Err why) = after ≡ before
 
--- the user whom the message of an init names, behind either GS2 header
+-- the message of a challenge is written, and the struct that shows the challenge; or nothing changes, since the challenge
+-- has no room in the struct, or its message none where it is to be written
+abbrev pub WritesChallenge : ServerChallenge → Struct → Struct → Room → Room → Result (Unit {0}) WriteError → Type 0
+WritesChallenge challenge before after room filled (Ok done) = IsOpen after challenge × (after ≡ open_struct challenge)
+    × (length challenge.first ≤ length room.bytes) × (filled.bytes ≡ with_written challenge.first room.bytes)
+    × (filled.len ≡ length challenge.first)
+WritesChallenge challenge before after room filled (Err RoomTooSmall) = (after ≡ before)
+    × (filled.bytes ≡ room.bytes) × Lacks room filled challenge.first
+WritesChallenge challenge before after room filled (Err (Other status)) = (after ≡ before)
+    × (filled.bytes ≡ room.bytes) × (filled.len ≡ room.len) × (status ≡ statuses.TooLong) × ¬ ChallengeHasRoom challenge
+
+-- the user whom the message of an init claims to be, behind either GS2 header
 abbrev pub ClaimedUser : List ℕ → Result (List ℕ) Status → Type 0
 ClaimedUser text (Ok name) = (first : ClientFirst) × ReadsClientFirst true text (Ok first) × (name ≡ first.user)
 ClaimedUser text (Err status) = (why : ServerScramErrorKind) × (status ≡ server_status why)

@@ -9,16 +9,16 @@ ghost use Rattle.sasl_c.specs.Records.{IsVersion};
 ghost use Rattle.fe2o3_scram.specs.ClientKeys.{ClientKeys as Keys};
 ghost use Rattle.sasl_c.specs.Client.{AwaitsSignature, Verifies, HandsOut, HasSecret, Holds, HoldsNone, IsClientOf, IsTestedLogin, IsNoLogin, IsNoSecret, IsSecretOf, IsReached, IsSide, IsState, StartsClient, Starts, VerifyAsks, WritesClient, complete_struct, fresh_client_struct, keys_tests, name_tests, started_struct};
 ghost use Rattle.sasl_c.specs.Keys.{ShowsKeys, ShowsSomeKeys, WritesKeys, no_keys_struct};
-ghost use Rattle.sasl_c.specs.Status.{Answers, AsksWhere, Fills, Makes, with_written};
-ghost use Rattle.sasl_c.specs.declared.status.Status.TheVariants.{OutOfMemory as StatusOutOfMemory, NotUtf8 as StatusNotUtf8, RoomTooSmall};
+ghost use Rattle.sasl_c.specs.Status.{Answers, AnswersText, AsksText, AsksWhere, Fills, Makes, with_written};
+ghost use Rattle.sasl_c.specs.declared.status.Status.TheVariants.{OutOfMemory as StatusOutOfMemory, NotUtf8 as StatusNotUtf8};
+ghost use Rattle.sasl_c.specs.declared.status.WriteError.TheVariants.{RoomTooSmall};
 
-use crate::arrays::{head, padded, put};
+use crate::arrays::{head, padded, put, store};
 use crate::keys::ScramKeys;
-use crate::status::{Status, number, text, version_of};
+use crate::status::{Status, WriteError, number, text, text_number, version_of};
 use bytes::Bytes;
 use fe2o3_scram::{
-    ClientAnswer, IterationLimits, ScramClient as Machine, CachedKeys, ScramErrorKind,
-    ScramVersion,
+    CachedKeys, ClientAnswer, IterationLimits, ScramClient as Machine, ScramErrorKind, ScramVersion,
 };
 use std::alloc::Global;
 
@@ -219,21 +219,19 @@ impl ScramClient {
         ensures ok { IfOk result (λ side. IsSide login.now self.now side) }
         ensures err { IfErr result (λ status. status ≢ StatusOutOfMemory → IsNoLogin login.now status) }
         ensures memory { AsksWhere (IsTestedLogin login.now) result }
-        ensures room { IfErr result (λ status. status ≢ RoomTooSmall) }
     {
         match self.state {
-            1 => self.behind_first(alloc, login),
-            2 => self.behind_final(alloc, login),
+            1 => self.after_first(alloc, login),
+            2 => self.after_final(alloc, login),
             _ => login.client(alloc),
         }
     }
 
     /// The client that has sent its client-first message.
-    fn behind_first(&self, alloc: Global, login: &Login<'_>) -> Result<Machine, Status>
+    fn after_first(&self, alloc: Global, login: &Login<'_>) -> Result<Machine, Status>
         ensures ok { IfOk result (λ side. self.now.state ≡ 1 → IsSide login.now self.now side) }
         ensures err { IfErr result (λ status. status ≢ StatusOutOfMemory → IsNoLogin login.now status) }
         ensures memory { AsksWhere (IsTestedLogin login.now) result }
-        ensures room { IfErr result (λ status. status ≢ RoomTooSmall) }
     {
         let mut machine = match login.client(alloc) {
             Ok(machine) => machine,
@@ -249,11 +247,10 @@ impl ScramClient {
     }
 
     /// The client that waits for the signature, where it has room.
-    fn behind_final(&self, alloc: Global, login: &Login<'_>) -> Result<Machine, Status>
+    fn after_final(&self, alloc: Global, login: &Login<'_>) -> Result<Machine, Status>
         ensures ok { IfOk result (λ side. self.now.state ≡ 2 → IsSide login.now self.now side) }
         ensures err { IfErr result (λ status. status ≢ StatusOutOfMemory → IsNoLogin login.now status) }
         ensures memory { AsksWhere (IsTestedLogin login.now) result }
-        ensures room { IfErr result (λ status. status ≢ RoomTooSmall) }
     {
         let Some(signature) = head(&self.signature, self.signature_len) else {
             return login.client(alloc);
@@ -295,7 +292,6 @@ impl Login<'_> {
         ensures utf8 { IfOk result (λ _. IsUtf8 self.now.password.now) }
         ensures err { IfErr result (λ status. status ≢ StatusOutOfMemory
             → (status ≡ StatusNotUtf8) × ¬ IsUtf8 self.now.password.now) }
-        ensures room { IfErr result (λ status. status ≢ RoomTooSmall) }
     {
         Ok(text(self.password)?.to_string(alloc)?)
     }
@@ -324,7 +320,7 @@ impl Login<'_> {
     fn has_keys(&self) -> Result<(), Status>
         ensures tested { MatchResult result (λ _. NoneHolds (keys_tests self.now) × ShowsSomeKeys self.now.keys.now)
             (λ status. IsFirst (keys_tests self.now) status) }
-        ensures status { IfErr result (λ status. (status ≢ StatusOutOfMemory) × (status ≢ RoomTooSmall)) }
+        ensures status { IfErr result (λ status. status ≢ StatusOutOfMemory) }
     {
         if !self.keys.shows() {
             return Err(Status::NoKeys);
@@ -339,7 +335,7 @@ impl Login<'_> {
     #[tactic(auto, using(crate::proofs::LoginLemmas::secret_tests))]
     fn has_secret(&self) -> Result<(), Status>
         ensures tested { MatchResult result (λ _. HasSecret self.now) (λ status. IsNoSecret self.now status) }
-        ensures status { IfErr result (λ status. (status ≢ StatusOutOfMemory) × (status ≢ RoomTooSmall)) }
+        ensures status { IfErr result (λ status. status ≢ StatusOutOfMemory) }
     {
         match self.secret {
             0 => match text(self.password) {
@@ -368,7 +364,7 @@ impl Login<'_> {
     fn has_prepared(&self) -> Result<(), Status>
         requires { 2 < self.now.secret }
         ensures tested { MatchResult result (λ _. HasSecret self.now) (λ status. IsNoSecret self.now status) }
-        ensures status { IfErr result (λ status. (status ≢ StatusOutOfMemory) × (status ≢ RoomTooSmall)) }
+        ensures status { IfErr result (λ status. status ≢ StatusOutOfMemory) }
     {
         match self.secret {
             3 => match text(self.password) {
@@ -393,7 +389,7 @@ impl Login<'_> {
     pub fn tested(&self) -> Result<ScramVersion, Status>
         ensures ok { IfOk result (λ version. IsVersion self.now.version version × IsTestedLogin self.now) }
         ensures err { IfErr result (λ status. IsNoLogin self.now status) }
-        ensures status { IfErr result (λ status. (status ≢ StatusOutOfMemory) × (status ≢ RoomTooSmall)) }
+        ensures status { IfErr result (λ status. status ≢ StatusOutOfMemory) }
     {
         let version = match self.named_version() {
             Ok(version) => version,
@@ -410,7 +406,6 @@ impl Login<'_> {
         ensures ok { IfOk result (λ keys. ShowsKeys self.now.keys.now keys × IsVersion self.now.version keys.version) }
         ensures err { IfErr result (λ status. status ≢ StatusOutOfMemory
             → IsFirst (keys_tests self.now) status) }
-        ensures room { IfErr result (λ status. status ≢ RoomTooSmall) }
     {
         let Some(keys) = shown(alloc, self.keys)? else {
             return Err(Status::NoKeys);
@@ -434,7 +429,6 @@ impl Login<'_> {
         ensures version { IfOk result (λ side. IsVersion self.now.version version
             → IsVersion self.now.version side.version) }
         ensures err { IfErr result (λ status. status ≢ StatusOutOfMemory → IsNoSecret self.now status) }
-        ensures room { IfErr result (λ status. status ≢ RoomTooSmall) }
     {
         match self.secret {
             0 => Ok(Machine::new(username, self.password(alloc)?, version)),
@@ -462,7 +456,6 @@ impl Login<'_> {
         ensures version { IfOk result (λ side. IsVersion self.now.version version
             → IsVersion self.now.version side.version) }
         ensures err { IfErr result (λ status. status ≢ StatusOutOfMemory → IsNoSecret self.now status) }
-        ensures room { IfErr result (λ status. status ≢ RoomTooSmall) }
     {
         match self.secret {
             3 => Ok(Machine::with_prepared_password(username, self.password(alloc)?, version)),
@@ -482,7 +475,6 @@ impl Login<'_> {
         ensures login { IfOk result (λ _. IsTestedLogin self.now) }
         ensures err { IfErr result (λ status. status ≢ StatusOutOfMemory → IsNoLogin self.now status) }
         ensures memory { AsksWhere (IsTestedLogin self.now) result }
-        ensures room { IfErr result (λ status. status ≢ RoomTooSmall) }
     {
         // The login is tested before memory is asked for.
         let version = match self.tested() {
@@ -506,7 +498,6 @@ fn first_message(alloc: Global, login: &Login<'_>, nonce: &[u8; 32]) -> Result<B
     ensures ok { IfOk result (λ message. Starts login.now nonce.now (Ok message)) }
     ensures err { IfErr result (λ status. status ≢ StatusOutOfMemory → IsNoLogin login.now status) }
     ensures memory { AsksWhere (IsTestedLogin login.now) result }
-    ensures room { IfErr result (λ status. status ≢ RoomTooSmall) }
 {
     let mut machine = match login.client(alloc) {
         Ok(machine) => machine,
@@ -527,7 +518,7 @@ fn begin(
     message: &[u8],
     out: &mut [u8],
     out_len: &mut usize,
-) -> Result<(), Status>
+) -> Result<(), WriteError>
     ensures len { out_len.new ≡ length message.now }
     ensures ok { IfOk result (λ _. (length message.now ≤ length out.old) × (out.new ≡ with_written message.now out.old)) }
     ensures sent { IfOk result (λ _. client.new ≡ started_struct nonce.now) }
@@ -552,15 +543,15 @@ fn first(
     nonce: &[u8; 32],
     out: &mut [u8],
     out_len: &mut usize,
-) -> Result<(), Status>
+) -> Result<(), WriteError>
     ensures text { Fills (Starts login.now nonce.now) (record { bytes = out.old; len = out_len.old })
         (record { bytes = out.new; len = out_len.new }) result }
     ensures moved { StartsClient login.now nonce.now client.old client.new result }
-    ensures memory { AsksWhere (IsTestedLogin login.now) result }
+    ensures memory { AsksText (IsTestedLogin login.now) result }
 {
     let message = match first_message(alloc, login, nonce) {
         Ok(message) => message,
-        Err(status) => return Err(status),
+        Err(status) => return Err(WriteError::Other(status)),
     };
     begin(client, nonce, message.as_slice(), out, out_len)
 }
@@ -576,11 +567,11 @@ pub extern "C" fn fe2o3_scram_client_first(
     out: &mut [u8],
     out_len: &mut usize,
 ) -> u32
-    ensures { Answers result (λ answer. Fills (Starts login.now nonce.now) (record { bytes = out.old; len = out_len.old })
+    ensures { AnswersText result (λ answer. Fills (Starts login.now nonce.now) (record { bytes = out.old; len = out_len.old })
         (record { bytes = out.new; len = out_len.new }) answer × StartsClient login.now nonce.now client.old client.new answer
-        × AsksWhere (IsTestedLogin login.now) answer) }
+        × AsksText (IsTestedLogin login.now) answer) }
 {
-    number(first(alloc, login, client, nonce, out, out_len))
+    text_number(first(alloc, login, client, nonce, out, out_len))
 }
 
 /// Verifies the server, or not.
@@ -621,8 +612,8 @@ pub extern "C" fn fe2o3_scram_client_verify(
     number(verify(alloc, login, client, server_final))
 }
 
-/// The keys of a login whose server was believed.
-fn handed_out(client: &ScramClient) -> Result<ScramKeys, Status>
+/// The keys of a complete login.
+fn compute_keys_of(client: &ScramClient) -> Result<ScramKeys, Status>
     ensures { HandsOut client.now result }
 {
     if client.state != 3 {
@@ -634,19 +625,11 @@ fn handed_out(client: &ScramClient) -> Result<ScramKeys, Status>
     Ok(client.keys.copied())
 }
 
-/// Hands out the keys of a login whose server was believed, for the next login to the same server.
-fn hand_out(client: &ScramClient, keys: &mut ScramKeys) -> Result<(), Status>
-    ensures { Makes ⊥ (HandsOut client.now) keys.old keys.new result }
-{
-    *keys = handed_out(client)?;
-    Ok(())
-}
-
 /// Writes the keys of a complete login, for the next login to the same server. As long as the server keeps its salt
 /// and iteration count, a login by keys needs no password and no PBKDF2. The keys are secret: they suffice to log in.
 #[unsafe(no_mangle)]
 pub extern "C" fn fe2o3_scram_client_get_keys(client: &ScramClient, keys: &mut ScramKeys) -> u32
     ensures { Answers result (Makes ⊥ (HandsOut client.now) keys.old keys.new) }
 {
-    number(hand_out(client, keys))
+    number(store(compute_keys_of(client), keys))
 }

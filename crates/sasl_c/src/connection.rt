@@ -4,14 +4,13 @@ ghost use Rattle.std.specs.Prelude.{◌≡◌, ◌≢◌, ◌<◌, length, IfOk,
 ghost use Rattle.fe2o3_sasl_wire.specs.FrameView.{shown};
 ghost use Rattle.fe2o3_sasl_negotiation.specs.declared.progress.Expected.{Expected as ExpectedUnit};
 ghost use Rattle.fe2o3_sasl_negotiation.specs.declared.progress.Progress.TheVariants.{InProgress};
-ghost use Rattle.sasl_c.specs.declared.status.Status.TheVariants.{RoomTooSmall};
 ghost use Rattle.fe2o3_scram.specs.Readings.{IsFirst};
 ghost use Rattle.sasl_c.specs.Connection.{Keeps, closed_status, code_status, expected_number, frame_status, profile_status, side_tests, connection_struct};
 
 use crate::arrays::{head, padded};
 use crate::status::Status;
-use fe2o3_sasl_negotiation::{CloseReason, Expected, Snapshot, Progress, FrameKind};
 use fe2o3_sasl_core::ProfileError;
+use fe2o3_sasl_negotiation::{CloseReason, Expected, FrameKind, Progress, Snapshot};
 use fe2o3_sasl_wire::{Error, SaslCode};
 use fe2o3_scram::ScramErrorKind;
 
@@ -152,7 +151,6 @@ impl Connection {
         ensures wanting { IfOk result (λ kept. (kept.progress ≡ InProgress) × (kept.limit ≡ 512)) }
         ensures mock { IfOk result (λ kept. shown kept.user ≡ None) }
         ensures err { IfErr result (λ status. IsFirst (side_tests self.now) status) }
-        ensures room { IfErr result (λ status. status ≢ RoomTooSmall) }
     {
         if self.progress != 0 {
             return Err(Status::Ended);

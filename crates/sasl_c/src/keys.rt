@@ -10,10 +10,10 @@ ghost use Rattle.sasl_c.specs.Status.{Answers, Makes};
 ghost use Rattle.sasl_c.specs.declared.keys.ScramKeys.{ScramKeys as Struct};
 ghost use Rattle.sasl_c.specs.declared.status.Status.TheVariants.{OutOfMemory as StatusOutOfMemory};
 
-use crate::arrays::{head, padded};
+use crate::arrays::{head, padded, store};
 use crate::passwords::PasswordForm;
 use crate::status::{Status, digest_len, number, number_of, text, version_of};
-use fe2o3_scram::{Meter, CachedKeys};
+use fe2o3_scram::{CachedKeys, Meter};
 use std::alloc::Global;
 
 /// The keys that a client can cache in place of its password. They are secret: they suffice to log in.
@@ -109,7 +109,7 @@ impl ScramKeys {
 
 /// The struct of a password's keys.
 #[tactic(auto, using(crate::proofs::RoomLemmas::keys_have_room))]
-fn made(
+fn compute_keys(
     alloc: Global,
     version: u32,
     form: PasswordForm,
@@ -144,28 +144,6 @@ fn made(
     }
 }
 
-/// Makes the struct of a password's keys.
-fn make(
-    alloc: Global,
-    version: u32,
-    form: PasswordForm,
-    password: &[u8],
-    salt: &[u8],
-    iterations: u32,
-    keys: &mut ScramKeys,
-) -> Result<(), Status>
-    ensures { Makes (NoneHolds (struct_making_tests version (in_form form password.now) salt.now iterations))
-        (MakesKeysStruct version (in_form form password.now) salt.now iterations) keys.old keys.new result }
-{
-    match made(alloc, version, form, password, salt, iterations) {
-        Ok(made) => {
-            *keys = made;
-            Ok(())
-        }
-        Err(status) => Err(status),
-    }
-}
-
 /// Derives the keys of a typed password, for a server that uses this salt and iteration count. The password has to be
 /// printable ASCII.
 #[unsafe(no_mangle)]
@@ -180,13 +158,9 @@ pub extern "C" fn fe2o3_scram_keys_make(
     ensures { Answers result (Makes (NoneHolds (struct_making_tests version (Typed password.now) salt.now iterations))
         (MakesKeysStruct version (Typed password.now) salt.now iterations) keys.old keys.new) }
 {
-    number(make(
-        alloc,
-        version,
-        PasswordForm::Typed,
-        password,
-        salt,
-        iterations,
+    let form = PasswordForm::Typed;
+    number(store(
+        compute_keys(alloc, version, form, password, salt, iterations),
         keys,
     ))
 }
@@ -205,13 +179,9 @@ pub extern "C" fn fe2o3_scram_keys_make_prepared(
     ensures { Answers result (Makes (NoneHolds (struct_making_tests version (Prepared password.now) salt.now iterations))
         (MakesKeysStruct version (Prepared password.now) salt.now iterations) keys.old keys.new) }
 {
-    number(make(
-        alloc,
-        version,
-        PasswordForm::Prepared,
-        password,
-        salt,
-        iterations,
+    let form = PasswordForm::Prepared;
+    number(store(
+        compute_keys(alloc, version, form, password, salt, iterations),
         keys,
     ))
 }

@@ -3,12 +3,12 @@
 ghost use Rattle.std.specs.Prelude.{◌≡◌, ◌≢◌, Ok, Err, IfOk, IfErr};
 ghost use Rattle.std.specs.Str.{IsUtf8};
 ghost use Rattle.sasl_c.specs.Lines.{Chosen, FindAsks, FindsRecord, FindsInto, NotChosen, SpellsLine, line_status};
-ghost use Rattle.sasl_c.specs.Status.{Answers, AsksWhere, Fills};
-ghost use Rattle.sasl_c.specs.declared.status.Status.TheVariants.{OutOfMemory as StatusOutOfMemory, RoomTooSmall};
+ghost use Rattle.sasl_c.specs.Status.{Answers, AnswersText, AsksText, AsksWhere, Fills};
+ghost use Rattle.sasl_c.specs.declared.status.Status.TheVariants.{OutOfMemory as StatusOutOfMemory};
 
-use crate::arrays::put;
+use crate::arrays::write;
 use crate::records::ScramRecord;
-use crate::status::{Status, number, text, version_of};
+use crate::status::{Status, WriteError, number, text, text_number, version_of};
 use fe2o3_scram::{
     MultiRecordStore, ReadLinesErrorKind, RecordTextError, ScramVersion, WriteLinesError,
 };
@@ -155,12 +155,11 @@ pub extern "C" fn fe2o3_scram_lines_find(
 }
 
 /// The line of a user.
-fn line_of(alloc: Global, username: &[u8], kept: &ScramRecord) -> Result<Vec<u8>, Status>
+fn compute_line(alloc: Global, username: &[u8], kept: &ScramRecord) -> Result<Vec<u8>, Status>
     ensures ok { IfOk result (λ text. SpellsLine username.now kept.now (Ok text.items)) }
     ensures err { IfErr result (λ status. status ≢ StatusOutOfMemory
         → SpellsLine username.now kept.now (Err status)) }
     ensures memory { AsksWhere (IsUtf8 username.now) result }
-    ensures room { IfErr result (λ status. status ≢ RoomTooSmall) }
 {
     let username = text(username)?.to_string(alloc)?;
     let kept = match kept.read(alloc) {
@@ -181,25 +180,10 @@ fn line_of(alloc: Global, username: &[u8], kept: &ScramRecord) -> Result<Vec<u8>
     }
 }
 
-/// Writes the line of a user.
-fn write(
-    alloc: Global,
-    username: &[u8],
-    kept: &ScramRecord,
-    out: &mut [u8],
-    out_len: &mut usize,
-) -> Result<(), Status>
-    ensures text { Fills (SpellsLine username.now kept.now) (record { bytes = out.old; len = out_len.old })
-        (record { bytes = out.new; len = out_len.new }) result }
-    ensures memory { AsksWhere (IsUtf8 username.now) result }
-{
-    let line = line_of(alloc, username, kept)?;
-    put(&line, out, out_len)
-}
-
 /// Writes the line of a user and a record, with its line feed, as `fe2o3_scram_lines_find` reads it. Returns
 /// FE2O3_NOT_WRITABLE if the name contains a line feed or the iteration count is 0.
 #[unsafe(no_mangle)]
+#[tactic(auto, using(crate::proofs::StatusLemmas::written))]
 pub extern "C" fn fe2o3_scram_line(
     alloc: Global,
     username: &[u8],
@@ -207,8 +191,8 @@ pub extern "C" fn fe2o3_scram_line(
     out: &mut [u8],
     out_len: &mut usize,
 ) -> u32
-    ensures { Answers result (λ answer. Fills (SpellsLine username.now kept.now) (record { bytes = out.old; len = out_len.old })
-        (record { bytes = out.new; len = out_len.new }) answer × AsksWhere (IsUtf8 username.now) answer) }
+    ensures { AnswersText result (λ answer. Fills (SpellsLine username.now kept.now) (record { bytes = out.old; len = out_len.old })
+        (record { bytes = out.new; len = out_len.new }) answer × AsksText (IsUtf8 username.now) answer) }
 {
-    number(write(alloc, username, kept, out, out_len))
+    text_number(write(compute_line(alloc, username, kept), out, out_len))
 }

@@ -4,11 +4,11 @@ ghost use Rattle.std.specs.Prelude.{◌≡◌, ◌≢◌, Ok, Err, IfOk, IfErr, 
 ghost use Rattle.std.specs.Cow.{cow_str_bytes};
 ghost use Rattle.saslprep.specs.declared.Unassigned.{Unassigned as Choice};
 ghost use Rattle.sasl_c.specs.Saslprep.{PrepareAsks, PreparesTo, choice_number, saslprep_status};
-ghost use Rattle.sasl_c.specs.Status.{Answers, AsksWhere, Fills};
-ghost use Rattle.sasl_c.specs.declared.status.Status.TheVariants.{OutOfMemory as StatusOutOfMemory, RoomTooSmall};
+ghost use Rattle.sasl_c.specs.Status.{AnswersText, AsksText, AsksWhere, Fills};
+ghost use Rattle.sasl_c.specs.declared.status.Status.TheVariants.{OutOfMemory as StatusOutOfMemory};
 
 use crate::arrays::put;
-use crate::status::{Status, number, text};
+use crate::status::{Status, WriteError, text, text_number};
 use saslprep::{SaslprepError, Unassigned, saslprep};
 use std::alloc::Global;
 use std::borrow::CowStr;
@@ -44,7 +44,6 @@ fn prepared(alloc: Global, bytes: &[u8], unassigned: u32) -> Result<CowStr<'_>, 
     ensures ok { IfOk result (λ out. PreparesTo unassigned bytes.now (Ok (cow_str_bytes out))) }
     ensures err { IfErr result (λ status. status ≢ StatusOutOfMemory → PreparesTo unassigned bytes.now (Err status)) }
     ensures memory { AsksWhere (PrepareAsks unassigned bytes.now) result }
-    ensures room { IfErr result (λ status. status ≢ RoomTooSmall) }
 {
     let Some(choice) = choice_of(unassigned) else {
         return Err(Status::NoSuchChoice);
@@ -65,14 +64,14 @@ fn prepare(
     unassigned: u32,
     out: &mut [u8],
     out_len: &mut usize,
-) -> Result<(), Status>
+) -> Result<(), WriteError>
     ensures text { Fills (PreparesTo unassigned bytes.now) (record { bytes = out.old; len = out_len.old })
         (record { bytes = out.new; len = out_len.new }) result }
-    ensures memory { AsksWhere (PrepareAsks unassigned bytes.now) result }
+    ensures memory { AsksText (PrepareAsks unassigned bytes.now) result }
 {
     let text = match prepared(alloc, bytes, unassigned) {
         Ok(text) => text,
-        Err(status) => return Err(status),
+        Err(status) => return Err(WriteError::Other(status)),
     };
     put(text.as_bytes(), out, out_len)
 }
@@ -91,8 +90,8 @@ pub extern "C" fn fe2o3_saslprep(
     out: &mut [u8],
     out_len: &mut usize,
 ) -> u32
-    ensures { Answers result (λ answer. Fills (PreparesTo unassigned text.now) (record { bytes = out.old; len = out_len.old })
-        (record { bytes = out.new; len = out_len.new }) answer × AsksWhere (PrepareAsks unassigned text.now) answer) }
+    ensures { AnswersText result (λ answer. Fills (PreparesTo unassigned text.now) (record { bytes = out.old; len = out_len.old })
+        (record { bytes = out.new; len = out_len.new }) answer × AsksText (PrepareAsks unassigned text.now) answer) }
 {
-    number(prepare(alloc, text, unassigned, out, out_len))
+    text_number(prepare(alloc, text, unassigned, out, out_len))
 }

@@ -1,19 +1,22 @@
 //! What a server keeps of a password, as a struct.
 
-ghost use Rattle.std.specs.Prelude.{◌≡◌, ◌≢◌, MatchOption, IfOk, IfErr, Err};
+ghost use Rattle.std.specs.Prelude.{◌≡◌, ◌≢◌, MatchOption, IfOk, IfErr, Err, Ok};
+ghost use Rattle.std.specs.String.{string_bytes};
 ghost use Rattle.fe2o3_scram.specs.Readings.{Gives, NoneHolds};
 ghost use Rattle.fe2o3_scram.specs.Credentials.{kept, versioned};
 ghost use Rattle.fe2o3_scram.specs.RecordText.{ReachesValues};
 ghost use Rattle.fe2o3_scram.specs.Passwords.{Prepared, Typed};
 ghost use Rattle.sasl_c.specs.Passwords.{in_form};
-ghost use Rattle.sasl_c.specs.Status.{Answers, AsksWhere, Fills, Makes};
+ghost use Rattle.sasl_c.specs.Status.{Answers, AnswersText, AsksText, AsksWhere, Fills, Makes};
 ghost use Rattle.sasl_c.specs.Records.{RecordHasRoom, ShowsSomeRecord, ShowsRecord, record_struct, struct_making_tests, MakesRecordStruct, MakesUp, mock_tests, ParsesStruct, SpellsStruct, VerifiesPassword};
 ghost use Rattle.sasl_c.specs.declared.records.ScramRecord.{ScramRecord as Struct};
-ghost use Rattle.sasl_c.specs.declared.status.Status.TheVariants.{OutOfMemory as StatusOutOfMemory, RoomTooSmall};
+ghost use Rattle.sasl_c.specs.declared.status.Status.TheVariants.{OutOfMemory as StatusOutOfMemory};
 
-use crate::arrays::{head, padded, put};
+use crate::arrays::{head, padded, store, write};
 use crate::passwords::PasswordForm;
-use crate::status::{Status, digest_len, number, number_of, text, version_of};
+use crate::status::{
+    Status, WriteError, digest_len, number, number_of, text, text_number, version_of,
+};
 use fe2o3_scram::{RecordTextError, ScramVersion, StoredPassword};
 use std::alloc::Global;
 
@@ -66,7 +69,6 @@ impl ScramRecord {
         ensures ok { IfOk result (λ shown. ShowsRecord self.now (versioned shown.0 (kept shown.1))) }
         ensures err { IfErr result (λ status. SpellsStruct self.now (Err status)) }
         ensures memory { IfErr result (λ status. status ≢ StatusOutOfMemory) }
-        ensures room { IfErr result (λ status. status ≢ RoomTooSmall) }
     {
         let version = version_of(self.version).ok_or(Status::NoSuchVersion)?;
         let salt = head(&self.salt, self.salt_len).ok_or(Status::TooLong)?;
@@ -100,7 +102,7 @@ impl ScramRecord {
 
 /// The struct of a password's record.
 #[tactic(auto, using(crate::proofs::RoomLemmas::record_has_room))]
-fn made(
+fn compute_record(
     alloc: Global,
     version: u32,
     form: PasswordForm,
@@ -134,28 +136,6 @@ fn made(
     }
 }
 
-/// Makes the struct of a password's record.
-fn make(
-    alloc: Global,
-    version: u32,
-    form: PasswordForm,
-    password: &[u8],
-    salt: &[u8],
-    iterations: u32,
-    kept: &mut ScramRecord,
-) -> Result<(), Status>
-    ensures { Makes (NoneHolds (struct_making_tests version (in_form form password.now) salt.now iterations))
-        (MakesRecordStruct version (in_form form password.now) salt.now iterations) kept.old kept.new result }
-{
-    match made(alloc, version, form, password, salt, iterations) {
-        Ok(made) => {
-            *kept = made;
-            Ok(())
-        }
-        Err(status) => Err(status),
-    }
-}
-
 /// Computes the record of a typed password. The password has to be printable ASCII.
 #[unsafe(no_mangle)]
 pub extern "C" fn fe2o3_scram_record_make(
@@ -169,13 +149,9 @@ pub extern "C" fn fe2o3_scram_record_make(
     ensures { Answers result (Makes (NoneHolds (struct_making_tests version (Typed password.now) salt.now iterations))
         (MakesRecordStruct version (Typed password.now) salt.now iterations) kept.old kept.new) }
 {
-    number(make(
-        alloc,
-        version,
-        PasswordForm::Typed,
-        password,
-        salt,
-        iterations,
+    let form = PasswordForm::Typed;
+    number(store(
+        compute_record(alloc, version, form, password, salt, iterations),
         kept,
     ))
 }
@@ -194,19 +170,15 @@ pub extern "C" fn fe2o3_scram_record_make_prepared(
     ensures { Answers result (Makes (NoneHolds (struct_making_tests version (Prepared password.now) salt.now iterations))
         (MakesRecordStruct version (Prepared password.now) salt.now iterations) kept.old kept.new) }
 {
-    number(make(
-        alloc,
-        version,
-        PasswordForm::Prepared,
-        password,
-        salt,
-        iterations,
+    let form = PasswordForm::Prepared;
+    number(store(
+        compute_record(alloc, version, form, password, salt, iterations),
         kept,
     ))
 }
 
 /// The struct of the record that a text spells.
-fn parsed(alloc: Global, bytes: &[u8]) -> Result<ScramRecord, Status>
+fn compute_parsed(alloc: Global, bytes: &[u8]) -> Result<ScramRecord, Status>
     ensures { Gives StatusOutOfMemory (ReachesValues bytes.now) (λ (kept : Struct). kept) result
         (ParsesStruct bytes.now) }
 {
@@ -221,14 +193,6 @@ fn parsed(alloc: Global, bytes: &[u8]) -> Result<ScramRecord, Status>
     }
 }
 
-/// Makes the struct of the record that a text spells.
-fn parse(alloc: Global, bytes: &[u8], kept: &mut ScramRecord) -> Result<(), Status>
-    ensures { Makes (ReachesValues bytes.now) (ParsesStruct bytes.now) kept.old kept.new result }
-{
-    *kept = parsed(alloc, bytes)?;
-    Ok(())
-}
-
 /// Parses the text of a record, as PostgreSQL writes it (RFC 5803, section 2).
 #[unsafe(no_mangle)]
 pub extern "C" fn fe2o3_scram_record_parse(
@@ -238,37 +202,37 @@ pub extern "C" fn fe2o3_scram_record_parse(
 ) -> u32
     ensures { Answers result (Makes (ReachesValues text.now) (ParsesStruct text.now) kept.old kept.new) }
 {
-    number(parse(alloc, text, kept))
+    number(store(compute_parsed(alloc, text), kept))
 }
 
-/// Writes the text of the record that the struct shows.
-fn spell(alloc: Global, kept: &ScramRecord, out: &mut [u8], out_len: &mut usize) -> Result<(), Status>
-    ensures text { Fills (SpellsStruct kept.now) (record { bytes = out.old; len = out_len.old })
-        (record { bytes = out.new; len = out_len.new }) result }
+/// The text of the record that a struct holds.
+fn compute_text(alloc: Global, kept: &ScramRecord) -> Result<String, Status>
+    ensures ok { IfOk result (λ text. SpellsStruct kept.now (Ok (string_bytes text))) }
+    ensures err { IfErr result (λ status. status ≢ StatusOutOfMemory → SpellsStruct kept.now (Err status)) }
     ensures memory { AsksWhere (ShowsSomeRecord kept.now) result }
 {
     let kept = kept.read(alloc)?;
-    let text = kept.to_text(alloc)?;
-    put(text.as_bytes(), out, out_len)
+    Ok(kept.to_text(alloc)?)
 }
 
 /// Writes the text of a record, as PostgreSQL reads it (RFC 5803, section 2): at most 384 bytes.
 #[unsafe(no_mangle)]
+#[tactic(auto, using(crate::proofs::StatusLemmas::written))]
 pub extern "C" fn fe2o3_scram_record_text(
     alloc: Global,
     kept: &ScramRecord,
     out: &mut [u8],
     out_len: &mut usize,
 ) -> u32
-    ensures { Answers result (λ answer. Fills (SpellsStruct kept.now) (record { bytes = out.old; len = out_len.old })
-        (record { bytes = out.new; len = out_len.new }) answer × AsksWhere (ShowsSomeRecord kept.now) answer) }
+    ensures { AnswersText result (λ answer. Fills (SpellsStruct kept.now) (record { bytes = out.old; len = out_len.old })
+        (record { bytes = out.new; len = out_len.new }) answer × AsksText (ShowsSomeRecord kept.now) answer) }
 {
-    number(spell(alloc, kept, out, out_len))
+    text_number(write(compute_text(alloc, kept), out, out_len))
 }
 
 /// The struct of the record that is made up for a name.
 #[tactic(auto, using(crate::proofs::RoomLemmas::mock_has_room))]
-fn made_up(
+fn compute_mock(
     alloc: Global,
     version: u32,
     secret: &[u8],
@@ -285,12 +249,7 @@ fn made_up(
         return Err(Status::TooLong);
     }
     let made = fe2o3_scram::ScramRecord::mock(
-        alloc,
-        version,
-        secret,
-        username,
-        salt_len,
-        iterations,
+        alloc, version, secret, username, salt_len, iterations,
     );
     let Ok(kept) = made else {
         return Err(Status::OutOfMemory);
@@ -298,28 +257,6 @@ fn made_up(
     match ScramRecord::of(&kept) {
         Some(made) => Ok(made),
         None => Err(Status::TooLong),
-    }
-}
-
-/// Makes up the struct of a record for a name.
-fn make_up(
-    alloc: Global,
-    version: u32,
-    secret: &[u8],
-    username: &[u8],
-    salt_len: usize,
-    iterations: u32,
-    kept: &mut ScramRecord,
-) -> Result<(), Status>
-    ensures { Makes (NoneHolds (mock_tests version username.now salt_len))
-        (MakesUp version secret.now username.now salt_len iterations) kept.old kept.new result }
-{
-    match made_up(alloc, version, secret, username, salt_len, iterations) {
-        Ok(made) => {
-            *kept = made;
-            Ok(())
-        }
-        Err(status) => Err(status),
     }
 }
 
@@ -341,13 +278,8 @@ pub extern "C" fn fe2o3_scram_record_mock(
     ensures { Answers result (Makes (NoneHolds (mock_tests version username.now salt_len))
         (MakesUp version secret.now username.now salt_len iterations) kept.old kept.new) }
 {
-    number(make_up(
-        alloc,
-        version,
-        secret,
-        username,
-        salt_len,
-        iterations,
+    number(store(
+        compute_mock(alloc, version, secret, username, salt_len, iterations),
         kept,
     ))
 }

@@ -14,19 +14,22 @@ ghost use Rattle.sasl_c.specs.declared.sasl_server.Choice.{Choice as Choices};
 ghost use Rattle.sasl_c.specs.declared.server.ScramServer.{ScramServer as ScramStruct};
 ghost use Rattle.fe2o3_scram.specs.Readings.{NoneHolds};
 ghost use Rattle.sasl_c.specs.Connection.{side_tests};
-ghost use Rattle.sasl_c.specs.Status.{Answers, AsksWhere, FillsWithin};
-ghost use Rattle.sasl_c.specs.declared.status.Status.TheVariants.{OutOfMemory as StatusOutOfMemory, InvalidSnapshot as StatusInvalidSnapshot, NotUtf8 as StatusNotUtf8, RoomTooSmall, TooLong as StatusTooLong};
+ghost use Rattle.sasl_c.specs.Status.{AnswersText, AsksText, AsksWhere, FillsWithin};
+ghost use Rattle.sasl_c.specs.declared.status.Status.TheVariants.{OutOfMemory as StatusOutOfMemory, InvalidSnapshot as StatusInvalidSnapshot, NotUtf8 as StatusNotUtf8, TooLong as StatusTooLong};
+ghost use Rattle.sasl_c.specs.declared.status.WriteError.TheVariants.{RoomTooSmall};
 
 use crate::arrays::put;
 use crate::connection::Connection;
 use crate::others::Others;
 use crate::records::ScramRecord;
 use crate::server::{ScramServer, server_over};
-use crate::status::{Status, number, text, version_of};
+use crate::status::{Status, WriteError, text, text_number, version_of};
 use bytes::BytesMut;
-use fe2o3_sasl_negotiation::{ServerNegotiation, Snapshot, Progress, RestoreError};
-use fe2o3_sasl_core::{ExternalServer, AuthenticatedUser, OfferError, RestrictMechanisms, AnyMechanism, Selected};
-use fe2o3_scram::{Meter, OpenChallenge, ScramAuthenticator, RecordStore, ScramVersion};
+use fe2o3_sasl_core::{
+    AnyMechanism, AuthenticatedUser, ExternalServer, OfferError, RestrictMechanisms, Selected,
+};
+use fe2o3_sasl_negotiation::{Progress, RestoreError, ServerNegotiation, Snapshot};
+use fe2o3_scram::{Meter, OpenChallenge, RecordStore, ScramAuthenticator, ScramVersion};
 use std::alloc::Global;
 
 /// What a server offers, and the record of one user. You lend the struct to each call.
@@ -173,7 +176,7 @@ fn joined(
 }
 
 /// The server of SCRAM that a struct is, over a store, and what was asked last. `OutOfMemory` is the only refusal.
-fn stands(
+fn exchange(
     alloc: Global,
     accept_cbind_flag_y: bool,
     store: RecordStore,
@@ -200,7 +203,6 @@ impl SaslServerConfig<'_> {
         ensures utf8 { IfOk result (λ _. IsUtf8 self.now.username.now) }
         ensures err { IfErr result (λ status. status ≢ StatusOutOfMemory
             → (status ≡ StatusNotUtf8) × ¬ IsUtf8 self.now.username.now) }
-        ensures room { IfErr result (λ status. status ≢ RoomTooSmall) }
     {
         let username = text(self.username)?.to_string(alloc)?;
         let mut store = RecordStore::new(alloc, version);
@@ -225,7 +227,6 @@ impl SaslServerConfig<'_> {
         ensures utf8 { IfOk result (λ _. IsUtf8 self.now.external_authcid.now) }
         ensures err { IfErr result (λ status. status ≢ StatusOutOfMemory
             → (status ≡ StatusNotUtf8) × ¬ IsUtf8 self.now.external_authcid.now) }
-        ensures room { IfErr result (λ status. status ≢ RoomTooSmall) }
     {
         let name = external_name(text(self.external_authcid)?).to_string(alloc)?;
         match ExternalServer::new(name) {
@@ -245,11 +246,10 @@ impl SaslServerConfig<'_> {
         ensures ok { IfOk result (λ all. IsAll self.now version accept_cbind_flag_y scram.now (all_in all)) }
         ensures utf8 { IfOk result (λ _. IsUtf8 self.now.username.now × IsUtf8 self.now.external_authcid.now) }
         ensures err { IfErr result (λ status. status ≢ StatusOutOfMemory → HasNoServerWords self.now status) }
-        ensures room { IfErr result (λ status. status ≢ RoomTooSmall) }
     {
         let store = self.store(alloc, version)?;
         let external = self.external(alloc)?;
-        let (machine, asked) = stands(alloc, accept_cbind_flag_y, store.clone()?, scram)?;
+        let (machine, asked) = exchange(alloc, accept_cbind_flag_y, store.clone()?, scram)?;
         Ok(joined(machine, store, self.iterations, external, asked))
     }
 
@@ -271,7 +271,6 @@ impl SaslServerConfig<'_> {
         ensures tests { IfOk result (λ _. NoneHolds (config_tests self.now)) }
         ensures err { IfErr result (λ status. status ≢ StatusOutOfMemory → IsNoConfig self.now status) }
         ensures memory { AsksWhere (NoneHolds (config_tests self.now)) result }
-        ensures room { IfErr result (λ status. status ≢ RoomTooSmall) }
     {
         let Some(version) = version_of(self.version) else {
             return Err(Status::NoSuchVersion);
@@ -323,7 +322,6 @@ fn restore<A: AuthenticatedUser + Drop>(
         × ServerReceives A.names A.machine (side_of kept.now (A.state acceptor)) bytes.now nonce.now call.taken
         call.sent.items (server_side A.state call.side)) }
     ensures err { IfErr result (λ status. status ≢ StatusOutOfMemory → (status ≡ StatusInvalidSnapshot) × ¬ IsServerKept kept.now) }
-    ensures room { IfErr result (λ status. status ≢ RoomTooSmall) }
 {
     let mut side = match ServerNegotiation::restore(alloc, acceptor, kept) {
         Ok(side) => side,
@@ -443,7 +441,6 @@ fn taken<A: Shows + Drop>(
         ⊎ ((status ≡ StatusTooLong) × ((next : ServerNegotiation A) × (taken : ℕ) × (sent : List ℕ)
         × ServerReceives A.names A.machine (side_of kept.now (A.state acceptor)) bytes.now nonce.now taken sent
         (server_side A.state next) × HasNone A.state A.shows next))) }
-    ensures room { IfErr result (λ status. status ≢ RoomTooSmall) }
 {
     let call = match restore(alloc, acceptor, kept, bytes, nonce, meter) {
         Ok(call) => call,
@@ -476,7 +473,6 @@ fn received(
     ensures err { IfErr result (λ status. status ≢ StatusOutOfMemory
         → NotReceived config.now bytes.now nonce.now server.now status) }
     ensures memory { AsksWhere (NoneHolds (side_tests server.now.connection) × NoneHolds (config_tests config.now)) result }
-    ensures room { IfErr result (λ status. status ≢ RoomTooSmall) }
 {
     let kept = match server.connection.read() {
         Ok(kept) => kept,
@@ -506,21 +502,21 @@ fn receive(
     taken: &mut usize,
     out: &mut [u8],
     out_len: &mut usize,
-) -> Result<(), Status>
+) -> Result<(), WriteError>
     requires { meter.old ≤ 2 ^ 63 }
     ensures text { FillsWithin 520 (ReceivesAsServer config.now bytes.now nonce.now server.old server.new taken.new)
         (record { bytes = out.old; len = out_len.old }) (record { bytes = out.new; len = out_len.new }) result }
     ensures stays { OnErr result ((server.new ≡ server.old) × (taken.new ≡ taken.old)) }
     ensures first { IfErr result (λ status. status ≡ RoomTooSmall → meter.new ≡ meter.old) }
-    ensures memory { AsksWhere (NoneHolds (side_tests server.old.connection) × NoneHolds (config_tests config.now)) result }
+    ensures memory { AsksText (NoneHolds (side_tests server.old.connection) × NoneHolds (config_tests config.now)) result }
 {
     if out.len() < SENT_MOST {
         *out_len = SENT_MOST;
-        return Err(Status::RoomTooSmall);
+        return Err(WriteError::RoomTooSmall);
     }
     let made = match received(alloc, config, server, bytes, nonce, meter) {
         Ok(made) => made,
-        Err(status) => return Err(status),
+        Err(status) => return Err(WriteError::Other(status)),
     };
     put(&made.sent, out, out_len)?;
     *taken = made.taken;
@@ -549,14 +545,14 @@ pub extern "C" fn fe2o3_sasl_server_receive(
     out: &mut [u8],
     out_len: &mut usize,
 ) -> u32
-    ensures { Answers result (λ answer. FillsWithin 520
+    ensures { AnswersText result (λ answer. FillsWithin 520
         (ReceivesAsServer config.now bytes.now nonce.now server.old server.new taken.new)
         (record { bytes = out.old; len = out_len.old }) (record { bytes = out.new; len = out_len.new }) answer
         × OnErr answer ((server.new ≡ server.old) × (taken.new ≡ taken.old))
-        × AsksWhere (NoneHolds (side_tests server.old.connection) × NoneHolds (config_tests config.now)) answer) }
+        × AsksText (NoneHolds (side_tests server.old.connection) × NoneHolds (config_tests config.now)) answer) }
 {
     let mut meter = Meter::new();
-    number(receive(
+    text_number(receive(
         alloc, config, server, bytes, nonce, &mut meter, taken, out, out_len,
     ))
 }

@@ -1,20 +1,21 @@
 //! A SCRAM server whose state is a struct between its calls.
 
-ghost use Rattle.std.specs.Prelude.{false, true, ◌≡◌, ◌≢◌, ◌<◌, ◌≤◌, ◌^◌, List, ℕ, length, take, Ok, Err, IfOk, IfErr, IfSome, OnErr, MatchOption};
+ghost use Rattle.std.specs.Prelude.{false, true, ◌≡◌, ◌≢◌, ◌<◌, ◌≤◌, ◌^◌, ◌↔◌, IsTrue, List, ℕ, length, take, Ok, Err, IfOk, IfErr, IfSome, OnErr, MatchOption};
 ghost use Rattle.fe2o3_scram.specs.ClientFirst.{HasEscapes};
 ghost use Rattle.fe2o3_scram.specs.ServerFirst.{ServerChallenge};
 ghost use Rattle.fe2o3_scram.specs.ScramServer.{Initial, ServerFirstSent, challenge_kept, provider_in, state_in, cbind_flag_y_in};
 ghost use Rattle.fe2o3_scram.specs.declared.scram_messages.channel_binding_flag.ChannelBindingFlag.{ChannelBindingFlag as HeaderOf};
-ghost use Rattle.sasl_c.specs.Server.{MakesChallenge, Challenges, ConcludesLogin, Concludes, FinalAsks, IsAuthenticated, ChallengeHasRoom, IsOpen, ClaimedUser, NotChallenged, OpensExchange, MemoryCosts, ReadsFirst, TellsUser, fresh_server_struct, authenticated_struct, open_number, open_struct, user_struct};
-ghost use Rattle.sasl_c.specs.Status.{Answers, AsksWhere, Fills, FillsWithin};
-ghost use Rattle.sasl_c.specs.declared.status.Status.TheVariants.{OutOfMemory as StatusOutOfMemory, RoomTooSmall};
+ghost use Rattle.sasl_c.specs.Server.{MakesChallenge, Challenges, ConcludesLogin, Concludes, FinalAsks, WritesChallenge, IsAuthenticated, ChallengeHasRoom, IsOpen, ClaimedUser, NotChallenged, OpensExchange, MemoryCosts, ReadsFirst, TellsUser, fresh_server_struct, authenticated_struct, open_number, open_struct, user_struct};
+ghost use Rattle.sasl_c.specs.Status.{Answers, AnswersText, AsksText, AsksWhere, Fills, FillsWithin};
+ghost use Rattle.sasl_c.specs.declared.status.Status.TheVariants.{OutOfMemory as StatusOutOfMemory};
+ghost use Rattle.sasl_c.specs.declared.status.WriteError.TheVariants.{RoomTooSmall};
 
-use crate::arrays::{cleared, head, padded, put};
+use crate::arrays::{cleared, fill, head, padded, put, write};
 use crate::records::ScramRecord;
-use crate::status::{Status, number};
+use crate::status::{Status, WriteError, text_number};
 use fe2o3_scram::{
-    ClientFirst, ChannelBindingFlag, Meter, OpenChallenge, ScramAuthenticator, ScramCredentialProvider,
-    ServerScramErrorKind, UserRecord,
+    ChannelBindingFlag, ClientFirst, Meter, OpenChallenge, ScramAuthenticator,
+    ScramCredentialProvider, ServerScramErrorKind, UserRecord,
 };
 use std::alloc::Global;
 
@@ -111,24 +112,46 @@ impl ScramServer {
         *self = ScramServer::with_user(cleared(&self.user, self.user_len), self.user_len);
     }
 
-    /// The struct of a server whose challenge is open, or `None` where a text of it has no room.
+    /// The struct of a server whose challenge is open, or `None` if a text of it does not fit.
     pub fn of(challenge: &OpenChallenge<'_>) -> Option<ScramServer>
         ensures open { MatchOption result (¬ ChallengeHasRoom (challenge_kept challenge.now))
             (λ server. ChallengeHasRoom (challenge_kept challenge.now) × IsOpen server (challenge_kept challenge.now)) }
         ensures writes { IfSome result (λ server. server ≡ open_struct (challenge_kept challenge.now)) }
     {
-        Some(ScramServer {
-            state: open_number(challenge.header),
-            user: padded(challenge.username.as_bytes())?,
-            user_len: challenge.username.len() as u32,
-            bare: padded(challenge.client_first_message_bare)?,
-            bare_len: challenge.client_first_message_bare.len() as u32,
-            nonce: padded(challenge.client_server_nonce)?,
-            nonce_len: challenge.client_server_nonce.len() as u32,
-            first: padded(challenge.server_first_message)?,
-            first_len: challenge.server_first_message.len() as u32,
-        })
+        if !fits(challenge) {
+            return None;
+        }
+        let mut server = ScramServer::fresh();
+        server.open(challenge);
+        Some(server)
     }
+
+    /// Makes it the struct of a server whose challenge is open.
+    fn open(&mut self, challenge: &OpenChallenge<'_>)
+        requires { ChallengeHasRoom (challenge_kept challenge.now) }
+        ensures open { IsOpen self.new (challenge_kept challenge.now) }
+        ensures writes { self.new ≡ open_struct (challenge_kept challenge.now) }
+    {
+        self.state = open_number(challenge.header);
+        self.user_len = challenge.username.len() as u32;
+        self.bare_len = challenge.client_first_message_bare.len() as u32;
+        self.nonce_len = challenge.client_server_nonce.len() as u32;
+        self.first_len = challenge.server_first_message.len() as u32;
+        fill(&mut self.user, challenge.username.as_bytes());
+        fill(&mut self.bare, challenge.client_first_message_bare);
+        fill(&mut self.nonce, challenge.client_server_nonce);
+        fill(&mut self.first, challenge.server_first_message);
+    }
+}
+
+/// Returns whether the texts of a challenge fit into the struct.
+fn fits(challenge: &OpenChallenge<'_>) -> bool
+    ensures { IsTrue result ↔ ChallengeHasRoom (challenge_kept challenge.now) }
+{
+    challenge.username.len() <= 256
+        && challenge.client_first_message_bare.len() <= 1024
+        && challenge.client_server_nonce.len() <= 512
+        && challenge.server_first_message.len() <= 1024
 }
 
 /// The number of a struct that shows a challenge to a client with this GS2 header.
@@ -208,9 +231,12 @@ fn challenged(
     ensures err { IfErr result (λ status. status ≢ StatusOutOfMemory
         → NotChallenged accept_cbind_flag_y kept.now nonce.now client_first.now status) }
     ensures memory { AsksWhere (ReadsFirst accept_cbind_flag_y client_first.now) result }
-    ensures room { IfErr result (λ status. status ≢ RoomTooSmall) }
 {
-    let first = match ClientFirst::parse_with_cbind_flag_y(alloc, client_first, accept_cbind_flag_y) {
+    let first = match ClientFirst::parse_with_cbind_flag_y(
+        alloc,
+        client_first,
+        accept_cbind_flag_y,
+    ) {
         Ok(first) => first,
         Err(why) => return Err(Status::from(why)),
     };
@@ -228,47 +254,26 @@ fn challenged(
     }
 }
 
-/// The struct of a server whose challenge to a client-first message is open.
-#[tactic(auto, using(crate::proofs::ServerLemmas::no_room))]
-fn opened(
-    alloc: Global,
-    accept_cbind_flag_y: bool,
-    kept: &ScramRecord,
-    nonce: &[u8; 32],
-    client_first: &[u8],
-) -> Result<ScramServer, Status>
-    ensures ok { IfOk result (λ opened. (challenge : ServerChallenge)
-        × MakesChallenge accept_cbind_flag_y kept.now nonce.now client_first.now challenge × IsOpen opened challenge
-        × (opened ≡ open_struct challenge)) }
-    ensures message { IfOk result (λ opened. Challenges accept_cbind_flag_y kept.now nonce.now client_first.now
-        (Ok (take opened.first_len opened.first)) × (opened.first_len ≤ 1024)) }
-    ensures err { IfErr result (λ status. status ≢ StatusOutOfMemory
-        → NotChallenged accept_cbind_flag_y kept.now nonce.now client_first.now status) }
-    ensures memory { AsksWhere (ReadsFirst accept_cbind_flag_y client_first.now) result }
-    ensures room { IfErr result (λ status. status ≢ RoomTooSmall) }
+/// Writes the message of a challenge, and the struct that shows the challenge.
+fn open_into(
+    challenge: &OpenChallenge<'_>,
+    server: &mut ScramServer,
+    out: &mut [u8],
+    out_len: &mut usize,
+) -> Result<(), WriteError>
+    ensures { WritesChallenge (challenge_kept challenge.now) server.old server.new
+        (record { bytes = out.old; len = out_len.old }) (record { bytes = out.new; len = out_len.new }) result }
 {
-    let machine = match challenged(alloc, accept_cbind_flag_y, kept, nonce, client_first) {
-        Ok(machine) => machine,
-        Err(status) => return Err(status),
-    };
-    let Some(challenge) = machine.open_challenge() else {
-        drop(machine);
-        return Err(Status::TooLong);
-    };
-    match ScramServer::of(&challenge) {
-        Some(opened) => {
-            drop(machine);
-            Ok(opened)
-        }
-        None => {
-            drop(machine);
-            Err(Status::TooLong)
-        }
+    if !fits(challenge) {
+        return Err(WriteError::Other(Status::TooLong));
     }
+    put(challenge.server_first_message, out, out_len)?;
+    server.open(challenge);
+    Ok(())
 }
 
-/// Writes the server-first message.
-fn first(
+/// Writes the server-first message, and the struct of the server whose challenge is open.
+fn first_into(
     alloc: Global,
     accept_cbind_flag_y: bool,
     kept: &ScramRecord,
@@ -277,16 +282,23 @@ fn first(
     client_first: &[u8],
     out: &mut [u8],
     out_len: &mut usize,
-) -> Result<(), Status>
+) -> Result<(), WriteError>
     ensures text { Fills (Challenges accept_cbind_flag_y kept.now nonce.now client_first.now)
         (record { bytes = out.old; len = out_len.old }) (record { bytes = out.new; len = out_len.new }) result }
     ensures moved { OpensExchange accept_cbind_flag_y kept.now nonce.now client_first.now server.old server.new result }
-    ensures memory { AsksWhere (ReadsFirst accept_cbind_flag_y client_first.now) result }
+    ensures memory { AsksText (ReadsFirst accept_cbind_flag_y client_first.now) result }
 {
-    let opened = opened(alloc, accept_cbind_flag_y, kept, nonce, client_first)?;
-    put(&opened.first[..opened.first_len as usize], out, out_len)?;
-    *server = opened;
-    Ok(())
+    let machine = match challenged(alloc, accept_cbind_flag_y, kept, nonce, client_first) {
+        Ok(machine) => machine,
+        Err(status) => return Err(WriteError::Other(status)),
+    };
+    let Some(challenge) = machine.open_challenge() else {
+        drop(machine);
+        return Err(WriteError::Other(Status::TooLong));
+    };
+    let written = open_into(&challenge, server, out, out_len);
+    drop(machine);
+    written
 }
 
 /// Answers a client-first message with the server-first message. This starts a new exchange, whatever the state of the
@@ -304,12 +316,21 @@ pub extern "C" fn fe2o3_scram_server_first(
     out: &mut [u8],
     out_len: &mut usize,
 ) -> u32
-    ensures { Answers result (λ answer. Fills (Challenges false kept.now nonce.now client_first.now)
+    ensures { AnswersText result (λ answer. Fills (Challenges false kept.now nonce.now client_first.now)
         (record { bytes = out.old; len = out_len.old }) (record { bytes = out.new; len = out_len.new }) answer
         × OpensExchange false kept.now nonce.now client_first.now server.old server.new answer
-        × AsksWhere (ReadsFirst false client_first.now) answer) }
+        × AsksText (ReadsFirst false client_first.now) answer) }
 {
-    number(first(alloc, false, kept, server, nonce, client_first, out, out_len))
+    text_number(first_into(
+        alloc,
+        false,
+        kept,
+        server,
+        nonce,
+        client_first,
+        out,
+        out_len,
+    ))
 }
 
 /// Answers a client-first message like `fe2o3_scram_server_first`, but also accepts the GS2 header `y,,`: the client
@@ -325,23 +346,28 @@ pub extern "C" fn fe2o3_scram_server_first_with_cbind_flag_y(
     out: &mut [u8],
     out_len: &mut usize,
 ) -> u32
-    ensures { Answers result (λ answer. Fills (Challenges true kept.now nonce.now client_first.now)
+    ensures { AnswersText result (λ answer. Fills (Challenges true kept.now nonce.now client_first.now)
         (record { bytes = out.old; len = out_len.old }) (record { bytes = out.new; len = out_len.new }) answer
         × OpensExchange true kept.now nonce.now client_first.now server.old server.new answer
-        × AsksWhere (ReadsFirst true client_first.now) answer) }
+        × AsksText (ReadsFirst true client_first.now) answer) }
 {
-    number(first(alloc, true, kept, server, nonce, client_first, out, out_len))
+    text_number(first_into(alloc, true, kept, server, nonce, client_first, out, out_len))
 }
 
 /// Writes the name of the user.
-fn user(alloc: Global, client_first: &[u8], out: &mut [u8], out_len: &mut usize) -> Result<(), Status>
+fn user(
+    alloc: Global,
+    client_first: &[u8],
+    out: &mut [u8],
+    out_len: &mut usize,
+) -> Result<(), WriteError>
     ensures text { Fills (ClaimedUser client_first.now) (record { bytes = out.old; len = out_len.old })
         (record { bytes = out.new; len = out_len.new }) result }
-    ensures memory { AsksWhere (HasEscapes true client_first.now) result }
+    ensures memory { AsksText (HasEscapes true client_first.now) result }
 {
     let first = match ClientFirst::parse_with_cbind_flag_y(alloc, client_first, true) {
         Ok(first) => first,
-        Err(why) => return Err(Status::from(why)),
+        Err(why) => return Err(WriteError::Other(Status::from(why))),
     };
     put(first.username.as_bytes(), out, out_len)
 }
@@ -355,10 +381,10 @@ pub extern "C" fn fe2o3_scram_server_claimed_user(
     out: &mut [u8],
     out_len: &mut usize,
 ) -> u32
-    ensures { Answers result (λ answer. Fills (ClaimedUser client_first.now) (record { bytes = out.old; len = out_len.old })
-        (record { bytes = out.new; len = out_len.new }) answer × AsksWhere (HasEscapes true client_first.now) answer) }
+    ensures { AnswersText result (λ answer. Fills (ClaimedUser client_first.now) (record { bytes = out.old; len = out_len.old })
+        (record { bytes = out.new; len = out_len.new }) answer × AsksText (HasEscapes true client_first.now) answer) }
 {
-    number(user(alloc, client_first, out, out_len))
+    text_number(user(alloc, client_first, out, out_len))
 }
 
 /// The server-final message.
@@ -378,7 +404,6 @@ fn concluded(
         → Concludes kept.now client_final.now server.now server.now (Err status)) }
     ensures memory { AsksWhere (FinalAsks kept.now client_final.now server.now) result }
     ensures cost { AsksWhere (MemoryCosts kept.now client_final.now server.now meter.old meter.new) result }
-    ensures room { IfErr result (λ status. status ≢ RoomTooSmall) }
 {
     let Some(challenge) = server.challenge() else {
         return Err(Status::Server(ServerScramErrorKind::IllegalAuthenticatorState));
@@ -415,18 +440,18 @@ fn conclude(
     meter: &mut Meter,
     out: &mut [u8],
     out_len: &mut usize,
-) -> Result<(), Status>
+) -> Result<(), WriteError>
     requires { meter.old ≤ 2 ^ 63 }
     ensures text { FillsWithin 90 (Concludes kept.now client_final.now server.old server.new)
         (record { bytes = out.old; len = out_len.old }) (record { bytes = out.new; len = out_len.new }) result }
     ensures stays { OnErr result (server.new ≡ server.old) }
     ensures first { IfErr result (λ status. status ≡ RoomTooSmall → meter.new ≡ meter.old) }
-    ensures memory { AsksWhere (FinalAsks kept.now client_final.now server.old) result }
-    ensures cost { AsksWhere (MemoryCosts kept.now client_final.now server.old meter.old meter.new) result }
+    ensures memory { AsksText (FinalAsks kept.now client_final.now server.old) result }
+    ensures cost { AsksText (MemoryCosts kept.now client_final.now server.old meter.old meter.new) result }
 {
     if out.len() < FINAL_MOST {
         *out_len = FINAL_MOST;
-        return Err(Status::RoomTooSmall);
+        return Err(WriteError::RoomTooSmall);
     }
     let message = concluded(alloc, kept, server, client_final, meter)?;
     put(&message, out, out_len)?;
@@ -448,40 +473,38 @@ pub extern "C" fn fe2o3_scram_server_final(
     out: &mut [u8],
     out_len: &mut usize,
 ) -> u32
-    ensures { Answers result (λ answer. FillsWithin 90 (Concludes kept.now client_final.now server.old server.new)
+    ensures { AnswersText result (λ answer. FillsWithin 90 (Concludes kept.now client_final.now server.old server.new)
         (record { bytes = out.old; len = out_len.old }) (record { bytes = out.new; len = out_len.new }) answer
-        × OnErr answer (server.new ≡ server.old) × AsksWhere (FinalAsks kept.now client_final.now server.old) answer) }
+        × OnErr answer (server.new ≡ server.old) × AsksText (FinalAsks kept.now client_final.now server.old) answer) }
 {
     let mut meter = Meter::new();
-    number(conclude(alloc, kept, server, client_final, &mut meter, out, out_len))
+    text_number(conclude(alloc, kept, server, client_final, &mut meter, out, out_len))
 }
 
-/// Writes the name of the user who has logged in.
-fn tell(server: &ScramServer, out: &mut [u8], out_len: &mut usize) -> Result<(), Status>
-    ensures text { Fills (TellsUser server.now) (record { bytes = out.old; len = out_len.old })
-        (record { bytes = out.new; len = out_len.new }) result }
+/// The name of the authenticated user.
+fn authenticated_user(server: &ScramServer) -> Result<&[u8], Status>
+    ensures ok { IfOk result (λ user. TellsUser server.now (Ok user.now)) }
+    ensures err { IfErr result (λ status. status ≢ StatusOutOfMemory → TellsUser server.now (Err status)) }
     ensures memory { AsksWhere ⊥ result }
 {
     let illegal = Status::Server(ServerScramErrorKind::IllegalAuthenticatorState);
     if server.state != 2 {
         return Err(illegal);
     }
-    match head(&server.user, server.user_len) {
-        Some(user) => put(user, out, out_len),
-        None => Err(illegal),
-    }
+    head(&server.user, server.user_len).ok_or(illegal)
 }
 
 /// Writes the name of the authenticated user, without escapes. Returns FE2O3_SERVER_ILLEGAL_AUTHENTICATOR_STATE if no
 /// user is authenticated.
 #[unsafe(no_mangle)]
+#[tactic(auto, using(crate::proofs::StatusLemmas::written))]
 pub extern "C" fn fe2o3_scram_server_authenticated_user(
     server: &ScramServer,
     out: &mut [u8],
     out_len: &mut usize,
 ) -> u32
-    ensures { Answers result (λ answer. Fills (TellsUser server.now) (record { bytes = out.old; len = out_len.old })
-        (record { bytes = out.new; len = out_len.new }) answer × AsksWhere ⊥ answer) }
+    ensures { AnswersText result (λ answer. Fills (TellsUser server.now) (record { bytes = out.old; len = out_len.old })
+        (record { bytes = out.new; len = out_len.new }) answer × AsksText ⊥ answer) }
 {
-    number(tell(server, out, out_len))
+    text_number(write(authenticated_user(server), out, out_len))
 }

@@ -7,20 +7,21 @@ ghost use Rattle.fe2o3_sasl_negotiation.specs.ServerNegotiation.{offer_body};
 ghost use Rattle.fe2o3_sasl_negotiation.specs.declared.progress.FrameKind.TheVariants.{Init, Response};
 ghost use Rattle.sasl_c.specs.SaslServer.{BodyAsks, BodyNames, BodyNamesNoUser, config_tests};
 ghost use Rattle.fe2o3_scram.specs.Readings.{NoneHolds};
-ghost use Rattle.sasl_c.specs.Status.{Answers, AsksWhere, Fills, FillsWithin};
+ghost use Rattle.sasl_c.specs.Status.{AnswersText, AsksText, AsksWhere, Fills, FillsWithin};
 ghost use Rattle.sasl_c.specs.Steps.{IsStepped, NotStepped, ConfigOffers, ServerHides, ServerNotStepped, ServerStepped, ServerSteps, ServerTells, StepNames, progress_number};
-ghost use Rattle.sasl_c.specs.declared.status.Status.TheVariants.{FrameTooLarge, OutOfMemory as StatusOutOfMemory, RoomTooSmall};
+ghost use Rattle.sasl_c.specs.declared.status.Status.TheVariants.{FrameTooLarge, OutOfMemory as StatusOutOfMemory};
+ghost use Rattle.sasl_c.specs.declared.status.WriteError.TheVariants.{RoomTooSmall};
 
-use crate::arrays::put;
+use crate::arrays::{put, write};
 use crate::connection::of_frame;
 use crate::sasl_server::{SaslServerConfig, Shows};
 use crate::server::ScramServer;
 use crate::server_user::body_user;
-use crate::status::{Status, number};
+use crate::status::{Status, WriteError, text_number};
 use crate::steps::{behind, has_room, number_of, sendable};
 use bytes::BytesMut;
-use fe2o3_sasl_negotiation::{Progress, FrameKind};
 use fe2o3_sasl_core::{SaslAcceptor, SaslAcceptorExt, ServerReply, acceptor_body_step};
+use fe2o3_sasl_negotiation::{FrameKind, Progress};
 use fe2o3_sasl_wire::{Error, Frame, FrameCodec};
 use fe2o3_scram::Meter;
 use std::alloc::Global;
@@ -30,7 +31,6 @@ fn offer_of<A: SaslAcceptor + Drop>(alloc: Global, acceptor: A) -> Result<BytesM
     ensures ok { IfOk result (λ body. offer_body (A.names (A.state acceptor)) ≡ Some body.items) }
     ensures err { IfErr result (λ status. status ≢ StatusOutOfMemory
         → (status ≡ FrameTooLarge) × (offer_body (A.names (A.state acceptor)) ≡ None)) }
-    ensures room { IfErr result (λ status. status ≢ RoomTooSmall) }
 {
     let mechanisms = acceptor.sasl_mechanisms(alloc)?;
     let mut body = BytesMut::new(alloc);
@@ -42,11 +42,10 @@ fn offer_of<A: SaslAcceptor + Drop>(alloc: Global, acceptor: A) -> Result<BytesM
 }
 
 /// The body with which a configuration offers its mechanisms.
-fn offered(alloc: Global, config: &SaslServerConfig<'_>) -> Result<BytesMut, Status>
+fn compute_offer(alloc: Global, config: &SaslServerConfig<'_>) -> Result<BytesMut, Status>
     ensures offers { MatchResult result (λ body. ConfigOffers config.now (Ok body.items))
         (λ status. status ≢ StatusOutOfMemory → ConfigOffers config.now (Err status)) }
     ensures memory { AsksWhere (NoneHolds (config_tests config.now)) result }
-    ensures room { IfErr result (λ status. status ≢ RoomTooSmall) }
 {
     let acceptor = match config.acceptor(alloc, &ScramServer::fresh()) {
         Ok(acceptor) => acceptor,
@@ -58,38 +57,25 @@ fn offered(alloc: Global, config: &SaslServerConfig<'_>) -> Result<BytesMut, Sta
     }
 }
 
-/// Writes the body with which a configuration offers its mechanisms.
-fn offer(alloc: Global, config: &SaslServerConfig<'_>, out: &mut [u8], out_len: &mut usize) -> Result<(), Status>
-    ensures text { Fills (ConfigOffers config.now) (record { bytes = out.old; len = out_len.old })
-        (record { bytes = out.new; len = out_len.new }) result }
-    ensures memory { AsksWhere (NoneHolds (config_tests config.now)) result }
-{
-    let body = match offered(alloc, config) {
-        Ok(body) => body,
-        Err(status) => return Err(status),
-    };
-    put(&body, out, out_len)
-}
-
 /// Writes the frame body with which a server offers its mechanisms. Send it after the client's SASL header.
 #[unsafe(no_mangle)]
+#[tactic(auto, using(crate::proofs::StatusLemmas::written))]
 pub extern "C" fn fe2o3_sasl_server_offer(
     alloc: Global,
     config: &SaslServerConfig<'_>,
     out: &mut [u8],
     out_len: &mut usize,
 ) -> u32
-    ensures { Answers result (λ answer. Fills (ConfigOffers config.now) (record { bytes = out.old; len = out_len.old })
-        (record { bytes = out.new; len = out_len.new }) answer × AsksWhere (NoneHolds (config_tests config.now)) answer) }
+    ensures { AnswersText result (λ answer. Fills (ConfigOffers config.now) (record { bytes = out.old; len = out_len.old })
+        (record { bytes = out.new; len = out_len.new }) answer × AsksText (NoneHolds (config_tests config.now)) answer) }
 {
-    number(offer(alloc, config, out, out_len))
+    text_number(write(compute_offer(alloc, config), out, out_len))
 }
 
 /// The body that a reply sends, and how the login stands behind it.
 fn told(reply: ServerReply) -> Result<(Vec<u8>, Progress), Status>
     ensures told { MatchResult result (λ told. ServerTells (server_reply reply) told.0.items told.1)
         (λ status. ServerHides (server_reply reply) status) }
-    ensures room { IfErr result (λ status. status ≢ RoomTooSmall) }
 {
     match reply {
         ServerReply::Challenge { body } => Ok((sendable(body)?, Progress::InProgress)),
@@ -124,7 +110,6 @@ fn stepped<A: Shows + Drop>(
     ensures err { IfErr result (λ status. status ≢ StatusOutOfMemory → NotStepped A.state A.machine A.shows
         (A.state acceptor)
         (record { body = body.now; nonce = nonce.now }) status) }
-    ensures room { IfErr result (λ status. status ≢ RoomTooSmall) }
 {
     let mut acceptor = acceptor;
     let reply = match acceptor_body_step(alloc, &mut acceptor, body, nonce, meter) {
@@ -161,7 +146,6 @@ fn answered(
     ensures err { IfErr result (λ status. status ≢ StatusOutOfMemory
         → ServerNotStepped config.now (record { body = body.now; nonce = nonce.now }) server.now status) }
     ensures memory { AsksWhere (NoneHolds (config_tests config.now)) result }
-    ensures room { IfErr result (λ status. status ≢ RoomTooSmall) }
 {
     let acceptor = match config.acceptor(alloc, server) {
         Ok(acceptor) => acceptor,
@@ -184,19 +168,19 @@ fn step(
     progress: &mut u32,
     out: &mut [u8],
     out_len: &mut usize,
-) -> Result<(), Status>
+) -> Result<(), WriteError>
     requires { meter.old ≤ 2 ^ 63 }
     ensures text { FillsWithin 508 (ServerSteps config.now (record { body = body.now; nonce = nonce.now }) server.old
         server.new progress.new) (record { bytes = out.old; len = out_len.old })
         (record { bytes = out.new; len = out_len.new }) result }
     ensures stays { OnErr result ((server.new ≡ server.old) × (progress.new ≡ progress.old)) }
     ensures first { IfErr result (λ status. status ≡ RoomTooSmall → meter.new ≡ meter.old) }
-    ensures memory { AsksWhere (NoneHolds (config_tests config.now)) result }
+    ensures memory { AsksText (NoneHolds (config_tests config.now)) result }
 {
     has_room(out, out_len)?;
     let made = match answered(alloc, config, server, body, nonce, meter) {
         Ok(made) => made,
-        Err(status) => return Err(status),
+        Err(status) => return Err(WriteError::Other(status)),
     };
     put(&made.sent, out, out_len)?;
     *progress = number_of(made.progress);
@@ -230,24 +214,23 @@ pub extern "C" fn fe2o3_sasl_server_step(
     out: &mut [u8],
     out_len: &mut usize,
 ) -> u32
-    ensures { Answers result (λ answer. FillsWithin 508 (ServerSteps config.now
+    ensures { AnswersText result (λ answer. FillsWithin 508 (ServerSteps config.now
         (record { body = body.now; nonce = nonce.now }) server.old server.new progress.new)
         (record { bytes = out.old; len = out_len.old }) (record { bytes = out.new; len = out_len.new }) answer
         × OnErr answer ((server.new ≡ server.old) × (progress.new ≡ progress.old))
-        × AsksWhere (NoneHolds (config_tests config.now)) answer) }
+        × AsksText (NoneHolds (config_tests config.now)) answer) }
 {
     let mut meter = Meter::new();
-    number(step(
+    text_number(step(
         alloc, config, server, body, nonce, &mut meter, progress, out, out_len,
     ))
 }
 
 /// The name of the user whom a body names.
-fn named(alloc: Global, server: &ScramServer, body: &[u8]) -> Result<Vec<u8>, Status>
+fn compute_claimed_user(alloc: Global, server: &ScramServer, body: &[u8]) -> Result<Vec<u8>, Status>
     ensures names { MatchResult result (λ name. StepNames server.now body.now (Ok name.items))
         (λ status. status ≢ StatusOutOfMemory → StepNames server.now body.now (Err status)) }
     ensures memory { AsksWhere (BodyAsks server.now Init body.now ⊎ BodyAsks server.now Response body.now) result }
-    ensures room { IfErr result (λ status. status ≢ RoomTooSmall) }
 {
     if let Some(name) = body_user(alloc, server, FrameKind::Init, body)? {
         return Ok(name);
@@ -258,29 +241,11 @@ fn named(alloc: Global, server: &ScramServer, body: &[u8]) -> Result<Vec<u8>, St
     }
 }
 
-/// Writes the name of the user whom a body names.
-fn user(
-    alloc: Global,
-    server: &ScramServer,
-    body: &[u8],
-    out: &mut [u8],
-    out_len: &mut usize,
-) -> Result<(), Status>
-    ensures text { Fills (StepNames server.now body.now) (record { bytes = out.old; len = out_len.old })
-        (record { bytes = out.new; len = out_len.new }) result }
-    ensures memory { AsksWhere (BodyAsks server.now Init body.now ⊎ BodyAsks server.now Response body.now) result }
-{
-    let name = match named(alloc, server, body) {
-        Ok(name) => name,
-        Err(status) => return Err(status),
-    };
-    put(&name, out, out_len)
-}
-
 /// Writes the user name that a frame body claims: that of an init for SCRAM or PLAIN, and for a response that of the
 /// open challenge. Nobody is authenticated yet: use it only to look up the record for `fe2o3_sasl_server_step`.
 /// Returns FE2O3_NAMES_NO_USER if the body claims no name; then no record is needed.
 #[unsafe(no_mangle)]
+#[tactic(auto, using(crate::proofs::StatusLemmas::written))]
 pub extern "C" fn fe2o3_sasl_server_step_claimed_user(
     alloc: Global,
     server: &ScramServer,
@@ -288,9 +253,9 @@ pub extern "C" fn fe2o3_sasl_server_step_claimed_user(
     out: &mut [u8],
     out_len: &mut usize,
 ) -> u32
-    ensures { Answers result (λ answer. Fills (StepNames server.now body.now) (record { bytes = out.old; len = out_len.old })
+    ensures { AnswersText result (λ answer. Fills (StepNames server.now body.now) (record { bytes = out.old; len = out_len.old })
         (record { bytes = out.new; len = out_len.new }) answer
-        × AsksWhere (BodyAsks server.now Init body.now ⊎ BodyAsks server.now Response body.now) answer) }
+        × AsksText (BodyAsks server.now Init body.now ⊎ BodyAsks server.now Response body.now) answer) }
 {
-    number(user(alloc, server, body, out, out_len))
+    text_number(write(compute_claimed_user(alloc, server, body), out, out_len))
 }

@@ -2,7 +2,8 @@
 
 ghost use Rattle.std.specs.Prelude.{◌≡◌, ◌≢◌, ◌≤◌, MatchOption, MatchResult};
 ghost use Rattle.fe2o3_scram.specs.Hmac.{digest_len};
-ghost use Rattle.sasl_c.specs.Status.{answer_number, client_number, client_status, server_number, server_status, status_number, record_text_number, version_number};
+ghost use Rattle.sasl_c.specs.declared.status.WriteError.TheVariants.{Other as OtherError};
+ghost use Rattle.sasl_c.specs.Status.{answer_number, text_answer_number, client_number, client_status, server_number, server_status, status_number, record_text_number, version_number};
 ghost use Rattle.sasl_c.specs.declared.status.Status.TheVariants.{OutOfMemory as StatusOutOfMemory, NotUtf8 as StatusNotUtf8};
 ghost use Rattle.std.specs.Str.{IsUtf8};
 ghost use Rattle.fe2o3_scram.specs.declared.hmac.ScramVersion.{ScramVersion};
@@ -15,9 +16,6 @@ use std::alloc::AllocError;
 pub enum Status {
     /// An allocation failed. Nothing has changed, and you can repeat the call.
     OutOfMemory,
-
-    /// `out` is too small. Nothing has changed, and `out_len` says how many bytes suffice.
-    RoomTooSmall,
 
     /// A text is not UTF-8.
     NotUtf8,
@@ -133,6 +131,24 @@ pub enum Status {
     UnassignedCodePoint,
 }
 
+/// Why a call that writes a text is not done.
+#[derive(Clone, Copy)]
+pub enum WriteError {
+    /// `out` is too small. Nothing has changed, and `out_len` says how many bytes suffice.
+    RoomTooSmall,
+
+    /// There is no text.
+    Other(Status),
+}
+
+impl From<Status> for WriteError {
+    ghost from_gives = { λ status why. why ≡ OtherError status };
+
+    fn from(status: Status) -> Self {
+        WriteError::Other(status)
+    }
+}
+
 impl From<AllocError> for Status {
     ghost from_gives = { λ _ status. status ≡ StatusOutOfMemory };
 
@@ -170,7 +186,6 @@ impl Status {
     {
         match self {
             Status::OutOfMemory => 1,
-            Status::RoomTooSmall => 2,
             Status::NotUtf8 => 3,
             Status::NoSuchVersion => 4,
             Status::TooLong => 5,
@@ -282,6 +297,17 @@ pub fn number(answer: Result<(), Status>) -> u32
     match answer {
         Ok(()) => 0,
         Err(status) => status.number(),
+    }
+}
+
+/// The number of an answer of a call that writes a text: 0 where the call is done.
+pub fn text_number(answer: Result<(), WriteError>) -> u32
+    ensures { result ≡ text_answer_number answer }
+{
+    match answer {
+        Ok(()) => 0,
+        Err(WriteError::RoomTooSmall) => 2,
+        Err(WriteError::Other(status)) => status.number(),
     }
 }
 

@@ -9,7 +9,7 @@ use crate::frames::SaslFrameView;
 use crate::keys::ScramKeys;
 use crate::records::ScramRecord;
 use crate::sasl_client::{SaslClient, SaslLogin};
-use crate::sasl_server::{SaslServerConfig, SaslServer};
+use crate::sasl_server::{SaslServer, SaslServerConfig};
 use crate::server::ScramServer;
 use std::mem::size_of;
 

@@ -2,7 +2,7 @@ use Rattle.std.proofs.Common.{arith, sym}
 use Rattle.sasl_c.specs.Records.{RecordHasRoom}
 use Rattle.sasl_c.proofs.RoomLemmas.{mock_has_room}
 use Rattle.sasl_c.proofs.StatusLemmas.{carried}
-use Rattle.sasl_c.proofs.records.made_up.Goals as goal
+use Rattle.sasl_c.proofs.records.compute_mock.Goals as goal
 
 pub returns : goal.returns
 returns c =
