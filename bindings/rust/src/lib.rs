@@ -46,7 +46,7 @@ mod version;
 
 pub use calls::{fits, generate_nonce, library_version};
 pub use client::ScramClient;
-pub use connection::{ClientNegotiation, Received, SaslProfile, Progress};
+pub use connection::{ClientNegotiation, Progress, Received, SaslProfile};
 pub use errors::{
     ConnectionError, RecordError, RecordTextError, SaslprepError, ScramErrorKind, ServerScramErrorKind, Status,
 };

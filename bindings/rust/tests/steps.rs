@@ -220,7 +220,8 @@ fn external_without_a_peer() {
     };
     let init = body(INIT, &[&symbol("EXTERNAL"), NULL, &short(0xa1, b"host")]);
     for peer in [None, Some("")] {
-        let named = |side: ServerSteps<Store>| if let Some(peer) = peer { side.with_external_authcid(peer) } else { side };
+        let named =
+            |side: ServerSteps<Store>| if let Some(peer) = peer { side.with_external_authcid(peer) } else { side };
         let mut side = named(steps(all()));
         assert_eq!(side.sasl_mechanisms().unwrap(), list_of(&["SCRAM-SHA-256", "PLAIN", "ANONYMOUS"]));
         assert_eq!(side.on_frame(&init).unwrap().body, outcome(1));

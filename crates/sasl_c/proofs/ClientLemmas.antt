@@ -406,11 +406,11 @@ verifies login before after side next text verified is held written = (
   written,
 )
 
-pub verified : (login : Login) (before after : Struct) (text signature : List ℕ) (version : ScramVersion)
+pub server_verified : (login : Login) (before after : Struct) (text signature : List ℕ) (version : ScramVersion)
     (verified : Unit {0}) → IsVersion login.version version → IsTestedLogin login → AwaitsSignature before
     → signature ≡ take before.signature_len before.signature → ReadsServerFinal signature text (Ok verified)
     → after ≡ complete_struct before.keys → Verifies login text before after (Ok tt)
-verified login before after text signature version verified known is waits same reads written =
+server_verified login before after text signature version verified known is waits same reads written =
     let secret = secret_of_login login is.1 in
     let keys = holds before.keys in
     let side = side_with login version secret.0 (ClientFinalSent signature keys.0) in
@@ -486,7 +486,7 @@ pub no_verification : (login : Login) (before : Struct) (text : List ℕ) (statu
 unfolding Verifies
 no_verification login before text status wrong = (refl, λ other. inl wrong)
 
-pub ruleset verifies = (verified, unverified, not_waiting, no_verification)
+pub ruleset verifying = (server_verified, unverified, not_waiting, no_verification)
 
 -- what the client's answer takes
 -- why a client whose login has a version and a user has no secret

@@ -43,8 +43,8 @@ fn offer_of<A: SaslAcceptor + Drop>(alloc: Global, acceptor: A) -> Result<BytesM
 
 /// The body with which a configuration offers its mechanisms.
 fn compute_offer(alloc: Global, config: &SaslServerConfig<'_>) -> Result<BytesMut, Status>
-    ensures offers { MatchResult result (λ body. ConfigOffers config.now (Ok body.items))
-        (λ status. status ≢ StatusOutOfMemory → ConfigOffers config.now (Err status)) }
+    ensures ok { IfOk result (λ body. ConfigOffers config.now (Ok body.items)) }
+    ensures err { IfErr result (λ status. status ≢ StatusOutOfMemory → ConfigOffers config.now (Err status)) }
     ensures memory { AsksWhere (NoneHolds (config_tests config.now)) result }
 {
     let acceptor = match config.acceptor(alloc, &ScramServer::fresh()) {
@@ -59,7 +59,6 @@ fn compute_offer(alloc: Global, config: &SaslServerConfig<'_>) -> Result<BytesMu
 
 /// Writes the frame body with which a server offers its mechanisms. Send it after the client's SASL header.
 #[unsafe(no_mangle)]
-#[tactic(auto, using(crate::proofs::StatusLemmas::written))]
 pub extern "C" fn fe2o3_sasl_server_offer(
     alloc: Global,
     config: &SaslServerConfig<'_>,

@@ -9,7 +9,7 @@
 //! The client takes the password from standard input. The server offers the mechanism alone.
 
 use fe2o3_sasl_proved::{
-    ClientNegotiation, Offers, SaslProfile, ScramClient, ScramVersion, ServerNegotiation, Progress,
+    ClientNegotiation, Offers, Progress, SaslProfile, ScramClient, ScramVersion, ServerNegotiation,
 };
 use interop::{password, told, version_of, Failure, Users};
 use std::io::{Read, Write};

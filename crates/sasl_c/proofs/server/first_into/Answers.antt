@@ -19,4 +19,4 @@ returns-clause-moved c =
     c.open_into-written.ensures
 
 pub returns-clause-memory : goal.returns-clause-memory
-returns-clause-memory c = opens_asks _ _ _ _ _ _ c.open_into-written.ensures
+returns-clause-memory c = opens_asks _ _ _ _ _ _ _ c.open_into-written.ensures
