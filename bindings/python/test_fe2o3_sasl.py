@@ -430,7 +430,7 @@ class Connections(Case):
         one = ClientConnection.anonymous()
         one._login[0].mechanism = 4
         self.refused(Status.NO_SUCH_MECHANISM, one.receive, b"A")
-        for field, value in (("due", 6), ("held_len", 513), ("held_len", 8)):
+        for field, value in (("expected", 6), ("held_len", 513), ("held_len", 8)):
             one = ClientConnection.anonymous()
             setattr(one._struct.connection, field, value)
             self.refused(Status.INVALID_SNAPSHOT, one.receive, b"A")
@@ -961,7 +961,7 @@ class Arguments(Case):
             with self.assertRaises(ValueError):
                 Record.mock(SHA_1, bytes(32), "a", salt_length=number)
         for unfit in (None, 5, 5.0, object()):
-            for call in (record.verify, Record.parse, Server.user, Client(SHA_1, "a", "a").verify, Server().final):
+            for call in (record.verify, Record.parse, Server.claimed_user, Client(SHA_1, "a", "a").verify, Server().final):
                 with self.assertRaises(TypeError):
                     call(unfit)
         for message in ("text", None, 3):
@@ -1200,7 +1200,7 @@ class RandomStructs(Case):
                 "fe2o3_scram_client_verify", (believing,), who, believing, server_final, len(server_final)
             )
             if believed is not None:
-                self.assertEqual((sent, believing.sent), (2, 3))
+                self.assertEqual((sent, believing.state), (2, 3))
             for message in (self.marred(server_first), os.urandom(self.random.randrange(40))):
                 other = fe2o3_sasl._ScramClientStruct.from_buffer_copy(client)
                 self.ask("fe2o3_scram_client_final", (other,), who, other, message, len(message), room=1024)
@@ -1314,7 +1314,8 @@ class RandomStructs(Case):
 
 class Declarations(Case):
     def test_statuses_are_those_of_the_header(self) -> None:
-        declared = re.findall(r"^    FE2O3_(\w+) = (\d+)", HEADER.read_text(encoding="utf-8"), re.MULTILINE)
+        block = re.search(r"^enum fe2o3_status \{\n(.*?)^\};$", HEADER.read_text(encoding="utf-8"), re.MULTILINE | re.DOTALL)
+        declared = re.findall(r"^    FE2O3_(\w+) = (\d+)", block[1], re.MULTILINE)
         self.assertEqual([(name, int(number)) for name, number in declared], [(x.name, x.value) for x in Status])
 
     def test_exports_are_those_of_the_header(self) -> None:
