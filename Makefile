@@ -34,6 +34,7 @@ test:
 	python3 tools/signatures.py --check
 	python3 tools/header.py --check
 	python3 tools/header.py --rust --check
+	python3 tools/header.py --python --check
 	python3 tools/circles.py
 	python3 tools/names.py
 	python3 tools/meters.py

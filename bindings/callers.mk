@@ -2,7 +2,7 @@
 # of it ar, ld, objcopy, a C compiler and Python 3.
 #
 #   make lib       proves crates/sasl_c, and builds build/libfe2o3_sasl.a, .so and the file for pkg-config
-#   make header    writes the C header and the Rust declarations from the sources
+#   make header    writes the C header, and the declarations of Rust and Python, from the sources
 #   make callers   compares these, and builds and runs the programs of bindings/c: plain, shared and sanitized
 #   make rust      tests the crate of bindings/rust, which needs cargo and no other crate
 #   make python    tries the module of bindings/python over the shared library
@@ -16,7 +16,7 @@ CPU ?= x86-64-v2
 KIT ?= $(abspath $(dir $(shell readlink -f "$$(command -v rt)"))/..)
 
 # The number of the shared object rises when a struct or the signature of an export changes.
-SONAME = libfe2o3_sasl.so.0
+SONAME = libfe2o3_sasl.so.1
 VERSION = $(shell sed -n 's/^\#\# \([0-9][0-9.]*\).*/\1/p' CHANGELOG.md | head -n 1)
 PROVED_ARCHIVE ?= crates/sasl_c/out/libsasl_c.a
 LIBRARY = build/libfe2o3_sasl.a build/libfe2o3_sasl.so build/fe2o3_sasl.pc
@@ -63,10 +63,12 @@ build/fe2o3_sasl.pc:
 header:
 	python3 tools/header.py
 	python3 tools/header.py --rust
+	python3 tools/header.py --python
 
 header-check:
 	python3 tools/header.py --check
 	python3 tools/header.py --rust --check
+	python3 tools/header.py --python --check
 
 build/callers/%_plain: bindings/c/%.c $(HEADER) build/libfe2o3_sasl.a
 	@mkdir -p $(@D)

@@ -1,36 +1,35 @@
-/* SCRAM (RFC 5802, RFC 7677) and SASL's layer of AMQP 1.0. Written by tools/header.py.
+/* SCRAM (RFC 5802, RFC 7677) and the SASL layer of AMQP 1.0. Written by tools/header.py.
  *
- * A call answers a number: FE2O3_OK, or why it is not done. There is nothing to begin with and nothing to free: what
- * an exchange keeps between its calls stands in structs of the caller's, and the library keeps nothing.
+ * A call returns a status: FE2O3_OK, or why it failed. There is nothing to initialize and nothing to free. The state of
+ * an exchange is a struct that you allocate, and the library keeps nothing between calls.
  *
- * What a caller owes, since no call can test it:
+ * What you have to ensure, since no call can test it:
  *
- * - Each pointer is that of memory which is there for as many bytes as its type, or the length behind it, says, and for
- *   no more than PTRDIFF_MAX. None is null, neither where the length is 0 (FE2O3_NONE is an address and the length 0)
- *   nor in a struct: the keys of a login by password point to a struct that is all zeros.
- * - What a call writes to (the room, its length, each struct that is not const) overlaps nothing else that it is given.
- *   What it only reads may overlap, and others may read it meanwhile.
- * - A struct that is written to is in one call at a time. Apart from that any thread may call, but no signal handler.
- * - A struct is set to zeros before its first use, but one with pointers to its FE2O3_.._INIT. One that is all
- *   zeros is a client that has sent nothing, a server without a challenge, a connection of which no byte has come, or
- *   no keys.
- * - malloc, realloc and free are those of C, and there is stack enough.
+ * - Each pointer is valid for as many bytes as its type, or the length after it, says, and for no more than
+ *   PTRDIFF_MAX. No pointer is null, even if its length is 0 (FE2O3_NONE is an address and the length 0), and none in a
+ *   struct: `keys` of a login by password points to a struct of zeros.
+ * - What a call writes to (`out`, its length, each struct that is not const) does not overlap its other arguments. What
+ *   a call only reads may overlap, and other threads may read it meanwhile.
+ * - A struct that a call writes to is used by one call at a time. Any thread may call, but no signal handler.
+ * - A struct is set to zeros before its first use, or to its FE2O3_.._INIT if it has pointers. All zeros is a client
+ *   that has sent nothing, a server without an open challenge, a connection that has received nothing, or no keys.
+ * - malloc, realloc and free are those of C, and there is enough stack.
  *
- * What is no duty: numbers, bytes, and lengths inside structs may be any. So any bit pattern of a struct without
- * pointers is legal, also one that the library never wrote, or wrote for another login: each has its answer, and none
- * does harm to memory. But whoever can write to a client's struct can write there that the server was believed.
+ * Numbers, bytes, and lengths inside structs may have any value. So any bit pattern of a struct without pointers is
+ * legal, even one that the library never wrote, or wrote for another login: every call defines its result, and none
+ * harms memory. But anyone who can write to a client's struct can write there that the server is authenticated.
  *
  * What the calls promise:
  *
- * - A call that is refused changes nothing; but where it answers FE2O3_ROOM_TOO_SMALL, the length says what suffices.
- * - A call that is done writes its text at the head of the room and how long it is. It leaves the room behind it as it
- *   was, and puts no zero at its end.
- * - Each call returns, never aborts, and keeps no pointer. It takes memory from malloc and gives all of it back; where
- *   there is none it answers FE2O3_OUT_OF_MEMORY.
+ * - A call that fails changes nothing, except that with FE2O3_ROOM_TOO_SMALL `out_len` says how many bytes suffice.
+ * - A call that succeeds writes its text to the beginning of `out`, and the text's length to `out_len`. The rest of `out`
+ *   stays as it was. There is no zero at the end of the text.
+ * - Each call returns, never aborts, and keeps no pointer. It allocates by malloc and frees all of it. If an allocation
+ *   fails it returns FE2O3_OUT_OF_MEMORY.
  *
- * What they do not promise: secrets are not wiped from memory, neither from what goes back to free nor from the stack.
- * Records, keys, and clients that have answered hold secrets, which are the caller's to wipe. Comparisons do not take
- * the same time whatever is compared. Random bytes are the caller's: 32 fresh ones for each nonce. */
+ * What they do not promise: secrets are not wiped, neither from freed memory nor from the stack. Records, keys, and the
+ * structs of clients that have answered hold secrets; wiping them is up to you. Comparisons are not guaranteed to take
+ * constant time. The library has no random numbers: you pass 32 fresh random bytes for each nonce. */
 #ifndef FE2O3_SASL_H
 #define FE2O3_SASL_H
 
@@ -41,81 +40,196 @@
 extern "C" {
 #endif
 
-/* The versions, by the hash of the mechanism. */
-#define FE2O3_SHA_1 1u
-#define FE2O3_SHA_256 256u
-#define FE2O3_SHA_512 512u
-
-/* The mechanisms of a login on a connection. */
-#define FE2O3_SCRAM 0u
-#define FE2O3_PLAIN 1u
-#define FE2O3_ANONYMOUS 2u
-#define FE2O3_EXTERNAL 3u
-
-/* By what a client logs in: its password as it is typed, its keys, or both; or by a prepared password, or both with
- * that. */
-#define FE2O3_BY_PASSWORD 0u
-#define FE2O3_BY_KEYS 1u
-#define FE2O3_BY_PASSWORD_AND_KEYS 2u
-#define FE2O3_BY_PREPARED 3u
-#define FE2O3_BY_PREPARED_AND_KEYS 4u
-
-/* Whether a text that is prepared may hold code points that Unicode 3.2 does not assign. */
-#define FE2O3_UNASSIGNED_REFUSED 0u
-#define FE2O3_UNASSIGNED_ALLOWED 1u
-
-/* What a server offers: a sum of these. The last is no mechanism, but lets SCRAM take a client whose GS2 header is
- * `y,,`. */
-#define FE2O3_OFFER_SCRAM 1u
-#define FE2O3_OFFER_PLAIN 2u
-#define FE2O3_OFFER_ANONYMOUS 4u
-#define FE2O3_OFFER_EXTERNAL 8u
-#define FE2O3_ACCEPT_CBIND_FLAG_Y 16u
-
-/* How a connection stands. */
-#define FE2O3_IN_PROGRESS 0u
-#define FE2O3_AUTHENTICATED 1u
-#define FE2O3_FAILED 2u
-
-/* An empty text: a pointer and its length, as an argument or behind `=` in a struct. */
+/* An empty text: a pointer and its length, as two arguments or in an initializer of a struct. */
 #define FE2O3_NONE (const uint8_t *)"", 0
 
-/* What a call answers. */
+/* The hash of a SCRAM mechanism, of a record, and of keys. */
+enum fe2o3_scram_version {
+    /* SCRAM-SHA-1. */
+    FE2O3_SHA_1 = 1,
+    /* SCRAM-SHA-256. */
+    FE2O3_SHA_256 = 256,
+    /* SCRAM-SHA-512. */
+    FE2O3_SHA_512 = 512
+};
+
+/* The mechanism of a client on a connection. */
+enum fe2o3_mechanism {
+    /* SCRAM with the hash of the login. */
+    FE2O3_SCRAM = 0,
+    /* PLAIN (RFC 4616). */
+    FE2O3_PLAIN = 1,
+    /* ANONYMOUS (RFC 4505). */
+    FE2O3_ANONYMOUS = 2,
+    /* EXTERNAL (RFC 4422, appendix A). */
+    FE2O3_EXTERNAL = 3
+};
+
+/* What a client logs in with. */
+enum fe2o3_secret {
+    /* The typed password, which has to be printable ASCII. */
+    FE2O3_BY_PASSWORD = 0,
+    /* The keys. */
+    FE2O3_BY_KEYS = 1,
+    /* The keys if they are of the server's salt and iteration count, otherwise the typed password. */
+    FE2O3_BY_PASSWORD_AND_KEYS = 2,
+    /* The prepared password (fe2o3_saslprep). */
+    FE2O3_BY_PREPARED = 3,
+    /* The keys if they are of the server's salt and iteration count, otherwise the prepared password. */
+    FE2O3_BY_PREPARED_AND_KEYS = 4
+};
+
+/* What fe2o3_saslprep does with code points that Unicode 3.2 does not assign. */
+enum fe2o3_unassigned {
+    /* It returns FE2O3_UNASSIGNED_CODE_POINT. */
+    FE2O3_UNASSIGNED_REFUSED = 0,
+    /* It leaves them as they are. */
+    FE2O3_UNASSIGNED_ALLOWED = 1
+};
+
+/* What a server offers: a sum of these values. */
+enum fe2o3_offer {
+    /* SCRAM with the hash of the configuration. */
+    FE2O3_OFFER_SCRAM = 1,
+    /* PLAIN, which sends the password in clear. */
+    FE2O3_OFFER_PLAIN = 2,
+    /* ANONYMOUS. */
+    FE2O3_OFFER_ANONYMOUS = 4,
+    /* EXTERNAL, if `external_authcid` is not empty. */
+    FE2O3_OFFER_EXTERNAL = 8,
+    /* No mechanism: SCRAM also accepts the GS2 header `y,,`, like fe2o3_scram_server_first_with_cbind_flag_y. */
+    FE2O3_ACCEPT_CBIND_FLAG_Y = 16
+};
+
+/* How far a login on a connection is. */
+enum fe2o3_progress {
+    /* The login goes on: the other side has to send more. */
+    FE2O3_IN_PROGRESS = 0,
+    /* The login is complete. */
+    FE2O3_AUTHENTICATED = 1,
+    /* The login has failed, and you have to close the connection. */
+    FE2O3_FAILED = 2
+};
+
+/* What the other side of a connection has to send next. */
+enum fe2o3_expected {
+    /* The protocol header. */
+    FE2O3_EXPECTED_HEADER = 0,
+    /* The list of mechanisms. */
+    FE2O3_EXPECTED_MECHANISMS = 1,
+    /* The init. */
+    FE2O3_EXPECTED_INIT = 2,
+    /* The challenge, or already the outcome. */
+    FE2O3_EXPECTED_CHALLENGE = 3,
+    /* The response. */
+    FE2O3_EXPECTED_RESPONSE = 4,
+    /* The outcome. */
+    FE2O3_EXPECTED_OUTCOME = 5
+};
+
+/* How far the exchange of a SCRAM client is. Other values count as FE2O3_SCRAM_CLIENT_INITIAL. */
+enum fe2o3_scram_client_state {
+    /* It has sent nothing. */
+    FE2O3_SCRAM_CLIENT_INITIAL = 0,
+    /* It has sent the client-first message. */
+    FE2O3_SCRAM_CLIENT_FIRST_SENT = 1,
+    /* It has sent the client-final message, and expects the server's signature. */
+    FE2O3_SCRAM_CLIENT_FINAL_SENT = 2,
+    /* The login is complete, and the server authenticated. */
+    FE2O3_SCRAM_CLIENT_COMPLETE = 3
+};
+
+/* How far the exchange of a SCRAM server is. Other values count as FE2O3_SCRAM_SERVER_INITIAL. A challenge is open in
+ * two of these states. */
+enum fe2o3_scram_server_state {
+    /* No challenge is open, and no user is authenticated. */
+    FE2O3_SCRAM_SERVER_INITIAL = 0,
+    /* A challenge is open, to a client whose GS2 header is `n,,`. */
+    FE2O3_SCRAM_SERVER_CHALLENGE_OPEN = 1,
+    /* The user is authenticated. */
+    FE2O3_SCRAM_SERVER_AUTHENTICATED = 2,
+    /* A challenge is open, to a client whose GS2 header is `y,,`. */
+    FE2O3_SCRAM_SERVER_CHALLENGE_OPEN_CBIND_FLAG_Y = 3
+};
+
+/* The frames of the SASL layer, by their descriptors (AMQP 1.0, part 5, section 5.3.3). */
+enum fe2o3_frame_kind {
+    /* The list of mechanisms. */
+    FE2O3_KIND_MECHANISMS = 64,
+    /* The init. */
+    FE2O3_KIND_INIT = 65,
+    /* The challenge. */
+    FE2O3_KIND_CHALLENGE = 66,
+    /* The response. */
+    FE2O3_KIND_RESPONSE = 67,
+    /* The outcome. */
+    FE2O3_KIND_OUTCOME = 68
+};
+
+/* The code of an outcome (AMQP 1.0, part 5, section 5.3.3.6). */
+enum fe2o3_sasl_code {
+    /* The login succeeded. */
+    FE2O3_CODE_OK = 0,
+    /* The credentials are wrong. */
+    FE2O3_CODE_AUTH = 1,
+    /* A system error. */
+    FE2O3_CODE_SYS = 2,
+    /* A permanent system error. */
+    FE2O3_CODE_SYS_PERM = 3,
+    /* A temporary system error. */
+    FE2O3_CODE_SYS_TEMP = 4
+};
+
+/* The structs, for fe2o3_size. */
+enum fe2o3_size_of {
+    FE2O3_SIZE_OF_LOGIN = 0,
+    FE2O3_SIZE_OF_SCRAM_CLIENT = 1,
+    FE2O3_SIZE_OF_SCRAM_KEYS = 2,
+    FE2O3_SIZE_OF_SCRAM_SERVER = 3,
+    FE2O3_SIZE_OF_SCRAM_RECORD = 4,
+    FE2O3_SIZE_OF_CONNECTION = 5,
+    FE2O3_SIZE_OF_SASL_LOGIN = 6,
+    FE2O3_SIZE_OF_SASL_CLIENT = 7,
+    FE2O3_SIZE_OF_SASL_FRAME_VIEW = 8,
+    FE2O3_SIZE_OF_SASL_SERVER_CONFIG = 9,
+    FE2O3_SIZE_OF_SASL_SERVER = 10
+};
+
+/* What a call returns. */
 enum fe2o3_status {
-    /* The call is done. */
+    /* The call succeeded. */
     FE2O3_OK = 0,
-    /* There was no memory. Nothing has changed, and the call can be made again. */
+    /* An allocation failed. Nothing has changed, and you can repeat the call. */
     FE2O3_OUT_OF_MEMORY = 1,
-    /* The room is too small. Nothing has changed, and the length says what suffices. */
+    /* `out` is too small. Nothing has changed, and `out_len` says how many bytes suffice. */
     FE2O3_ROOM_TOO_SMALL = 2,
-    /* Bytes that are to be text are no UTF-8. */
+    /* A text is not UTF-8. */
     FE2O3_NOT_UTF8 = 3,
-    /* There is no such version: 1, 256 and 512 are known. */
+    /* The version is none of enum fe2o3_scram_version. */
     FE2O3_NO_SUCH_VERSION = 4,
-    /* A text is longer than the array that is to hold it. */
+    /* A text is longer than the array for it. */
     FE2O3_TOO_LONG = 5,
-    /* The password is not printable ASCII. */
+    /* The typed password is not printable ASCII. */
     FE2O3_NOT_PRINTABLE = 6,
     /* The iteration count is 0. */
     FE2O3_ZERO_ITERATIONS = 7,
-    /* There is no such secret: 0 is the password, 1 the keys, and 2 both; 3 is a prepared password, and 4 both with
-     * one. */
+    /* The secret is none of enum fe2o3_secret. */
     FE2O3_NO_SUCH_SECRET = 8,
-    /* The struct of keys shows none. */
+    /* The struct holds no keys. */
     FE2O3_NO_KEYS = 9,
-    /* The keys are of another version than the login. */
+    /* The keys, or the record of a line, are of another version. */
     FE2O3_OTHER_VERSION = 10,
     /* The password is not that of the record. */
     FE2O3_OTHER_PASSWORD = 11,
-    /* There is no such mechanism: of a client 0 is SCRAM, 1 PLAIN, 2 ANONYMOUS, and 3 EXTERNAL; a server's are the
-     * sum of 1, 2, 4 and 8, and not 0, nor 8 alone where the peer's name is empty. */
+    /* The mechanism is none of enum fe2o3_mechanism; or a server offers nothing, or a sum with another value than
+     * those of enum fe2o3_offer. */
     FE2O3_NO_SUCH_MECHANISM = 12,
-    /* The connection has ended: its client is logged in, or it is to be closed. */
+    /* The connection has ended: its `progress` is not FE2O3_IN_PROGRESS. */
     FE2O3_ENDED = 13,
-    /* The struct of the connection is none that a call leaves. */
+    /* The struct of the connection is not one that a call writes. */
     FE2O3_INVALID_SNAPSHOT = 14,
-    /* The bytes complete no frame that names a user. */
-    FE2O3_NAMES_NOBODY = 15,
+    /* The bytes complete no frame that claims a user name. */
+    FE2O3_NAMES_NO_USER = 15,
     /* The message is not UTF-8. */
     FE2O3_CLIENT_UTF8_ERROR = 20,
     /* The server-first message has fewer than three parts. */
@@ -192,370 +306,108 @@ enum fe2o3_status {
     FE2O3_RECORD_BASE64_DECODE_ERROR = 63,
     /* A key is not as long as a digest of the mechanism. */
     FE2O3_RECORD_KEY_LENGTH_MISMATCH = 64,
-    /* No line feed ends the line, which is the last. */
+    /* The last line does not end with a line feed. */
     FE2O3_LINE_FEED_MISSING = 65,
-    /* No space stands in the line. */
+    /* The line has no space. */
     FE2O3_SPACE_MISSING = 66,
-    /* What stands before the last space of the line is no escaped name. */
+    /* The text before the last space of the line is not an escaped name. */
     FE2O3_INVALID_NAME = 67,
     /* No line has a record of this version for this name. */
     FE2O3_NO_SUCH_USER = 68,
-    /* A line feed stands in the name, or the iteration count is 0. */
+    /* The name contains a line feed, or the iteration count is 0. */
     FE2O3_NOT_WRITABLE = 69,
-    /* The other side's header is not that of SASL. */
+    /* The other side's protocol header is not that of SASL. */
     FE2O3_PROTOCOL_HEADER_MISMATCH = 70,
-    /* The size of a frame is below 8 or above 512. */
+    /* The size of the frame is below 8 or above 512. */
     FE2O3_FRAME_SIZE = 71,
-    /* The frame is not the one that is due. */
+    /* The frame is not the expected one. */
     FE2O3_UNEXPECTED_FRAME = 72,
-    /* The answer fits in no frame of 512 bytes. */
+    /* The reply does not fit into a frame of 512 bytes. */
     FE2O3_REPLY_TOO_LARGE = 73,
-    /* The bytes of the frame are none of its type. */
+    /* The frame cannot be parsed. */
     FE2O3_MALFORMED_FRAME = 74,
-    /* The frame's type or its data offset is not that of a SASL frame. */
+    /* The type or the data offset of the frame is not that of a SASL frame. */
     FE2O3_NO_SASL_FRAME = 75,
-    /* A size of the frame is more than 32 bits can say. */
+    /* A size inside the frame needs more than 32 bits. */
     FE2O3_FRAME_TOO_LARGE = 76,
-    /* The frame is none that the client answers, or the server does not have its mechanism. */
+    /* The client does not answer such a frame, or the server does not offer the mechanism. */
     FE2O3_NOT_IMPLEMENTED = 77,
-    /* The login is refused: its credentials were. */
+    /* The login was refused: its credentials are wrong. */
     FE2O3_REFUSED_AUTH = 81,
-    /* The login is refused by a system error. */
+    /* The login was refused because of a system error. */
     FE2O3_REFUSED_SYS = 82,
-    /* The login is refused by a system error that stays. */
+    /* The login was refused because of a permanent system error. */
     FE2O3_REFUSED_SYS_PERM = 83,
-    /* The login is refused by a system error that may pass. */
+    /* The login was refused because of a temporary system error. */
     FE2O3_REFUSED_SYS_TEMP = 84,
-    /* There is no such choice: 0 refuses unassigned code points, and 1 allows them. */
+    /* The number is none of enum fe2o3_unassigned. */
     FE2O3_NO_SUCH_CHOICE = 85,
-    /* What the text is prepared to holds a character that RFC 4013, section 2.3, prohibits. */
+    /* The prepared text contains a character that RFC 4013, section 2.3, prohibits. */
     FE2O3_PROHIBITED_CHARACTER = 86,
-    /* What the text is prepared to holds a right-to-left character, and a left-to-right one too or another at its begin
-     * or end (RFC 3454, section 6). */
+    /* The prepared text mixes right-to-left and left-to-right characters, or does not begin and end with a
+     * right-to-left one (RFC 3454, section 6). */
     FE2O3_MIXED_DIRECTIONS = 87,
-    /* The text holds a code point that Unicode 3.2 does not assign, or is prepared to one. */
+    /* The text, or what it is prepared to, contains a code point that Unicode 3.2 does not assign. */
     FE2O3_UNASSIGNED_CODE_POINT = 88
 };
 
-/* What a side of a connection keeps between its calls. All zeros is a connection of which no byte has come. */
-struct fe2o3_connection {
-    /* 0 while more bytes are wanted, 1 once the client is logged in, and 2 once the connection is to be closed. So
-     * behind an outcome a client stands at 1 where its code is Ok and, by SCRAM, it shows the signature that is
-     * waited for; by the other mechanisms the server's word is all that there is. Behind an outcome of another code
-     * it stands at 2, and so it does behind one that is Ok and does not show the signature. A server stands at 1 with
-     * the outcome Ok that it writes, and at 2 with any other. */
-    uint32_t progress;
-    /* Why it is to be closed: a status, as `REFUSED_AUTH` of an outcome that says so, or
-     * `CLIENT_SERVER_SIGNATURE_MISMATCH` of a server that a client does not believe. */
-    uint32_t why;
-    /* What is due: 0 the other side's header, 1 the mechanisms, 2 the init, 3 the challenge, or at once the outcome,
-     * 4 the response, and 5 the outcome. */
-    uint32_t due;
-    /* How many bytes of `held` there are. */
-    uint32_t held_len;
-    /* What has come of the header or of the frame that is due. */
-    uint8_t held[512];
-};
+/* ---- The library ---- */
 
-/* What the body of a frame says. What it shows are bytes of that body, where they stand. */
-struct fe2o3_sasl_frame_view {
-    /* Which frame it is, by its descriptor: 64 the mechanisms, 65 an init, 66 a challenge, 67 a response, and 68 an
-     * outcome. */
-    uint32_t kind;
-    /* The code of an outcome, from 0 to 4, and else 0. */
-    uint32_t code;
-    /* 1 where there is a message, and else 0. */
-    uint32_t has_message;
-    /* 1 where there is a hostname, and else 0. */
-    uint32_t has_hostname;
-    /* How many mechanisms there are. */
-    size_t count;
-    /* How many bytes of the body the frame takes. Those behind it are left alone. */
-    size_t taken;
-    /* The mechanism of an init. */
-    const uint8_t *mechanism;
-    size_t mechanism_len;
-    /* The initial response, the challenge, the response, or what the mechanism says at its end. */
-    const uint8_t *message;
-    size_t message_len;
-    /* The hostname of an init. */
-    const uint8_t *hostname;
-    size_t hostname_len;
-};
-/* One before its first use. */
-#define FE2O3_SASL_FRAME_VIEW_INIT { 0, 0, 0, 0, 0, 0, (const uint8_t *)"", 0, (const uint8_t *)"", 0, (const uint8_t *)"", 0 }
-
-/* What a client keeps in place of its password: a secret, with which one can log in. */
-struct fe2o3_scram_keys {
-    /* 1, 256 or 512, for the mechanism's hash; 0 where there are no keys. */
-    uint32_t version;
-    /* The iteration count that they are of. */
-    uint32_t iterations;
-    /* How many bytes of `salt` there are. */
-    uint32_t salt_len;
-    /* The salt that they are of. */
-    uint8_t salt[128];
-    /* The ClientKey, as long as a digest of the hash. */
-    uint8_t client_key[64];
-    /* The ServerKey, as long as a digest of the hash. */
-    uint8_t server_key[64];
-};
-
-/* What a server keeps of a password. */
-struct fe2o3_scram_record {
-    /* 1, 256 or 512, for the mechanism's hash. */
-    uint32_t version;
-    /* The iteration count. */
-    uint32_t iterations;
-    /* How many bytes of `salt` there are. */
-    uint32_t salt_len;
-    /* The salt. */
-    uint8_t salt[128];
-    /* The StoredKey, as long as a digest of the hash. */
-    uint8_t stored_key[64];
-    /* The ServerKey, as long as a digest of the hash. */
-    uint8_t server_key[64];
-};
-
-/* What a server keeps of an exchange. All zeros is a server without an open challenge. A call that succeeds writes zeros
- * to every field that is not of the new state, and after every length. No password and no key of a record is kept. */
-struct fe2o3_scram_server {
-    /* 1 while a challenge is open, and 2 once its user has logged in. */
-    uint32_t stands;
-    /* How many bytes of `user` there are. */
-    uint32_t user_len;
-    /* How many bytes of `bare` there are. */
-    uint32_t bare_len;
-    /* How many bytes of `nonce` there are. */
-    uint32_t nonce_len;
-    /* How many bytes of `first` there are. */
-    uint32_t first_len;
-    /* The plain name of the user. */
-    uint8_t user[256];
-    /* The client-first message without its GS2 header. */
-    uint8_t bare[1024];
-    /* The nonce of both sides. */
-    uint8_t nonce[512];
-    /* The server-first message. */
-    uint8_t first[1024];
-};
-
-/* Bytes that are lent for ever. */
+/* A text that the library lends for as long as it is loaded. */
 struct fe2o3_text {
-    /* The bytes, of which the last is zero. */
+    /* The bytes. The last one is zero. */
     const uint8_t *bytes;
     size_t bytes_len;
 };
-/* One before its first use. */
+/* Its value before its first use. */
 #define FE2O3_TEXT_INIT { (const uint8_t *)"", 0 }
 
-/* Who logs in: lent for each call of an exchange, and the same for all of them. */
-struct fe2o3_login {
-    /* 1, 256 or 512, for the mechanism's hash. */
-    uint32_t version;
-    /* 0 for the password as it is typed, 1 for the keys, and 2 for the keys where the server names the salt and the
-     * count that they are of, and else the password as it is typed. 3 and 4 are 0 and 2 with a prepared password, as
-     * `fe2o3_saslprep` writes one. */
-    uint32_t secret;
-    /* The lowest iteration count that is answered. RFC 7677 asks for 4096 at least. */
-    uint32_t min_iterations;
-    /* The highest iteration count that is answered. */
-    uint32_t max_iterations;
-    /* The plain name of the user. */
-    const uint8_t *username;
-    size_t username_len;
-    /* The password, as it is typed or prepared. */
-    const uint8_t *password;
-    size_t password_len;
-    /* The keys that an earlier login handed out. */
-    const struct fe2o3_scram_keys *keys;
-};
+/* Returns the version of the library: 10000 times the major, 100 times the minor, and the patch number. */
+uint32_t fe2o3_version(void);
 
-/* What a client keeps of an exchange. All zeros is a client that has sent nothing. A call that succeeds writes zeros to
- * every field that is not of the new state, and after every length. No password is kept, and no keys but those in
- * `keys`. */
-struct fe2o3_scram_client {
-    /* What was sent last: 1 the client-first message, 2 the client-final message; 3 is a login whose server was
-     * believed. */
-    uint32_t sent;
-    /* How many bytes of `signature` there are. */
-    uint32_t signature_len;
-    /* The nonce of the client-first message. */
-    uint8_t nonce[32];
-    /* The signature that is waited for. */
-    uint8_t signature[64];
-    /* The keys of the answer. */
-    struct fe2o3_scram_keys keys;
-};
+/* Returns how many bytes a struct has in the library. `which` is one of enum fe2o3_size_of; other numbers return 0.
+ * If your own `sizeof` differs, your header is of another version. */
+size_t fe2o3_size(uint32_t which);
 
-/* What a server offers, and whose record it has: lent for each call. */
-struct fe2o3_sasl_server_config {
-    /* Which mechanisms are offered: the sum of 1 for SCRAM of the version, 2 for PLAIN, 4 for ANONYMOUS, and 8 for
-     * EXTERNAL where there is a peer; and of 16 where SCRAM takes a client whose GS2 header is `y,,`, as
-     * `fe2o3_scram_server_first_with_cbind_flag_y` does. PLAIN shows the password to whoever reads the connection, and is for
-     * TLS alone. */
-    uint32_t mechanisms;
-    /* 1, 256 or 512, for the hash of SCRAM and of the record. */
-    uint32_t version;
-    /* The iteration count with which PLAIN hashes the password of an unknown user. */
-    uint32_t iterations;
-    /* The plain name of the user whose record is handed in. */
-    const uint8_t *username;
-    size_t username_len;
-    /* The record of the user. Where the struct shows none of the version, nobody is known. */
-    const struct fe2o3_scram_record *record;
-    /* The name of the client that the transport has authenticated, which EXTERNAL lets in. Where it is empty the
-     * transport has authenticated nobody: EXTERNAL is not offered, and an init of it is refused by `REFUSED_AUTH`. */
-    const uint8_t *peer;
-    size_t peer_len;
-};
+/* Writes the text of a status to `text`. It ends with a zero byte and stays valid for as long as the library is
+ * loaded. */
+void fe2o3_status_text(uint32_t status, struct fe2o3_text *text);
 
-/* What a server keeps of a connection between its calls. All zeros is one of which no byte has come. */
-struct fe2o3_sasl_server {
-    /* The connection. */
-    struct fe2o3_connection connection;
-    /* What SCRAM keeps. Once a client is logged in, it names the user of any mechanism
-     * (`fe2o3_scram_server_authenticated_user`); ANONYMOUS names nobody. */
-    struct fe2o3_scram_server scram;
-};
+/* ---- Passwords ---- */
 
-/* Who logs in on a connection, and by which mechanism: lent for each call, and the same for all of them. */
-struct fe2o3_sasl_login {
-    /* 0 for SCRAM of the login's version, 1 for PLAIN, 2 for ANONYMOUS, and 3 for EXTERNAL. */
-    uint32_t mechanism;
-    /* The hostname that the init names. Where it is empty the init names none. */
-    const uint8_t *hostname;
-    size_t hostname_len;
-    /* The user and the secret. PLAIN takes the name and the password of it, ANONYMOUS and EXTERNAL nothing. */
-    struct fe2o3_login login;
-};
-
-/* What a client keeps of a connection between its calls. All zeros is one of which no byte has come. */
-struct fe2o3_sasl_client {
-    /* The connection. */
-    struct fe2o3_connection connection;
-    /* What SCRAM keeps. Once the client is logged in, it hands out the keys (`fe2o3_scram_client_get_keys`). */
-    struct fe2o3_scram_client scram;
-};
-
-/* Writes the client-first message, which starts an exchange afresh at any time. The nonce is 32 random bytes, fresh
- * for each. */
-uint32_t fe2o3_scram_client_first(
-    const struct fe2o3_login *login,
-    struct fe2o3_scram_client *client,
-    const uint8_t nonce[32],
-    uint8_t *out,
-    size_t out_size,
-    size_t *len);
-
-/* Verifies the server-final message, or refuses it. The login is done only where the number is 0. */
-uint32_t fe2o3_scram_client_verify(
-    const struct fe2o3_login *login,
-    struct fe2o3_scram_client *client,
-    const uint8_t *server_final,
-    size_t server_final_len);
-
-/* Hands out the keys of a login whose server was believed: with them the next login to a server that keeps its salt
- * and its count takes no password, and two hashes of HMAC. Whoever has them can log in. */
-uint32_t fe2o3_scram_client_get_keys(const struct fe2o3_scram_client *client, struct fe2o3_scram_keys *keys);
-
-/* Answers the server-first message with the client-final message. A room of 128 bytes more than the server-first
- * message suffices, and is asked for before any hash is made. */
-uint32_t fe2o3_scram_client_final(
-    const struct fe2o3_login *login,
-    struct fe2o3_scram_client *client,
-    const uint8_t *server_first,
-    size_t server_first_len,
-    uint8_t *out,
-    size_t out_size,
-    size_t *len);
-
-/* Takes the body of a frame that the server sent, behind the four bytes of the frame's size, and writes the body that
- * is to be sent: the init to its mechanisms, the response to its challenge, and nothing (a length of 0) to its outcome.
- * Progress is 0 while the login goes on, 1 once the client is logged in, and the number of a refusal (81 to 84) where
- * the outcome is one; hand in no body after that. A room of 508 bytes suffices, and is asked for before any hash is
- * made. The nonce is 32 random bytes, fresh for each call.
+/* Writes the text that SASLprep (RFC 4013) prepares `text` to. Printable ASCII is prepared to itself; other ASCII is
+ * rejected.
  *
- * It is for who reads the frames, refuses those of more than 512 bytes, and knows whose turn it is: a login takes three
- * bodies of the server, for PLAIN, ANONYMOUS and EXTERNAL two, and a server that may send more can have a challenge
- * hashed again and again. SCRAM stands at 1 only where the server has shown that it has the verifier (RFC 5802, section
- * 5). The others take any outcome at its word, also one before the init. */
-uint32_t fe2o3_sasl_client_step(
-    const struct fe2o3_sasl_login *login,
-    struct fe2o3_scram_client *client,
-    const uint8_t *body,
-    size_t body_len,
-    const uint8_t nonce[32],
-    uint32_t *progress,
-    uint8_t *out,
-    size_t out_size,
-    size_t *len);
-
-/* Reads the body of a frame, which begins with its data offset, behind the four bytes of its size. It takes no memory.
- */
-uint32_t fe2o3_sasl_view_frame(const uint8_t *body, size_t body_len, struct fe2o3_sasl_frame_view *view);
-
-/* Whether the body of a frame is a server's list of mechanisms with this one in it: 0, or `NOT_IMPLEMENTED` where it is
- * not in the list, and `OUT_OF_TURN` where the frame is another one. */
-uint32_t fe2o3_sasl_offers(const uint8_t *body, size_t body_len, const uint8_t *mechanism, size_t mechanism_len);
-
-/* Makes the keys that stand in place of a password, for a server that keeps this salt and this count. */
-uint32_t fe2o3_scram_keys_make(
-    uint32_t version,
-    const uint8_t *password,
-    size_t password_len,
-    const uint8_t *salt,
-    size_t salt_len,
-    uint32_t iterations,
-    struct fe2o3_scram_keys *keys);
-
-/* Makes the keys of a prepared password (RFC 4013), for a server that keeps this salt and this count: any text, which is
- * taken as it stands. */
-uint32_t fe2o3_scram_keys_make_prepared(
-    uint32_t version,
-    const uint8_t *password,
-    size_t password_len,
-    const uint8_t *salt,
-    size_t salt_len,
-    uint32_t iterations,
-    struct fe2o3_scram_keys *keys);
-
-/* Finds the record of this version that a user has in a text of users, a line for each: the name, with each comma as
- * `=2C` and each equals sign as `=3D`, a space, the text of the record, and a line feed. Of several lines for one name
- * and version the first counts. Where nothing is found, `line` says which line is not read, counted from 1, or 0 where
- * each is. */
-uint32_t fe2o3_scram_lines_find(
-    const uint8_t *lines,
-    size_t lines_len,
-    const uint8_t *username,
-    size_t username_len,
-    uint32_t version,
-    size_t *line,
-    struct fe2o3_scram_record *kept);
-
-/* Writes the line of a user and a record, with its line feed, as `fe2o3_scram_lines_find` reads it. `NOT_WRITABLE`
- * where a line feed stands in the name, or the count is 0. */
-uint32_t fe2o3_scram_line(
-    const uint8_t *username,
-    size_t username_len,
-    const struct fe2o3_scram_record *kept,
-    uint8_t *out,
-    size_t out_size,
-    size_t *len);
-
-/* Writes what SASLprep (RFC 4013) prepares a text to, as a password is before it is compared or hashed: printable ASCII
- * to itself, and any other ASCII is refused. Unassigned is 0 where code points that Unicode 3.2 does not assign are
- * refused, as in a text that is stored, and 1 where they are allowed, as in one that is only compared with stored ones
- * (RFC 3454, section 7). What is prepared is handed in where a prepared password is asked for. */
+ * Prepare a non-ASCII password before you store or use it, and pass the result where a prepared password is expected.
+ * `unassigned` is FE2O3_UNASSIGNED_REFUSED for a text that is stored, and FE2O3_UNASSIGNED_ALLOWED for one that is
+ * only compared with stored texts (RFC 3454, section 7). */
 uint32_t fe2o3_saslprep(
     const uint8_t *text,
     size_t text_len,
     uint32_t unassigned,
     uint8_t *out,
     size_t out_size,
-    size_t *len);
+    size_t *out_len);
 
-/* Makes the record of a password. Where the number is not 0, the struct stays as it was. */
+/* ---- Records, which a server stores in place of passwords ---- */
+
+/* What a server stores of a password: a SCRAM record (RFC 5802, section 3). */
+struct fe2o3_scram_record {
+    /* The hash of the mechanism: one of enum fe2o3_scram_version. */
+    uint32_t version;
+    /* The iteration count. */
+    uint32_t iterations;
+    /* The number of bytes of `salt` in use, at most 128. */
+    uint32_t salt_len;
+    /* The salt. */
+    uint8_t salt[128];
+    /* The StoredKey, with as many bytes as a digest of the hash. */
+    uint8_t stored_key[64];
+    /* The ServerKey, with as many bytes as a digest of the hash. */
+    uint8_t server_key[64];
+};
+
+/* Computes the record of a typed password. The password has to be printable ASCII. */
 uint32_t fe2o3_scram_record_make(
     uint32_t version,
     const uint8_t *password,
@@ -565,8 +417,8 @@ uint32_t fe2o3_scram_record_make(
     uint32_t iterations,
     struct fe2o3_scram_record *kept);
 
-/* Makes the record of a prepared password (RFC 4013), as `fe2o3_saslprep` writes one that is stored: any text, which is
- * taken as it stands. A client logs in by that very text alone. */
+/* Computes the record of a prepared password (`fe2o3_saslprep`): any text, used without change. A client logs in with
+ * exactly that text. */
 uint32_t fe2o3_scram_record_make_prepared(
     uint32_t version,
     const uint8_t *password,
@@ -576,47 +428,319 @@ uint32_t fe2o3_scram_record_make_prepared(
     uint32_t iterations,
     struct fe2o3_scram_record *kept);
 
-/* Reads the text of a record, as PostgreSQL writes it (RFC 5803, section 2). */
-uint32_t fe2o3_scram_record_parse(const uint8_t *text, size_t text_len, struct fe2o3_scram_record *kept);
-
-/* Writes the text of a record, as PostgreSQL reads it (RFC 5803, section 2): at most 384 bytes. */
-uint32_t fe2o3_scram_record_text(const struct fe2o3_scram_record *kept, uint8_t *out, size_t out_size, size_t *len);
-
-/* Makes up a record for a name that a server does not know, so that it can answer as to one that it knows: the login
- * is refused at its proof. The secret is 32 random bytes, the same for all names and kept as long as the records;
- * `made_salt_len`, of at most 64, and the count are those of the server's other records. */
+/* Computes a mock record for a name that the server does not know, so that it answers unknown users like known ones.
+ * The login then fails at its proof.
+ *
+ * `secret` is 32 random bytes, one value for all names, kept as long as the records. `salt_len`, at most 64, and
+ * `iterations` are those of the server's other records. */
 uint32_t fe2o3_scram_record_mock(
     uint32_t version,
     const uint8_t *secret,
     size_t secret_len,
     const uint8_t *username,
     size_t username_len,
-    size_t made_salt_len,
+    size_t salt_len,
     uint32_t iterations,
     struct fe2o3_scram_record *kept);
 
-/* Whether a password that was told, as by PLAIN, is that of the record: 0 where it is. It hashes as often as the
- * record's count says, so the record is to be one of the caller's own. */
+/* Parses the text of a record, as PostgreSQL writes it (RFC 5803, section 2). */
+uint32_t fe2o3_scram_record_parse(const uint8_t *text, size_t text_len, struct fe2o3_scram_record *kept);
+
+/* Writes the text of a record, as PostgreSQL reads it (RFC 5803, section 2): at most 384 bytes. */
+uint32_t fe2o3_scram_record_text(
+    const struct fe2o3_scram_record *kept,
+    uint8_t *out,
+    size_t out_size,
+    size_t *out_len);
+
+/* Compares a typed password, for instance one received by PLAIN, with a record: FE2O3_OK if it is the record's,
+ * FE2O3_OTHER_PASSWORD if not. It hashes as often as the record's iteration count says, so pass only records of your
+ * own. */
 uint32_t fe2o3_scram_record_verify(
     const struct fe2o3_scram_record *kept,
     const uint8_t *password,
     size_t password_len);
 
-/* Whether a prepared password (RFC 4013), which is taken as it stands, is that of the record: 0 where it is. */
+/* Compares a prepared password with a record, like `fe2o3_scram_record_verify`. The text is used without change. */
 uint32_t fe2o3_scram_record_verify_prepared(
     const struct fe2o3_scram_record *kept,
     const uint8_t *password,
     size_t password_len);
 
-/* Writes the header of SASL, with which a client begins a connection. */
-uint32_t fe2o3_sasl_client_open(uint8_t *out, size_t out_size, size_t *len);
+/* Finds the record of a user in a text that has a line for each record: the name with each comma as `=2C` and each
+ * equals sign as `=3D`, a space, the text of the record, and a line feed. Of several lines for a name and version,
+ * the first counts.
+ *
+ * If nothing is found, `line` is the number of the line that cannot be parsed, counted from 1, or 0 if every line
+ * can. */
+uint32_t fe2o3_scram_lines_find(
+    const uint8_t *lines,
+    size_t lines_len,
+    const uint8_t *username,
+    size_t username_len,
+    uint32_t version,
+    size_t *line,
+    struct fe2o3_scram_record *kept);
 
-/* Takes bytes of the connection as they came, to the end of the header or of the frame that is due, and writes what is
- * to be sent, of at most 512 bytes, a room that is asked for before any hash is made. The number is 0 also where these
- * bytes close the connection, whose struct says so. Behind an outcome the connection stands at 1 where its code is Ok
- * and, by SCRAM, it shows the signature that is waited for; else at 2, and `why` says which. What is left of the bytes
- * is to be handed in again while more are wanted; behind a login it is AMQP's. The nonce is 32 random bytes, fresh for
- * each call. */
+/* Writes the line of a user and a record, with its line feed, as `fe2o3_scram_lines_find` reads it. Returns
+ * FE2O3_NOT_WRITABLE if the name contains a line feed or the iteration count is 0. */
+uint32_t fe2o3_scram_line(
+    const uint8_t *username,
+    size_t username_len,
+    const struct fe2o3_scram_record *kept,
+    uint8_t *out,
+    size_t out_size,
+    size_t *out_len);
+
+/* ---- Keys, which a client can cache in place of a password ---- */
+
+/* The keys that a client can cache in place of its password. They are secret: they suffice to log in. */
+struct fe2o3_scram_keys {
+    /* The hash of the mechanism: one of enum fe2o3_scram_version, or 0 if the struct holds no keys. */
+    uint32_t version;
+    /* The iteration count for which the keys were derived. */
+    uint32_t iterations;
+    /* The number of bytes of `salt` in use, at most 128. */
+    uint32_t salt_len;
+    /* The salt for which the keys were derived. */
+    uint8_t salt[128];
+    /* The ClientKey, with as many bytes as a digest of the hash. */
+    uint8_t client_key[64];
+    /* The ServerKey, with as many bytes as a digest of the hash. */
+    uint8_t server_key[64];
+};
+
+/* Derives the keys of a typed password, for a server that uses this salt and iteration count. The password has to be
+ * printable ASCII. */
+uint32_t fe2o3_scram_keys_make(
+    uint32_t version,
+    const uint8_t *password,
+    size_t password_len,
+    const uint8_t *salt,
+    size_t salt_len,
+    uint32_t iterations,
+    struct fe2o3_scram_keys *keys);
+
+/* Derives the keys of a prepared password (`fe2o3_saslprep`), for a server that uses this salt and iteration count.
+ * The text is used without change. */
+uint32_t fe2o3_scram_keys_make_prepared(
+    uint32_t version,
+    const uint8_t *password,
+    size_t password_len,
+    const uint8_t *salt,
+    size_t salt_len,
+    uint32_t iterations,
+    struct fe2o3_scram_keys *keys);
+
+/* ---- A SCRAM client, over messages ---- */
+
+/* A user and a secret. You lend the struct to each call of an exchange, always with the same values. */
+struct fe2o3_login {
+    /* The hash of the mechanism: one of enum fe2o3_scram_version. */
+    uint32_t version;
+    /* What the client logs in with: one of enum fe2o3_secret. */
+    uint32_t secret;
+    /* The minimum iteration count that the client accepts. RFC 7677 requires at least 4096. */
+    uint32_t min_iterations;
+    /* The maximum iteration count that the client accepts. */
+    uint32_t max_iterations;
+    /* The user name, without escapes. */
+    const uint8_t *username;
+    size_t username_len;
+    /* The password, typed or prepared. */
+    const uint8_t *password;
+    size_t password_len;
+    /* The keys of an earlier login, or a struct of zeros. */
+    const struct fe2o3_scram_keys *keys;
+};
+
+/* The state of a SCRAM client between calls. All zeros is a client that has sent nothing.
+ *
+ * A call that succeeds writes zeros to every field that its new state does not use, and after every length. The
+ * struct never holds a password, and it holds keys only in `keys`. */
+struct fe2o3_scram_client {
+    /* How far the exchange is: one of enum fe2o3_scram_client_state. */
+    uint32_t state;
+    /* The number of bytes of `signature` in use. */
+    uint32_t signature_len;
+    /* The nonce of the client-first message. */
+    uint8_t nonce[32];
+    /* The ServerSignature that the client expects. */
+    uint8_t signature[64];
+    /* The keys with which the client-final message was computed. */
+    struct fe2o3_scram_keys keys;
+};
+
+/* Writes the client-first message. This starts a new exchange, whatever the state of the client is. `nonce` is 32
+ * fresh random bytes. */
+uint32_t fe2o3_scram_client_first(
+    const struct fe2o3_login *login,
+    struct fe2o3_scram_client *client,
+    const uint8_t nonce[32],
+    uint8_t *out,
+    size_t out_size,
+    size_t *out_len);
+
+/* Answers the server-first message with the client-final message. `out` needs 128 bytes more than the server-first
+ * message has, which is tested before anything is hashed. */
+uint32_t fe2o3_scram_client_final(
+    const struct fe2o3_login *login,
+    struct fe2o3_scram_client *client,
+    const uint8_t *server_first,
+    size_t server_first_len,
+    uint8_t *out,
+    size_t out_size,
+    size_t *out_len);
+
+/* Verifies the server-final message. Only FE2O3_OK means that the login is complete and the server authenticated. */
+uint32_t fe2o3_scram_client_verify(
+    const struct fe2o3_login *login,
+    struct fe2o3_scram_client *client,
+    const uint8_t *server_final,
+    size_t server_final_len);
+
+/* Writes the keys of a complete login, for the next login to the same server. As long as the server keeps its salt
+ * and iteration count, a login by keys needs no password and no PBKDF2. The keys are secret: they suffice to log in. */
+uint32_t fe2o3_scram_client_get_keys(const struct fe2o3_scram_client *client, struct fe2o3_scram_keys *keys);
+
+/* ---- A SCRAM server, over messages ---- */
+
+/* The state of a SCRAM server between calls. All zeros is a server without an open challenge.
+ *
+ * A call that succeeds writes zeros to every field that its new state does not use, and after every length. The
+ * struct never holds a password or a key of a record. */
+struct fe2o3_scram_server {
+    /* How far the exchange is: one of enum fe2o3_scram_server_state. */
+    uint32_t state;
+    /* The number of bytes of `user` in use. */
+    uint32_t user_len;
+    /* The number of bytes of `bare` in use. */
+    uint32_t bare_len;
+    /* The number of bytes of `nonce` in use. */
+    uint32_t nonce_len;
+    /* The number of bytes of `first` in use. */
+    uint32_t first_len;
+    /* The user name, without escapes. While a challenge is open the client only claims it; afterwards it is
+     * authenticated. */
+    uint8_t user[256];
+    /* The client-first message without its GS2 header. */
+    uint8_t bare[1024];
+    /* The nonces of both sides. */
+    uint8_t nonce[512];
+    /* The server-first message. */
+    uint8_t first[1024];
+};
+
+/* Writes the user name that a client-first message claims, without escapes. Nobody is authenticated yet: use it only
+ * to look up the record. */
+uint32_t fe2o3_scram_server_claimed_user(
+    const uint8_t *client_first,
+    size_t client_first_len,
+    uint8_t *out,
+    size_t out_size,
+    size_t *out_len);
+
+/* Answers a client-first message with the server-first message. This starts a new exchange, whatever the state of the
+ * server is. The GS2 header of the message has to be `n,,`.
+ *
+ * `kept` is the record of the claimed user (`fe2o3_scram_server_claimed_user`), or a mock record
+ * (`fe2o3_scram_record_mock`) for an unknown one. `nonce` is 32 fresh random bytes. */
+uint32_t fe2o3_scram_server_first(
+    const struct fe2o3_scram_record *kept,
+    struct fe2o3_scram_server *server,
+    const uint8_t nonce[32],
+    const uint8_t *client_first,
+    size_t client_first_len,
+    uint8_t *out,
+    size_t out_size,
+    size_t *out_len);
+
+/* Answers a client-first message like `fe2o3_scram_server_first`, but also accepts the GS2 header `y,,`: the client
+ * supports channel binding, and was offered no mechanism with `-PLUS` (RFC 5802, section 6). Only for a server that
+ * offers none. */
+uint32_t fe2o3_scram_server_first_with_cbind_flag_y(
+    const struct fe2o3_scram_record *kept,
+    struct fe2o3_scram_server *server,
+    const uint8_t nonce[32],
+    const uint8_t *client_first,
+    size_t client_first_len,
+    uint8_t *out,
+    size_t out_size,
+    size_t *out_len);
+
+/* Answers a client-final message with the server-final message, if its proof is right. Only FE2O3_OK means that the
+ * user is authenticated.
+ *
+ * `kept` is the record that `fe2o3_scram_server_first` was called with. `out` needs 90 bytes, which is tested before
+ * anything is hashed. */
+uint32_t fe2o3_scram_server_final(
+    const struct fe2o3_scram_record *kept,
+    struct fe2o3_scram_server *server,
+    const uint8_t *client_final,
+    size_t client_final_len,
+    uint8_t *out,
+    size_t out_size,
+    size_t *out_len);
+
+/* Writes the name of the authenticated user, without escapes. Returns FE2O3_SERVER_ILLEGAL_AUTHENTICATOR_STATE if no
+ * user is authenticated. */
+uint32_t fe2o3_scram_server_authenticated_user(
+    const struct fe2o3_scram_server *server,
+    uint8_t *out,
+    size_t out_size,
+    size_t *out_len);
+
+/* ---- The client's side of a connection, over bytes ---- */
+
+/* One side of a connection between calls. All zeros is a connection that has received nothing. */
+struct fe2o3_connection {
+    /* How far the login is: one of enum fe2o3_progress.
+     *
+     * After an outcome frame, a client has FE2O3_AUTHENTICATED if the code is FE2O3_CODE_OK and, for SCRAM, the frame
+     * holds the expected ServerSignature. The other mechanisms do not authenticate the server. Otherwise it has
+     * FE2O3_FAILED. A server has FE2O3_AUTHENTICATED once it writes an outcome with FE2O3_CODE_OK, and FE2O3_FAILED
+     * once it writes another one. */
+    uint32_t progress;
+    /* Why the login failed: a status, such as FE2O3_REFUSED_AUTH for an outcome with FE2O3_CODE_AUTH, or
+     * FE2O3_CLIENT_SERVER_SIGNATURE_MISMATCH for a server that is not authenticated. FE2O3_OK unless `progress` is
+     * FE2O3_FAILED. */
+    uint32_t why;
+    /* What the other side has to send next: one of enum fe2o3_expected. */
+    uint32_t expected;
+    /* The number of bytes of `held` in use. */
+    uint32_t held_len;
+    /* The part of the expected header or frame that has been received. */
+    uint8_t held[512];
+};
+
+/* How a client logs in on a connection. You lend the struct to each call, always with the same values. */
+struct fe2o3_sasl_login {
+    /* One of enum fe2o3_mechanism. FE2O3_SCRAM uses the hash of `login`. */
+    uint32_t mechanism;
+    /* The hostname of the init frame. If empty, the init has none. */
+    const uint8_t *hostname;
+    size_t hostname_len;
+    /* The user and the secret. PLAIN uses the name and the password. ANONYMOUS and EXTERNAL use nothing of it. */
+    struct fe2o3_login login;
+};
+
+/* The client's side of a connection between calls. All zeros is a connection that has received nothing. */
+struct fe2o3_sasl_client {
+    /* The connection. */
+    struct fe2o3_connection connection;
+    /* The SCRAM client. After the login it holds the keys (`fe2o3_scram_client_get_keys`). */
+    struct fe2o3_scram_client scram;
+};
+
+/* Writes the SASL protocol header, with which a client begins a connection. */
+uint32_t fe2o3_sasl_client_open(uint8_t *out, size_t out_size, size_t *out_len);
+
+/* Takes received bytes, to the end of the expected header or frame, and writes the bytes to send, at most 512. `out`
+ * needs 512 bytes, which is tested before anything is hashed. `nonce` is 32 fresh random bytes.
+ *
+ * FE2O3_OK does not mean that the login succeeds: look at `progress` and `why` of the connection. `taken` is how many
+ * bytes were used. While `progress` is FE2O3_IN_PROGRESS, pass the rest in the next call; after the login it belongs
+ * to AMQP. */
 uint32_t fe2o3_sasl_client_receive(
     const struct fe2o3_sasl_login *login,
     struct fe2o3_sasl_client *client,
@@ -626,16 +750,63 @@ uint32_t fe2o3_sasl_client_receive(
     size_t *taken,
     uint8_t *out,
     size_t out_size,
-    size_t *len);
+    size_t *out_len);
 
-/* Takes bytes of the connection as they came, to the end of the header or of the frame that is due, and writes what is
- * to be sent, of at most 520 bytes, a room that is asked for before any hash is made. What is left of the bytes is to
- * be handed in again while the connection stands at 0; behind a login it is AMQP's. Before it the caller fetches the
- * record of the user whom the bytes name (`fe2o3_sasl_server_claimed_user`), if they name one. The nonce is 32 random bytes,
- * fresh for each call. Where a name or a message has no room in the struct, the call is refused by `TOO_LONG`, and the
- * connection is to be closed. */
+/* ---- The server's side of a connection, over bytes ---- */
+
+/* What a server offers, and the record of one user. You lend the struct to each call. */
+struct fe2o3_sasl_server_config {
+    /* The offered mechanisms: a sum of values of enum fe2o3_offer. PLAIN sends the password in clear, so offer it
+     * over TLS only. */
+    uint32_t mechanisms;
+    /* The hash of SCRAM and of the record: one of enum fe2o3_scram_version. */
+    uint32_t version;
+    /* The iteration count with which PLAIN hashes the password of an unknown user. */
+    uint32_t iterations;
+    /* The name of the user whose record this is, without escapes. */
+    const uint8_t *username;
+    size_t username_len;
+    /* The record of the user. If it holds no record of `version`, no user is known. */
+    const struct fe2o3_scram_record *record;
+    /* The name of the client that the transport has authenticated, for instance by a certificate. EXTERNAL accepts
+     * it. If empty, EXTERNAL is not offered, and an init for it fails with FE2O3_REFUSED_AUTH. */
+    const uint8_t *external_authcid;
+    size_t external_authcid_len;
+};
+
+/* The server's side of a connection between calls. All zeros is a connection that has received nothing. */
+struct fe2o3_sasl_server {
+    /* The connection. */
+    struct fe2o3_connection connection;
+    /* The SCRAM server. After a login by any mechanism it holds the authenticated user
+     * (`fe2o3_scram_server_authenticated_user`). ANONYMOUS has none. */
+    struct fe2o3_scram_server scram;
+};
+
+/* Writes the user name that the next frame claims, if `bytes` complete it: that of an init for SCRAM or PLAIN, and
+ * for a response that of the open challenge. Nobody is authenticated yet: use it only to look up the record for
+ * `fe2o3_sasl_server_receive`. Returns FE2O3_NAMES_NO_USER if the frame is not complete or claims no name; then no
+ * record is needed. */
+uint32_t fe2o3_sasl_server_claimed_user(
+    const struct fe2o3_sasl_server *server,
+    const uint8_t *bytes,
+    size_t bytes_len,
+    uint8_t *out,
+    size_t out_size,
+    size_t *out_len);
+
+/* Takes received bytes, to the end of the expected header or frame, and writes the bytes to send, at most 520. `out`
+ * needs 520 bytes, which is tested before anything is hashed. `nonce` is 32 fresh random bytes.
+ *
+ * Before the call, look up the record of the user that the bytes claim (`fe2o3_sasl_server_claimed_user`). FE2O3_OK
+ * does not mean that the login succeeds: look at `progress` and `why` of the connection. `taken` is how many bytes
+ * were used. While `progress` is FE2O3_IN_PROGRESS, pass the rest in the next call; after the login it belongs to
+ * AMQP.
+ *
+ * If a name or a message does not fit into the struct, the call returns FE2O3_TOO_LONG, and you have to close the
+ * connection. */
 uint32_t fe2o3_sasl_server_receive(
-    const struct fe2o3_sasl_server_config *host,
+    const struct fe2o3_sasl_server_config *config,
     struct fe2o3_sasl_server *server,
     const uint8_t *bytes,
     size_t bytes_len,
@@ -643,80 +814,94 @@ uint32_t fe2o3_sasl_server_receive(
     size_t *taken,
     uint8_t *out,
     size_t out_size,
-    size_t *len);
+    size_t *out_len);
 
-/* Answers a client-first message with the server-first message, which starts an exchange afresh at any time. The
- * GS2 header of the message has to be `n,,`. The record is that of the user whom the message names
- * (`fe2o3_scram_server_claimed_user`), or one that is made up (`fe2o3_scram_record_mock`). The nonce is 32 random
- * bytes, fresh for each. */
-uint32_t fe2o3_scram_server_first(
-    const struct fe2o3_scram_record *kept,
-    struct fe2o3_scram_server *server,
-    const uint8_t nonce[32],
-    const uint8_t *client_first,
-    size_t client_first_len,
-    uint8_t *out,
-    size_t out_size,
-    size_t *len);
+/* ---- Both sides over frame bodies, for programs that read frames themselves ---- */
 
-/* As `fe2o3_scram_server_first`, and the GS2 header may be `y,,` too: that of a client which could bind a
- * channel and believes that the server cannot, since it was offered no mechanism with `-PLUS` (RFC 5802,
- * section 6). Only for a server that offers none. */
-uint32_t fe2o3_scram_server_first_with_cbind_flag_y(
-    const struct fe2o3_scram_record *kept,
-    struct fe2o3_scram_server *server,
-    const uint8_t nonce[32],
-    const uint8_t *client_first,
-    size_t client_first_len,
-    uint8_t *out,
-    size_t out_size,
-    size_t *len);
+/* The content of a frame body. Its pointers point into that body. */
+struct fe2o3_sasl_frame_view {
+    /* Which frame it is: one of enum fe2o3_frame_kind. */
+    uint32_t kind;
+    /* The code of an outcome: one of enum fe2o3_sasl_code. Zero for other frames. */
+    uint32_t code;
+    /* 1 if there is a message, otherwise 0. */
+    uint32_t has_message;
+    /* 1 if there is a hostname, otherwise 0. */
+    uint32_t has_hostname;
+    /* The number of mechanisms in a list of mechanisms. */
+    size_t count;
+    /* The number of bytes of the body that the frame takes. Bytes after it are not read. */
+    size_t taken;
+    /* The mechanism of an init. */
+    const uint8_t *mechanism;
+    size_t mechanism_len;
+    /* The initial response, the challenge, the response, or the additional data of an outcome. */
+    const uint8_t *message;
+    size_t message_len;
+    /* The hostname of an init. */
+    const uint8_t *hostname;
+    size_t hostname_len;
+};
+/* Its value before its first use. */
+#define FE2O3_SASL_FRAME_VIEW_INIT { 0, 0, 0, 0, 0, 0, (const uint8_t *)"", 0, (const uint8_t *)"", 0, (const uint8_t *)"", 0 }
 
-/* Writes the plain name of the user whom a client-first message names, and whose record is to be fetched. */
-uint32_t fe2o3_scram_server_claimed_user(
-    const uint8_t *client_first,
-    size_t client_first_len,
-    uint8_t *out,
-    size_t out_size,
-    size_t *len);
-
-/* Answers a client-final message with the server-final message, where its proof meets the record: the user is
- * logged in only where the number is 0. The record is the one of `fe2o3_scram_server_first`. A room of 90 bytes
- * suffices, and is asked for before any hash is made. */
-uint32_t fe2o3_scram_server_final(
-    const struct fe2o3_scram_record *kept,
-    struct fe2o3_scram_server *server,
-    const uint8_t *client_final,
-    size_t client_final_len,
-    uint8_t *out,
-    size_t out_size,
-    size_t *len);
-
-/* Writes the plain name of the user who has logged in: the one whose challenge was answered. */
-uint32_t fe2o3_scram_server_authenticated_user(
-    const struct fe2o3_scram_server *server,
-    uint8_t *out,
-    size_t out_size,
-    size_t *len);
-
-/* Writes the body of the frame with which a server offers its mechanisms, to whoever has sent the header of SASL. */
-uint32_t fe2o3_sasl_server_offer(const struct fe2o3_sasl_server_config *host, uint8_t *out, size_t out_size, size_t *len);
-
-/* Takes the body of a frame that the client sent, behind the four bytes of the frame's size, and writes the body that
- * is to be sent: a challenge, or the outcome. Progress is 0 while the login goes on, 1 once the client is logged in, and
- * the number of a refusal (81 to 84) where the outcome is one, which is to be sent too; hand in no body after that. A
- * room of 508 bytes suffices, and is asked for before any hash is made. Before the call the caller fetches the record
- * of the user whom the body names (`fe2o3_sasl_server_step_claimed_user`), if it names one. Once the client is logged in, the
- * struct names the user of any mechanism (`fe2o3_scram_server_authenticated_user`); ANONYMOUS names nobody. The nonce is 32
- * random bytes, fresh for each call.
+/* Takes a frame body that the server sent, without the four bytes of the frame's size, and writes the body to send:
+ * the init for the mechanisms, the response for a challenge, and nothing (`out_len` is 0) for the outcome. `out`
+ * needs 508 bytes, which is tested before anything is hashed. `nonce` is 32 fresh random bytes.
  *
- * It is for who reads the frames, refuses those of more than 512 bytes, and knows whose turn it is: a login takes an
- * init and for SCRAM one response, and a client that may send more can try again and again. A response without a
- * challenge is answered by an outcome that refuses, and a frame that no client sends is refused by `NO_SASL_FRAME`.
- * Where a name or a message has no room in the struct, the call is refused by `TOO_LONG`, and the connection is to be
- * closed. */
+ * `progress` is FE2O3_IN_PROGRESS while the login goes on, FE2O3_AUTHENTICATED once it is complete, and from
+ * FE2O3_REFUSED_AUTH to FE2O3_REFUSED_SYS_TEMP if the outcome refuses it. Pass no body after that.
+ *
+ * This call is for programs that read frames themselves, reject those above 512 bytes, and limit their number. A
+ * login takes three bodies of the server for SCRAM, and two for the other mechanisms. A server that may send more can
+ * make the client hash again and again. For SCRAM, FE2O3_AUTHENTICATED means that the server is authenticated (RFC
+ * 5802, section 5). The other mechanisms accept any outcome, even one before the init. */
+uint32_t fe2o3_sasl_client_step(
+    const struct fe2o3_sasl_login *login,
+    struct fe2o3_scram_client *client,
+    const uint8_t *body,
+    size_t body_len,
+    const uint8_t nonce[32],
+    uint32_t *progress,
+    uint8_t *out,
+    size_t out_size,
+    size_t *out_len);
+
+/* Writes the frame body with which a server offers its mechanisms. Send it after the client's SASL header. */
+uint32_t fe2o3_sasl_server_offer(
+    const struct fe2o3_sasl_server_config *config,
+    uint8_t *out,
+    size_t out_size,
+    size_t *out_len);
+
+/* Writes the user name that a frame body claims: that of an init for SCRAM or PLAIN, and for a response that of the
+ * open challenge. Nobody is authenticated yet: use it only to look up the record for `fe2o3_sasl_server_step`.
+ * Returns FE2O3_NAMES_NO_USER if the body claims no name; then no record is needed. */
+uint32_t fe2o3_sasl_server_step_claimed_user(
+    const struct fe2o3_scram_server *server,
+    const uint8_t *body,
+    size_t body_len,
+    uint8_t *out,
+    size_t out_size,
+    size_t *out_len);
+
+/* Takes a frame body that the client sent, without the four bytes of the frame's size, and writes the body to send: a
+ * challenge, or the outcome. `out` needs 508 bytes, which is tested before anything is hashed. `nonce` is 32 fresh
+ * random bytes.
+ *
+ * Before the call, look up the record of the user that the body claims (`fe2o3_sasl_server_step_claimed_user`).
+ * `progress` is FE2O3_IN_PROGRESS while the login goes on, FE2O3_AUTHENTICATED once it is complete, and from
+ * FE2O3_REFUSED_AUTH to FE2O3_REFUSED_SYS_TEMP if the outcome refuses it. Send that outcome too, and pass no body
+ * after it. After a login by any mechanism the struct holds the authenticated user
+ * (`fe2o3_scram_server_authenticated_user`). ANONYMOUS has none.
+ *
+ * This call is for programs that read frames themselves, reject those above 512 bytes, and limit their number. A
+ * login takes an init, and for SCRAM one response. A client that may send more can try passwords again and again. A
+ * response without a challenge is answered by an outcome that refuses. A frame that no client sends returns
+ * FE2O3_NO_SASL_FRAME. If a name or a message does not fit into the struct, the call returns FE2O3_TOO_LONG, and you
+ * have to close the connection. */
 uint32_t fe2o3_sasl_server_step(
-    const struct fe2o3_sasl_server_config *host,
+    const struct fe2o3_sasl_server_config *config,
     struct fe2o3_scram_server *server,
     const uint8_t *body,
     size_t body_len,
@@ -724,41 +909,14 @@ uint32_t fe2o3_sasl_server_step(
     uint32_t *progress,
     uint8_t *out,
     size_t out_size,
-    size_t *len);
+    size_t *out_len);
 
-/* Writes the plain name of the user whom the body of a frame names, and whose record is to be fetched before it is
- * taken: that of an init of SCRAM or PLAIN, and for a response that of the open challenge. Where it names nobody, the
- * number is that of `NAMES_NOBODY`, and no record is needed. */
-uint32_t fe2o3_sasl_server_step_claimed_user(
-    const struct fe2o3_scram_server *server,
-    const uint8_t *body,
-    size_t body_len,
-    uint8_t *out,
-    size_t out_size,
-    size_t *len);
+/* Parses a frame body, without the four bytes of the frame's size. It allocates no memory. */
+uint32_t fe2o3_sasl_view_frame(const uint8_t *body, size_t body_len, struct fe2o3_sasl_frame_view *view);
 
-/* Writes the plain name of the user whom the frame names that these bytes complete, and whose record is to be fetched
- * before they are taken: that of an init of SCRAM or PLAIN, and for a response that of the open challenge. Where they
- * complete no frame, or one that names nobody, the number is that of `NAMES_NOBODY`, and no record is needed. */
-uint32_t fe2o3_sasl_server_claimed_user(
-    const struct fe2o3_sasl_server *server,
-    const uint8_t *bytes,
-    size_t bytes_len,
-    uint8_t *out,
-    size_t out_size,
-    size_t *len);
-
-/* Lends the text of a status for ever, with a zero behind it. */
-void fe2o3_status_text(uint32_t status, struct fe2o3_text *text);
-
-/* The version of the library: its three numbers, each of two digits. */
-uint32_t fe2o3_version(void);
-
-/* How many bytes a struct has here: 0 `fe2o3_login`, 1 `fe2o3_scram_client`, 2 `fe2o3_scram_keys`, 3
- * `fe2o3_scram_server`, 4 `fe2o3_scram_record`, 5 `fe2o3_connection`, 6 `fe2o3_sasl_login`, 7 `fe2o3_sasl_client`,
- * 8 `fe2o3_sasl_frame_view`, 9 `fe2o3_sasl_server_config`, 10 `fe2o3_sasl_server`; of other numbers 0. A caller whose own
- * declarations have other sizes has another header. */
-size_t fe2o3_size(uint32_t which);
+/* Tests whether a frame body is a list of mechanisms with `mechanism` in it. Returns FE2O3_NOT_IMPLEMENTED if the
+ * list lacks it, and FE2O3_UNEXPECTED_FRAME for another frame. */
+uint32_t fe2o3_sasl_offers(const uint8_t *body, size_t body_len, const uint8_t *mechanism, size_t mechanism_len);
 
 #ifdef __cplusplus
 }

@@ -41,10 +41,10 @@ int main(void)
     int differences = 0;
 
     for (uint32_t which = 0; which <= structs; which++) {
-        size_t due = which < structs ? sizes[which] : 0;
-        if (fe2o3_size(which) != due) {
+        size_t wanted = which < structs ? sizes[which] : 0;
+        if (fe2o3_size(which) != wanted) {
             printf("struct %u: %lu bytes there, %lu here\n", (unsigned)which, (unsigned long)fe2o3_size(which),
-                (unsigned long)due);
+                (unsigned long)wanted);
             differences++;
         }
     }

@@ -55,7 +55,7 @@ struct text {
 
 /* All that the calls write, so that it can be compared. */
 static struct {
-    struct fe2o3_scram_record record, read, nobody;
+    struct fe2o3_scram_record record, read, mock;
     struct fe2o3_scram_keys keys;
     struct fe2o3_scram_client client;
     struct fe2o3_scram_server server;
@@ -71,7 +71,7 @@ static struct fe2o3_login login;
 
 /* The two sides of a connection, and what has come to the one that is called. */
 static struct fe2o3_sasl_login sasl_login;
-static struct fe2o3_sasl_server_config host;
+static struct fe2o3_sasl_server_config config;
 static struct text came;
 
 static int differences;
@@ -125,7 +125,7 @@ static uint32_t make_prepared_keys(void)
 }
 static uint32_t make_up(void)
 {
-    return fe2o3_scram_record_mock(FE2O3_SHA_256, secret, 32, TEXT("who"), 16, 4096, &all.nobody);
+    return fe2o3_scram_record_mock(FE2O3_SHA_256, secret, 32, TEXT("who"), 16, 4096, &all.mock);
 }
 static uint32_t first(void) { return fe2o3_scram_client_first(&login, &all.client, nonce, ROOM(all.client_first)); }
 static uint32_t user(void) { return fe2o3_scram_server_claimed_user(GIVEN(all.client_first), ROOM(all.user)); }
@@ -133,7 +133,7 @@ static uint32_t challenge(void)
 {
     return fe2o3_scram_server_first(&all.record, &all.server, nonce, GIVEN(all.client_first), ROOM(all.server_first));
 }
-static uint32_t challenge_unbound(void)
+static uint32_t challenge_with_cbind_flag_y(void)
 {
     return fe2o3_scram_server_first_with_cbind_flag_y(
         &all.record, &all.server, nonce, GIVEN(all.client_first), ROOM(all.server_first));
@@ -161,7 +161,7 @@ static uint32_t client_takes(void)
 static uint32_t name(void) { return fe2o3_sasl_server_claimed_user(&all.server_side, GIVEN(came), ROOM(all.user)); }
 static uint32_t server_takes(void)
 {
-    return fe2o3_sasl_server_receive(&host, &all.server_side, GIVEN(came), nonce, &all.taken, ROOM(all.out));
+    return fe2o3_sasl_server_receive(&config, &all.server_side, GIVEN(came), nonce, &all.taken, ROOM(all.out));
 }
 
 /* A side takes what has come to it, and what it sends is what comes to the other. */
@@ -185,15 +185,15 @@ static void connection(uint32_t mechanism, const char *user_name)
     memset(&all.client_side, 0, sizeof all.client_side);
     memset(&all.server_side, 0, sizeof all.server_side);
     sasl_login.mechanism = mechanism;
-    host.username_len = 0;
+    config.username_len = 0;
     tried("client_open", begin);
     came = all.out;
     while (came.len > 0 && all.server_side.connection.progress == FE2O3_IN_PROGRESS && differences == 0) {
         /* (of the frames that come to a server those of these mechanisms name a user) */
         if (came.bytes[0] == 0 && (mechanism == FE2O3_SCRAM || mechanism == FE2O3_PLAIN)) {
             tried("server_user", name);
-            host.username = all.user.bytes;
-            host.username_len = all.user.len;
+            config.username = all.user.bytes;
+            config.username_len = all.user.len;
         }
         side_takes("server_receive", server_takes, &all.server_side.connection.progress);
         side_takes("client_receive", client_takes, &all.client_side.connection.progress);
@@ -209,14 +209,14 @@ int main(void)
     login = (struct fe2o3_login){.version = FE2O3_SHA_256, .min_iterations = 4096, .max_iterations = 4096,
         .username = TEXT("us,er"), .password = TEXT("pencil"), .keys = &no_keys};
     sasl_login = (struct fe2o3_sasl_login){.hostname = TEXT("host"), .login = login};
-    host = (struct fe2o3_sasl_server_config){.mechanisms = FE2O3_OFFER_SCRAM | FE2O3_OFFER_PLAIN | FE2O3_OFFER_ANONYMOUS
+    config = (struct fe2o3_sasl_server_config){.mechanisms = FE2O3_OFFER_SCRAM | FE2O3_OFFER_PLAIN | FE2O3_OFFER_ANONYMOUS
             | FE2O3_OFFER_EXTERNAL, .version = FE2O3_SHA_256, .iterations = 4096, .username = FE2O3_NONE,
-        .record = &all.record, .peer = TEXT("pe,er")};
+        .record = &all.record, .external_authcid = TEXT("pe,er")};
     tried("record_make", make);
     tried("record_text", spell);
     tried("record_parse", parse);
     tried("record_verify", verify_password);
-    tried("record_of_nobody", make_up);
+    tried("record_mock", make_up);
     tried("line", spell_line);
     tried("lines_find", find);
     tried("saslprep", prepare);
@@ -226,7 +226,7 @@ int main(void)
     tried("keys_make", make_keys);
     tried("client_first", first);
     tried("server_user", user);
-    tried("server_first_unbound", challenge_unbound);
+    tried("server_first_with_cbind_flag_y", challenge_with_cbind_flag_y);
     tried("server_first", challenge);
     tried("client_final", answer);
     tried("server_final", conclude);

@@ -183,7 +183,7 @@ static void draw_client(struct fe2o3_scram_client *client)
     fill(client, sizeof *client);
     draw_keys(&client->keys);
     if (below(2)) {
-        client->sent = below(4);
+        client->state = below(4);
         client->signature_len = ONE_OF(20, 32, 64, 65);
     }
 }
@@ -192,7 +192,7 @@ static void draw_server(struct fe2o3_scram_server *server)
 {
     fill(server, sizeof *server);
     if (below(2)) {
-        server->stands = below(3);
+        server->state = below(3);
         server->user_len = below(5);
         memcpy(server->user, "user", 4);
         server->bare_len = below(1026);
@@ -218,7 +218,7 @@ static void draw_connection(struct fe2o3_connection *connection, uint32_t due)
     fill(connection, sizeof *connection);
     if (below(2)) {
         connection->progress = below(8) == 0 ? below(3) : FE2O3_IN_PROGRESS;
-        connection->due = below(4) == 0 ? below(7) : due;
+        connection->expected = below(4) == 0 ? below(7) : due;
         connection->held_len = below(4) == 0 ? below(514) : 0;
     }
 }
@@ -278,7 +278,7 @@ static void with_a_server(void)
     unproved(&drawn.server, &client_final);
     client_first.bytes[0] = below(2) ? 'n' : 'y';
     answered("server_first", fe2o3_scram_server_first(&all.record, &all.server, nonce, GIVEN(client_first), ROOM));
-    answered("server_first_unbound",
+    answered("server_first_with_cbind_flag_y",
         fe2o3_scram_server_first_with_cbind_flag_y(&all.record, &all.server, nonce, GIVEN(client_first), ROOM));
     answered("server_final", fe2o3_scram_server_final(&all.record, &all.server, GIVEN(client_final), ROOM));
     answered("server_logged_in", fe2o3_scram_server_authenticated_user(&all.server, ROOM));
@@ -312,7 +312,7 @@ static void to_client(uint32_t mechanism, const struct fe2o3_sasl_client *side, 
 {
     struct text body = {{0}, 0}, message;
     uint8_t code = (uint8_t)(mechanism != FE2O3_SCRAM ? 1 + below(4) : below(4) ? 0 : below(6));
-    switch (below(8) == 0 ? below(6) : side->connection.due) {
+    switch (below(8) == 0 ? below(6) : side->connection.expected) {
     case 0:
         ADD(came, "AMQP\3\1\0\0");
         break;
@@ -356,7 +356,7 @@ static void with_a_side_of_a_client(void)
 static void to_server(const struct fe2o3_sasl_server *side, struct text *came)
 {
     struct text body = {{0}, 0}, message = {{0}, 0};
-    switch (below(8) == 0 ? below(6) : side->connection.due) {
+    switch (below(8) == 0 ? below(6) : side->connection.expected) {
     case 0:
         ADD(came, "AMQP\3\1\0\0");
         break;
@@ -381,17 +381,17 @@ static void to_server(const struct fe2o3_sasl_server *side, struct text *came)
 
 static void with_a_side_of_a_server(void)
 {
-    struct fe2o3_sasl_server_config host = {.mechanisms = below(33), .version = FE2O3_SHA_256, .iterations = below(9),
-        .username = TEXT("user"), .record = &all.record, .peer = TEXT("peer")};
+    struct fe2o3_sasl_server_config config = {.mechanisms = below(33), .version = FE2O3_SHA_256, .iterations = below(9),
+        .username = TEXT("user"), .record = &all.record, .external_authcid = TEXT("peer")};
     struct text came = {{0}, 0};
     uint32_t status;
     if (below(4) == 0)
-        host.version = drawn.record.version;
+        config.version = drawn.record.version;
     to_server(&drawn.server_side, &came);
     if (below(4) == 0)
         fill(came.bytes, came.len);
     answered("sasl_server_user", fe2o3_sasl_server_claimed_user(&all.server_side, GIVEN(came), ROOM));
-    status = fe2o3_sasl_server_receive(&host, &all.server_side, GIVEN(came), nonce, &all.taken, ROOM);
+    status = fe2o3_sasl_server_receive(&config, &all.server_side, GIVEN(came), nonce, &all.taken, ROOM);
     never("sasl_server_receive", status == FE2O3_OK && all.server_side.connection.progress == FE2O3_AUTHENTICATED);
     if (status == FE2O3_OK)
         closed("sasl_server_receive, why it closes", &all.server_side.connection);
@@ -447,7 +447,7 @@ int main(void)
     reached("client_final", FE2O3_NO_SUCH_SECRET);
     reached("server_first", FE2O3_OK);
     reached("server_first", FE2O3_SERVER_CANNOT_PARSE_GS2_HEADER);
-    reached("server_first_unbound", FE2O3_OK);
+    reached("server_first_with_cbind_flag_y", FE2O3_OK);
     reached("server_final", FE2O3_SERVER_AUTHENTICATION_FAILED);
     reached("server_logged_in", FE2O3_OK);
     reached("record_text", FE2O3_OK);

@@ -37,8 +37,8 @@ static const char prepared_512[] = "SCRAM-SHA-512$4096:W22ZaJ0SNY7soEsUEjb6gQ==$
  * this salt: its proof and the server's signature are those of Python's hashlib and hmac. */
 #define CLIENT_NONCE "AQAAAAAAAAAAAAAAAAAAAAAAAAAAAAAAAAAAAAAAAAA="
 #define BOTH_NONCES CLIENT_NONCE "AgAAAAAAAAAAAAAAAAAAAAAAAAAAAAAAAAAAAAAAAAA="
-#define UNBOUND_FIRST "y,,n=user,r=" CLIENT_NONCE
-#define UNBOUND_FINAL "c=eSws,r=" BOTH_NONCES ",p=SJ1/Pm0x+vAkhmfEkR72IPuVMVkUt0BF477aSDSc3vM="
+#define CBIND_FLAG_Y_FIRST "y,,n=user,r=" CLIENT_NONCE
+#define CBIND_FLAG_Y_FINAL "c=eSws,r=" BOTH_NONCES ",p=SJ1/Pm0x+vAkhmfEkR72IPuVMVkUt0BF477aSDSc3vM="
 #define PLAIN_FINAL "c=biws,r=" BOTH_NONCES ",p=MIHdNcfet0LbDJOcfcN6eFJrJahL13kbab8XbO3ku+k="
 
 struct text {
@@ -110,7 +110,7 @@ static int rooms(const struct fe2o3_login *login, const struct exchange *whole)
 static void cases(uint32_t version)
 {
     struct fe2o3_scram_keys no_keys = {0}, keys = {0}, made = {0};
-    struct fe2o3_scram_record record = {0}, read = {0}, other = {0}, nobody = {0};
+    struct fe2o3_scram_record record = {0}, read = {0}, other = {0}, mock = {0};
     struct fe2o3_login login = {.version = version, .min_iterations = 4096, .max_iterations = 100000,
         .username = TEXT("user"), .password = TEXT("pencil"), .keys = &no_keys};
     struct fe2o3_login by_keys = {.version = version, .secret = 1, .min_iterations = 4096, .max_iterations = 100000,
@@ -144,10 +144,10 @@ static void cases(uint32_t version)
         run(&next, &stranger, &record) == FE2O3_SERVER_AUTHENTICATION_FAILED
             && fe2o3_scram_server_authenticated_user(&next.server, ROOM(text)) != FE2O3_OK);
     told(version, "an unknown user, who is told the same salt each time",
-        fe2o3_scram_record_mock(version, secret, 32, TEXT("user"), sizeof salt, 4096, &nobody) == FE2O3_OK
+        fe2o3_scram_record_mock(version, secret, 32, TEXT("user"), sizeof salt, 4096, &mock) == FE2O3_OK
             && fe2o3_scram_record_mock(version, secret, 32, TEXT("user"), sizeof salt, 4096, &read) == FE2O3_OK
-            && memcmp(&nobody, &read, sizeof nobody) == 0
-            && run(&next, &login, &nobody) == FE2O3_SERVER_AUTHENTICATION_FAILED);
+            && memcmp(&mock, &read, sizeof mock) == 0
+            && run(&next, &login, &mock) == FE2O3_SERVER_AUTHENTICATION_FAILED);
     login.max_iterations = 4095;
     told(version, "an iteration count above the limit",
         run(&next, &login, &record) == FE2O3_CLIENT_ITERATION_COUNT_TOO_LARGE);
@@ -231,24 +231,24 @@ static void preparing(void)
 }
 
 /* A client that could bind a channel, at a server that takes it and at one that does not. */
-static void unbound(void)
+static void cbind_flag_y(void)
 {
     struct fe2o3_scram_record record = {0};
     struct fe2o3_scram_server server = {0};
     struct text text = {{0}, 0};
     fe2o3_scram_record_make(FE2O3_SHA_256, TEXT("pencil"), known_salt, sizeof known_salt, 4096, &record);
     told(FE2O3_SHA_256, "the header `y,,` is refused",
-        fe2o3_scram_server_first(&record, &server, server_nonce, TEXT(UNBOUND_FIRST), ROOM(text))
+        fe2o3_scram_server_first(&record, &server, server_nonce, TEXT(CBIND_FLAG_Y_FIRST), ROOM(text))
             == FE2O3_SERVER_CANNOT_PARSE_GS2_HEADER);
     told(FE2O3_SHA_256, "the header `y,,` is taken on wish",
-        fe2o3_scram_server_claimed_user(TEXT(UNBOUND_FIRST), ROOM(text)) == FE2O3_OK && spells(&text, "user")
-            && fe2o3_scram_server_first_with_cbind_flag_y(&record, &server, server_nonce, TEXT(UNBOUND_FIRST), ROOM(text))
+        fe2o3_scram_server_claimed_user(TEXT(CBIND_FLAG_Y_FIRST), ROOM(text)) == FE2O3_OK && spells(&text, "user")
+            && fe2o3_scram_server_first_with_cbind_flag_y(&record, &server, server_nonce, TEXT(CBIND_FLAG_Y_FIRST), ROOM(text))
                 == FE2O3_OK
             && spells(&text, "r=" BOTH_NONCES ",s=W22ZaJ0SNY7soEsUEjb6gQ==,i=4096"));
     told(FE2O3_SHA_256, "the last message repeats it",
         fe2o3_scram_server_final(&record, &server, TEXT(PLAIN_FINAL), ROOM(text))
                 == FE2O3_SERVER_INVALID_CHANNEL_BINDING
-            && fe2o3_scram_server_final(&record, &server, TEXT(UNBOUND_FINAL), ROOM(text)) == FE2O3_OK
+            && fe2o3_scram_server_final(&record, &server, TEXT(CBIND_FLAG_Y_FINAL), ROOM(text)) == FE2O3_OK
             && spells(&text, "v=mZx4E2gu+jcdDC0u/pNy5NPrR0Zh6PMH8UcHTIgvIxU=")
             && fe2o3_scram_server_authenticated_user(&server, ROOM(text)) == FE2O3_OK && spells(&text, "user"));
 }
@@ -267,6 +267,6 @@ int main(void)
     prepared(FE2O3_SHA_1, prepared_1);
     prepared(FE2O3_SHA_256, prepared_256);
     prepared(FE2O3_SHA_512, prepared_512);
-    unbound();
+    cbind_flag_y();
     return differences != 0;
 }

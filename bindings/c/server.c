@@ -68,7 +68,7 @@ static int64_t serve(int channel, struct fe2o3_sasl_server *server)
     size_t len = 0, at = 0, taken = 0, out_len = 0, name_len = 0;
     while (server->connection.progress == FE2O3_IN_PROGRESS) {
         struct fe2o3_scram_record record = {0};
-        struct fe2o3_sasl_server_config host = {mechanisms, version, 4096, name, 0, &record, FE2O3_NONE};
+        struct fe2o3_sasl_server_config config = {mechanisms, version, 4096, name, 0, &record, FE2O3_NONE};
         uint32_t status;
         if (at == len) {
             ssize_t some = recv(channel, came, sizeof came, 0);
@@ -80,12 +80,12 @@ static int64_t serve(int channel, struct fe2o3_sasl_server *server)
         status = fe2o3_sasl_server_claimed_user(server, came + at, len - at, name, sizeof name, &name_len);
         if (status == FE2O3_OK) {
             fetch(name, name_len, &record);
-            host.username_len = name_len;
+            config.username_len = name_len;
         }
         if (!random_bytes(nonce, sizeof nonce))
             return -1;
         status = fe2o3_sasl_server_receive(
-            &host, server, came + at, len - at, nonce, &taken, out, sizeof out, &out_len);
+            &config, server, came + at, len - at, nonce, &taken, out, sizeof out, &out_len);
         if (status != FE2O3_OK)
             return status;
         at += taken;

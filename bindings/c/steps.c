@@ -31,10 +31,10 @@ static const uint8_t salt[] = {0x5b, 0x6d, 0x99, 0x68, 0x9d, 0x12, 0x35, 0x8e,
 #define OUTCOME_OK "\2\1\0\0\0\x53\x44\xc0\x33\2\x50\0\xa0\x2ev=50uHbJV+ANf1NSOfnBbK910b8IC4PmQ5G06TO7VnXz8="
 
 /* The same of a client that could bind a channel. */
-#define UNBOUND_INIT "\2\1\0\0\0\x53\x41\xc0\x50\3\xa3\15SCRAM-SHA-256\xa0\x38y,,n=user,r=" NONCE "\xa1\4host"
-#define UNBOUND_RESPONSE "\2\1\0\0\0\x53\x43\xc0\x93\1\xa0\x90" \
+#define CBIND_FLAG_Y_INIT "\2\1\0\0\0\x53\x41\xc0\x50\3\xa3\15SCRAM-SHA-256\xa0\x38y,,n=user,r=" NONCE "\xa1\4host"
+#define CBIND_FLAG_Y_RESPONSE "\2\1\0\0\0\x53\x43\xc0\x93\1\xa0\x90" \
     "c=eSws,r=" BOTH_NONCES ",p=SJ1/Pm0x+vAkhmfEkR72IPuVMVkUt0BF477aSDSc3vM="
-#define UNBOUND_OK "\2\1\0\0\0\x53\x44\xc0\x33\2\x50\0\xa0\x2ev=mZx4E2gu+jcdDC0u/pNy5NPrR0Zh6PMH8UcHTIgvIxU="
+#define CBIND_FLAG_Y_OK "\2\1\0\0\0\x53\x44\xc0\x33\2\x50\0\xa0\x2ev=mZx4E2gu+jcdDC0u/pNy5NPrR0Zh6PMH8UcHTIgvIxU="
 
 /* An outcome Ok, and one Auth, without more. */
 #define BARE_OK "\2\1\0\0\0\x53\x44\xc0\3\1\x50\0"
@@ -50,7 +50,7 @@ struct body {
 struct exchange {
     struct fe2o3_scram_client client, client_before;
     struct fe2o3_scram_server server;
-    uint32_t client_stands, server_stands;
+    uint32_t client_progress, server_progress;
     struct body sent[6];
     size_t count;
 };
@@ -99,93 +99,93 @@ static struct fe2o3_scram_record record_by(uint32_t version)
     return record;
 }
 
-/* A host of all mechanisms, which knows one user: the one of this record. */
-static struct fe2o3_sasl_server_config host_of(const struct fe2o3_scram_record *record)
+/* A config of all mechanisms, which knows one user: the one of this record. */
+static struct fe2o3_sasl_server_config config_of(const struct fe2o3_scram_record *record)
 {
-    struct fe2o3_sasl_server_config host = {
+    struct fe2o3_sasl_server_config config = {
         FE2O3_OFFER_SCRAM | FE2O3_OFFER_PLAIN | FE2O3_OFFER_ANONYMOUS | FE2O3_OFFER_EXTERNAL,
         record->version, 4096, TEXT("user"), record, TEXT("peer")};
-    return host;
+    return config;
 }
 
-/* What a server makes of a body, with the record of the user whom the body names, if the host knows one. */
-static uint32_t served(struct exchange *one, const struct fe2o3_sasl_server_config *host, const struct body *came,
+/* What a server makes of a body, with the record of the user whom the body names, if the config knows one. */
+static uint32_t served(struct exchange *one, const struct fe2o3_sasl_server_config *config, const struct body *came,
     struct body *next)
 {
-    struct fe2o3_sasl_server_config with = *host;
+    struct fe2o3_sasl_server_config with = *config;
     struct body name;
     uint32_t number = fe2o3_sasl_server_step_claimed_user(&one->server, GIVEN(*came), ROOM(name));
-    if (number != FE2O3_OK && number != FE2O3_NAMES_NOBODY)
+    if (number != FE2O3_OK && number != FE2O3_NAMES_NO_USER)
         return number;
-    if (number != FE2O3_OK || !spells(&name, host->username, host->username_len))
+    if (number != FE2O3_OK || !spells(&name, config->username, config->username_len))
         with.record = &no_record;
-    return fe2o3_sasl_server_step(&with, &one->server, GIVEN(*came), server_nonce, &one->server_stands, ROOM(*next));
+    return fe2o3_sasl_server_step(&with, &one->server, GIVEN(*came), server_nonce, &one->server_progress, ROOM(*next));
 }
 
 /* A whole login, or one up to the call that is refused. Answers the number of its last call. */
-static uint32_t run(struct exchange *one, const struct fe2o3_sasl_login *login, const struct fe2o3_sasl_server_config *host)
+static uint32_t run(struct exchange *one, const struct fe2o3_sasl_login *login, const struct fe2o3_sasl_server_config *config)
 {
     uint32_t number;
     memset(one, 0, sizeof *one);
-    number = fe2o3_sasl_server_offer(host, ROOM(one->sent[0]));
-    while (number == FE2O3_OK && one->client_stands == FE2O3_IN_PROGRESS && ++one->count < 6) {
+    number = fe2o3_sasl_server_offer(config, ROOM(one->sent[0]));
+    while (number == FE2O3_OK && one->client_progress == FE2O3_IN_PROGRESS && ++one->count < 6) {
         const struct body *came = &one->sent[one->count - 1];
         struct body *next = &one->sent[one->count];
         one->client_before = one->client;
         if (one->count % 2 == 0)
-            number = served(one, host, came, next);
+            number = served(one, config, came, next);
         else
             number = fe2o3_sasl_client_step(
-                login, &one->client, GIVEN(*came), client_nonce, &one->client_stands, ROOM(*next));
+                login, &one->client, GIVEN(*came), client_nonce, &one->client_progress, ROOM(*next));
     }
     return number;
 }
 
 /* Whether a login ends so on both sides, and nothing is sent behind the outcome. */
-static int ends(const struct fe2o3_sasl_login *login, const struct fe2o3_sasl_server_config *host, uint32_t stands,
+static int ends(const struct fe2o3_sasl_login *login, const struct fe2o3_sasl_server_config *config, uint32_t progress,
     struct exchange *one)
 {
-    return run(one, login, host) == FE2O3_OK && one->client_stands == stands && one->server_stands == stands
+    return run(one, login, config) == FE2O3_OK && one->client_progress == progress && one->server_progress == progress
         && one->count < 6 && one->sent[one->count].len == 0;
 }
 
 /* Each side with a room that is a byte too small, at a body that would bring it further. */
-static int too_little_room(const struct fe2o3_sasl_login *login, const struct fe2o3_sasl_server_config *host,
+static int too_little_room(const struct fe2o3_sasl_login *login, const struct fe2o3_sasl_server_config *config,
     const struct exchange *whole)
 {
     struct fe2o3_scram_client client = fresh_client;
     struct fe2o3_scram_server server = fresh_server;
     struct body out, before;
-    uint32_t stands = 9;
+    uint32_t progress = 9;
     int holds;
     memset(&out, 0xa5, sizeof out);
     before = out;
-    holds = fe2o3_sasl_client_step(login, &client, GIVEN(whole->sent[0]), client_nonce, &stands, out.bytes, 507,
+    holds = fe2o3_sasl_client_step(login, &client, GIVEN(whole->sent[0]), client_nonce, &progress, out.bytes, 507,
         &out.len) == FE2O3_ROOM_TOO_SMALL && out.len == 508;
     out.len = 0;
-    holds &= fe2o3_sasl_server_step(host, &server, GIVEN(whole->sent[1]), server_nonce, &stands, out.bytes, 507,
+    holds &= fe2o3_sasl_server_step(config, &server, GIVEN(whole->sent[1]), server_nonce, &progress, out.bytes, 507,
         &out.len) == FE2O3_ROOM_TOO_SMALL && out.len == 508;
-    holds &= fe2o3_sasl_server_offer(host, out.bytes, whole->sent[0].len - 1, &out.len) == FE2O3_ROOM_TOO_SMALL
+    holds &= fe2o3_sasl_server_offer(config, out.bytes, whole->sent[0].len - 1, &out.len) == FE2O3_ROOM_TOO_SMALL
         && out.len == whole->sent[0].len;
     holds &= fe2o3_sasl_server_step_claimed_user(&server, GIVEN(whole->sent[1]), out.bytes, 3, &out.len)
         == FE2O3_ROOM_TOO_SMALL && out.len == 4;
-    return holds && stands == 9 && memcmp(&client, &fresh_client, sizeof client) == 0
+    return holds && progress == 9 && memcmp(&client, &fresh_client, sizeof client) == 0
         && memcmp(&server, &fresh_server, sizeof server) == 0
         && memcmp(out.bytes, before.bytes, sizeof out.bytes) == 0;
 }
 
 /* The names of the bodies of a login: that of the init, and then that of the open challenge for any response. */
-static int bodies_name(const struct fe2o3_sasl_server_config *host, const struct exchange *whole)
+static int bodies_name(const struct fe2o3_sasl_server_config *config, const struct exchange *whole)
 {
     struct fe2o3_scram_server server = fresh_server;
     struct body name, out;
-    uint32_t stands = 9;
+    uint32_t progress = 9;
     int holds = fe2o3_sasl_server_step_claimed_user(&server, GIVEN(whole->sent[1]), ROOM(name)) == FE2O3_OK
         && spells(&name, TEXT("user"));
-    holds &= fe2o3_sasl_server_step_claimed_user(&server, GIVEN(whole->sent[3]), ROOM(name)) == FE2O3_NAMES_NOBODY;
-    holds &= fe2o3_sasl_server_step_claimed_user(&server, GIVEN(whole->sent[0]), ROOM(name)) == FE2O3_NAMES_NOBODY;
-    holds &= fe2o3_sasl_server_step(host, &server, GIVEN(whole->sent[1]), server_nonce, &stands, ROOM(out))
-        == FE2O3_OK && stands == FE2O3_IN_PROGRESS;
+    holds &= fe2o3_sasl_server_step_claimed_user(&server, GIVEN(whole->sent[3]), ROOM(name)) == FE2O3_NAMES_NO_USER;
+    holds &= fe2o3_sasl_server_step_claimed_user(&server, GIVEN(whole->sent[0]), ROOM(name)) == FE2O3_NAMES_NO_USER;
+    holds &= fe2o3_sasl_server_step(config, &server, GIVEN(whole->sent[1]), server_nonce, &progress, ROOM(out))
+        == FE2O3_OK && progress == FE2O3_IN_PROGRESS;
     return holds && fe2o3_sasl_server_step_claimed_user(&server, GIVEN(whole->sent[3]), ROOM(name)) == FE2O3_OK
         && spells(&name, TEXT("user"));
 }
@@ -195,30 +195,30 @@ static void by_scram(const char *mechanism, uint32_t version)
     struct fe2o3_scram_record record = record_by(version), other = record;
     struct fe2o3_scram_keys keys = {0}, made = {0};
     struct fe2o3_sasl_login login = login_by(FE2O3_SCRAM, version), stranger = login;
-    struct fe2o3_sasl_server_config host = host_of(&record), without_verifier = host_of(&other);
+    struct fe2o3_sasl_server_config config = config_of(&record), without_verifier = config_of(&other);
     struct exchange whole, one;
     told(mechanism, "a login",
-        ends(&login, &host, FE2O3_AUTHENTICATED, &whole) && names(&whole.server, TEXT("user")));
+        ends(&login, &config, FE2O3_AUTHENTICATED, &whole) && names(&whole.server, TEXT("user")));
     told(mechanism, "the login hands out its keys",
         fe2o3_scram_client_get_keys(&whole.client, &keys) == FE2O3_OK
             && fe2o3_scram_keys_make(version, TEXT("pencil"), salt, sizeof salt, 4096, &made) == FE2O3_OK
             && memcmp(&keys, &made, sizeof keys) == 0);
     stranger.login.password_len--;
     told(mechanism, "a wrong password",
-        ends(&stranger, &host, FE2O3_REFUSED_AUTH, &one) && names_no_user(&one.server)
+        ends(&stranger, &config, FE2O3_REFUSED_AUTH, &one) && names_no_user(&one.server)
             && spells(&one.sent[4], TEXT(BARE_AUTH)) && fe2o3_scram_client_get_keys(&one.client, &keys) != FE2O3_OK);
     stranger = login;
     stranger.login.username_len--;
     told(mechanism, "an unknown user",
-        ends(&stranger, &host, FE2O3_REFUSED_AUTH, &one) && names_no_user(&one.server));
+        ends(&stranger, &config, FE2O3_REFUSED_AUTH, &one) && names_no_user(&one.server));
     other.server_key[0] ^= 1;
     told(mechanism, "a server without the verifier is not believed",
         run(&one, &login, &without_verifier) == FE2O3_CLIENT_SERVER_SIGNATURE_MISMATCH && one.count == 5
-            && one.client_stands == FE2O3_IN_PROGRESS
+            && one.client_progress == FE2O3_IN_PROGRESS
             && memcmp(&one.client, &one.client_before, sizeof one.client) == 0
             && fe2o3_scram_client_get_keys(&one.client, &keys) == FE2O3_CLIENT_ILLEGAL_CLIENT_STATE);
-    told(mechanism, "a room that is too small", too_little_room(&login, &host, &whole));
-    told(mechanism, "whom a body names", bodies_name(&host, &whole));
+    told(mechanism, "a room that is too small", too_little_room(&login, &config, &whole));
+    told(mechanism, "whom a body names", bodies_name(&config, &whole));
 }
 
 /* Each body of a login, and the offer of one mechanism, byte for byte. */
@@ -226,37 +226,37 @@ static void by_hand(void)
 {
     struct fe2o3_scram_record record = record_by(FE2O3_SHA_256);
     struct fe2o3_sasl_login login = login_by(FE2O3_SCRAM, FE2O3_SHA_256);
-    struct fe2o3_sasl_server_config host = host_of(&record);
+    struct fe2o3_sasl_server_config config = config_of(&record);
     struct body offer;
     struct exchange one;
     told("SCRAM-SHA-256", "each body is the one that was written by hand",
-        ends(&login, &host, FE2O3_AUTHENTICATED, &one) && one.count == 5 && spells(&one.sent[0], TEXT(OFFERS_ALL))
+        ends(&login, &config, FE2O3_AUTHENTICATED, &one) && one.count == 5 && spells(&one.sent[0], TEXT(OFFERS_ALL))
             && spells(&one.sent[1], TEXT(INIT)) && spells(&one.sent[2], TEXT(CHALLENGE))
             && spells(&one.sent[3], TEXT(RESPONSE)) && spells(&one.sent[4], TEXT(OUTCOME_OK)));
-    host.mechanisms = FE2O3_OFFER_SCRAM;
+    config.mechanisms = FE2O3_OFFER_SCRAM;
     told("SCRAM-SHA-256", "offered alone",
-        fe2o3_sasl_server_offer(&host, ROOM(offer)) == FE2O3_OK && spells(&offer, TEXT(OFFERS_SCRAM)));
-    host.mechanisms = 0;
-    told("nothing", "offered", fe2o3_sasl_server_offer(&host, ROOM(offer)) == FE2O3_NO_SUCH_MECHANISM);
+        fe2o3_sasl_server_offer(&config, ROOM(offer)) == FE2O3_OK && spells(&offer, TEXT(OFFERS_SCRAM)));
+    config.mechanisms = 0;
+    told("nothing", "offered", fe2o3_sasl_server_offer(&config, ROOM(offer)) == FE2O3_NO_SUCH_MECHANISM);
 }
 
 /* EXTERNAL on a connection whose client the transport has not authenticated. */
-static void without_peer(const struct fe2o3_sasl_login *external, struct fe2o3_sasl_server_config host)
+static void without_peer(const struct fe2o3_sasl_login *external, struct fe2o3_sasl_server_config config)
 {
     struct fe2o3_scram_server server = fresh_server;
     struct body offer, out;
     struct exchange one;
-    uint32_t stands = 0;
-    host.peer_len = 0;
-    host.mechanisms = FE2O3_OFFER_ANONYMOUS | FE2O3_OFFER_EXTERNAL;
-    told("EXTERNAL", "not offered without a peer", run(&one, external, &host) == FE2O3_NOT_IMPLEMENTED);
+    uint32_t progress = 0;
+    config.external_authcid_len = 0;
+    config.mechanisms = FE2O3_OFFER_ANONYMOUS | FE2O3_OFFER_EXTERNAL;
+    told("EXTERNAL", "not offered without a peer", run(&one, external, &config) == FE2O3_NOT_IMPLEMENTED);
     told("EXTERNAL", "an init without a peer",
-        fe2o3_sasl_server_step(&host, &server, TEXT("\2\1\0\0\0\x53\x41\xc0\x12\3\xa3\10EXTERNAL\x40\xa1\4host"),
-            server_nonce, &stands, ROOM(out)) == FE2O3_OK
-            && stands == FE2O3_REFUSED_AUTH && spells(&out, TEXT(BARE_AUTH)) && names_no_user(&server));
-    host.mechanisms = FE2O3_OFFER_EXTERNAL;
+        fe2o3_sasl_server_step(&config, &server, TEXT("\2\1\0\0\0\x53\x41\xc0\x12\3\xa3\10EXTERNAL\x40\xa1\4host"),
+            server_nonce, &progress, ROOM(out)) == FE2O3_OK
+            && progress == FE2O3_REFUSED_AUTH && spells(&out, TEXT(BARE_AUTH)) && names_no_user(&server));
+    config.mechanisms = FE2O3_OFFER_EXTERNAL;
     told("EXTERNAL", "nothing offered without a peer",
-        fe2o3_sasl_server_offer(&host, ROOM(offer)) == FE2O3_NO_SUCH_MECHANISM);
+        fe2o3_sasl_server_offer(&config, ROOM(offer)) == FE2O3_NO_SUCH_MECHANISM);
 }
 
 static void by_others(void)
@@ -264,32 +264,32 @@ static void by_others(void)
     struct fe2o3_scram_record record = record_by(FE2O3_SHA_256);
     struct fe2o3_sasl_login plain = login_by(FE2O3_PLAIN, 0), external = login_by(FE2O3_EXTERNAL, 0);
     struct fe2o3_sasl_login anonymous = login_by(FE2O3_ANONYMOUS, 0);
-    struct fe2o3_sasl_server_config host = host_of(&record);
+    struct fe2o3_sasl_server_config config = config_of(&record);
     struct body name;
     struct exchange one;
-    told("PLAIN", "a login", ends(&plain, &host, FE2O3_AUTHENTICATED, &one) && names(&one.server, TEXT("user"))
+    told("PLAIN", "a login", ends(&plain, &config, FE2O3_AUTHENTICATED, &one) && names(&one.server, TEXT("user"))
             && spells(&one.sent[1], TEXT("\2\1\0\0\0\x53\x41\xc0\x1c\3\xa3\5PLAIN\xa0\14\0user\0pencil\xa1\4host"))
             && spells(&one.sent[2], TEXT(BARE_OK)));
     told("PLAIN", "whom its init names",
         fe2o3_sasl_server_step_claimed_user(&fresh_server, GIVEN(one.sent[1]), ROOM(name)) == FE2O3_OK
             && spells(&name, TEXT("user")));
     plain.login.password_len--;
-    told("PLAIN", "a wrong password", ends(&plain, &host, FE2O3_REFUSED_AUTH, &one) && names_no_user(&one.server));
-    told("ANONYMOUS", "a login", ends(&anonymous, &host, FE2O3_AUTHENTICATED, &one) && names_no_user(&one.server)
+    told("PLAIN", "a wrong password", ends(&plain, &config, FE2O3_REFUSED_AUTH, &one) && names_no_user(&one.server));
+    told("ANONYMOUS", "a login", ends(&anonymous, &config, FE2O3_AUTHENTICATED, &one) && names_no_user(&one.server)
             && spells(&one.sent[1], TEXT("\2\1\0\0\0\x53\x41\xc0\x13\3\xa3\11ANONYMOUS\x40\xa1\4host")));
-    told("EXTERNAL", "a login", ends(&external, &host, FE2O3_AUTHENTICATED, &one) && names(&one.server, TEXT("peer"))
+    told("EXTERNAL", "a login", ends(&external, &config, FE2O3_AUTHENTICATED, &one) && names(&one.server, TEXT("peer"))
             && spells(&one.sent[1], TEXT("\2\1\0\0\0\x53\x41\xc0\x12\3\xa3\10EXTERNAL\x40\xa1\4host")));
-    host.mechanisms = FE2O3_OFFER_SCRAM;
-    told("EXTERNAL", "where it is not offered", run(&one, &external, &host) == FE2O3_NOT_IMPLEMENTED);
-    without_peer(&external, host_of(&record));
+    config.mechanisms = FE2O3_OFFER_SCRAM;
+    told("EXTERNAL", "where it is not offered", run(&one, &external, &config) == FE2O3_NOT_IMPLEMENTED);
+    without_peer(&external, config_of(&record));
 }
 
 /* What a client that has sent nothing makes of this body. */
-static uint32_t heard(const struct fe2o3_sasl_login *login, const uint8_t *body, size_t len, uint32_t *stands)
+static uint32_t heard(const struct fe2o3_sasl_login *login, const uint8_t *body, size_t len, uint32_t *progress)
 {
     struct fe2o3_scram_client client = fresh_client;
     struct body out;
-    return fe2o3_sasl_client_step(login, &client, body, len, client_nonce, stands, ROOM(out));
+    return fe2o3_sasl_client_step(login, &client, body, len, client_nonce, progress, ROOM(out));
 }
 
 /* Bodies that come too soon, or to the wrong side. */
@@ -297,55 +297,55 @@ static void out_of_turn(void)
 {
     struct fe2o3_scram_record record = record_by(FE2O3_SHA_256);
     struct fe2o3_sasl_login scram = login_by(FE2O3_SCRAM, FE2O3_SHA_256), plain = login_by(FE2O3_PLAIN, 0);
-    struct fe2o3_sasl_server_config host = host_of(&record);
+    struct fe2o3_sasl_server_config config = config_of(&record);
     struct fe2o3_scram_server server = fresh_server;
     struct body out;
-    uint32_t stands = 9;
+    uint32_t progress = 9;
     told("SCRAM-SHA-256", "an outcome Ok first is not believed",
-        heard(&scram, TEXT(OUTCOME_OK), &stands) == FE2O3_CLIENT_ILLEGAL_CLIENT_STATE
-            && heard(&scram, TEXT(BARE_OK), &stands) == FE2O3_CLIENT_SERVER_SIGNATURE_MISMATCH && stands == 9);
+        heard(&scram, TEXT(OUTCOME_OK), &progress) == FE2O3_CLIENT_ILLEGAL_CLIENT_STATE
+            && heard(&scram, TEXT(BARE_OK), &progress) == FE2O3_CLIENT_SERVER_SIGNATURE_MISMATCH && progress == 9);
     told("SCRAM-SHA-256", "a challenge first is not answered",
-        heard(&scram, TEXT(CHALLENGE), &stands) == FE2O3_CLIENT_ILLEGAL_CLIENT_STATE && stands == 9);
+        heard(&scram, TEXT(CHALLENGE), &progress) == FE2O3_CLIENT_ILLEGAL_CLIENT_STATE && progress == 9);
     told("PLAIN", "an outcome Ok first is believed",
-        heard(&plain, TEXT(BARE_OK), &stands) == FE2O3_OK && stands == FE2O3_AUTHENTICATED);
-    stands = 9;
+        heard(&plain, TEXT(BARE_OK), &progress) == FE2O3_OK && progress == FE2O3_AUTHENTICATED);
+    progress = 9;
     told("PLAIN", "a challenge is not answered",
-        heard(&plain, TEXT(CHALLENGE), &stands) == FE2O3_NOT_IMPLEMENTED && stands == 9);
+        heard(&plain, TEXT(CHALLENGE), &progress) == FE2O3_NOT_IMPLEMENTED && progress == 9);
     told("a client", "a body that is none of a frame",
-        heard(&plain, TEXT("\2\1\0"), &stands) == FE2O3_MALFORMED_FRAME && stands == 9);
+        heard(&plain, TEXT("\2\1\0"), &progress) == FE2O3_MALFORMED_FRAME && progress == 9);
     told("a server", "a frame that no client sends",
-        fe2o3_sasl_server_step(&host, &server, TEXT(CHALLENGE), server_nonce, &stands, ROOM(out))
-            == FE2O3_NO_SASL_FRAME && stands == 9);
+        fe2o3_sasl_server_step(&config, &server, TEXT(CHALLENGE), server_nonce, &progress, ROOM(out))
+            == FE2O3_NO_SASL_FRAME && progress == 9);
     told("a server", "a response without a challenge is refused by an outcome",
-        fe2o3_sasl_server_step(&host, &server, TEXT(RESPONSE), server_nonce, &stands, ROOM(out)) == FE2O3_OK
-            && stands == FE2O3_REFUSED_AUTH && spells(&out, TEXT(BARE_AUTH)) && names_no_user(&server));
-    host.mechanisms = FE2O3_OFFER_PLAIN;
+        fe2o3_sasl_server_step(&config, &server, TEXT(RESPONSE), server_nonce, &progress, ROOM(out)) == FE2O3_OK
+            && progress == FE2O3_REFUSED_AUTH && spells(&out, TEXT(BARE_AUTH)) && names_no_user(&server));
+    config.mechanisms = FE2O3_OFFER_PLAIN;
     told("a server", "an init of a mechanism that it does not offer",
-        fe2o3_sasl_server_step(&host, &server, TEXT(INIT), server_nonce, &stands, ROOM(out)) == FE2O3_OK
-            && stands == FE2O3_REFUSED_AUTH && spells(&out, TEXT(BARE_AUTH)) && names_no_user(&server));
+        fe2o3_sasl_server_step(&config, &server, TEXT(INIT), server_nonce, &progress, ROOM(out)) == FE2O3_OK
+            && progress == FE2O3_REFUSED_AUTH && spells(&out, TEXT(BARE_AUTH)) && names_no_user(&server));
 }
 
 /* A client that could bind a channel, at a server that takes it and at one that does not. */
-static void unbound(void)
+static void cbind_flag_y(void)
 {
     struct fe2o3_scram_record record = record_by(FE2O3_SHA_256);
-    struct fe2o3_sasl_server_config host = host_of(&record);
+    struct fe2o3_sasl_server_config config = config_of(&record);
     struct fe2o3_scram_server server = fresh_server;
     struct body out;
-    uint32_t stands = 9;
+    uint32_t progress = 9;
     told("SCRAM-SHA-256", "the header `y,,` is refused",
-        fe2o3_sasl_server_step(&host, &server, TEXT(UNBOUND_INIT), server_nonce, &stands, ROOM(out)) == FE2O3_OK
-            && stands == FE2O3_REFUSED_AUTH && spells(&out, TEXT(BARE_AUTH)) && names_no_user(&server));
-    host.mechanisms = FE2O3_OFFER_SCRAM | FE2O3_ACCEPT_CBIND_FLAG_Y;
+        fe2o3_sasl_server_step(&config, &server, TEXT(CBIND_FLAG_Y_INIT), server_nonce, &progress, ROOM(out)) == FE2O3_OK
+            && progress == FE2O3_REFUSED_AUTH && spells(&out, TEXT(BARE_AUTH)) && names_no_user(&server));
+    config.mechanisms = FE2O3_OFFER_SCRAM | FE2O3_ACCEPT_CBIND_FLAG_Y;
     told("SCRAM-SHA-256", "the header `y,,` is taken on wish",
-        fe2o3_sasl_server_step(&host, &server, TEXT(UNBOUND_INIT), server_nonce, &stands, ROOM(out)) == FE2O3_OK
-            && stands == FE2O3_IN_PROGRESS && spells(&out, TEXT(CHALLENGE))
-            && fe2o3_sasl_server_step(&host, &server, TEXT(UNBOUND_RESPONSE), server_nonce, &stands, ROOM(out))
+        fe2o3_sasl_server_step(&config, &server, TEXT(CBIND_FLAG_Y_INIT), server_nonce, &progress, ROOM(out)) == FE2O3_OK
+            && progress == FE2O3_IN_PROGRESS && spells(&out, TEXT(CHALLENGE))
+            && fe2o3_sasl_server_step(&config, &server, TEXT(CBIND_FLAG_Y_RESPONSE), server_nonce, &progress, ROOM(out))
                 == FE2O3_OK
-            && stands == FE2O3_AUTHENTICATED && spells(&out, TEXT(UNBOUND_OK)) && names(&server, TEXT("user")));
-    host.mechanisms = FE2O3_ACCEPT_CBIND_FLAG_Y;
+            && progress == FE2O3_AUTHENTICATED && spells(&out, TEXT(CBIND_FLAG_Y_OK)) && names(&server, TEXT("user")));
+    config.mechanisms = FE2O3_ACCEPT_CBIND_FLAG_Y;
     told("nothing", "offered, but to take `y,,`",
-        fe2o3_sasl_server_offer(&host, ROOM(out)) == FE2O3_NO_SUCH_MECHANISM);
+        fe2o3_sasl_server_offer(&config, ROOM(out)) == FE2O3_NO_SUCH_MECHANISM);
 }
 
 int main(void)
@@ -356,6 +356,6 @@ int main(void)
     by_scram("SCRAM-SHA-512", FE2O3_SHA_512);
     by_others();
     out_of_turn();
-    unbound();
+    cbind_flag_y();
     return differences != 0;
 }

@@ -1,27 +1,27 @@
 """SCRAM (RFC 5802, RFC 7677), and the SASL layer of AMQP 1.0, by the library of `fe2o3_sasl.h`, called by `ctypes`.
 
-The library is the file that the environment variable FE2O3_SASL_LIB names, or else `libfe2o3_sasl.so.0` where the
-system finds it. It is loaded with the module, and refused where its structs have other sizes than those below.
+The module loads the library that the environment variable FE2O3_SASL_LIB names, otherwise the system's
+`libfe2o3_sasl.so.1`. Importing it fails if the structs of the library have other sizes than those below.
 
 A client:
 
     client = Client(SHA_256, "user", password="pencil")
     send(client.first())
     send(client.final(receive()))
-    client.verify(receive())            # logged in, and the server knew the password too
-    keys = client.keys()                # takes the place of the password at the next login
+    client.verify(receive())            # raises unless the server is authenticated too
+    keys = client.keys()                # replaces the password at the next login
 
 A server:
 
     server = Server()
     message = receive()
-    send(server.first(record_of(Server.user(message)), message))
+    send(server.first(record_of(Server.claimed_user(message)), message))
     send(server.final(receive()))
-    name = server.logged_in()           # logged in
+    name = server.authenticated_user()
 
-where `record_of` answers `Record.mock(..)` for a name that it does not know.
+`record_of` returns `Record.mock(..)` for a name that it does not know.
 
-A password past ASCII is prepared on both sides, before it is kept and before it is handed in:
+Prepare a non-ASCII password on both sides:
 
     password = saslprep("pe\\u0301ncil")
     record = Record.make_prepared(SHA_256, password)
@@ -32,27 +32,26 @@ The client's side of a connection of AMQP 1.0, before its first frame of AMQP:
     side = ClientConnection(client, hostname="broker.example")   # or ClientConnection.plain("user", "pencil")
     socket.sendall(side.open())
     rest = b""
-    while side.progress == Progress.WANTING:
+    while side.progress == Progress.IN_PROGRESS:
         answer, rest = side.receive(socket.recv(4096))
         socket.sendall(answer)
-    # logged in where side.progress is Progress.LOGGED_IN, and `rest` is AMQP's; else side.why says why not
+    # complete if side.progress is Progress.AUTHENTICATED; then `rest` belongs to AMQP. Otherwise side.why says why not.
 
-The same over the bodies of frames, each from the data offset on, for who reads and writes the frames:
+A login over frame bodies, each from the data offset on, for programs that read and write frames themselves:
 
     side = ClientSteps(client, hostname="broker.example")
     for _ in range(3):                  # the mechanisms, a challenge, and the outcome
         answer = side.on_frame(receive_body())
-        if side.progress != Progress.WANTING:
+        if side.progress != Progress.IN_PROGRESS:
             break
         send_body(answer)
-    # logged in where side.progress is Progress.LOGGED_IN; else side.why says why not
+    # complete if side.progress is Progress.AUTHENTICATED; otherwise side.why says why not
 
-A call that the library refuses raises `Refused` and leaves the object as it was. A call that does not raise is done.
-An argument that is none (another type, a number outside of its C type) raises TypeError or ValueError before any call.
-Any thread may call: calls on one object wait for each other, and what takes long does not hold the interpreter.
+A call that fails raises `Refused` and leaves the object as it was. An argument of a wrong type, or a number that does
+not fit its C type, raises TypeError or ValueError before the library is called. Any thread may call. Calls on one
+object wait for each other, and the interpreter is not locked meanwhile.
 
-No secret is in a `repr` or in an exception of this module. Secrets are not wiped from memory, neither here nor in the
-library nor by Python.
+No `repr` and no exception of this module contains a secret. Secrets are not wiped from memory.
 """
 
 from __future__ import annotations
@@ -88,21 +87,17 @@ __all__ = [
     "view_frame",
 ]
 
+# ---- written by tools/header.py --python, from here ----
+
 SHA_1 = 1
 SHA_256 = 256
 SHA_512 = 512
 
-_DIGEST_LENGTHS = {SHA_1: 20, SHA_256: 32, SHA_512: 64}
-
-#: A text as its characters or as the bytes of its UTF-8.
-Text = Union[str, bytes, bytearray, memoryview]
-Bytes = Union[bytes, bytearray, memoryview]
-
 
 class Status(enum.IntEnum):
-    """What a call of the library answers, as the header names it. The header says what each one means."""
+    """What a call of the library returns. The header says what each means."""
 
-    DONE = 0
+    OK = 0
     OUT_OF_MEMORY = 1
     ROOM_TOO_SMALL = 2
     NOT_UTF8 = 3
@@ -116,8 +111,8 @@ class Status(enum.IntEnum):
     OTHER_PASSWORD = 11
     NO_SUCH_MECHANISM = 12
     ENDED = 13
-    NOT_KEPT = 14
-    NAMES_NOBODY = 15
+    INVALID_SNAPSHOT = 14
+    NAMES_NO_USER = 15
     CLIENT_UTF8_ERROR = 20
     CLIENT_INSUFFICIENT_PARTS = 21
     CLIENT_EXTENSION_NOT_SUPPORTED = 22
@@ -130,7 +125,7 @@ class Status(enum.IntEnum):
     CLIENT_ITERATION_COUNT_TOO_SMALL = 29
     CLIENT_ITERATION_COUNT_TOO_LARGE = 30
     CLIENT_NORMALIZE_ERROR = 31
-    CLIENT_OTHER_KEYS = 32
+    CLIENT_STALE_KEYS = 32
     CLIENT_HMAC_ERROR_INVALID_LENGTH = 33
     CLIENT_XOR_LENGTH_MISMATCH = 34
     CLIENT_ILLEGAL_CLIENT_STATE = 35
@@ -159,11 +154,11 @@ class Status(enum.IntEnum):
     INVALID_NAME = 67
     NO_SUCH_USER = 68
     NOT_WRITABLE = 69
-    OTHER_HEADER = 70
+    PROTOCOL_HEADER_MISMATCH = 70
     FRAME_SIZE = 71
-    OUT_OF_TURN = 72
+    UNEXPECTED_FRAME = 72
     REPLY_TOO_LARGE = 73
-    FRAME_UNREAD = 74
+    MALFORMED_FRAME = 74
     NO_SASL_FRAME = 75
     FRAME_TOO_LARGE = 76
     NOT_IMPLEMENTED = 77
@@ -178,45 +173,67 @@ class Status(enum.IntEnum):
 
 
 class Progress(enum.IntEnum):
-    """How a login stands: more is wanted of the other side, the client is logged in, or the connection is to be
-    closed."""
+    """How far a login on a connection is."""
 
-    WANTING = 0
-    LOGGED_IN = 1
-    CLOSED = 2
-
-
-class Refused(Exception):
-    """The library did not do a call. Nothing has changed.
-
-    `status` is the number that it answered: one of `Status`, or one that a later library has. `text` says the same in
-    words.
-    """
-
-    def __init__(self, status: int, text: str) -> None:
-        super().__init__(status, text)
-        self.status = status
-        self.text = text
-
-    def __str__(self) -> str:
-        return f"{self.text} ({self.status})"
+    IN_PROGRESS = 0
+    AUTHENTICATED = 1
+    FAILED = 2
 
 
-# The structs, as the header has them.
+class Offer(enum.IntFlag):
+    """What a server offers. PLAIN sends the password in clear, so offer it over TLS only. ACCEPT_CBIND_FLAG_Y
+    is no mechanism: SCRAM also accepts the GS2 header `y,,`, like `Server.first` with `accept_cbind_flag_y`."""
+
+    SCRAM = 1
+    PLAIN = 2
+    ANONYMOUS = 4
+    EXTERNAL = 8
+    ACCEPT_CBIND_FLAG_Y = 16
 
 
-class _KeysStruct(ctypes.Structure):
+class _Mechanism(enum.IntEnum):
+    """The mechanism of a client on a connection."""
+
+    SCRAM = 0
+    PLAIN = 1
+    ANONYMOUS = 2
+    EXTERNAL = 3
+
+
+class _Secret(enum.IntEnum):
+    """What a client logs in with."""
+
+    BY_PASSWORD = 0
+    BY_KEYS = 1
+    BY_PASSWORD_AND_KEYS = 2
+    BY_PREPARED = 3
+    BY_PREPARED_AND_KEYS = 4
+
+
+class _Unassigned(enum.IntEnum):
+    """What fe2o3_saslprep does with code points that Unicode 3.2 does not assign."""
+
+    REFUSED = 0
+    ALLOWED = 1
+
+
+class _ServerState(enum.IntEnum):
+    """How far the exchange of a SCRAM server is."""
+
+    INITIAL = 0
+    CHALLENGE_OPEN = 1
+    AUTHENTICATED = 2
+    CHALLENGE_OPEN_CBIND_FLAG_Y = 3
+
+
+class _TextStruct(ctypes.Structure):
     _fields_ = [
-        ("version", ctypes.c_uint32),
-        ("iterations", ctypes.c_uint32),
-        ("salt_len", ctypes.c_uint32),
-        ("salt", ctypes.c_uint8 * 128),
-        ("client_key", ctypes.c_uint8 * 64),
-        ("server_key", ctypes.c_uint8 * 64),
+        ("bytes", ctypes.c_void_p),
+        ("bytes_len", ctypes.c_size_t),
     ]
 
 
-class _RecordStruct(ctypes.Structure):
+class _ScramRecordStruct(ctypes.Structure):
     _fields_ = [
         ("version", ctypes.c_uint32),
         ("iterations", ctypes.c_uint32),
@@ -227,9 +244,44 @@ class _RecordStruct(ctypes.Structure):
     ]
 
 
-class _ServerStruct(ctypes.Structure):
+class _ScramKeysStruct(ctypes.Structure):
     _fields_ = [
-        ("stands", ctypes.c_uint32),
+        ("version", ctypes.c_uint32),
+        ("iterations", ctypes.c_uint32),
+        ("salt_len", ctypes.c_uint32),
+        ("salt", ctypes.c_uint8 * 128),
+        ("client_key", ctypes.c_uint8 * 64),
+        ("server_key", ctypes.c_uint8 * 64),
+    ]
+
+
+class _LoginStruct(ctypes.Structure):
+    _fields_ = [
+        ("version", ctypes.c_uint32),
+        ("secret", ctypes.c_uint32),
+        ("min_iterations", ctypes.c_uint32),
+        ("max_iterations", ctypes.c_uint32),
+        ("username", ctypes.c_char_p),
+        ("username_len", ctypes.c_size_t),
+        ("password", ctypes.c_char_p),
+        ("password_len", ctypes.c_size_t),
+        ("keys", ctypes.POINTER(_ScramKeysStruct)),
+    ]
+
+
+class _ScramClientStruct(ctypes.Structure):
+    _fields_ = [
+        ("state", ctypes.c_uint32),
+        ("signature_len", ctypes.c_uint32),
+        ("nonce", ctypes.c_uint8 * 32),
+        ("signature", ctypes.c_uint8 * 64),
+        ("keys", _ScramKeysStruct),
+    ]
+
+
+class _ScramServerStruct(ctypes.Structure):
+    _fields_ = [
+        ("state", ctypes.c_uint32),
         ("user_len", ctypes.c_uint32),
         ("bare_len", ctypes.c_uint32),
         ("nonce_len", ctypes.c_uint32),
@@ -241,40 +293,11 @@ class _ServerStruct(ctypes.Structure):
     ]
 
 
-class _TextStruct(ctypes.Structure):
-    _fields_ = [("bytes", ctypes.c_void_p), ("bytes_len", ctypes.c_size_t)]
-
-
-class _LoginStruct(ctypes.Structure):
-    # The bytes and the keys that are assigned to a field are kept alive by the struct.
-    _fields_ = [
-        ("version", ctypes.c_uint32),
-        ("secret", ctypes.c_uint32),
-        ("min_iterations", ctypes.c_uint32),
-        ("max_iterations", ctypes.c_uint32),
-        ("username", ctypes.c_char_p),
-        ("username_len", ctypes.c_size_t),
-        ("password", ctypes.c_char_p),
-        ("password_len", ctypes.c_size_t),
-        ("keys", ctypes.POINTER(_KeysStruct)),
-    ]
-
-
-class _ClientStruct(ctypes.Structure):
-    _fields_ = [
-        ("sent", ctypes.c_uint32),
-        ("signature_len", ctypes.c_uint32),
-        ("nonce", ctypes.c_uint8 * 32),
-        ("signature", ctypes.c_uint8 * 64),
-        ("keys", _KeysStruct),
-    ]
-
-
 class _ConnectionStruct(ctypes.Structure):
     _fields_ = [
         ("progress", ctypes.c_uint32),
         ("why", ctypes.c_uint32),
-        ("due", ctypes.c_uint32),
+        ("expected", ctypes.c_uint32),
         ("held_len", ctypes.c_uint32),
         ("held", ctypes.c_uint8 * 512),
     ]
@@ -290,28 +313,33 @@ class _SaslLoginStruct(ctypes.Structure):
 
 
 class _SaslClientStruct(ctypes.Structure):
-    _fields_ = [("connection", _ConnectionStruct), ("scram", _ClientStruct)]
+    _fields_ = [
+        ("connection", _ConnectionStruct),
+        ("scram", _ScramClientStruct),
+    ]
 
 
-class _SaslHostStruct(ctypes.Structure):
+class _SaslServerConfigStruct(ctypes.Structure):
     _fields_ = [
         ("mechanisms", ctypes.c_uint32),
         ("version", ctypes.c_uint32),
         ("iterations", ctypes.c_uint32),
         ("username", ctypes.c_char_p),
         ("username_len", ctypes.c_size_t),
-        ("record", ctypes.POINTER(_RecordStruct)),
-        ("peer", ctypes.c_char_p),
-        ("peer_len", ctypes.c_size_t),
+        ("record", ctypes.POINTER(_ScramRecordStruct)),
+        ("external_authcid", ctypes.c_char_p),
+        ("external_authcid_len", ctypes.c_size_t),
     ]
 
 
 class _SaslServerStruct(ctypes.Structure):
-    _fields_ = [("connection", _ConnectionStruct), ("scram", _ServerStruct)]
+    _fields_ = [
+        ("connection", _ConnectionStruct),
+        ("scram", _ScramServerStruct),
+    ]
 
 
-class _FrameViewStruct(ctypes.Structure):
-    # (addresses as numbers: a text may hold zeros)
+class _SaslFrameViewStruct(ctypes.Structure):
     _fields_ = [
         ("kind", ctypes.c_uint32),
         ("code", ctypes.c_uint32),
@@ -328,72 +356,378 @@ class _FrameViewStruct(ctypes.Structure):
     ]
 
 
-# What `fe2o3_size` is asked for, in the order of its numbers.
+# The structs in the order of the numbers of `fe2o3_size`.
 _SIZED = (
     _LoginStruct,
-    _ClientStruct,
-    _KeysStruct,
-    _ServerStruct,
-    _RecordStruct,
+    _ScramClientStruct,
+    _ScramKeysStruct,
+    _ScramServerStruct,
+    _ScramRecordStruct,
     _ConnectionStruct,
     _SaslLoginStruct,
     _SaslClientStruct,
-    _FrameViewStruct,
-    _SaslHostStruct,
+    _SaslFrameViewStruct,
+    _SaslServerConfigStruct,
     _SaslServerStruct,
 )
 
+# What each export returns and takes.
+_EXPORTS: dict[str, tuple[Any, list[Any]]] = {
+    "fe2o3_version": (ctypes.c_uint32, []),
+    "fe2o3_size": (ctypes.c_size_t, [ctypes.c_uint32]),
+    "fe2o3_status_text": (None, [ctypes.c_uint32, ctypes.POINTER(_TextStruct)]),
+    "fe2o3_saslprep": (
+        ctypes.c_uint32,
+        [
+            ctypes.c_char_p,
+            ctypes.c_size_t,
+            ctypes.c_uint32,
+            ctypes.c_void_p,
+            ctypes.c_size_t,
+            ctypes.POINTER(ctypes.c_size_t),
+        ],
+    ),
+    "fe2o3_scram_record_make": (
+        ctypes.c_uint32,
+        [
+            ctypes.c_uint32,
+            ctypes.c_char_p,
+            ctypes.c_size_t,
+            ctypes.c_char_p,
+            ctypes.c_size_t,
+            ctypes.c_uint32,
+            ctypes.POINTER(_ScramRecordStruct),
+        ],
+    ),
+    "fe2o3_scram_record_make_prepared": (
+        ctypes.c_uint32,
+        [
+            ctypes.c_uint32,
+            ctypes.c_char_p,
+            ctypes.c_size_t,
+            ctypes.c_char_p,
+            ctypes.c_size_t,
+            ctypes.c_uint32,
+            ctypes.POINTER(_ScramRecordStruct),
+        ],
+    ),
+    "fe2o3_scram_record_mock": (
+        ctypes.c_uint32,
+        [
+            ctypes.c_uint32,
+            ctypes.c_char_p,
+            ctypes.c_size_t,
+            ctypes.c_char_p,
+            ctypes.c_size_t,
+            ctypes.c_size_t,
+            ctypes.c_uint32,
+            ctypes.POINTER(_ScramRecordStruct),
+        ],
+    ),
+    "fe2o3_scram_record_parse": (
+        ctypes.c_uint32,
+        [
+            ctypes.c_char_p,
+            ctypes.c_size_t,
+            ctypes.POINTER(_ScramRecordStruct),
+        ],
+    ),
+    "fe2o3_scram_record_text": (
+        ctypes.c_uint32,
+        [
+            ctypes.POINTER(_ScramRecordStruct),
+            ctypes.c_void_p,
+            ctypes.c_size_t,
+            ctypes.POINTER(ctypes.c_size_t),
+        ],
+    ),
+    "fe2o3_scram_record_verify": (
+        ctypes.c_uint32,
+        [
+            ctypes.POINTER(_ScramRecordStruct),
+            ctypes.c_char_p,
+            ctypes.c_size_t,
+        ],
+    ),
+    "fe2o3_scram_record_verify_prepared": (
+        ctypes.c_uint32,
+        [
+            ctypes.POINTER(_ScramRecordStruct),
+            ctypes.c_char_p,
+            ctypes.c_size_t,
+        ],
+    ),
+    "fe2o3_scram_lines_find": (
+        ctypes.c_uint32,
+        [
+            ctypes.c_char_p,
+            ctypes.c_size_t,
+            ctypes.c_char_p,
+            ctypes.c_size_t,
+            ctypes.c_uint32,
+            ctypes.POINTER(ctypes.c_size_t),
+            ctypes.POINTER(_ScramRecordStruct),
+        ],
+    ),
+    "fe2o3_scram_line": (
+        ctypes.c_uint32,
+        [
+            ctypes.c_char_p,
+            ctypes.c_size_t,
+            ctypes.POINTER(_ScramRecordStruct),
+            ctypes.c_void_p,
+            ctypes.c_size_t,
+            ctypes.POINTER(ctypes.c_size_t),
+        ],
+    ),
+    "fe2o3_scram_keys_make": (
+        ctypes.c_uint32,
+        [
+            ctypes.c_uint32,
+            ctypes.c_char_p,
+            ctypes.c_size_t,
+            ctypes.c_char_p,
+            ctypes.c_size_t,
+            ctypes.c_uint32,
+            ctypes.POINTER(_ScramKeysStruct),
+        ],
+    ),
+    "fe2o3_scram_keys_make_prepared": (
+        ctypes.c_uint32,
+        [
+            ctypes.c_uint32,
+            ctypes.c_char_p,
+            ctypes.c_size_t,
+            ctypes.c_char_p,
+            ctypes.c_size_t,
+            ctypes.c_uint32,
+            ctypes.POINTER(_ScramKeysStruct),
+        ],
+    ),
+    "fe2o3_scram_client_first": (
+        ctypes.c_uint32,
+        [
+            ctypes.POINTER(_LoginStruct),
+            ctypes.POINTER(_ScramClientStruct),
+            ctypes.c_char_p,
+            ctypes.c_void_p,
+            ctypes.c_size_t,
+            ctypes.POINTER(ctypes.c_size_t),
+        ],
+    ),
+    "fe2o3_scram_client_final": (
+        ctypes.c_uint32,
+        [
+            ctypes.POINTER(_LoginStruct),
+            ctypes.POINTER(_ScramClientStruct),
+            ctypes.c_char_p,
+            ctypes.c_size_t,
+            ctypes.c_void_p,
+            ctypes.c_size_t,
+            ctypes.POINTER(ctypes.c_size_t),
+        ],
+    ),
+    "fe2o3_scram_client_verify": (
+        ctypes.c_uint32,
+        [
+            ctypes.POINTER(_LoginStruct),
+            ctypes.POINTER(_ScramClientStruct),
+            ctypes.c_char_p,
+            ctypes.c_size_t,
+        ],
+    ),
+    "fe2o3_scram_client_get_keys": (
+        ctypes.c_uint32,
+        [
+            ctypes.POINTER(_ScramClientStruct),
+            ctypes.POINTER(_ScramKeysStruct),
+        ],
+    ),
+    "fe2o3_scram_server_claimed_user": (
+        ctypes.c_uint32,
+        [
+            ctypes.c_char_p,
+            ctypes.c_size_t,
+            ctypes.c_void_p,
+            ctypes.c_size_t,
+            ctypes.POINTER(ctypes.c_size_t),
+        ],
+    ),
+    "fe2o3_scram_server_first": (
+        ctypes.c_uint32,
+        [
+            ctypes.POINTER(_ScramRecordStruct),
+            ctypes.POINTER(_ScramServerStruct),
+            ctypes.c_char_p,
+            ctypes.c_char_p,
+            ctypes.c_size_t,
+            ctypes.c_void_p,
+            ctypes.c_size_t,
+            ctypes.POINTER(ctypes.c_size_t),
+        ],
+    ),
+    "fe2o3_scram_server_first_with_cbind_flag_y": (
+        ctypes.c_uint32,
+        [
+            ctypes.POINTER(_ScramRecordStruct),
+            ctypes.POINTER(_ScramServerStruct),
+            ctypes.c_char_p,
+            ctypes.c_char_p,
+            ctypes.c_size_t,
+            ctypes.c_void_p,
+            ctypes.c_size_t,
+            ctypes.POINTER(ctypes.c_size_t),
+        ],
+    ),
+    "fe2o3_scram_server_final": (
+        ctypes.c_uint32,
+        [
+            ctypes.POINTER(_ScramRecordStruct),
+            ctypes.POINTER(_ScramServerStruct),
+            ctypes.c_char_p,
+            ctypes.c_size_t,
+            ctypes.c_void_p,
+            ctypes.c_size_t,
+            ctypes.POINTER(ctypes.c_size_t),
+        ],
+    ),
+    "fe2o3_scram_server_authenticated_user": (
+        ctypes.c_uint32,
+        [
+            ctypes.POINTER(_ScramServerStruct),
+            ctypes.c_void_p,
+            ctypes.c_size_t,
+            ctypes.POINTER(ctypes.c_size_t),
+        ],
+    ),
+    "fe2o3_sasl_client_open": (ctypes.c_uint32, [ctypes.c_void_p, ctypes.c_size_t, ctypes.POINTER(ctypes.c_size_t)]),
+    "fe2o3_sasl_client_receive": (
+        ctypes.c_uint32,
+        [
+            ctypes.POINTER(_SaslLoginStruct),
+            ctypes.POINTER(_SaslClientStruct),
+            ctypes.c_char_p,
+            ctypes.c_size_t,
+            ctypes.c_char_p,
+            ctypes.POINTER(ctypes.c_size_t),
+            ctypes.c_void_p,
+            ctypes.c_size_t,
+            ctypes.POINTER(ctypes.c_size_t),
+        ],
+    ),
+    "fe2o3_sasl_server_claimed_user": (
+        ctypes.c_uint32,
+        [
+            ctypes.POINTER(_SaslServerStruct),
+            ctypes.c_char_p,
+            ctypes.c_size_t,
+            ctypes.c_void_p,
+            ctypes.c_size_t,
+            ctypes.POINTER(ctypes.c_size_t),
+        ],
+    ),
+    "fe2o3_sasl_server_receive": (
+        ctypes.c_uint32,
+        [
+            ctypes.POINTER(_SaslServerConfigStruct),
+            ctypes.POINTER(_SaslServerStruct),
+            ctypes.c_char_p,
+            ctypes.c_size_t,
+            ctypes.c_char_p,
+            ctypes.POINTER(ctypes.c_size_t),
+            ctypes.c_void_p,
+            ctypes.c_size_t,
+            ctypes.POINTER(ctypes.c_size_t),
+        ],
+    ),
+    "fe2o3_sasl_client_step": (
+        ctypes.c_uint32,
+        [
+            ctypes.POINTER(_SaslLoginStruct),
+            ctypes.POINTER(_ScramClientStruct),
+            ctypes.c_char_p,
+            ctypes.c_size_t,
+            ctypes.c_char_p,
+            ctypes.POINTER(ctypes.c_uint32),
+            ctypes.c_void_p,
+            ctypes.c_size_t,
+            ctypes.POINTER(ctypes.c_size_t),
+        ],
+    ),
+    "fe2o3_sasl_server_offer": (
+        ctypes.c_uint32,
+        [
+            ctypes.POINTER(_SaslServerConfigStruct),
+            ctypes.c_void_p,
+            ctypes.c_size_t,
+            ctypes.POINTER(ctypes.c_size_t),
+        ],
+    ),
+    "fe2o3_sasl_server_step_claimed_user": (
+        ctypes.c_uint32,
+        [
+            ctypes.POINTER(_ScramServerStruct),
+            ctypes.c_char_p,
+            ctypes.c_size_t,
+            ctypes.c_void_p,
+            ctypes.c_size_t,
+            ctypes.POINTER(ctypes.c_size_t),
+        ],
+    ),
+    "fe2o3_sasl_server_step": (
+        ctypes.c_uint32,
+        [
+            ctypes.POINTER(_SaslServerConfigStruct),
+            ctypes.POINTER(_ScramServerStruct),
+            ctypes.c_char_p,
+            ctypes.c_size_t,
+            ctypes.c_char_p,
+            ctypes.POINTER(ctypes.c_uint32),
+            ctypes.c_void_p,
+            ctypes.c_size_t,
+            ctypes.POINTER(ctypes.c_size_t),
+        ],
+    ),
+    "fe2o3_sasl_view_frame": (
+        ctypes.c_uint32,
+        [
+            ctypes.c_char_p,
+            ctypes.c_size_t,
+            ctypes.POINTER(_SaslFrameViewStruct),
+        ],
+    ),
+    "fe2o3_sasl_offers": (ctypes.c_uint32, [ctypes.c_char_p, ctypes.c_size_t, ctypes.c_char_p, ctypes.c_size_t]),
+}
+
+
+# ---- to here ----
+
+_DIGEST_LENGTHS = {SHA_1: 20, SHA_256: 32, SHA_512: 64}
+
+#: A text as its characters or as the bytes of its UTF-8.
+Text = Union[str, bytes, bytearray, memoryview]
+Bytes = Union[bytes, bytearray, memoryview]
+
+
+class Refused(Exception):
+    """A call of the library failed. Nothing has changed.
+
+    `status` is one of `Status`, or a number of a later library. `text` is its text.
+    """
+
+    def __init__(self, status: int, text: str) -> None:
+        super().__init__(status, text)
+        self.status = status
+        self.text = text
+
+    def __str__(self) -> str:
+        return f"{self.text} ({self.status})"
+
 
 def _load(name: str) -> ctypes.CDLL:
-    """The library of this name, with the types of what it exports. OSError where it is not there or does not fit."""
+    """The library of this name, with the types of its exports. OSError if it is not there or does not fit."""
     library = ctypes.CDLL(name)
-    number, length = ctypes.c_uint32, ctypes.c_size_t
-    # An address of bytes that are only read, and one of a room.
-    read, room = ctypes.c_char_p, ctypes.c_void_p
-    written = [room, length, ctypes.POINTER(length)]
-    login, client = ctypes.POINTER(_LoginStruct), ctypes.POINTER(_ClientStruct)
-    keys, record = ctypes.POINTER(_KeysStruct), ctypes.POINTER(_RecordStruct)
-    server, text = ctypes.POINTER(_ServerStruct), ctypes.POINTER(_TextStruct)
-    sasl_login, sasl_client = ctypes.POINTER(_SaslLoginStruct), ctypes.POINTER(_SaslClientStruct)
-    host, sasl_server = ctypes.POINTER(_SaslHostStruct), ctypes.POINTER(_SaslServerStruct)
-    count, stands = ctypes.POINTER(length), ctypes.POINTER(number)
-    exports: dict[str, tuple[Any, list[Any]]] = {
-        "fe2o3_scram_client_first": (number, [login, client, read, *written]),
-        "fe2o3_scram_client_final": (number, [login, client, read, length, *written]),
-        "fe2o3_scram_client_verify": (number, [login, client, read, length]),
-        "fe2o3_scram_client_get_keys": (number, [client, keys]),
-        "fe2o3_saslprep": (number, [read, length, number, *written]),
-        "fe2o3_scram_keys_make": (number, [number, read, length, read, length, number, keys]),
-        "fe2o3_scram_keys_make_prepared": (number, [number, read, length, read, length, number, keys]),
-        "fe2o3_scram_record_make": (number, [number, read, length, read, length, number, record]),
-        "fe2o3_scram_record_make_prepared": (number, [number, read, length, read, length, number, record]),
-        "fe2o3_scram_record_parse": (number, [read, length, record]),
-        "fe2o3_scram_record_text": (number, [record, *written]),
-        "fe2o3_scram_record_mock": (number, [number, read, length, read, length, length, number, record]),
-        "fe2o3_scram_record_verify": (number, [record, read, length]),
-        "fe2o3_scram_record_verify_prepared": (number, [record, read, length]),
-        "fe2o3_scram_lines_find": (number, [read, length, read, length, number, count, record]),
-        "fe2o3_scram_line": (number, [read, length, record, *written]),
-        "fe2o3_scram_server_first": (number, [record, server, read, read, length, *written]),
-        "fe2o3_scram_server_first_with_cbind_flag_y": (number, [record, server, read, read, length, *written]),
-        "fe2o3_scram_server_claimed_user": (number, [read, length, *written]),
-        "fe2o3_scram_server_final": (number, [record, server, read, length, *written]),
-        "fe2o3_scram_server_authenticated_user": (number, [server, *written]),
-        "fe2o3_sasl_client_open": (number, written),
-        "fe2o3_sasl_client_receive": (number, [sasl_login, sasl_client, read, length, read, count, *written]),
-        "fe2o3_sasl_server_receive": (number, [host, sasl_server, read, length, read, count, *written]),
-        "fe2o3_sasl_server_claimed_user": (number, [sasl_server, read, length, *written]),
-        "fe2o3_sasl_client_step": (number, [sasl_login, client, read, length, read, stands, *written]),
-        "fe2o3_sasl_server_offer": (number, [host, *written]),
-        "fe2o3_sasl_server_step": (number, [host, server, read, length, read, stands, *written]),
-        "fe2o3_sasl_server_step_claimed_user": (number, [server, read, length, *written]),
-        "fe2o3_sasl_view_frame": (number, [read, length, ctypes.POINTER(_FrameViewStruct)]),
-        "fe2o3_sasl_offers": (number, [read, length, read, length]),
-        "fe2o3_status_text": (None, [number, text]),
-        "fe2o3_version": (number, []),
-        "fe2o3_size": (length, [number]),
-    }
-    for export, (answers, takes) in exports.items():
+    for export, (answers, takes) in _EXPORTS.items():
         try:
             function = getattr(library, export)
         except AttributeError:
@@ -407,7 +741,7 @@ def _load(name: str) -> ctypes.CDLL:
     return library
 
 
-_library = _load(os.environ.get("FE2O3_SASL_LIB") or "libfe2o3_sasl.so.0")
+_library = _load(os.environ.get("FE2O3_SASL_LIB") or "libfe2o3_sasl.so.1")
 
 
 def library_version() -> tuple[int, int, int]:
@@ -425,13 +759,13 @@ def _status_text(status: int) -> str:
 
 
 def _done(status: int) -> None:
-    if status != Status.DONE:
+    if status != Status.OK:
         raise Refused(status, _status_text(status))
 
 
 def _written(room: int, call: Callable[..., int]) -> bytes:
-    """The text that a call writes: `call` is given the room, its length, and where the length of the text goes. A
-    call for which this room is too small has changed nothing, and is made again with one that suffices."""
+    """Returns the text that a call writes. `call` receives a buffer, its size, and where the text's length goes. If the
+    buffer is too small, the call is repeated with one that suffices."""
     length = ctypes.c_size_t(room)
     for _ in range(2):
         given = length.value
@@ -444,17 +778,17 @@ def _written(room: int, call: Callable[..., int]) -> bytes:
 
 
 def _bytes(value: Bytes) -> bytes:
-    # (`bytes(5)` would be five zeros, and a class of another's could tell another length than there is)
+    # (`bytes(5)` would be five zeros, and a foreign class could report a wrong length)
     return value if type(value) is bytes else memoryview(value).tobytes()
 
 
 def _text(value: Text) -> bytes:
-    # What is no text, such as half of a surrogate pair, the library refuses, without a word of it in an exception.
+    # The library rejects what is not UTF-8, such as half a surrogate pair, with no part of the text in the exception.
     return str.encode(value, "utf-8", "surrogatepass") if isinstance(value, str) else _bytes(value)
 
 
 def _number(value: int, most: int = 0xFFFFFFFF) -> int:
-    # (ctypes would cut off what does not fit)
+    # (ctypes would truncate)
     number = operator.index(value)
     if not 0 <= number <= most:
         raise ValueError(f"not from 0 to {most}")
@@ -468,29 +802,29 @@ def _salt(given: Optional[Bytes]) -> bytes:
 def _make(
     call: Callable[..., int], struct: ctypes.Structure, version: int, password: Text, salt: Bytes, iterations: int
 ) -> None:
-    """Makes the struct of a password."""
+    """Computes the struct of a password."""
     secret, salt = _text(password), _bytes(salt)
     _done(call(_number(version), secret, len(secret), salt, len(salt), _number(iterations), ctypes.byref(struct)))
 
 
 def saslprep(text: Text, *, unassigned: bool = False) -> str:
-    """The text as SASLprep (RFC 4013) prepares it, as a password is before it is compared or hashed: printable ASCII to
-    itself, and any other ASCII is refused. Code points that Unicode 3.2 does not assign are refused, as in a text that
-    is stored; `unassigned` allows them, as in one that is only compared with stored ones (RFC 3454, section 7)."""
-    typed = _text(text)
+    """Returns the text that SASLprep (RFC 4013) prepares `text` to. Printable ASCII is prepared to itself; other
+    ASCII is rejected. Code points that Unicode 3.2 does not assign are rejected, as a stored text requires;
+    `unassigned` allows them, for a text that is only compared with stored ones (RFC 3454, section 7)."""
+    typed, choice = _text(text), _Unassigned.ALLOWED if unassigned else _Unassigned.REFUSED
     prepared = _written(
-        len(typed), lambda *room: _library.fe2o3_saslprep(typed, len(typed), int(bool(unassigned)), *room)
+        len(typed), lambda *room: _library.fe2o3_saslprep(typed, len(typed), choice, *room)
     )
     return prepared.decode("utf-8")
 
 
 class Keys:
-    """What a client keeps in place of its password: a secret, with which one can log in. It does not change."""
+    """The keys that a client can cache in place of its password. They are secret: they suffice to log in. Immutable."""
 
     __slots__ = ("_struct",)
 
     def __init__(self, version: int, iterations: int, salt: Bytes, client_key: Bytes, server_key: Bytes) -> None:
-        """The keys of these fields, which an earlier login handed out."""
+        """Keys from the values that an earlier login returned."""
         if version not in _DIGEST_LENGTHS:
             raise ValueError("the version is none of SHA_1, SHA_256 and SHA_512")
         digest_length = _DIGEST_LENGTHS[version]
@@ -499,29 +833,29 @@ class Keys:
             raise ValueError("the salt has more than 128 bytes")
         if len(client_key) != digest_length or len(server_key) != digest_length:
             raise ValueError("a key is not as long as a digest of the version")
-        struct = _KeysStruct(version=version, iterations=_number(iterations), salt_len=len(salt))
+        struct = _ScramKeysStruct(version=version, iterations=_number(iterations), salt_len=len(salt))
         ctypes.memmove(struct.salt, salt, len(salt))
         ctypes.memmove(struct.client_key, client_key, digest_length)
         ctypes.memmove(struct.server_key, server_key, digest_length)
         self._struct = struct
 
     @classmethod
-    def _of(cls, struct: _KeysStruct) -> Keys:
+    def _of(cls, struct: _ScramKeysStruct) -> Keys:
         keys = cls.__new__(cls)
         keys._struct = struct
         return keys
 
     @classmethod
     def make(cls, version: int, password: Text, salt: Bytes, iterations: int) -> Keys:
-        """The keys that stand in place of a password, for a server that keeps this salt and this count."""
-        struct = _KeysStruct()
+        """Derives the keys of a typed password, for a server that uses this salt and iteration count."""
+        struct = _ScramKeysStruct()
         _make(_library.fe2o3_scram_keys_make, struct, version, password, salt, iterations)
         return cls._of(struct)
 
     @classmethod
     def make_prepared(cls, version: int, password: Text, salt: Bytes, iterations: int) -> Keys:
-        """The same of a prepared password (`saslprep`): any text, which is taken as it stands."""
-        struct = _KeysStruct()
+        """Derives the keys of a prepared password (`saslprep`): any text, used without change."""
+        struct = _ScramKeysStruct()
         _make(_library.fe2o3_scram_keys_make_prepared, struct, version, password, salt, iterations)
         return cls._of(struct)
 
@@ -532,22 +866,22 @@ class Keys:
 
     @property
     def iterations(self) -> int:
-        """The iteration count that they are of."""
+        """The iteration count for which the keys were derived."""
         return int(self._struct.iterations)
 
     @property
     def salt(self) -> bytes:
-        """The salt that they are of."""
+        """The salt for which the keys were derived."""
         return bytes(self._struct.salt)[: self._struct.salt_len]
 
     @property
     def client_key(self) -> bytes:
-        """The ClientKey, a secret."""
+        """The ClientKey. It is secret."""
         return bytes(self._struct.client_key)[: _DIGEST_LENGTHS[self.version]]
 
     @property
     def server_key(self) -> bytes:
-        """The ServerKey, a secret."""
+        """The ServerKey. It is secret."""
         return bytes(self._struct.server_key)[: _DIGEST_LENGTHS[self.version]]
 
     def __repr__(self) -> str:
@@ -555,7 +889,7 @@ class Keys:
 
 
 class Record:
-    """What a server keeps of a password. It does not change."""
+    """What a server stores of a password. Immutable."""
 
     __slots__ = ("_struct",)
 
@@ -563,17 +897,17 @@ class Record:
         raise TypeError("a record is made by Record.make, Record.parse or Record.mock")
 
     @classmethod
-    def _of(cls, struct: _RecordStruct) -> Record:
+    def _of(cls, struct: _ScramRecordStruct) -> Record:
         record = cls.__new__(cls)
         record._struct = struct
         return record
 
-    _struct: _RecordStruct
+    _struct: _ScramRecordStruct
 
     @classmethod
     def make(cls, version: int, password: Text, *, salt: Optional[Bytes] = None, iterations: int = 4096) -> Record:
-        """The record of a password. Where no salt is given it is 16 random bytes."""
-        struct = _RecordStruct()
+        """Computes the record of a typed password. The salt defaults to 16 random bytes."""
+        struct = _ScramRecordStruct()
         _make(_library.fe2o3_scram_record_make, struct, version, password, _salt(salt), iterations)
         return cls._of(struct)
 
@@ -581,16 +915,16 @@ class Record:
     def make_prepared(
         cls, version: int, password: Text, *, salt: Optional[Bytes] = None, iterations: int = 4096
     ) -> Record:
-        """The same of a prepared password (`saslprep`): any text, which is taken as it stands. A client logs in by that
-        very text alone."""
-        struct = _RecordStruct()
+        """Computes the record of a prepared password (`saslprep`): any text, used without change. A client logs in with
+        exactly that text."""
+        struct = _ScramRecordStruct()
         _make(_library.fe2o3_scram_record_make_prepared, struct, version, password, _salt(salt), iterations)
         return cls._of(struct)
 
     @classmethod
     def parse(cls, text: Text) -> Record:
-        """The record of a text, as PostgreSQL writes it (RFC 5803, section 2)."""
-        struct, spelled = _RecordStruct(), _text(text)
+        """Parses the text of a record, as PostgreSQL writes it (RFC 5803, section 2)."""
+        struct, spelled = _ScramRecordStruct(), _text(text)
         _done(_library.fe2o3_scram_record_parse(spelled, len(spelled), ctypes.byref(struct)))
         return cls._of(struct)
 
@@ -598,10 +932,10 @@ class Record:
     def mock(
         cls, version: int, secret: Bytes, username: Text, *, salt_length: int = 16, iterations: int = 4096
     ) -> Record:
-        """A record for a name that a server does not know, so that it can answer as to one that it knows: the login
-        is refused at its proof. The secret is 32 random bytes or more, the same for all names and kept as long as the
-        records; the length of the salt, of at most 64, and the count are those of the server's other records."""
-        struct, secret, name = _RecordStruct(), _bytes(secret), _text(username)
+        """Computes a mock record for a name that the server does not know, so that it answers unknown users like known
+        ones. The login then fails at its proof. The secret is 32 or more random bytes, one value for all names, kept as
+        long as the records. The salt length, at most 64, and the iteration count are those of the other records."""
+        struct, secret, name = _ScramRecordStruct(), _bytes(secret), _text(username)
         if len(secret) < 32:
             raise ValueError("the secret has fewer than 32 bytes")
         _done(
@@ -620,20 +954,20 @@ class Record:
 
     @classmethod
     def find(cls, lines: Text, username: Text, version: int) -> Record:
-        """The record of this version that a user has in a text of users, a line for each, as `line` writes them. Raises
-        `Refused`: NO_SUCH_USER where there is none, and where a line is not read why, the first of them."""
-        struct, text, name, at = _RecordStruct(), _text(lines), _text(username), ctypes.c_size_t()
+        """Finds the record of a user and a version in a text of lines as `line` writes them. Raises `Refused` with
+        NO_SUCH_USER if there is none, or with the reason why the first bad line cannot be parsed."""
+        struct, text, name, at = _ScramRecordStruct(), _text(lines), _text(username), ctypes.c_size_t()
         status = _library.fe2o3_scram_lines_find(
             text, len(text), name, len(name), _number(version), ctypes.byref(at), ctypes.byref(struct)
         )
-        if status != Status.DONE and at.value:
+        if status != Status.OK and at.value:
             raise Refused(status, f"Line {at.value}: {_status_text(status)}")
         _done(status)
         return cls._of(struct)
 
     def line(self, username: Text) -> str:
-        """The line of a user with this record: the name, its commas and equals signs escaped, a space, the text of the
-        record, and a line feed."""
+        """Returns the line of a user with this record: the name with its commas and equals signs escaped, a space, the
+        text of the record, and a line feed."""
         name = _text(username)
         line = _written(
             3 * len(name) + 384, lambda *room: _library.fe2o3_scram_line(name, len(name), self._struct, *room)
@@ -641,16 +975,17 @@ class Record:
         return line.decode("utf-8")
 
     def text(self) -> str:
-        """The text of the record, as PostgreSQL reads it (RFC 5803, section 2). Whoever has it can try passwords."""
+        """Returns the text of the record, as PostgreSQL reads it (RFC 5803, section 2). Anyone who has it can try
+        passwords."""
         return _written(384, lambda *room: _library.fe2o3_scram_record_text(self._struct, *room)).decode("ascii")
 
     def verify(self, password: Text) -> bool:
-        """Whether a password that was told, as by PLAIN, is that of the record. Raises `Refused` where it is not
-        UTF-8 or memory ran out."""
+        """Returns whether a typed password, for instance one received by PLAIN, is the record's. Raises `Refused` if it
+        is not UTF-8."""
         return self._meets(_library.fe2o3_scram_record_verify, password)
 
     def verify_prepared(self, password: Text) -> bool:
-        """Whether a prepared password is that of the record, as `verify`."""
+        """Returns whether a prepared password is the record's, like `verify`."""
         return self._meets(_library.fe2o3_scram_record_verify_prepared, password)
 
     def _meets(self, call: Callable[..., int], password: Text) -> bool:
@@ -681,13 +1016,12 @@ class Record:
 
 
 class Client:
-    """One who logs in: by the password, by the keys of an earlier login, or by both: then by the keys where the server
-    names the salt and the count that they are of, and else by the password. The password is one as it is typed, of
-    printable ASCII, or a prepared one (`saslprep`), which is any text, taken as it stands.
+    """A SCRAM client. It logs in with a password, with the keys of an earlier login, or with both: then it uses the
+    keys if they are of the server's salt and iteration count, otherwise the password. The password is a typed one,
+    of printable ASCII, or a prepared one (`saslprep`): any text, used without change.
 
-    The calls come in the order `first`, `final`, `verify`, and `first` starts afresh at any time. `verify` is the one
-    that tells whether the login is done.
-    """
+    Call `first`, `final` and `verify` in this order. `first` starts a new exchange at any time. The login is
+    complete only if `verify` does not raise."""
 
     __slots__ = ("_lock", "_login", "_struct")
 
@@ -702,18 +1036,21 @@ class Client:
         min_iterations: int = 4096,
         max_iterations: int = 1_000_000,
     ) -> None:
-        """A client that has sent nothing. It answers no iteration count below the least, which a server could name to
-        learn the password sooner (RFC 7677 asks for 4096 at least), and none above the most, which costs time."""
+        """A client that has sent nothing. It rejects an iteration count below the minimum, with which a server could
+        guess the password sooner (RFC 7677 requires at least 4096), and one above the maximum, which costs time."""
         if password is None and prepared_password is None and keys is None:
             raise ValueError("a login takes a password, keys, or both")
         if password is not None and prepared_password is not None:
             raise ValueError("a login takes one password")
         given = password if prepared_password is None else prepared_password
         name, typed = _text(username), b"" if given is None else _text(given)
-        # 0 is the password, 1 the keys, 2 both; 3 and 4 are 0 and 2 with a prepared password.
-        secret = 0 if keys is None else 1 if given is None else 2
-        secret += 0 if prepared_password is None else 3 if keys is None else 2
-        held = _KeysStruct() if keys is None else keys._struct
+        if given is None:
+            secret = _Secret.BY_KEYS
+        elif prepared_password is None:
+            secret = _Secret.BY_PASSWORD if keys is None else _Secret.BY_PASSWORD_AND_KEYS
+        else:
+            secret = _Secret.BY_PREPARED if keys is None else _Secret.BY_PREPARED_AND_KEYS
+        held = _ScramKeysStruct() if keys is None else keys._struct
         self._login = _LoginStruct(
             version=_number(version),
             secret=secret,
@@ -725,11 +1062,11 @@ class Client:
             password_len=len(typed),
             keys=ctypes.pointer(held),
         )
-        self._struct = _ClientStruct()
+        self._struct = _ScramClientStruct()
         self._lock = threading.RLock()
 
     def first(self) -> bytes:
-        """The client-first message, with a fresh nonce."""
+        """Returns the client-first message, with a fresh nonce."""
         nonce = secrets.token_bytes(32)
         with self._lock:
             return _written(
@@ -738,7 +1075,7 @@ class Client:
             )
 
     def final(self, server_first: Bytes) -> bytes:
-        """The client-final message, which answers the server-first message."""
+        """Answers the server-first message with the client-final message."""
         message = _bytes(server_first)
         with self._lock:
             return _written(
@@ -749,15 +1086,16 @@ class Client:
             )
 
     def verify(self, server_final: Bytes) -> None:
-        """Verifies the server-final message, or raises `Refused`. The login is done only where this does not raise."""
+        """Verifies the server-final message. The login is complete, and the server authenticated, only if this does not
+        raise."""
         message = _bytes(server_final)
         with self._lock:
             _done(_library.fe2o3_scram_client_verify(self._login, self._struct, message, len(message)))
 
     def keys(self) -> Keys:
-        """The keys of a login whose server was believed: with them the next login to a server that keeps its salt and
-        its count takes no password, and little time. Whoever has them can log in."""
-        struct = _KeysStruct()
+        """Returns the keys of a complete login. As long as the server keeps its salt and iteration count, a login by
+        keys needs no password and little time. The keys are secret: they suffice to log in."""
+        struct = _ScramKeysStruct()
         with self._lock:
             _done(_library.fe2o3_scram_client_get_keys(self._struct, ctypes.byref(struct)))
         return Keys._of(struct)
@@ -796,7 +1134,7 @@ class Frame(NamedTuple):
 
 def view_frame(body: Bytes) -> Frame:
     """What the body of a frame says, which begins with its data offset, behind the four bytes of its size."""
-    given, view = _bytes(body), _FrameViewStruct()
+    given, view = _bytes(body), _SaslFrameViewStruct()
     _done(_library.fe2o3_sasl_view_frame(given, len(given), ctypes.byref(view)))
     mechanism, message, hostname = (
         ctypes.string_at(at, size) if size else b""
@@ -835,26 +1173,26 @@ class _Login:
     _struct: Any
 
     def _ends(self) -> tuple[int, int]:
-        """How the login stands, and the status of why it is refused."""
+        """How far the login is, and the status of why it failed."""
         raise NotImplementedError
 
     @property
     def progress(self) -> int:
-        """How the login stands: one of `Progress`."""
+        """How far the login is: one of `Progress`."""
         return self._ends()[0]
 
     @property
     def why(self) -> Optional[Refused]:
         """Why the connection is to be closed, and None where it is not."""
         progress, why = self._ends()
-        return Refused(why, _status_text(why)) if progress == Progress.CLOSED else None
+        return Refused(why, _status_text(why)) if progress == Progress.FAILED else None
 
     def __repr__(self) -> str:
         return f"{type(self).__name__}(progress={self.progress})"
 
 
 class _Connection(_Login):
-    """A login over the bytes of a connection, whose struct tells how it stands."""
+    """A login over the bytes of a connection, whose struct says how far it is."""
 
     __slots__ = ()
 
@@ -864,24 +1202,24 @@ class _Connection(_Login):
 
 
 class _Steps(_Login):
-    """A login over the bodies of frames, of which the number of the last step tells how it stands."""
+    """A login over frame bodies. The number of the last step says how far it is."""
 
     __slots__ = ()
-    _stands: int
+    _progress: int
 
     def _ends(self) -> tuple[int, int]:
-        return min(self._stands, int(Progress.CLOSED)), self._stands
+        return min(self._progress, int(Progress.FAILED)), self._progress
 
     def _goes_on(self) -> None:
-        if self.progress != Progress.WANTING:
+        if self.progress != Progress.IN_PROGRESS:
             _done(Status.ENDED)
 
     def _stepped(self, call: Callable[..., int]) -> bytes:
-        """The body that a step writes: `call` is given where the number goes, and what `_written` gives."""
+        """Returns the body that a step writes. `call` receives where the number goes, and what `_written` passes."""
         number = ctypes.c_uint32()
         # 508 bytes are those of a frame of 512 behind its size (AMQP 1.0, part 5, section 5.3.1).
         answer = _written(508, lambda *room: call(ctypes.byref(number), *room))
-        self._stands = number.value
+        self._progress = number.value
         return answer
 
 
@@ -889,18 +1227,18 @@ _Side = TypeVar("_Side", bound="_ClientSide")
 
 
 class _ClientSide(_Login):
-    """Who logs in, and by which mechanism."""
+    """A client's login, and its mechanism."""
 
     __slots__ = ("_lock", "_login", "_struct")
 
     def __init__(self, client: Client, *, hostname: Text = "") -> None:
-        """A login of this client by SCRAM, whose init names the hostname, if it is not empty. The client's own calls
-        go on apart from it."""
-        self._begin(0, client._login, hostname)
+        """A login of this client by SCRAM. The init has the hostname, if it is not empty. The client's own exchange is
+        not affected."""
+        self._begin(_Mechanism.SCRAM, client._login, hostname)
 
     def _begin(self, mechanism: int, login: _LoginStruct, hostname: Text) -> None:
         name = _text(hostname)
-        # (the words of a login that is copied into another struct are kept alive by the one that has them)
+        # (the original struct keeps the texts of its copy alive)
         self._login = _SaslLoginStruct(mechanism=mechanism, hostname=name, hostname_len=len(name), login=login), login
         self._struct = self._fresh()
         self._lock = threading.RLock()
@@ -919,30 +1257,30 @@ class _ClientSide(_Login):
 
     @classmethod
     def plain(cls: type[_Side], username: Text, password: Text, *, hostname: Text = "") -> _Side:
-        """The login of a user by PLAIN (RFC 4616), which sends the password as it is."""
-        return cls._by(1, username, password, hostname)
+        """A login by PLAIN (RFC 4616), which sends the password in clear."""
+        return cls._by(_Mechanism.PLAIN, username, password, hostname)
 
     @classmethod
     def anonymous(cls: type[_Side], *, hostname: Text = "") -> _Side:
-        """The login of a user by ANONYMOUS (RFC 4505)."""
-        return cls._by(2, "", "", hostname)
+        """A login by ANONYMOUS (RFC 4505)."""
+        return cls._by(_Mechanism.ANONYMOUS, "", "", hostname)
 
     @classmethod
     def external(cls: type[_Side], *, hostname: Text = "") -> _Side:
-        """The login of a user by EXTERNAL (RFC 4422, appendix A), as whom the transport knows."""
-        return cls._by(3, "", "", hostname)
+        """A login by EXTERNAL (RFC 4422, appendix A), as the user that the transport has authenticated."""
+        return cls._by(_Mechanism.EXTERNAL, "", "", hostname)
 
     def keys(self) -> Keys:
-        """The keys of a login by SCRAM, as `Client.keys` hands them out."""
-        struct = _KeysStruct()
+        """Returns the keys of a login by SCRAM, like `Client.keys`."""
+        struct = _ScramKeysStruct()
         with self._lock:
             _done(_library.fe2o3_scram_client_get_keys(ctypes.byref(self._scram()), ctypes.byref(struct)))
         return Keys._of(struct)
 
 
 class ClientConnection(_Connection, _ClientSide):
-    """The client's side of one connection of AMQP 1.0, from its first byte to the end of the login. It owns no
-    socket: what came is handed in, in pieces of any size, and what is to be sent is handed out."""
+    """The client's side of one AMQP 1.0 connection, from its first byte to the end of the login. It does no I/O: you
+    pass in received bytes, in pieces of any size, and send the bytes it returns."""
 
     __slots__ = ()
 
@@ -954,15 +1292,15 @@ class ClientConnection(_Connection, _ClientSide):
 
     @staticmethod
     def open() -> bytes:
-        """The header of SASL, which a client sends first."""
+        """Returns the SASL protocol header, which a client sends first."""
         return _written(8, lambda *room: _library.fe2o3_sasl_client_open(*room))
 
     def receive(self, data: Bytes) -> tuple[bytes, bytes]:
-        """What is to be sent for bytes that came, and those of them that are left: none while more are wanted, and
-        behind a login what is AMQP's."""
+        """Takes received bytes, and returns the bytes to send and the bytes that are left: none while the login
+        goes on, and after it those that belong to AMQP."""
         rest, answers, taken = _bytes(data), [], ctypes.c_size_t()
         with self._lock:
-            while rest and self.progress == Progress.WANTING:
+            while rest and self.progress == Progress.IN_PROGRESS:
                 nonce = secrets.token_bytes(32)
                 answers.append(
                     _written(
@@ -977,29 +1315,28 @@ class ClientConnection(_Connection, _ClientSide):
 
 
 class ClientSteps(_Steps, _ClientSide):
-    """The client's side of one login over the bodies of frames, each from the data offset on, behind the four bytes of
-    the frame's size.
+    """The client's side of one login over frame bodies, each from the data offset on, without the four bytes of the
+    frame's size.
 
-    A login takes three bodies of the server: its mechanisms, for SCRAM a challenge, and the outcome. Who answers more
-    of them, which this allows, lets the server have a challenge hashed again and again.
-    """
+    A login takes three bodies of the server: its mechanisms, for SCRAM a challenge, and the outcome. If you pass
+    more of them, the server can make the client hash again and again."""
 
-    __slots__ = ("_stands",)
+    __slots__ = ("_progress",)
 
-    def _fresh(self) -> _ClientStruct:
-        self._stands = 0
-        return _ClientStruct()
+    def _fresh(self) -> _ScramClientStruct:
+        self._progress = 0
+        return _ScramClientStruct()
 
     def _scram(self) -> Any:
         return self._struct
 
     def on_frame(self, body: Bytes) -> bytes:
-        """The body that is to be sent for one that came: the init for the mechanisms, the response for a challenge, and
-        nothing for an outcome, behind which `progress` says how the login stands. Where it raises, other than for want
-        of memory, the connection is to be closed.
+        """Takes a received body, and returns the body to send: the init for the mechanisms, the response for a
+        challenge, and nothing for an outcome. Then `progress` says how far the login is. If it raises, other than
+        OUT_OF_MEMORY, close the connection.
 
-        PLAIN, ANONYMOUS and EXTERNAL are logged in by any outcome Ok, also by one that comes first; SCRAM by one alone
-        that shows that the server has the verifier (RFC 5802, section 5)."""
+        PLAIN, ANONYMOUS and EXTERNAL accept any outcome Ok, even one that comes first. SCRAM accepts only an outcome
+        that authenticates the server (RFC 5802, section 5)."""
         came, nonce = _bytes(body), secrets.token_bytes(32)
         with self._lock:
             self._goes_on()
@@ -1010,21 +1347,10 @@ class ClientSteps(_Steps, _ClientSide):
             )
 
 
-class Offer(enum.IntFlag):
-    """The mechanisms of a server. PLAIN shows the password to whoever reads the connection, and is for TLS alone.
-    TAKE_UNBOUND is no mechanism: with it SCRAM takes a client whose GS2 header is `y,,`, as `Server.first` can."""
-
-    SCRAM = 1
-    PLAIN = 2
-    ANONYMOUS = 4
-    EXTERNAL = 8
-    TAKE_UNBOUND = 16
-
-
 class _ServerSide(_Login):
-    """What a server offers, and whose records it has."""
+    """A server's login: what it offers, and its records."""
 
-    __slots__ = ("_iterations", "_lock", "_mechanisms", "_peer", "_record_of", "_struct", "_version")
+    __slots__ = ("_iterations", "_lock", "_mechanisms", "_external_authcid", "_record_of", "_struct", "_version")
 
     def __init__(
         self,
@@ -1033,15 +1359,15 @@ class _ServerSide(_Login):
         mechanisms: int = Offer.SCRAM,
         version: int = SHA_256,
         iterations: int = 4096,
-        peer: Optional[Text] = None,
+        external_authcid: Optional[Text] = None,
     ) -> None:
-        """A login by one of the mechanisms. `record_of` is asked for the record of a name: for one that it does not
-        know it answers `Record.mock(..)`, so that nobody learns that, or None. The count is what PLAIN takes for
-        an unknown user. EXTERNAL lets in the peer, the name that the transport has authenticated. Where that is None or
-        empty, EXTERNAL is not offered, and an init of it is refused."""
+        """A login by one of the mechanisms. `record_of` returns the record of a name. For an unknown name it returns
+        `Record.mock(..)`, so that the client does not learn which names exist, or None. With the iteration count PLAIN
+        hashes the password of an unknown user. EXTERNAL accepts `external_authcid`, the name that the transport has
+        authenticated. If it is None or empty, EXTERNAL is not offered, and an init for it fails."""
         self._record_of, self._mechanisms, self._version = record_of, _number(mechanisms), _number(version)
         self._iterations, self._struct = _number(iterations), self._fresh()
-        self._peer = _text("" if peer is None else peer)
+        self._external_authcid = _text("" if external_authcid is None else external_authcid)
         self._lock = threading.RLock()
 
     def _fresh(self) -> Any:
@@ -1050,44 +1376,47 @@ class _ServerSide(_Login):
     def _scram(self) -> Any:
         raise NotImplementedError
 
-    def _host(self, name: Optional[str]) -> _SaslHostStruct:
-        """What the library is lent, with the record of this name, if there is one."""
+    def _config(self, name: Optional[str]) -> _SaslServerConfigStruct:
+        """Returns the configuration for the library, with the record of this name, if there is one."""
         record = None if name is None else self._record_of(name)
         known = b"" if name is None else _text(name)
-        return _SaslHostStruct(
+        return _SaslServerConfigStruct(
             mechanisms=self._mechanisms,
             version=self._version,
             iterations=self._iterations,
             username=known,
             username_len=len(known),
-            record=ctypes.pointer(_RecordStruct() if record is None else record._struct),
-            peer=self._peer,
-            peer_len=len(self._peer),
+            record=ctypes.pointer(_ScramRecordStruct() if record is None else record._struct),
+            external_authcid=self._external_authcid,
+            external_authcid_len=len(self._external_authcid),
         )
 
     @staticmethod
     def _named(call: Callable[..., int]) -> Optional[str]:
-        """The user whom a call names, if it names one."""
+        """Returns the user that a call says is claimed, if any."""
         try:
             return _written(512, call).decode("utf-8")
         except Refused as why:
-            if why.status == Status.NAMES_NOBODY:
+            if why.status == Status.NAMES_NO_USER:
                 return None
             raise
 
-    def logged_in(self) -> Optional[str]:
-        """The plain name of the user who has logged in; None by ANONYMOUS. Raises `Refused` before."""
+    def authenticated_user(self) -> Optional[str]:
+        """Returns the name of the authenticated user, without escapes; None for ANONYMOUS. Raises `Refused` if no
+        user is authenticated."""
         with self._lock:
             scram = self._scram()
-            if self.progress == Progress.LOGGED_IN and not scram.stands:
+            if self.progress == Progress.AUTHENTICATED and scram.state == _ServerState.INITIAL:
                 return None
-            name = _written(256, lambda *room: _library.fe2o3_scram_server_authenticated_user(ctypes.byref(scram), *room))
+            name = _written(
+                256, lambda *room: _library.fe2o3_scram_server_authenticated_user(ctypes.byref(scram), *room)
+            )
         return name.decode("utf-8")
 
 
 class ServerConnection(_Connection, _ServerSide):
-    """The server's side of one connection of AMQP 1.0, from its first byte to the end of the login. It owns no socket,
-    as `ClientConnection`."""
+    """The server's side of one AMQP 1.0 connection, from its first byte to the end of the login. It does no I/O, like
+    `ClientConnection`."""
 
     __slots__ = ()
 
@@ -1098,10 +1427,11 @@ class ServerConnection(_Connection, _ServerSide):
         return self._struct.scram
 
     def receive(self, data: Bytes) -> tuple[bytes, bytes]:
-        """What is to be sent for bytes that came, and those of them that are left, as `ClientConnection.receive`."""
+        """Takes received bytes, and returns the bytes to send and the bytes that are left, like
+        `ClientConnection.receive`."""
         rest, answers = _bytes(data), []
         with self._lock:
-            while rest and self.progress == Progress.WANTING:
+            while rest and self.progress == Progress.IN_PROGRESS:
                 answer, taken = self._step(rest)
                 answers.append(answer)
                 rest = rest[taken:]
@@ -1109,86 +1439,92 @@ class ServerConnection(_Connection, _ServerSide):
 
     def _step(self, data: bytes) -> tuple[bytes, int]:
         name = self._named(lambda *room: _library.fe2o3_sasl_server_claimed_user(self._struct, data, len(data), *room))
-        host, nonce, taken = self._host(name), secrets.token_bytes(32), ctypes.c_size_t()
+        config, nonce, taken = self._config(name), secrets.token_bytes(32), ctypes.c_size_t()
         answer = _written(
             520,
             lambda *room: _library.fe2o3_sasl_server_receive(
-                host, self._struct, data, len(data), nonce, ctypes.byref(taken), *room
+                config, self._struct, data, len(data), nonce, ctypes.byref(taken), *room
             ),
         )
         return answer, taken.value
 
 
 class ServerSteps(_Steps, _ServerSide):
-    """The server's side of one login over the bodies of frames, as `ClientSteps` has them.
+    """The server's side of one login over frame bodies, like `ClientSteps`.
 
-    A login takes two bodies of the client: its init, and for SCRAM a response. Who answers more of them, which this
-    allows, lets the client try again and again.
+    A login takes two bodies of the client: its init, and for SCRAM a response. If you pass more of them, the client can
+    try passwords again and again.
     """
 
-    __slots__ = ("_stands",)
+    __slots__ = ("_progress",)
 
-    def _fresh(self) -> _ServerStruct:
-        self._stands = 0
-        return _ServerStruct()
+    def _fresh(self) -> _ScramServerStruct:
+        self._progress = 0
+        return _ScramServerStruct()
 
     def _scram(self) -> Any:
         return self._struct
 
     def offer(self) -> bytes:
-        """The body of the frame with which the server offers its mechanisms, to whoever has sent the header of SASL."""
-        host = self._host(None)
-        return _written(508, lambda *room: _library.fe2o3_sasl_server_offer(host, *room))
+        """Returns the frame body with which the server offers its mechanisms. Send it after the client's SASL
+        header."""
+        config = self._config(None)
+        return _written(508, lambda *room: _library.fe2o3_sasl_server_offer(config, *room))
 
     def on_frame(self, body: Bytes) -> bytes:
-        """The body that is to be sent for one that came: a challenge, or the outcome, behind which `progress` says how
-        the login stands. Where it raises, other than for want of memory, the connection is to be closed."""
+        """Takes a received body, and returns the body to send: a challenge, or the outcome. Then `progress` says
+        how far the login is. If it raises, other than OUT_OF_MEMORY, close the connection."""
         came, nonce = _bytes(body), secrets.token_bytes(32)
         with self._lock:
             self._goes_on()
-            name = self._named(lambda *room: _library.fe2o3_sasl_server_step_claimed_user(self._struct, came, len(came), *room))
-            host = self._host(name)
+            name = self._named(
+                lambda *room: _library.fe2o3_sasl_server_step_claimed_user(self._struct, came, len(came), *room)
+            )
+            config = self._config(name)
             return self._stepped(
-                lambda *room: _library.fe2o3_sasl_server_step(host, self._struct, came, len(came), nonce, *room)
+                lambda *room: _library.fe2o3_sasl_server_step(config, self._struct, came, len(came), nonce, *room)
             )
 
 
 class Server:
-    """One side of one login at a time, at a server. The calls come in the order `first`, `final`, and `first` starts
-    afresh at any time. The user is logged in only where `final` does not raise."""
+    """A SCRAM server, for one login at a time. Call `first` and then `final`. `first` starts a new exchange at any
+    time. The user is authenticated only if `final` does not raise."""
 
     __slots__ = ("_exchange", "_lock")
 
     def __init__(self) -> None:
         """A server without an open challenge."""
-        # The record that a challenge was made of, and the struct of the challenge: set at once, so that no challenge
-        # is ever answered by the record of another.
-        self._exchange = Record._of(_RecordStruct()), _ServerStruct()
+        # The record of a challenge, and the struct of the challenge: set together, so that a challenge is never
+        # answered with the record of another.
+        self._exchange = Record._of(_ScramRecordStruct()), _ScramServerStruct()
         self._lock = threading.RLock()
 
     @staticmethod
-    def user(client_first: Bytes) -> str:
-        """The plain name of the user whom a client-first message names, and whose record is to be fetched."""
+    def claimed_user(client_first: Bytes) -> str:
+        """Returns the user name that a client-first message claims, without escapes. Nobody is authenticated yet:
+        use it only to look up the record."""
         message = _bytes(client_first)
         name = _written(256, lambda *room: _library.fe2o3_scram_server_claimed_user(message, len(message), *room))
         return name.decode("utf-8")
 
-    def first(self, record: Record, client_first: Bytes, *, unbound: bool = False) -> bytes:
-        """The server-first message, with a fresh nonce, which answers the client-first message. The record is that of
-        the user whom the message names, or `Record.mock`.
+    def first(self, record: Record, client_first: Bytes, *, accept_cbind_flag_y: bool = False) -> bytes:
+        """Answers the client-first message with the server-first message, with a fresh nonce. The record is that of
+        the claimed user (`claimed_user`), or a `Record.mock` for an unknown one.
 
-        The GS2 header of the message has to be `n,,`. With `unbound` it may be `y,,` too: that of a client which could
-        bind a channel, and was offered no mechanism with `-PLUS` (RFC 5802, section 6). Only for a server that offers
-        none."""
-        message, nonce, opened = _bytes(client_first), secrets.token_bytes(32), _ServerStruct()
-        call = _library.fe2o3_scram_server_first_with_cbind_flag_y if unbound else _library.fe2o3_scram_server_first
+        The GS2 header of the message has to be `n,,`. With `accept_cbind_flag_y` it may also be `y,,`: the client
+        supports channel binding, and was offered no mechanism with `-PLUS` (RFC 5802, section 6). Only for a server
+        that offers none."""
+        message, nonce, opened = _bytes(client_first), secrets.token_bytes(32), _ScramServerStruct()
+        call = _library.fe2o3_scram_server_first
+        if accept_cbind_flag_y:
+            call = _library.fe2o3_scram_server_first_with_cbind_flag_y
         answer = _written(1024, lambda *room: call(record._struct, opened, nonce, message, len(message), *room))
         with self._lock:
             self._exchange = record, opened
         return answer
 
     def final(self, client_final: Bytes) -> bytes:
-        """The server-final message, which answers the client-final message where its proof meets the record."""
+        """Answers the client-final message with the server-final message, if its proof is right."""
         message = _bytes(client_final)
         with self._lock:
             record, opened = self._exchange
@@ -1197,8 +1533,8 @@ class Server:
                 lambda *room: _library.fe2o3_scram_server_final(record._struct, opened, message, len(message), *room),
             )
 
-    def logged_in(self) -> str:
-        """The plain name of the user who has logged in: the one whose challenge was answered."""
+    def authenticated_user(self) -> str:
+        """Returns the name of the authenticated user, without escapes. Raises `Refused` if no user is authenticated."""
         with self._lock:
             opened = self._exchange[1]
             name = _written(256, lambda *room: _library.fe2o3_scram_server_authenticated_user(opened, *room))

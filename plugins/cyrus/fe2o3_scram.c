@@ -37,13 +37,13 @@ static const struct mechanism mechanisms[MECHANISMS] = {
     {"SCRAM-SHA-1", FE2O3_SHA_1, SECURITY(160)},
 };
 
-/* Which message is due of this side. An exchange that was refused has ended. */
-enum due { FIRST, SECOND, THIRD, ENDED };
+/* Which message is expected of this side. An exchange that was refused has ended. */
+enum expected { FIRST, SECOND, THIRD, ENDED };
 
 /* Either side of an exchange, and the message that it wrote last. */
 struct exchange {
     const struct mechanism *mechanism;
-    enum due due;
+    enum expected expected;
     int asked, prepares;
     struct fe2o3_scram_client client;
     struct fe2o3_scram_server server;
@@ -161,8 +161,8 @@ static int identify(struct exchange *one, sasl_client_params_t *params, sasl_int
     return params->canon_user(utils->conn, name->text, (unsigned)name->len, SASL_CU_AUTHID | SASL_CU_AUTHZID, result);
 }
 
-/* Writes the message that is due, or believes the server. */
-static int client_answer(struct exchange *one, enum due due, const sasl_utils_t *utils, const sasl_out_params_t *who,
+/* Writes the message that is expected, or believes the server. */
+static int client_answer(struct exchange *one, enum expected expected, const sasl_utils_t *utils, const sasl_out_params_t *who,
     const char *in, unsigned in_len)
 {
     static const struct fe2o3_scram_keys no_keys;
@@ -170,7 +170,7 @@ static int client_answer(struct exchange *one, enum due due, const sasl_utils_t 
         one->prepares ? FE2O3_BY_PREPARED : FE2O3_BY_PASSWORD, LEAST_ITERATIONS, MOST_ITERATIONS,
         BYTES(who->authid, who->alen), BYTES(one->password, one->password_len), &no_keys};
     uint8_t nonce[32];
-    switch (due) {
+    switch (expected) {
     case FIRST:
         if (getentropy(nonce, sizeof nonce) != 0)
             return refused(one, utils, SASL_FAIL, "there are no random bytes");
@@ -190,18 +190,18 @@ static int client_step(void *context, sasl_client_params_t *params, const char *
     sasl_interact_t **prompts, const char **out, unsigned *out_len, sasl_out_params_t *result)
 {
     struct exchange *one = context;
-    enum due due = one->due;
-    int code = due == FIRST ? identify(one, params, prompts, result) : SASL_OK;
+    enum expected expected = one->expected;
+    int code = expected == FIRST ? identify(one, params, prompts, result) : SASL_OK;
     if (code == SASL_INTERACT)
         return code;
-    one->due = ENDED;
+    one->expected = ENDED;
     if (code == SASL_OK)
-        code = client_answer(one, due, params->utils, result, in ? in : "", in_len);
-    if (code != SASL_OK || due == SECOND)
+        code = client_answer(one, expected, params->utils, result, in ? in : "", in_len);
+    if (code != SASL_OK || expected == SECOND)
         params->utils->erasebuffer(one->password, sizeof one->password);
-    if (code != SASL_OK || due == THIRD)
+    if (code != SASL_OK || expected == THIRD)
         return code == SASL_OK ? complete(result) : code;
-    one->due = due + 1;
+    one->expected = expected + 1;
     *out = (const char *)one->out;
     *out_len = (unsigned)one->out_len;
     return SASL_CONTINUE;
@@ -307,8 +307,8 @@ static int server_first(struct exchange *one, sasl_server_params_t *params, cons
     uint8_t name[sizeof one->server.user + 1], nonce[32];
     size_t len = 0;
     uint32_t status = fe2o3_scram_server_claimed_user(BYTES(in, in_len), name, sizeof name - 1, &len);
-    int unbound = is_on(one, utils, "scram_unbound"), code;
-    if (status == FE2O3_SERVER_CANNOT_PARSE_GS2_HEADER || (!unbound && in_len > 0 && *in == 'y'))
+    int cbind_flag_y = is_on(one, utils, "scram_accept_cbind_flag_y"), code;
+    if (status == FE2O3_SERVER_CANNOT_PARSE_GS2_HEADER || (!cbind_flag_y && in_len > 0 && *in == 'y'))
         return refused(one, utils, SASL_BADPROT, why_header(in, in_len));
     if (status != FE2O3_OK)
         return told(one, utils, status);
@@ -320,7 +320,7 @@ static int server_first(struct exchange *one, sasl_server_params_t *params, cons
         code = refused(one, utils, SASL_FAIL, "there are no random bytes");
     if (code != SASL_OK)
         return code;
-    status = (unbound ? fe2o3_scram_server_first_with_cbind_flag_y : fe2o3_scram_server_first)(
+    status = (cbind_flag_y ? fe2o3_scram_server_first_with_cbind_flag_y : fe2o3_scram_server_first)(
         &one->record, &one->server, nonce, BYTES(in, in_len), ROOM(one));
     return told(one, utils, status);
 }
@@ -329,25 +329,25 @@ static int server_step(void *context, sasl_server_params_t *params, const char *
     const char **out, unsigned *out_len, sasl_out_params_t *result)
 {
     struct exchange *one = context;
-    enum due due = one ? one->due : ENDED;
+    enum expected expected = one ? one->expected : ENDED;
     int code = SASL_FAIL;
     if (!one)
         return SASL_BADPROT;
-    if (due == FIRST && in_len == 0 && one->asked++ == 0)
+    if (expected == FIRST && in_len == 0 && one->asked++ == 0)
         return SASL_CONTINUE;
-    one->due = ENDED;
-    if (due == FIRST)
+    one->expected = ENDED;
+    if (expected == FIRST)
         code = server_first(one, params, in ? in : "", in_len, result);
-    else if (due == SECOND)
+    else if (expected == SECOND)
         code = told(one, params->utils,
             fe2o3_scram_server_final(&one->record, &one->server, BYTES(in ? in : "", in_len), ROOM(one)));
     if (code != SASL_OK)
         return code;
     *out = (const char *)one->out;
     *out_len = (unsigned)one->out_len;
-    if (due == SECOND)
+    if (expected == SECOND)
         return complete(result);
-    one->due = SECOND;
+    one->expected = SECOND;
     return SASL_CONTINUE;
 }
 

@@ -94,8 +94,8 @@ static int get_option(void *context, const char *plugin, const char *option, con
         *value = "in_memory";
     else if (strcmp(option, "auto_transition") == 0 && now && now->flags & TRANSITION)
         *value = "yes";
-    else if (strcmp(option, "scram_unbound") == 0 && now)
-        *value = now->flags & UNBOUND ? "yes" : "no";
+    else if (strcmp(option, "scram_accept_cbind_flag_y") == 0 && now)
+        *value = now->flags & CBIND_FLAG_Y ? "yes" : "no";
     else if (strcmp(option, "scram_saslprep") == 0 && now && now->flags & PREPARES)
         *value = "on";
     else if (strcmp(option, "scram_iteration_counter") == 0 && now && plugin && strcmp(plugin, mechanism) == 0)

@@ -19,7 +19,7 @@ enum {
     NO_PASSWORD = 2048, /* the client's application has none to tell */
     NO_MEMORY = 4096, /* that side gets none for the exchange */
     THEIR_CLIENT = 8192, OUR_SERVER = 16384, OUR_CLIENT = 32768, /* only where that side is so */
-    UNBOUND = 65536, /* the option scram_unbound */
+    CBIND_FLAG_Y = 65536, /* the option scram_accept_cbind_flag_y */
     PREPARES = 131072 /* the option scram_saslprep, at both sides */
 };
 
@@ -159,33 +159,33 @@ static const struct login logins[] = {
         .ours = SASL_BADAUTH, .theirs = SASL_BADPROT, .says = "the server has refused", .message = 4, .at = "v=",
         .with = "e="},
     {.what = "a binding that may be, and a choice, and a server that takes it", .name = "user", .password = "pencil",
-        .flags = UNBOUND | MAY_BIND | TWO_NAMES},
+        .flags = CBIND_FLAG_Y | MAY_BIND | TWO_NAMES},
     {.what = "no binding, and a server that takes one that may be", .name = "a,b=c,", .password = "pen,cil=",
-        .flags = UNBOUND},
+        .flags = CBIND_FLAG_Y},
     {.what = "a wrong password behind y,,", .name = "user", .password = "pencils", .side = SERVER,
         .ours = SASL_BADAUTH, .theirs = SASL_BADAUTH, .says = "Authentication failed",
-        .flags = UNBOUND | MAY_BIND | TWO_NAMES | THEIR_CLIENT},
+        .flags = CBIND_FLAG_Y | MAY_BIND | TWO_NAMES | THEIR_CLIENT},
     {.what = "y,, in place of n,,", .name = "user", .password = "pencil", .side = SERVER, .ours = SASL_BADPROT,
         .theirs = SASL_BADPROT, .says = "channel binding", .message = 1, .at = "n,,", .with = "y,,",
         .flags = OUR_SERVER},
     {.what = "y,, in place of n,,, where it is taken", .name = "user", .password = "pencil", .side = SERVER,
         .ours = SASL_BADPROT, .theirs = SASL_BADPROT, .says = "Invalid channel binding", .message = 1, .at = "n,,",
-        .with = "y,,", .flags = UNBOUND},
+        .with = "y,,", .flags = CBIND_FLAG_Y},
     {.what = "n,, in place of y,,", .name = "user", .password = "pencil", .side = SERVER, .ours = SASL_BADPROT,
         .theirs = SASL_BADPROT, .says = "Invalid channel binding", .message = 1, .at = "y,,", .with = "n,,",
-        .flags = UNBOUND | MAY_BIND | TWO_NAMES | THEIR_CLIENT},
+        .flags = CBIND_FLAG_Y | MAY_BIND | TWO_NAMES | THEIR_CLIENT},
     {.what = "n,, behind y,,", .name = "user", .password = "pencil", .side = SERVER, .ours = SASL_BADPROT,
         .theirs = SASL_BADPROT, .says = "Invalid channel binding", .message = 3, .at = "c=eSws", .with = "c=biws",
-        .flags = UNBOUND | MAY_BIND | TWO_NAMES | THEIR_CLIENT},
+        .flags = CBIND_FLAG_Y | MAY_BIND | TWO_NAMES | THEIR_CLIENT},
     {.what = "y,, behind n,,", .name = "user", .password = "pencil", .side = SERVER, .ours = SASL_BADPROT,
         .theirs = SASL_BADPROT, .says = "Invalid channel binding", .message = 3, .at = "c=biws", .with = "c=eSws",
-        .flags = UNBOUND},
+        .flags = CBIND_FLAG_Y},
     {.what = "acting as oneself behind y,,", .name = "user", .user = "user", .password = "pencil", .side = SERVER,
         .ours = SASL_BADPROT, .theirs = SASL_OK, .says = "an authorization identity",
-        .flags = UNBOUND | MAY_BIND | TWO_NAMES | THEIR_CLIENT},
+        .flags = CBIND_FLAG_Y | MAY_BIND | TWO_NAMES | THEIR_CLIENT},
     {.what = "a binding that has to be, and a server that takes y,,", .name = "user", .password = "pencil",
         .side = SERVER, .ours = SASL_BADPROT, .theirs = SASL_BADPROT, .says = "channel binding",
-        .flags = UNBOUND | MUST_BIND | THEIR_CLIENT},
+        .flags = CBIND_FLAG_Y | MUST_BIND | THEIR_CLIENT},
     {.what = "ASCII, prepared", .name = "a,b=c,", .password = "pen,cil=", .flags = PREPARES},
     {.what = "a stored record, and a prepared password", .name = "recorded", .password = "pencil", .flags = PREPARES},
     {.what = "past ASCII, prepared", .name = "past", .password = PAST, .flags = PREPARES},

@@ -2,13 +2,12 @@
 
 use crate::{sys, RecordError, ScramVersion};
 use std::io::Read;
-use std::mem::size_of;
 
-/// 32 bytes of the system's random source, `/dev/urandom`.
+/// Returns 32 bytes of the system's random source, `/dev/urandom`.
 ///
 /// # Panics
 ///
-/// Where the system has no such file.
+/// If the system has no such file.
 pub fn generate_nonce() -> [u8; 32] {
     let mut nonce = [0; 32];
     std::fs::File::open("/dev/urandom")
@@ -17,39 +16,26 @@ pub fn generate_nonce() -> [u8; 32] {
     nonce
 }
 
-/// Whether the structs of this crate are as long as those of the library that it is linked to. Where they are not, the
-/// library is another one than the crate was written for, and nothing of it may be called.
+/// Returns whether the structs of this crate have the sizes of those of the linked library. If not, the library is of
+/// another version, and must not be called.
 ///
 /// ```
 /// assert!(fe2o3_sasl_proved::fits());
 /// ```
 pub fn fits() -> bool {
-    let ours = [
-        size_of::<sys::Login>(),
-        size_of::<sys::ScramClient>(),
-        size_of::<sys::ClientKeys>(),
-        size_of::<sys::ScramServer>(),
-        size_of::<sys::ScramRecord>(),
-        size_of::<sys::Connection>(),
-        size_of::<sys::SaslLogin>(),
-        size_of::<sys::SaslClient>(),
-        size_of::<sys::SaslFrameView>(),
-        size_of::<sys::SaslHost>(),
-        size_of::<sys::SaslServer>(),
-    ];
-    (0..).zip(ours).all(|(which, size)| {
+    (0..).zip(sys::SIZES).all(|(which, size)| {
         // SAFETY: the call takes a number alone, and any number has its answer.
         size == unsafe { sys::fe2o3_size(which) }
     })
 }
 
-/// The version of the library: its three numbers, each of two digits.
+/// Returns the version of the library: 10000 times the major, 100 times the minor, and the patch number.
 pub fn library_version() -> u32 {
     // SAFETY: the call takes nothing.
     unsafe { sys::fe2o3_version() }
 }
 
-/// The text of a status.
+/// Returns the text of a status.
 pub(crate) fn text_of(status: u32) -> &'static str {
     let none: &[u8] = &[];
     let mut text = sys::Text { bytes: none.as_ptr(), bytes_len: 0 };
@@ -63,19 +49,19 @@ pub(crate) fn text_of(status: u32) -> &'static str {
     std::str::from_utf8(words).unwrap_or_default()
 }
 
-/// What a call that writes no text has answered.
+/// Returns a status as a result.
 pub(crate) fn done(status: u32) -> Result<(), u32> {
-    if status == sys::DONE {
+    if status == sys::OK {
         Ok(())
     } else {
         Err(status)
     }
 }
 
-/// An export that makes a struct of a password, a salt and a count.
+/// An export that computes a struct of a password, a salt and an iteration count.
 type Makes<S> = unsafe extern "C" fn(u32, *const u8, usize, *const u8, usize, u32, *mut S) -> u32;
 
-/// The struct that such an export makes in the place of this one.
+/// Returns the struct that such an export writes over this one.
 pub(crate) fn made<S>(
     make: Makes<S>,
     mut of: S,
@@ -84,8 +70,8 @@ pub(crate) fn made<S>(
     salt: &[u8],
     iterations: u32,
 ) -> Result<S, RecordError> {
-    // SAFETY: `make` is an export of the library; the texts are slices that live through the call, and the struct is one
-    // of this function.
+    // SAFETY: `make` is an export of the library; the texts are slices that live through the call, and the struct is
+    // one of this function.
     let status = unsafe {
         make(version.number(), password.as_ptr(), password.len(), salt.as_ptr(), salt.len(), iterations, &mut of)
     };
@@ -93,7 +79,7 @@ pub(crate) fn made<S>(
     Ok(of)
 }
 
-/// The text that a call writes into a room of so many bytes, or else into one that suffices by what the call says.
+/// Returns the text that a call writes into a buffer of this size, or into one that suffices according to the call.
 pub(crate) fn filled(room: usize, mut call: impl FnMut(&mut [u8], &mut usize) -> u32) -> Result<Vec<u8>, u32> {
     let mut out = vec![0; room];
     let mut len = 0;
@@ -107,12 +93,12 @@ pub(crate) fn filled(room: usize, mut call: impl FnMut(&mut [u8], &mut usize) ->
     Ok(out)
 }
 
-/// The head of an array of a struct. A length beyond the array, which the library does not write, is the whole array.
+/// Returns the first bytes of an array of a struct, or all of them if the length is too large.
 pub(crate) fn head(array: &[u8], len: usize) -> &[u8] {
     array.get(..len).unwrap_or(array)
 }
 
-/// Writes bytes at the head of an array; `None` where they are longer.
+/// Writes bytes to the beginning of an array; `None` if they do not fit.
 pub(crate) fn put(bytes: &[u8], array: &mut [u8]) -> Option<u32> {
     array.get_mut(..bytes.len())?.copy_from_slice(bytes);
     u32::try_from(bytes.len()).ok()

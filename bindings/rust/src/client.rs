@@ -6,40 +6,33 @@ use crate::{generate_nonce, sys, CachedKeys, ScramErrorKind, ScramVersion};
 use std::fmt;
 use std::marker::PhantomData;
 
-pub(crate) const NOTHING_SENT: sys::ScramClient =
-    sys::ScramClient { sent: 0, signature_len: 0, nonce: [0; 32], signature: [0; 64], keys: NO_KEYS };
+pub(crate) const INITIAL: sys::ScramClient =
+    sys::ScramClient { state: 0, signature_len: 0, nonce: [0; 32], signature: [0; 64], keys: NO_KEYS };
 
-/// Which secrets a login has, by the numbers of the library.
-const PASSWORD: u32 = 0;
-const KEYS: u32 = 1;
-const PASSWORD_AND_KEYS: u32 = 2;
-const PREPARED: u32 = 3;
-const PREPARED_AND_KEYS: u32 = 4;
-
-/// Who logs in, and by what.
+/// A user and a secret.
 #[derive(Clone)]
 pub(crate) struct Who {
     username: String,
     password: String,
-    keys: sys::ClientKeys,
+    keys: sys::ScramKeys,
     secret: u32,
     version: ScramVersion,
     min_iterations: u32,
     max_iterations: u32,
 }
 
-/// A login of the library, whose pointers are to what is borrowed for `'a`.
+/// A login struct of the library, whose pointers point to what is borrowed for `'a`.
 pub(crate) struct Lent<'a> {
     pub(crate) login: sys::Login,
     who: PhantomData<&'a Who>,
 }
 
 impl Who {
-    /// One without limits of the iteration count but 1.
+    /// A login that accepts every iteration count.
     pub(crate) fn new(
         username: String,
         password: String,
-        keys: sys::ClientKeys,
+        keys: sys::ScramKeys,
         secret: u32,
         version: ScramVersion,
     ) -> Self {
@@ -64,7 +57,7 @@ impl Who {
 
 /// A client of one user.
 ///
-/// The keys that a login hands out stand in place of the password at the next one:
+/// The keys of a login replace the password at the next one:
 ///
 /// ```
 /// use fe2o3_sasl_proved::*;
@@ -97,72 +90,67 @@ pub struct ScramClient {
 }
 
 impl ScramClient {
-    /// A client that logs in by a password as it is typed.
+    /// Returns a client that logs in with a typed password.
     pub fn new(username: impl Into<String>, password: impl Into<String>, scram_version: ScramVersion) -> Self {
-        Self::by(username.into(), password.into(), NO_KEYS, PASSWORD, scram_version)
+        Self::by(username.into(), password.into(), NO_KEYS, sys::BY_PASSWORD, scram_version)
     }
 
-    /// A client that logs in by a prepared password ([`saslprep`](crate::saslprep)): any text, which is taken as it
-    /// stands.
+    /// Returns a client that logs in with a prepared password ([`saslprep`](crate::saslprep)): any text, used without
+    /// change.
     pub fn with_prepared_password(
         username: impl Into<String>,
         password: impl Into<String>,
         scram_version: ScramVersion,
     ) -> Self {
-        Self::by(username.into(), password.into(), NO_KEYS, PREPARED, scram_version)
+        Self::by(username.into(), password.into(), NO_KEYS, sys::BY_PREPARED, scram_version)
     }
 
-    /// A client that logs in by the keys of an earlier login.
+    /// Returns a client that logs in with the keys of an earlier login.
     pub fn with_keys(username: impl Into<String>, keys: CachedKeys) -> Self {
-        Self::by(username.into(), String::new(), keys.0, KEYS, keys.version())
+        Self::by(username.into(), String::new(), keys.0, sys::BY_KEYS, keys.version())
     }
 
-    /// A client that logs in by keys where the server names the salt and the count that they are of, and else by the
-    /// password.
-    pub fn with_password_and_keys(
-        username: impl Into<String>,
-        password: impl Into<String>,
-        keys: CachedKeys,
-    ) -> Self {
-        Self::by(username.into(), password.into(), keys.0, PASSWORD_AND_KEYS, keys.version())
+    /// Returns a client that logs in with keys if they are of the server's salt and iteration count, and otherwise
+    /// with a typed password.
+    pub fn with_password_and_keys(username: impl Into<String>, password: impl Into<String>, keys: CachedKeys) -> Self {
+        Self::by(username.into(), password.into(), keys.0, sys::BY_PASSWORD_AND_KEYS, keys.version())
     }
 
-    /// The same with a prepared password.
+    /// Like [`Self::with_password_and_keys`], but with a prepared password.
     pub fn with_prepared_password_and_keys(
         username: impl Into<String>,
         password: impl Into<String>,
         keys: CachedKeys,
     ) -> Self {
-        Self::by(username.into(), password.into(), keys.0, PREPARED_AND_KEYS, keys.version())
+        Self::by(username.into(), password.into(), keys.0, sys::BY_PREPARED_AND_KEYS, keys.version())
     }
 
-    fn by(username: String, password: String, keys: sys::ClientKeys, secret: u32, version: ScramVersion) -> Self {
-        Self { who: Who::new(username, password, keys, secret, version), state: NOTHING_SENT }
+    fn by(username: String, password: String, keys: sys::ScramKeys, secret: u32, version: ScramVersion) -> Self {
+        Self { who: Who::new(username, password, keys, secret, version), state: INITIAL }
     }
 
-    /// The same client, which refuses an iteration count above the limit. Without this there is none.
+    /// Sets the maximum iteration count that the client accepts. The default is no limit.
     pub fn with_iteration_limit(mut self, limit: u32) -> Self {
         self.who.max_iterations = limit;
         self
     }
 
-    /// The same client, which refuses an iteration count below the least. RFC 7677 asks for 4096 at least; without this
-    /// it is 1.
+    /// Sets the minimum iteration count that the client accepts. The default is 1; RFC 7677 requires at least 4096.
     pub fn with_min_iterations(mut self, least: u32) -> Self {
         self.who.min_iterations = least;
         self
     }
 
-    /// Writes the client-first message, which starts an exchange afresh at any time.
+    /// Returns the client-first message. This starts a new exchange, whatever the state of the client is.
     ///
     /// # Panics
     ///
-    /// Where there is no memory, or the system has no random bytes.
+    /// If an allocation fails, or the system has no random bytes.
     pub fn compute_client_first_message(&mut self) -> Vec<u8> {
         self.compute_client_first_message_with(&generate_nonce()).expect("there is memory for a message")
     }
 
-    /// The same with a nonce of the caller's: 32 random bytes, fresh for each exchange.
+    /// Like [`Self::compute_client_first_message`], but with your nonce: 32 random bytes, fresh for each exchange.
     pub fn compute_client_first_message_with(&mut self, nonce: &[u8; 32]) -> Result<Vec<u8>, ScramErrorKind> {
         let lent = self.who.lend();
         let state = &mut self.state;
@@ -176,7 +164,7 @@ impl ScramClient {
         .map_err(ScramErrorKind::of)
     }
 
-    /// Answers the server-first message with the client-final message. A refusal leaves the client as it was.
+    /// Answers the server-first message with the client-final message. An error leaves the client as it was.
     pub fn compute_client_final_message(&mut self, server_first: &str) -> Result<Vec<u8>, ScramErrorKind> {
         let lent = self.who.lend();
         let state = &mut self.state;
@@ -198,7 +186,7 @@ impl ScramClient {
         .map_err(ScramErrorKind::of)
     }
 
-    /// Verifies the server-final message, or refuses it. The login is done only where this is `Ok`.
+    /// Verifies the server-final message. Only `Ok` means that the login is complete and the server authenticated.
     pub fn validate_server_final(&mut self, server_final: &[u8]) -> Result<(), ScramErrorKind> {
         let lent = self.who.lend();
         // SAFETY: the login's pointers are to what `lent` borrows, and the message is a slice that lives through the
@@ -209,8 +197,8 @@ impl ScramClient {
         done(status).map_err(ScramErrorKind::of)
     }
 
-    /// The keys of a login whose server was believed; `None` before that, and where the server's salt is longer than
-    /// the 128 bytes that keys have room for. Whoever has them can log in.
+    /// Returns the keys of a complete login. `None` before that, and if the server's salt is longer than 128 bytes. The
+    /// keys are secret: they suffice to log in.
     pub fn keys(&self) -> Option<CachedKeys> {
         CachedKeys::handed_out(&self.state)
     }

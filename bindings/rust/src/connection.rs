@@ -1,18 +1,19 @@
 //! The client's side of a connection.
 
 use crate::calls::filled;
-use crate::client::{Who, NOTHING_SENT};
+use crate::client::{Who, INITIAL};
 use crate::keys::NO_KEYS;
-use crate::{generate_nonce, sys, ConnectionError, ScramClient, CachedKeys, ScramVersion};
+use crate::{generate_nonce, sys, CachedKeys, ConnectionError, ScramClient, ScramVersion};
 use std::fmt;
 use std::marker::PhantomData;
 
-/// A connection of which no byte has come.
-pub(crate) const FRESH: sys::Connection = sys::Connection { progress: 0, why: 0, due: 0, held_len: 0, held: [0; 512] };
+/// A connection that has received nothing.
+pub(crate) const FRESH: sys::Connection =
+    sys::Connection { progress: 0, why: 0, expected: 0, held_len: 0, held: [0; 512] };
 
-const NEW: sys::SaslClient = sys::SaslClient { connection: FRESH, scram: NOTHING_SENT };
+const NEW: sys::SaslClient = sys::SaslClient { connection: FRESH, scram: INITIAL };
 
-/// The most bytes of a frame (AMQP 1.0, part 5, section 5.3.1), and so of what is sent at once.
+/// The maximum size of a frame (AMQP 1.0, part 5, section 5.3.1).
 const FRAME_MOST: usize = 512;
 
 /// What a client logs in with.
@@ -21,7 +22,7 @@ pub enum SaslProfile {
     /// ANONYMOUS (RFC 4505).
     Anonymous,
 
-    /// PLAIN (RFC 4616), which sends the password as it is.
+    /// PLAIN (RFC 4616), which sends the password in clear.
     Plain {
         /// The user name.
         username: String,
@@ -30,10 +31,10 @@ pub enum SaslProfile {
         password: String,
     },
 
-    /// EXTERNAL (RFC 4422, appendix A): as whom the transport knows.
+    /// EXTERNAL (RFC 4422, appendix A): as the user that the transport has authenticated.
     External,
 
-    /// SCRAM. What this client has sent by calls of its own does not count.
+    /// SCRAM. The client's own exchange is not affected.
     Scram(ScramClient),
 }
 
@@ -56,7 +57,7 @@ impl fmt::Debug for SaslProfile {
     }
 }
 
-/// Who logs in, and by which mechanism.
+/// A client's login, and its mechanism.
 #[derive(Clone)]
 pub(crate) struct Login {
     who: Who,
@@ -64,21 +65,21 @@ pub(crate) struct Login {
     hostname: String,
 }
 
-/// A login of the library, whose pointers are to what is borrowed for `'a`.
+/// A login struct of the library, whose pointers point to what is borrowed for `'a`.
 pub(crate) struct LentLogin<'a> {
     pub(crate) login: sys::SaslLogin,
     from: PhantomData<&'a Login>,
 }
 
 impl Login {
-    /// The login of a profile. Its init names the hostname, if it is not empty.
+    /// Returns the login of a profile. The init has the hostname, if it is not empty.
     pub(crate) fn new(profile: SaslProfile, hostname: Option<&str>) -> Self {
-        let words = |username, password| Who::new(username, password, NO_KEYS, 0, ScramVersion::Sha256);
+        let words = |username, password| Who::new(username, password, NO_KEYS, sys::BY_PASSWORD, ScramVersion::Sha256);
         let (mechanism, who) = match profile {
-            SaslProfile::Scram(client) => (0, client.who),
-            SaslProfile::Plain { username, password } => (1, words(username, password)),
-            SaslProfile::Anonymous => (2, words(String::new(), String::new())),
-            SaslProfile::External => (3, words(String::new(), String::new())),
+            SaslProfile::Scram(client) => (sys::SCRAM, client.who),
+            SaslProfile::Plain { username, password } => (sys::PLAIN, words(username, password)),
+            SaslProfile::Anonymous => (sys::ANONYMOUS, words(String::new(), String::new())),
+            SaslProfile::External => (sys::EXTERNAL, words(String::new(), String::new())),
         };
         Self { who, mechanism, hostname: hostname.unwrap_or_default().to_owned() }
     }
@@ -94,35 +95,35 @@ impl Login {
     }
 }
 
-/// How a login stands.
+/// How far a login on a connection is.
 #[derive(Clone, Copy, Debug, PartialEq, Eq)]
 pub enum Progress {
-    /// More is wanted of the other side.
+    /// The login goes on: the other side has to send more.
     InProgress,
 
-    /// The client is logged in. What comes next on the connection is AMQP's.
-    LoggedIn,
+    /// The login is complete. What comes next on the connection belongs to AMQP.
+    Authenticated,
 
-    /// The connection is to be closed.
-    Closed(ConnectionError),
+    /// The login has failed, and you have to close the connection.
+    Failed(ConnectionError),
 }
 
-/// How the connection of a struct stands.
-pub(crate) fn standing_of(connection: &sys::Connection) -> Progress {
+/// Returns how far the login of a connection is.
+pub(crate) fn progress_of(connection: &sys::Connection) -> Progress {
     match connection.progress {
-        0 => Progress::InProgress,
-        1 => Progress::LoggedIn,
-        _ => Progress::Closed(ConnectionError::of(connection.why)),
+        sys::IN_PROGRESS => Progress::InProgress,
+        sys::AUTHENTICATED => Progress::Authenticated,
+        _ => Progress::Failed(ConnectionError::of(connection.why)),
     }
 }
 
-/// What came of bytes that were handed in.
+/// The result of received bytes.
 #[derive(Clone, PartialEq, Eq)]
 pub struct Received {
-    /// How many of them were taken. Those behind are AMQP's once the client is logged in.
+    /// How many of them were used. After the login the rest belongs to AMQP.
     pub taken: usize,
 
-    /// What is to be sent. By PLAIN it holds the password.
+    /// The bytes to send. With PLAIN they contain the password.
     pub sent: Vec<u8>,
 }
 
@@ -135,7 +136,7 @@ impl fmt::Debug for Received {
     }
 }
 
-/// The client's side of one connection of AMQP 1.0, without a socket: bytes in, bytes out.
+/// The client's side of one AMQP 1.0 connection, without I/O: bytes in, bytes out.
 ///
 /// ```no_run
 /// use fe2o3_sasl_proved::*;
@@ -162,24 +163,25 @@ pub struct ClientNegotiation {
 }
 
 impl ClientNegotiation {
-    /// A new connection, on which the client logs in by this profile. Its init names the hostname, if it is not empty.
+    /// Returns a new connection, on which the client logs in with this profile. The init has the hostname, if it is not
+    /// empty.
     pub fn new(profile: impl Into<SaslProfile>, hostname: Option<&str>) -> Self {
         Self { login: Login::new(profile.into(), hostname), state: NEW }
     }
 
-    /// The header of SASL, which a client sends first.
+    /// Returns the SASL protocol header, which a client sends first.
     pub fn open() -> Vec<u8> {
         // SAFETY: the room and its length are borrowed for writing, and so overlap nothing.
         filled(8, |out, len| unsafe { sys::fe2o3_sasl_client_open(out.as_mut_ptr(), out.len(), len) })
             .unwrap_or_default()
     }
 
-    /// Takes bytes as they came, until they are taken or the connection wants no more. An error changes nothing of what
-    /// a frame that was not answered would have.
+    /// Takes received bytes, until all are used or the login ends. After an error the frames before the one that failed
+    /// have been answered.
     ///
     /// # Panics
     ///
-    /// Where the system has no random bytes.
+    /// If the system has no random bytes.
     pub fn receive(&mut self, bytes: &[u8]) -> Result<Received, ConnectionError> {
         let mut received = Received { taken: 0, sent: Vec::new() };
         while received.taken < bytes.len() && self.progress() == Progress::InProgress {
@@ -190,8 +192,8 @@ impl ClientNegotiation {
         Ok(received)
     }
 
-    /// One call of the library: takes bytes to the end of the header or of the frame that is due. The nonce is 32 random
-    /// bytes, fresh for each call.
+    /// Calls the library once: takes bytes to the end of the expected header or frame. The nonce is 32 random bytes,
+    /// fresh for each call.
     fn step(&mut self, bytes: &[u8], nonce: &[u8; 32]) -> Result<(usize, Vec<u8>), ConnectionError> {
         let lent = self.login.lend();
         let state = &mut self.state;
@@ -217,12 +219,12 @@ impl ClientNegotiation {
         Ok((taken, sent))
     }
 
-    /// How the connection stands.
+    /// Returns how far the login is.
     pub fn progress(&self) -> Progress {
-        standing_of(&self.state.connection)
+        progress_of(&self.state.connection)
     }
 
-    /// The keys of a login by SCRAM whose server was believed, as [`ScramClient::keys`] hands them out.
+    /// Returns the keys of a complete login by SCRAM, like [`ScramClient::keys`].
     pub fn keys(&self) -> Option<CachedKeys> {
         CachedKeys::handed_out(&self.state.scram)
     }

@@ -98,7 +98,7 @@ kinds! {
         NormalizeError = CLIENT_NORMALIZE_ERROR,
         /// The message names another salt or another iteration count than the client's keys are of, and the client has
         /// no password. Whoever is on the way can bring this about: it is no reason to forget the keys.
-        StaleKeys = CLIENT_OTHER_KEYS,
+        StaleKeys = CLIENT_STALE_KEYS,
         /// Never answered, since HMAC takes keys of every length.
         HmacErrorInvalidLength = CLIENT_HMAC_ERROR_INVALID_LENGTH,
         /// Never answered by the client.
@@ -210,15 +210,15 @@ kinds! {
     /// [`ConnectionError::scram`] tells the kind.
     ConnectionError {
         /// The other side's header is not that of SASL.
-        ProtocolHeaderMismatch = OTHER_HEADER,
+        ProtocolHeaderMismatch = PROTOCOL_HEADER_MISMATCH,
         /// The size of a frame is below 8 or above 512.
         FrameSize = FRAME_SIZE,
         /// The frame is not the one that is due.
-        UnexpectedFrame = OUT_OF_TURN,
+        UnexpectedFrame = UNEXPECTED_FRAME,
         /// The answer fits in no frame of 512 bytes.
         ReplyTooLarge = REPLY_TOO_LARGE,
         /// The bytes of the frame are none of its type.
-        FrameUnread = FRAME_UNREAD,
+        MalformedFrame = MALFORMED_FRAME,
         /// The frame's type or its data offset is not that of a SASL frame.
         NoSaslFrame = NO_SASL_FRAME,
         /// A size of the frame is more than 32 bits can say.

@@ -1,20 +1,14 @@
-//! What a client keeps in place of its password.
+//! The keys that a client can cache in place of its password.
 
 use crate::calls::{done, head, made, put};
 use crate::{sys, RecordError, ScramVersion};
 use std::fmt;
 
-pub(crate) const NO_KEYS: sys::ClientKeys = sys::ClientKeys {
-    version: 0,
-    iterations: 0,
-    salt_len: 0,
-    salt: [0; 128],
-    client_key: [0; 64],
-    server_key: [0; 64],
-};
+pub(crate) const NO_KEYS: sys::ScramKeys =
+    sys::ScramKeys { version: 0, iterations: 0, salt_len: 0, salt: [0; 128], client_key: [0; 64], server_key: [0; 64] };
 
-/// The keys that stand in place of a password, for a server that keeps its salt and its count: a secret, with which one
-/// can log in.
+/// The keys that a client can cache in place of its password, as long as the server keeps its salt and iteration count.
+/// They are secret: they suffice to log in.
 ///
 /// ```
 /// use fe2o3_sasl_proved::{CachedKeys, ScramVersion};
@@ -26,10 +20,10 @@ pub(crate) const NO_KEYS: sys::ClientKeys = sys::ClientKeys {
 /// # Ok::<(), fe2o3_sasl_proved::RecordError>(())
 /// ```
 #[derive(Clone)]
-pub struct CachedKeys(pub(crate) sys::ClientKeys);
+pub struct CachedKeys(pub(crate) sys::ScramKeys);
 
 impl CachedKeys {
-    /// The keys of a password as it is typed.
+    /// Derives the keys of a typed password.
     pub fn from_password(
         version: ScramVersion,
         password: &str,
@@ -39,7 +33,7 @@ impl CachedKeys {
         made(sys::fe2o3_scram_keys_make, NO_KEYS, version, password, salt, iterations).map(Self)
     }
 
-    /// The keys of a prepared password ([`saslprep`](crate::saslprep)): any text, which is taken as it stands.
+    /// Derives the keys of a prepared password ([`saslprep`](crate::saslprep)): any text, used without change.
     pub fn from_prepared_password(
         version: ScramVersion,
         password: &str,
@@ -49,7 +43,7 @@ impl CachedKeys {
         made(sys::fe2o3_scram_keys_make_prepared, NO_KEYS, version, password, salt, iterations).map(Self)
     }
 
-    /// Keys as they were kept, part by part.
+    /// Returns keys from their stored parts.
     pub fn from_parts(
         version: ScramVersion,
         salt: &[u8],
@@ -63,14 +57,14 @@ impl CachedKeys {
         if client_key.len() != version.digest_len() || server_key.len() != version.digest_len() {
             return Err(RecordError::KeyLengthMismatch);
         }
-        let mut keys = sys::ClientKeys { version: version.number(), iterations, ..NO_KEYS };
+        let mut keys = sys::ScramKeys { version: version.number(), iterations, ..NO_KEYS };
         keys.salt_len = put(salt, &mut keys.salt).ok_or(RecordError::TooLong)?;
         put(client_key, &mut keys.client_key).ok_or(RecordError::TooLong)?;
         put(server_key, &mut keys.server_key).ok_or(RecordError::TooLong)?;
         Ok(Self(keys))
     }
 
-    /// The keys of a login whose server was believed, if the library has some.
+    /// Returns the keys of a complete login, if the library has some.
     pub(crate) fn handed_out(state: &sys::ScramClient) -> Option<Self> {
         let mut keys = NO_KEYS;
         // SAFETY: the state is borrowed, and the struct is one of this function.
@@ -79,27 +73,27 @@ impl CachedKeys {
         Some(Self(keys))
     }
 
-    /// The version that they are of.
+    /// Returns the version.
     pub fn version(&self) -> ScramVersion {
         ScramVersion::of_keys(&self.0)
     }
 
-    /// The salt that they are of.
+    /// Returns the salt for which the keys were derived.
     pub fn salt(&self) -> &[u8] {
         head(&self.0.salt, self.0.salt_len as usize)
     }
 
-    /// The iteration count that they are of.
+    /// Returns the iteration count for which the keys were derived.
     pub fn iterations(&self) -> u32 {
         self.0.iterations
     }
 
-    /// The ClientKey.
+    /// Returns the ClientKey. It is secret.
     pub fn client_key(&self) -> &[u8] {
         head(&self.0.client_key, self.version().digest_len())
     }
 
-    /// The ServerKey.
+    /// Returns the ServerKey. It is secret.
     pub fn server_key(&self) -> &[u8] {
         head(&self.0.server_key, self.version().digest_len())
     }

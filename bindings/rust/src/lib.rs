@@ -20,7 +20,7 @@
 //! let server_final = server.compute_server_final_message(&client_final)?.ok_or("no such user")?;
 //! client.validate_server_final(&server_final)?;
 //!
-//! assert_eq!(server.user().as_deref(), Some("user"));
+//! assert_eq!(server.authenticated_user().as_deref(), Some("user"));
 //! # Ok(())
 //! # }
 //! ```
@@ -46,7 +46,7 @@ mod version;
 
 pub use calls::{fits, generate_nonce, library_version};
 pub use client::ScramClient;
-pub use connection::{ClientNegotiation, Received, SaslProfile, Progress};
+pub use connection::{ClientNegotiation, Progress, Received, SaslProfile};
 pub use errors::{
     ConnectionError, RecordError, RecordTextError, SaslprepError, ScramErrorKind, ServerScramErrorKind, Status,
 };

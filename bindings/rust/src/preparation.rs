@@ -1,20 +1,20 @@
-//! What texts are prepared to (RFC 4013), as passwords past ASCII are.
+//! Preparation of passwords (RFC 4013).
 
 use crate::calls::filled;
 use crate::{sys, SaslprepError};
 
-/// Whether code points may stand in a text that Unicode 3.2 does not assign.
+/// Whether a text may contain code points that Unicode 3.2 does not assign.
 #[derive(Clone, Copy, Debug, PartialEq, Eq)]
 pub enum Unassigned {
-    /// They may, as in a query: a text that is only compared with stored ones.
+    /// It may, like a query: a text that is only compared with stored ones.
     Allowed,
 
-    /// They may not, as in a stored text.
+    /// It may not, like a stored text.
     Refused,
 }
 
 impl Unassigned {
-    /// The number of the library.
+    /// Returns the number for the library.
     fn number(self) -> u32 {
         match self {
             Unassigned::Refused => 0,
@@ -23,8 +23,8 @@ impl Unassigned {
     }
 }
 
-/// The text as SASLprep (RFC 4013) prepares it, as a password is before it is compared or hashed. Printable ASCII is
-/// prepared to itself, and any other ASCII is refused.
+/// Returns the text that SASLprep (RFC 4013) prepares `text` to, as a password is before it is stored or used.
+/// Printable ASCII is prepared to itself; other ASCII is rejected.
 ///
 /// ```
 /// use fe2o3_sasl_proved::{saslprep, SaslprepError, Unassigned};
@@ -34,8 +34,8 @@ impl Unassigned {
 /// ```
 pub fn saslprep(text: &str, unassigned: Unassigned) -> Result<String, SaslprepError> {
     let prepared = filled(text.len(), |out, len| {
-        // SAFETY: the text is a slice that lives through the call; the room and its length are borrowed for writing, and
-        // so overlap nothing.
+        // SAFETY: the text is a slice that lives through the call; the room and its length are borrowed for writing,
+        // and so overlap nothing.
         unsafe { sys::fe2o3_saslprep(text.as_ptr(), text.len(), unassigned.number(), out.as_mut_ptr(), out.len(), len) }
     })
     .map_err(SaslprepError::of)?;

@@ -1,4 +1,4 @@
-//! What a server keeps of a password.
+//! What a server stores of a password.
 
 use crate::calls::{done, filled, head, made, put};
 use crate::{sys, RecordError, RecordTextError, ScramVersion};
@@ -14,10 +14,10 @@ const NO_RECORD: sys::ScramRecord = sys::ScramRecord {
     server_key: [0; 64],
 };
 
-/// No text of a record is longer.
+/// The maximum length of a record's text.
 const LONGEST_TEXT: usize = 384;
 
-/// What a store of credentials lends of a record. Who has the ServerKey can play the server.
+/// The parts of a record, which a store of credentials lends. Anyone who has the ServerKey can impersonate the server.
 pub struct StoredPassword<'a> {
     /// The salt.
     pub salt: &'a [u8],
@@ -25,10 +25,10 @@ pub struct StoredPassword<'a> {
     /// The iteration count.
     pub iterations: u32,
 
-    /// The StoredKey, as long as a digest of the version.
+    /// The StoredKey, with as many bytes as a digest of the version.
     pub stored_key: &'a [u8],
 
-    /// The ServerKey, as long as a digest of the version.
+    /// The ServerKey, with as many bytes as a digest of the version.
     pub server_key: &'a [u8],
 }
 
@@ -38,7 +38,7 @@ impl fmt::Debug for StoredPassword<'_> {
     }
 }
 
-/// What a server keeps of one password.
+/// What a server stores of one password.
 ///
 /// Its text is the one of PostgreSQL (RFC 5803, section 2):
 ///
@@ -56,7 +56,7 @@ impl fmt::Debug for StoredPassword<'_> {
 pub struct ScramRecord(pub(crate) sys::ScramRecord);
 
 impl ScramRecord {
-    /// The record of a password as it is typed. The salt is random, and fresh for each record.
+    /// Computes the record of a typed password. The salt has to be random, and fresh for each record.
     pub fn from_password(
         version: ScramVersion,
         password: &str,
@@ -66,7 +66,7 @@ impl ScramRecord {
         made(sys::fe2o3_scram_record_make, NO_RECORD, version, password, salt, iterations).map(Self)
     }
 
-    /// The record of a prepared password: any text, which is taken as it stands.
+    /// Computes the record of a prepared password: any text, used without change.
     ///
     /// ```
     /// use fe2o3_sasl_proved::{saslprep, ScramRecord, ScramVersion, Unassigned};
@@ -88,7 +88,7 @@ impl ScramRecord {
         made(sys::fe2o3_scram_record_make_prepared, NO_RECORD, version, password, salt, iterations).map(Self)
     }
 
-    /// The record that a store lends in parts.
+    /// Returns the record of these parts.
     pub fn from_parts(version: ScramVersion, stored: &StoredPassword<'_>) -> Result<Self, RecordError> {
         if stored.iterations == 0 {
             return Err(RecordError::ZeroIterations);
@@ -103,9 +103,9 @@ impl ScramRecord {
         Ok(Self(record))
     }
 
-    /// Makes up a record for a name that a server does not know, so that it can answer as to one that it knows: the
-    /// login is refused at its proof. The secret is 32 random bytes, the same for all names and kept as long as the
-    /// records; the salt's length, of at most 64, and the count are those of the server's other records.
+    /// Computes a mock record for a name that the server does not know, so that it answers unknown users like known
+    /// ones. The login then fails at its proof. The secret is 32 random bytes, one value for all names, kept as long
+    /// as the records. The salt length, at most 64, and the iteration count are those of the server's other records.
     pub fn mock(
         version: ScramVersion,
         secret: &[u8; 32],
@@ -135,7 +135,7 @@ impl ScramRecord {
         Ok(Self(record))
     }
 
-    /// Reads the text of a record.
+    /// Parses the text of a record.
     pub fn parse(text: &str) -> Result<Self, RecordTextError> {
         let mut record = NO_RECORD;
         // SAFETY: the text is a slice that lives through the call, and the struct is one of this function.
@@ -144,11 +144,11 @@ impl ScramRecord {
         Ok(Self(record))
     }
 
-    /// Writes the text of the record.
+    /// Returns the text of the record.
     ///
     /// # Panics
     ///
-    /// Where there is no memory.
+    /// If an allocation fails.
     pub fn to_text(&self) -> String {
         let text = filled(LONGEST_TEXT, |out, len| {
             // SAFETY: the record is borrowed; the room and its length are borrowed for writing, and so overlap nothing.
@@ -157,26 +157,26 @@ impl ScramRecord {
         String::from_utf8(text.expect("there is memory for a text")).expect("a record's text is ASCII")
     }
 
-    /// Whether a password that was told, as by PLAIN, is that of the record. It is not where there is no memory.
+    /// Returns whether a typed password, for instance one received by PLAIN, is the record's.
     pub fn verify_password(&self, password: &str) -> bool {
         // SAFETY: the record is borrowed, and the password is a slice that lives through the call.
         let status = unsafe { sys::fe2o3_scram_record_verify(&self.0, password.as_ptr(), password.len()) };
         done(status).is_ok()
     }
 
-    /// Whether a prepared password is that of the record. It is not where there is no memory.
+    /// Returns whether a prepared password is the record's.
     pub fn verify_prepared_password(&self, password: &str) -> bool {
         // SAFETY: the record is borrowed, and the password is a slice that lives through the call.
         let status = unsafe { sys::fe2o3_scram_record_verify_prepared(&self.0, password.as_ptr(), password.len()) };
         done(status).is_ok()
     }
 
-    /// The version that the record is of.
+    /// Returns the version.
     pub fn version(&self) -> ScramVersion {
         ScramVersion::of_record(&self.0)
     }
 
-    /// The record in parts, as a store lends it.
+    /// Returns the parts of the record.
     pub fn as_stored_password(&self) -> StoredPassword<'_> {
         let len = self.version().digest_len();
         StoredPassword {

@@ -8,7 +8,7 @@ use std::fmt;
 use std::sync::Arc;
 
 pub(crate) const NO_CHALLENGE: sys::ScramServer = sys::ScramServer {
-    stands: 0,
+    state: 0,
     user_len: 0,
     bare_len: 0,
     nonce_len: 0,
@@ -19,19 +19,20 @@ pub(crate) const NO_CHALLENGE: sys::ScramServer = sys::ScramServer {
     first: [0; 1024],
 };
 
-/// How a server's struct says that a challenge is open: to a client whose GS2 header is `n,,`, and `y,,`.
-const CHALLENGE_IS_OPEN: [u32; 2] = [1, 3];
+/// The states of a server whose challenge is open.
+const CHALLENGE_IS_OPEN: [u32; 2] = [sys::SCRAM_SERVER_CHALLENGE_OPEN, sys::SCRAM_SERVER_CHALLENGE_OPEN_CBIND_FLAG_Y];
 
-/// The GS2 header of a client that could bind a channel, and was offered no mechanism that does (RFC 5802, section 6).
-const UNBOUND: &[u8] = b"y,,";
+/// The GS2 header of a client that supports channel binding, and was offered no mechanism with it (RFC 5802, section
+/// 6).
+const CBIND_FLAG_Y: &[u8] = b"y,,";
 
 /// A store of credentials.
 pub trait ScramCredentialProvider {
-    /// The version that the credentials are of.
+    /// Returns the version of the credentials.
     fn scram_version(&self) -> &ScramVersion;
 
-    /// What is kept of the password of a user, whose name is plain; `None` where there is no such user. It is asked at
-    /// both messages of an exchange.
+    /// Returns what is stored of the password of a user, whose name has no escapes; `None` if there is no such user.
+    /// The server calls it at both messages of an exchange.
     fn get_stored_password<'a>(&'a self, username: &str) -> Option<StoredPassword<'a>>;
 }
 
@@ -54,11 +55,11 @@ pub struct SingleScramCredential {
 }
 
 impl SingleScramCredential {
-    /// The credential of a password, with 32 random bytes of salt and [`DEFAULT_SCRAM_ITERATIONS`].
+    /// Computes the credential of a typed password, with 32 random bytes of salt and [`DEFAULT_SCRAM_ITERATIONS`].
     ///
     /// # Panics
     ///
-    /// Where the system has no random bytes.
+    /// If the system has no random bytes.
     pub fn new(
         username: impl Into<String>,
         password: impl AsRef<str>,
@@ -69,7 +70,7 @@ impl SingleScramCredential {
         Ok(Self::with_record(username, record))
     }
 
-    /// The credential of a record.
+    /// Returns the credential of a record.
     pub fn with_record(username: impl Into<String>, record: ScramRecord) -> Self {
         Self { scram_version: record.version(), username: username.into(), record }
     }
@@ -98,7 +99,7 @@ impl fmt::Debug for SingleScramCredential {
     }
 }
 
-/// Of what records are made up for unknown names.
+/// The settings of mock records.
 #[derive(Clone)]
 struct MockSettings {
     secret: [u8; 32],
@@ -108,7 +109,7 @@ struct MockSettings {
 
 /// A server over a store of credentials.
 ///
-/// With `hiding_unknown_users` a stranger learns no names from its answers:
+/// With `mock_unknown_users` the answers do not tell which names exist:
 ///
 /// ```
 /// use fe2o3_sasl_proved::*;
@@ -116,8 +117,8 @@ struct MockSettings {
 /// # fn main() -> Result<(), Box<dyn std::error::Error>> {
 /// let credential = SingleScramCredential::new("user", "pencil", ScramVersion::Sha256)?;
 /// let secret = generate_nonce(); // in earnest kept as long as the records
-/// let mut server = ScramAuthenticator::new(credential).hiding_unknown_users(secret, 32, 4096);
-/// let mut client = ScramClient::new("nobody", "pencil", ScramVersion::Sha256);
+/// let mut server = ScramAuthenticator::new(credential).mock_unknown_users(secret, 32, 4096);
+/// let mut client = ScramClient::new("unknown", "pencil", ScramVersion::Sha256);
 ///
 /// let client_first = client.compute_client_first_message();
 /// let server_first = server.compute_server_first_message(&client_first)?.expect("each name is answered");
@@ -130,47 +131,47 @@ struct MockSettings {
 #[derive(Clone)]
 pub struct ScramAuthenticator<C: ScramCredentialProvider + Clone> {
     credentials: C,
-    nobody: Option<MockSettings>,
-    unbound: bool,
+    mock: Option<MockSettings>,
+    cbind_flag_y: bool,
     challenged: String,
     state: sys::ScramServer,
 }
 
 impl<C: ScramCredentialProvider + Clone> ScramAuthenticator<C> {
-    /// A server without an open challenge, which answers an unknown user by `None`.
+    /// Returns a server without an open challenge, which answers an unknown user with `None`.
     pub fn new(credentials: C) -> Self {
-        Self { credentials, nobody: None, unbound: false, challenged: String::new(), state: NO_CHALLENGE }
+        Self { credentials, mock: None, cbind_flag_y: false, challenged: String::new(), state: NO_CHALLENGE }
     }
 
-    /// The same server, which answers an unknown user by a record that is made up ([`ScramRecord::mock`]).
-    pub fn hiding_unknown_users(mut self, secret: [u8; 32], salt_len: usize, iterations: u32) -> Self {
-        self.nobody = Some(MockSettings { secret, salt_len, iterations });
+    /// Makes the server answer an unknown user with a mock record ([`ScramRecord::mock`]).
+    pub fn mock_unknown_users(mut self, secret: [u8; 32], salt_len: usize, iterations: u32) -> Self {
+        self.mock = Some(MockSettings { secret, salt_len, iterations });
         self
     }
 
-    /// The same server, which takes a client whose GS2 header is `y,,` too: one that could bind a channel, and was
-    /// offered no mechanism with `-PLUS` (RFC 5802, section 6). Only for a server that offers none.
+    /// Makes the server also accept the GS2 header `y,,`: the client supports channel binding, and was offered no
+    /// mechanism with `-PLUS` (RFC 5802, section 6). Only for a server that offers none.
     pub fn accept_cbind_flag_y(mut self) -> Self {
-        self.unbound = true;
+        self.cbind_flag_y = true;
         self
     }
 
-    /// Whether it takes such a client.
-    pub(crate) fn takes_unbound(&self) -> bool {
-        self.unbound
+    /// Returns whether the server accepts the GS2 header `y,,`.
+    pub(crate) fn accepts_cbind_flag_y(&self) -> bool {
+        self.cbind_flag_y
     }
 
-    /// The store of credentials.
+    /// Returns the store of credentials.
     pub fn credentials(&self) -> &C {
         &self.credentials
     }
 
-    /// Answers a client-first message with the server-first message, which starts an exchange afresh at any time; or by
-    /// `None` where there is no such user.
+    /// Answers a client-first message with the server-first message, or with `None` if there is no such user. This
+    /// starts a new exchange, whatever the state of the server is.
     ///
     /// # Panics
     ///
-    /// Where the system has no random bytes.
+    /// If the system has no random bytes.
     pub fn compute_server_first_message(
         &mut self,
         client_first: &[u8],
@@ -178,26 +179,31 @@ impl<C: ScramCredentialProvider + Clone> ScramAuthenticator<C> {
         self.compute_server_first_message_with(client_first, &generate_nonce())
     }
 
-    /// The same with a nonce of the caller's: 32 random bytes, fresh for each exchange.
+    /// Like [`Self::compute_server_first_message`], but with your nonce: 32 random bytes, fresh for each exchange.
     pub fn compute_server_first_message_with(
         &mut self,
         client_first: &[u8],
         nonce: &[u8; 32],
     ) -> Result<Option<Vec<u8>>, ServerScramErrorKind> {
-        // (the call that names the user takes both headers)
-        if !self.unbound && client_first.starts_with(UNBOUND) && std::str::from_utf8(client_first).is_ok() {
+        // (the call that returns the claimed user accepts both headers)
+        if !self.cbind_flag_y && client_first.starts_with(CBIND_FLAG_Y) && std::str::from_utf8(client_first).is_ok() {
             return Err(ServerScramErrorKind::CannotParseGs2Header);
         }
-        let username = named_user(client_first)?;
+        let username = claimed_user(client_first)?;
         let record = match self.record(&username)? {
             Some(record) => record,
             None => return Ok(None),
         };
         let state = &mut self.state;
-        let answer = if self.unbound { sys::fe2o3_scram_server_first_with_cbind_flag_y } else { sys::fe2o3_scram_server_first };
+        let answer = if self.cbind_flag_y {
+            sys::fe2o3_scram_server_first_with_cbind_flag_y
+        } else {
+            sys::fe2o3_scram_server_first
+        };
         let message = filled(client_first.len() + 256, |out, len| {
-            // SAFETY: both exports have the same parameters; the record, the nonce and the message are borrowed and live
-            // through the call; the state, the room and its length are borrowed for writing, and so overlap nothing.
+            // SAFETY: both exports have the same parameters; the record, the nonce and the message are borrowed and
+            // live through the call; the state, the room and its length are borrowed for writing, and so overlap
+            // nothing.
             unsafe {
                 answer(
                     &record.0,
@@ -216,13 +222,13 @@ impl<C: ScramCredentialProvider + Clone> ScramAuthenticator<C> {
         Ok(Some(message))
     }
 
-    /// Answers a client-final message with the server-final message, where its proof meets the record: the user is
-    /// logged in only where this is `Ok(Some(_))`. `None` is a user who is there no longer.
+    /// Answers a client-final message with the server-final message, if its proof is right. Only `Ok(Some(_))` means
+    /// that the user is authenticated. `None` is a user who has been removed meanwhile.
     pub fn compute_server_final_message(
         &mut self,
         client_final: &[u8],
     ) -> Result<Option<Vec<u8>>, ServerScramErrorKind> {
-        if !CHALLENGE_IS_OPEN.contains(&self.state.stands) {
+        if !CHALLENGE_IS_OPEN.contains(&self.state.state) {
             return Err(ServerScramErrorKind::IllegalAuthenticatorState);
         }
         let record = match self.record(&self.challenged)? {
@@ -249,20 +255,20 @@ impl<C: ScramCredentialProvider + Clone> ScramAuthenticator<C> {
         .map_err(ServerScramErrorKind::of)
     }
 
-    /// The user who has logged in: the one whose challenge was answered.
-    pub fn user(&self) -> Option<String> {
-        logged_in(&self.state)
+    /// Returns the authenticated user; `None` if no user is authenticated.
+    pub fn authenticated_user(&self) -> Option<String> {
+        authenticated_user(&self.state)
     }
 
-    /// The record of a user, or one that is made up; `None` where there is none and none is made up.
+    /// Returns the record of a user, or a mock record; `None` if there is neither.
     pub(crate) fn record(&self, username: &str) -> Result<Option<ScramRecord>, ServerScramErrorKind> {
         let version = *self.credentials.scram_version();
         if let Some(stored) = self.credentials.get_stored_password(username) {
             return Ok(Some(ScramRecord::from_parts(version, &stored)?));
         }
-        match &self.nobody {
-            Some(nobody) => {
-                let MockSettings { secret, salt_len, iterations } = nobody;
+        match &self.mock {
+            Some(settings) => {
+                let MockSettings { secret, salt_len, iterations } = settings;
                 Ok(Some(ScramRecord::mock(version, secret, username, *salt_len, *iterations)?))
             }
             None => Ok(None),
@@ -270,8 +276,8 @@ impl<C: ScramCredentialProvider + Clone> ScramAuthenticator<C> {
     }
 }
 
-/// The user who has logged in, by the struct of a server.
-pub(crate) fn logged_in(state: &sys::ScramServer) -> Option<String> {
+/// Returns the authenticated user of a server's struct.
+pub(crate) fn authenticated_user(state: &sys::ScramServer) -> Option<String> {
     let name = filled(state.user.len(), |out, len| {
         // SAFETY: the state is borrowed; the room and its length are borrowed for writing, and so overlap nothing.
         unsafe { sys::fe2o3_scram_server_authenticated_user(state, out.as_mut_ptr(), out.len(), len) }
@@ -279,13 +285,19 @@ pub(crate) fn logged_in(state: &sys::ScramServer) -> Option<String> {
     String::from_utf8(name.ok()?).ok()
 }
 
-/// The plain name of the user whom a client-first message names.
-fn named_user(client_first: &[u8]) -> Result<String, ServerScramErrorKind> {
+/// Returns the user name that a client-first message claims, without escapes.
+fn claimed_user(client_first: &[u8]) -> Result<String, ServerScramErrorKind> {
     let name = filled(client_first.len(), |out, len| {
         // SAFETY: the message is a slice that lives through the call; the room and its length are borrowed for writing,
         // and so overlap nothing.
         unsafe {
-            sys::fe2o3_scram_server_claimed_user(client_first.as_ptr(), client_first.len(), out.as_mut_ptr(), out.len(), len)
+            sys::fe2o3_scram_server_claimed_user(
+                client_first.as_ptr(),
+                client_first.len(),
+                out.as_mut_ptr(),
+                out.len(),
+                len,
+            )
         }
     })
     .map_err(ServerScramErrorKind::of)?;

@@ -1,17 +1,17 @@
 //! The server's side of a connection.
 
 use crate::calls::filled;
-use crate::connection::{standing_of, Received, Progress, FRESH};
+use crate::connection::{progress_of, Progress, Received, FRESH};
 use crate::records::ScramRecord;
-use crate::server::{logged_in, ScramAuthenticator, ScramCredentialProvider, NO_CHALLENGE};
+use crate::server::{authenticated_user, ScramAuthenticator, ScramCredentialProvider, NO_CHALLENGE};
 use crate::{generate_nonce, sys, ConnectionError, DEFAULT_SCRAM_ITERATIONS};
 use std::fmt;
 use std::marker::PhantomData;
 
-/// The most bytes that are sent at once: a header, and behind it a frame (AMQP 1.0, part 5, section 5.3.1).
+/// The most bytes that are sent at once: a header, and after it a frame (AMQP 1.0, part 5, section 5.3.1).
 const SENT_MOST: usize = 520;
 
-/// A record of nobody.
+/// The struct of no record.
 const NO_RECORD: sys::ScramRecord = sys::ScramRecord {
     version: 0,
     iterations: 0,
@@ -21,62 +21,63 @@ const NO_RECORD: sys::ScramRecord = sys::ScramRecord {
     server_key: [0; 64],
 };
 
-/// What is added to the sum of the mechanisms where SCRAM takes a client whose GS2 header is `y,,`.
-const TAKE_UNBOUND: u32 = 16;
-
 /// Which mechanisms a server offers.
 #[derive(Clone, Copy, Debug, Default, PartialEq, Eq)]
 pub struct Offers {
-    /// SCRAM of the version of its credentials.
+    /// SCRAM with the version of the credentials.
     pub scram: bool,
 
-    /// PLAIN (RFC 4616), which shows the password to whoever reads the connection: for TLS alone.
+    /// PLAIN (RFC 4616). The client sends the password in clear, so offer it over TLS only.
     pub plain: bool,
 
     /// ANONYMOUS (RFC 4505).
     pub anonymous: bool,
 
-    /// EXTERNAL (RFC 4422, appendix A), offered only where the transport has authenticated a peer (`with_peer`).
+    /// EXTERNAL (RFC 4422, appendix A), offered only if the transport has authenticated a client
+    /// (`with_external_authcid`).
     pub external: bool,
 }
 
 impl Offers {
-    /// SCRAM and nothing else.
+    /// Only SCRAM.
     pub fn scram() -> Self {
         Offers { scram: true, ..Self::default() }
     }
 
-    /// The sum of the library.
+    /// Returns the sum for the library.
     fn sum(self) -> u32 {
-        u32::from(self.scram) + 2 * u32::from(self.plain) + 4 * u32::from(self.anonymous) + 8 * u32::from(self.external)
+        sys::OFFER_SCRAM * u32::from(self.scram)
+            + sys::OFFER_PLAIN * u32::from(self.plain)
+            + sys::OFFER_ANONYMOUS * u32::from(self.anonymous)
+            + sys::OFFER_EXTERNAL * u32::from(self.external)
     }
 }
 
-/// What a server offers, and over which credentials.
+/// What a server offers, and its credentials.
 #[derive(Clone)]
-pub(crate) struct Host<C: ScramCredentialProvider + Clone> {
+pub(crate) struct Config<C: ScramCredentialProvider + Clone> {
     authenticator: ScramAuthenticator<C>,
     offers: Offers,
-    peer: Option<String>,
+    external_authcid: Option<String>,
 }
 
-/// A host of the library, whose pointers are to what is borrowed for `'a`.
-pub(crate) struct LentHost<'a> {
-    pub(crate) host: sys::SaslHost,
+/// A configuration for the library, whose pointers point to what is borrowed for `'a`.
+pub(crate) struct LentConfig<'a> {
+    pub(crate) config: sys::SaslServerConfig,
     from: PhantomData<&'a ()>,
 }
 
-impl<C: ScramCredentialProvider + Clone> Host<C> {
+impl<C: ScramCredentialProvider + Clone> Config<C> {
     pub(crate) fn new(authenticator: ScramAuthenticator<C>, offers: Offers) -> Self {
-        Self { authenticator, offers, peer: None }
+        Self { authenticator, offers, external_authcid: None }
     }
 
-    /// The same host, where EXTERNAL lets in this name.
-    pub(crate) fn with_peer(self, peer: String) -> Self {
-        Self { peer: Some(peer), ..self }
+    /// Makes EXTERNAL accept this name.
+    pub(crate) fn with_external_authcid(self, external_authcid: String) -> Self {
+        Self { external_authcid: Some(external_authcid), ..self }
     }
 
-    /// The record of the user whom a frame names, if it names one and there is one.
+    /// Returns the record of the claimed user, if a name is claimed and has a record.
     pub(crate) fn record(&self, name: Option<&str>) -> Result<Option<ScramRecord>, ConnectionError> {
         match name {
             Some(name) => self.authenticator.record(name).map_err(|why| ConnectionError::of(why.number())),
@@ -84,37 +85,38 @@ impl<C: ScramCredentialProvider + Clone> Host<C> {
         }
     }
 
-    /// The host with the record of a user, if there is one.
-    pub(crate) fn lend<'a>(&'a self, name: Option<&'a str>, record: Option<&'a ScramRecord>) -> LentHost<'a> {
+    /// Returns the configuration with the record of a user, if there is one.
+    pub(crate) fn lend<'a>(&'a self, name: Option<&'a str>, record: Option<&'a ScramRecord>) -> LentConfig<'a> {
         let username = name.unwrap_or_default();
-        let peer = self.peer.as_deref().unwrap_or_default();
-        let host = sys::SaslHost {
-            mechanisms: self.offers.sum() + TAKE_UNBOUND * u32::from(self.authenticator.takes_unbound()),
+        let external_authcid = self.external_authcid.as_deref().unwrap_or_default();
+        let config = sys::SaslServerConfig {
+            mechanisms: self.offers.sum()
+                + sys::ACCEPT_CBIND_FLAG_Y * u32::from(self.authenticator.accepts_cbind_flag_y()),
             version: self.authenticator.credentials().scram_version().number(),
             iterations: DEFAULT_SCRAM_ITERATIONS,
             username: username.as_ptr(),
             username_len: username.len(),
             record: record.map_or(&NO_RECORD, |record| &record.0),
-            peer: peer.as_ptr(),
-            peer_len: peer.len(),
+            external_authcid: external_authcid.as_ptr(),
+            external_authcid_len: external_authcid.len(),
         };
-        LentHost { host, from: PhantomData }
+        LentConfig { config, from: PhantomData }
     }
 }
 
-/// The name that a call writes into a room of so many bytes, if there is one.
+/// Returns the name that a call writes into a buffer of this size, if there is one.
 pub(crate) fn named(
     room: usize,
     call: impl FnMut(&mut [u8], &mut usize) -> u32,
 ) -> Result<Option<String>, ConnectionError> {
     match filled(room, call) {
         Ok(name) => Ok(String::from_utf8(name).ok()),
-        Err(sys::NAMES_NOBODY) => Ok(None),
+        Err(sys::NAMES_NO_USER) => Ok(None),
         Err(why) => Err(ConnectionError::of(why)),
     }
 }
 
-/// The server's side of one connection of AMQP 1.0, without a socket: bytes in, bytes out.
+/// The server's side of one AMQP 1.0 connection, without I/O: bytes in, bytes out.
 ///
 /// ```
 /// use fe2o3_sasl_proved::*;
@@ -128,44 +130,44 @@ pub(crate) fn named(
 ///     let answer = server.receive(&to_server)?.sent;
 ///     to_server = client.receive(&answer)?.sent;
 /// }
-/// assert_eq!((server.progress(), client.progress()), (Progress::LoggedIn, Progress::LoggedIn));
-/// assert_eq!(server.user().as_deref(), Some("user"));
+/// assert_eq!((server.progress(), client.progress()), (Progress::Authenticated, Progress::Authenticated));
+/// assert_eq!(server.authenticated_user().as_deref(), Some("user"));
 /// # Ok(())
 /// # }
 /// ```
 #[derive(Clone)]
 pub struct ServerNegotiation<C: ScramCredentialProvider + Clone> {
-    host: Host<C>,
+    config: Config<C>,
     state: sys::SaslServer,
 }
 
 impl<C: ScramCredentialProvider + Clone> ServerNegotiation<C> {
-    /// A new connection over the credentials of this server, which hides unknown users and takes clients that could bind
-    /// a channel where the server does. Its own challenge, if one is open, does not count.
+    /// Returns a new connection with the credentials and options of this server. The server's own exchange is not
+    /// affected.
     pub fn new(authenticator: ScramAuthenticator<C>, offers: Offers) -> Self {
         let state = sys::SaslServer { connection: FRESH, scram: NO_CHALLENGE };
-        Self { host: Host::new(authenticator, offers), state }
+        Self { config: Config::new(authenticator, offers), state }
     }
 
-    /// Sets the name that the transport has authenticated, which EXTERNAL lets in. Without one, and with an empty one,
-    /// EXTERNAL is not offered, and an init of it is refused.
-    pub fn with_peer(mut self, peer: impl Into<String>) -> Self {
-        self.host = self.host.with_peer(peer.into());
+    /// Sets the name that the transport has authenticated, which EXTERNAL accepts. Without one, or with an empty one,
+    /// EXTERNAL is not offered, and an init for it fails.
+    pub fn with_external_authcid(mut self, external_authcid: impl Into<String>) -> Self {
+        self.config = self.config.with_external_authcid(external_authcid.into());
         self
     }
 
-    /// Takes bytes as they came, until they are taken or the connection wants no more. An error changes nothing of what
-    /// a frame that was not answered would have.
+    /// Takes received bytes, until all are used or the login ends. After an error the frames before the one that failed
+    /// have been answered.
     ///
     /// # Panics
     ///
-    /// Where the system has no random bytes.
+    /// If the system has no random bytes.
     pub fn receive(&mut self, bytes: &[u8]) -> Result<Received, ConnectionError> {
         let mut received = Received { taken: 0, sent: Vec::new() };
         while received.taken < bytes.len() && self.progress() == Progress::InProgress {
             let rest = &bytes[received.taken..];
             let name = self.named(rest)?;
-            let record = self.host.record(name.as_deref())?;
+            let record = self.config.record(name.as_deref())?;
             let (taken, sent) = self.step(rest, name.as_deref(), record.as_ref())?;
             received.taken += taken;
             received.sent.extend(sent);
@@ -173,18 +175,25 @@ impl<C: ScramCredentialProvider + Clone> ServerNegotiation<C> {
         Ok(received)
     }
 
-    /// The user whom the frame names that these bytes complete, if it names one.
+    /// Returns the user that the next frame claims, if these bytes complete one that does.
     fn named(&self, bytes: &[u8]) -> Result<Option<String>, ConnectionError> {
         named(self.state.connection.held.len(), |out, len| {
             // SAFETY: the state and the bytes are borrowed and live through the call; the room and its length are
             // borrowed for writing, and so overlap nothing.
             unsafe {
-                sys::fe2o3_sasl_server_claimed_user(&self.state, bytes.as_ptr(), bytes.len(), out.as_mut_ptr(), out.len(), len)
+                sys::fe2o3_sasl_server_claimed_user(
+                    &self.state,
+                    bytes.as_ptr(),
+                    bytes.len(),
+                    out.as_mut_ptr(),
+                    out.len(),
+                    len,
+                )
             }
         })
     }
 
-    /// One call of the library, with the record of the user whom the frame names, if there is one.
+    /// Calls the library once, with the record of the claimed user, if there is one.
     fn step(
         &mut self,
         bytes: &[u8],
@@ -192,15 +201,16 @@ impl<C: ScramCredentialProvider + Clone> ServerNegotiation<C> {
         record: Option<&ScramRecord>,
     ) -> Result<(usize, Vec<u8>), ConnectionError> {
         let nonce = generate_nonce();
-        let lent = self.host.lend(name, record);
+        let lent = self.config.lend(name, record);
         let state = &mut self.state;
         let mut taken = 0;
         let sent = filled(SENT_MOST, |out, len| {
-            // SAFETY: the host's pointers are to what `lent` borrows, and the bytes are a slice that lives through the
-            // call; the state, the room, its length and the count are borrowed for writing, and so overlap nothing.
+            // SAFETY: the configuration's pointers point to what `lent` borrows, and the bytes are a slice that lives
+            // through the call; the state, the room, its length and the count are borrowed for writing, and so
+            // overlap nothing.
             unsafe {
                 sys::fe2o3_sasl_server_receive(
-                    &lent.host,
+                    &lent.config,
                     state,
                     bytes.as_ptr(),
                     bytes.len(),
@@ -216,14 +226,14 @@ impl<C: ScramCredentialProvider + Clone> ServerNegotiation<C> {
         Ok((taken, sent))
     }
 
-    /// How the connection stands.
+    /// Returns how far the login is.
     pub fn progress(&self) -> Progress {
-        standing_of(&self.state.connection)
+        progress_of(&self.state.connection)
     }
 
-    /// The user who has logged in; `None` before, and by ANONYMOUS.
-    pub fn user(&self) -> Option<String> {
-        logged_in(&self.state.scram)
+    /// Returns the authenticated user; `None` before the login is complete, and for ANONYMOUS.
+    pub fn authenticated_user(&self) -> Option<String> {
+        authenticated_user(&self.state.scram)
     }
 }
 

@@ -1,24 +1,24 @@
-//! Either side's steps over the bodies of frames, for whoever reads and writes the frames.
+//! Both sides over frame bodies, for programs that read and write frames themselves.
 
 use crate::calls::filled;
-use crate::client::NOTHING_SENT;
+use crate::client::INITIAL;
 use crate::connection::{Login, Progress};
 use crate::records::ScramRecord;
-use crate::server::{logged_in, ScramAuthenticator, ScramCredentialProvider, NO_CHALLENGE};
-use crate::serving::{named, Host, Offers};
-use crate::{generate_nonce, sys, ConnectionError, SaslProfile, CachedKeys};
+use crate::server::{authenticated_user, ScramAuthenticator, ScramCredentialProvider, NO_CHALLENGE};
+use crate::serving::{named, Config, Offers};
+use crate::{generate_nonce, sys, CachedKeys, ConnectionError, SaslProfile};
 use std::fmt;
 
-/// The most bytes of a body that is sent: those of a frame of 512 behind its size (AMQP 1.0, part 5, section 5.3.1).
+/// The most bytes of a body that is sent: a frame of 512 without its size (AMQP 1.0, part 5, section 5.3.1).
 const BODY_MOST: usize = 508;
 
-/// What came of the body of a frame.
+/// The result of a received body.
 #[derive(Clone, PartialEq, Eq)]
 pub struct Answered {
-    /// The body that is to be sent, and nothing where none is. By PLAIN it holds the password.
+    /// The body to send; empty if there is none. With PLAIN it contains the password.
     pub body: Vec<u8>,
 
-    /// How the login stands then.
+    /// How far the login is then.
     pub progress: Progress,
 }
 
@@ -31,35 +31,35 @@ impl fmt::Debug for Answered {
     }
 }
 
-/// How a login stands, by its number in the library.
-fn standing_of(number: u32) -> Progress {
+/// Returns how far a login is, by its number in the library.
+fn progress_of(number: u32) -> Progress {
     match number {
-        0 => Progress::InProgress,
-        1 => Progress::LoggedIn,
-        why => Progress::Closed(ConnectionError::of(why)),
+        sys::IN_PROGRESS => Progress::InProgress,
+        sys::AUTHENTICATED => Progress::Authenticated,
+        why => Progress::Failed(ConnectionError::of(why)),
     }
 }
 
-/// `Ended` where a login wants no more.
+/// Returns `Ended` if a login does not go on.
 fn goes_on(progress: Progress) -> Result<(), ConnectionError> {
     match progress {
         Progress::InProgress => Ok(()),
-        Progress::LoggedIn | Progress::Closed(_) => Err(ConnectionError::of(sys::ENDED)),
+        Progress::Authenticated | Progress::Failed(_) => Err(ConnectionError::of(sys::ENDED)),
     }
 }
 
-/// One call of a step: the body that it writes, and the number of how the login stands then.
+/// Returns what one call of a step writes.
 fn stepped(mut call: impl FnMut(&mut u32, &mut [u8], &mut usize) -> u32) -> Result<Answered, ConnectionError> {
     let mut number = 0;
     let body = filled(BODY_MOST, |out, len| call(&mut number, out, len)).map_err(ConnectionError::of)?;
-    Ok(Answered { body, progress: standing_of(number) })
+    Ok(Answered { body, progress: progress_of(number) })
 }
 
-/// The client's side of one login over the bodies of frames, each from the data offset on, behind the four bytes of the
+/// The client's side of one login over frame bodies, each from the data offset on, without the four bytes of the
 /// frame's size.
 ///
-/// A login takes three bodies of the server: its mechanisms, for SCRAM a challenge, and the outcome. Who answers more of
-/// them, which this allows, lets the server have a challenge hashed again and again.
+/// A login takes three bodies of the server: its mechanisms, for SCRAM a challenge, and the outcome. If you pass more
+/// of them, the server can make the client hash again and again.
 ///
 /// ```no_run
 /// use fe2o3_sasl_proved::*;
@@ -96,7 +96,7 @@ fn stepped(mut call: impl FnMut(&mut u32, &mut [u8], &mut usize) -> u32) -> Resu
 ///     socket.write_all(&(answered.body.len() as u32 + 4).to_be_bytes())?;
 ///     socket.write_all(&answered.body)?;
 /// }
-/// assert_eq!(side.progress(), Progress::LoggedIn);
+/// assert_eq!(side.progress(), Progress::Authenticated);
 /// # Ok(())
 /// # }
 /// ```
@@ -108,25 +108,25 @@ pub struct ClientSteps {
 }
 
 impl ClientSteps {
-    /// A login by this profile that has not begun. Its init names the hostname, if it is not empty.
+    /// Returns a login with this profile that has not begun. The init has the hostname, if it is not empty.
     pub fn new(profile: impl Into<SaslProfile>, hostname: Option<&str>) -> Self {
-        Self { login: Login::new(profile.into(), hostname), state: NOTHING_SENT, progress: Progress::InProgress }
+        Self { login: Login::new(profile.into(), hostname), state: INITIAL, progress: Progress::InProgress }
     }
 
-    /// Answers the body of a frame: the mechanisms by an init, a challenge by a response, and an outcome by how the
-    /// login stands then. An error changes nothing. After one, other than `OutOfMemory`, the connection is to be closed.
+    /// Answers a frame body: the mechanisms with an init, a challenge with a response, and an outcome with no body. An
+    /// error changes nothing. After an error, other than `OutOfMemory`, close the connection.
     ///
-    /// PLAIN, ANONYMOUS and EXTERNAL are logged in by any outcome Ok, also by one that comes first; SCRAM by one alone
-    /// that shows that the server has the verifier (RFC 5802, section 5).
+    /// PLAIN, ANONYMOUS and EXTERNAL accept any outcome Ok, even one that comes first. SCRAM accepts only an outcome
+    /// that authenticates the server (RFC 5802, section 5).
     ///
     /// # Panics
     ///
-    /// Where the system has no random bytes.
+    /// If the system has no random bytes.
     pub fn on_frame(&mut self, body: &[u8]) -> Result<Answered, ConnectionError> {
         self.on_frame_with(body, &generate_nonce())
     }
 
-    /// The same with a nonce of the caller's: 32 random bytes, fresh for each call.
+    /// Like [`Self::on_frame`], but with your nonce: 32 random bytes, fresh for each call.
     pub fn on_frame_with(&mut self, body: &[u8], nonce: &[u8; 32]) -> Result<Answered, ConnectionError> {
         goes_on(self.progress)?;
         let lent = self.login.lend();
@@ -152,12 +152,12 @@ impl ClientSteps {
         Ok(answered)
     }
 
-    /// How the login stands.
+    /// Returns how far the login is.
     pub fn progress(&self) -> Progress {
         self.progress
     }
 
-    /// The keys of a login by SCRAM whose server was believed, as [`crate::ScramClient::keys`] hands them out.
+    /// Returns the keys of a complete login by SCRAM, like [`crate::ScramClient::keys`].
     pub fn keys(&self) -> Option<CachedKeys> {
         CachedKeys::handed_out(&self.state)
     }
@@ -169,10 +169,10 @@ impl fmt::Debug for ClientSteps {
     }
 }
 
-/// The server's side of one login over the bodies of frames, as [`ClientSteps`] has them.
+/// The server's side of one login over frame bodies, like [`ClientSteps`].
 ///
-/// A login takes two bodies of the client: its init, and for SCRAM a response. Who answers more of them, which this
-/// allows, lets the client try again and again.
+/// A login takes two bodies of the client: its init, and for SCRAM a response. If you pass more of them, the client can
+/// try passwords again and again.
 ///
 /// ```
 /// use fe2o3_sasl_proved::*;
@@ -187,66 +187,65 @@ impl fmt::Debug for ClientSteps {
 ///     let to_server = client.on_frame(&to_client)?.body;
 ///     to_client = server.on_frame(&to_server)?.body;
 /// }
-/// assert_eq!(client.on_frame(&to_client)?.progress, Progress::LoggedIn);
-/// assert_eq!(server.progress(), Progress::LoggedIn);
-/// assert_eq!(server.user().as_deref(), Some("user"));
+/// assert_eq!(client.on_frame(&to_client)?.progress, Progress::Authenticated);
+/// assert_eq!(server.progress(), Progress::Authenticated);
+/// assert_eq!(server.authenticated_user().as_deref(), Some("user"));
 /// # Ok(())
 /// # }
 /// ```
 #[derive(Clone)]
 pub struct ServerSteps<C: ScramCredentialProvider + Clone> {
-    host: Host<C>,
+    config: Config<C>,
     state: sys::ScramServer,
     progress: Progress,
 }
 
 impl<C: ScramCredentialProvider + Clone> ServerSteps<C> {
-    /// A login that has not begun over the credentials of this server, which hides unknown users where the server does.
-    /// Its own challenge, if one is open, does not count.
+    /// Returns a login that has not begun, with the credentials and options of this server. The server's own exchange
+    /// is not affected.
     pub fn new(authenticator: ScramAuthenticator<C>, offers: Offers) -> Self {
-        Self { host: Host::new(authenticator, offers), state: NO_CHALLENGE, progress: Progress::InProgress }
+        Self { config: Config::new(authenticator, offers), state: NO_CHALLENGE, progress: Progress::InProgress }
     }
 
-    /// Sets the name that the transport has authenticated, which EXTERNAL lets in. Without one, and with an empty one,
-    /// EXTERNAL is not offered, and an init of it is refused.
-    pub fn with_peer(mut self, peer: impl Into<String>) -> Self {
-        self.host = self.host.with_peer(peer.into());
+    /// Sets the name that the transport has authenticated, which EXTERNAL accepts. Without one, or with an empty one,
+    /// EXTERNAL is not offered, and an init for it fails.
+    pub fn with_external_authcid(mut self, external_authcid: impl Into<String>) -> Self {
+        self.config = self.config.with_external_authcid(external_authcid.into());
         self
     }
 
-    /// The body of the frame with which the server offers its mechanisms, to whoever has sent the header of SASL.
+    /// Returns the frame body with which the server offers its mechanisms. Send it after the client's SASL header.
     pub fn sasl_mechanisms(&self) -> Result<Vec<u8>, ConnectionError> {
-        let lent = self.host.lend(None, None);
+        let lent = self.config.lend(None, None);
         filled(BODY_MOST, |out, len| {
-            // SAFETY: the host's pointers are to what `lent` borrows; the room and its length are borrowed for writing,
-            // and so overlap nothing.
-            unsafe { sys::fe2o3_sasl_server_offer(&lent.host, out.as_mut_ptr(), out.len(), len) }
+            // SAFETY: the configuration's pointers point to what `lent` borrows; the room and its length are borrowed
+            // for writing, and so overlap nothing.
+            unsafe { sys::fe2o3_sasl_server_offer(&lent.config, out.as_mut_ptr(), out.len(), len) }
         })
         .map_err(ConnectionError::of)
     }
 
-    /// Answers the body of a frame: an init by a challenge or by the outcome, and a response by the outcome. An outcome
-    /// is to be sent whatever it says. An error changes nothing. After one, other than `OutOfMemory`, the connection is
-    /// to be closed.
+    /// Answers a frame body: an init with a challenge or an outcome, and a response with an outcome. Send an outcome
+    /// whatever it says. An error changes nothing. After an error, other than `OutOfMemory`, close the connection.
     ///
     /// # Panics
     ///
-    /// Where the system has no random bytes.
+    /// If the system has no random bytes.
     pub fn on_frame(&mut self, body: &[u8]) -> Result<Answered, ConnectionError> {
         self.on_frame_with(body, &generate_nonce())
     }
 
-    /// The same with a nonce of the caller's: 32 random bytes, fresh for each call.
+    /// Like [`Self::on_frame`], but with your nonce: 32 random bytes, fresh for each call.
     pub fn on_frame_with(&mut self, body: &[u8], nonce: &[u8; 32]) -> Result<Answered, ConnectionError> {
         goes_on(self.progress)?;
         let name = self.named(body)?;
-        let record = self.host.record(name.as_deref())?;
+        let record = self.config.record(name.as_deref())?;
         let answered = self.step(body, nonce, name.as_deref(), record.as_ref())?;
         self.progress = answered.progress;
         Ok(answered)
     }
 
-    /// The user whom a body names, if it names one.
+    /// Returns the user that a body claims, if any.
     fn named(&self, body: &[u8]) -> Result<Option<String>, ConnectionError> {
         named(BODY_MOST, |out, len| {
             // SAFETY: the state and the body are borrowed and live through the call; the room and its length are
@@ -264,7 +263,7 @@ impl<C: ScramCredentialProvider + Clone> ServerSteps<C> {
         })
     }
 
-    /// One call of the library, with the record of the user whom the body names, if there is one.
+    /// Calls the library once, with the record of the claimed user, if there is one.
     fn step(
         &mut self,
         body: &[u8],
@@ -272,14 +271,15 @@ impl<C: ScramCredentialProvider + Clone> ServerSteps<C> {
         name: Option<&str>,
         record: Option<&ScramRecord>,
     ) -> Result<Answered, ConnectionError> {
-        let lent = self.host.lend(name, record);
+        let lent = self.config.lend(name, record);
         let state = &mut self.state;
         stepped(|progress, out, len| {
-            // SAFETY: the host's pointers are to what `lent` borrows, and the body is a slice that lives through the
-            // call; the state, the progress, the room and its length are borrowed for writing, and so overlap nothing.
+            // SAFETY: the configuration's pointers point to what `lent` borrows, and the body is a slice that lives
+            // through the call; the state, the progress, the room and its length are borrowed for writing, and so
+            // overlap nothing.
             unsafe {
                 sys::fe2o3_sasl_server_step(
-                    &lent.host,
+                    &lent.config,
                     state,
                     body.as_ptr(),
                     body.len(),
@@ -293,14 +293,14 @@ impl<C: ScramCredentialProvider + Clone> ServerSteps<C> {
         })
     }
 
-    /// How the login stands.
+    /// Returns how far the login is.
     pub fn progress(&self) -> Progress {
         self.progress
     }
 
-    /// The user who has logged in; `None` before, and by ANONYMOUS.
-    pub fn user(&self) -> Option<String> {
-        logged_in(&self.state)
+    /// Returns the authenticated user; `None` before the login is complete, and for ANONYMOUS.
+    pub fn authenticated_user(&self) -> Option<String> {
+        authenticated_user(&self.state)
     }
 }
 

@@ -1,53 +1,53 @@
 //! What the library exports, as its C header declares it. Written by tools/header.py.
 
-/// The call is done.
-pub const DONE: u32 = 0;
+/// The call succeeded.
+pub const OK: u32 = 0;
 
-/// There was no memory. Nothing has changed, and the call can be made again.
+/// An allocation failed. Nothing has changed, and you can repeat the call.
 pub const OUT_OF_MEMORY: u32 = 1;
 
-/// The room is too small. Nothing has changed, and the length says what suffices.
+/// `out` is too small. Nothing has changed, and `out_len` says how many bytes suffice.
 pub const ROOM_TOO_SMALL: u32 = 2;
 
-/// Bytes that are to be text are no UTF-8.
+/// A text is not UTF-8.
 pub const NOT_UTF8: u32 = 3;
 
-/// There is no such version: 1, 256 and 512 are known.
+/// The version is none of the `scram_version` constants.
 pub const NO_SUCH_VERSION: u32 = 4;
 
-/// A text is longer than the array that is to hold it.
+/// A text is longer than the array for it.
 pub const TOO_LONG: u32 = 5;
 
-/// The password is not printable ASCII.
+/// The typed password is not printable ASCII.
 pub const NOT_PRINTABLE: u32 = 6;
 
 /// The iteration count is 0.
 pub const ZERO_ITERATIONS: u32 = 7;
 
-/// There is no such secret: 0 is the password, 1 the keys, and 2 both; 3 is a prepared password, and 4 both with one.
+/// The secret is none of the `secret` constants.
 pub const NO_SUCH_SECRET: u32 = 8;
 
-/// The struct of keys shows none.
+/// The struct holds no keys.
 pub const NO_KEYS: u32 = 9;
 
-/// The keys are of another version than the login.
+/// The keys, or the record of a line, are of another version.
 pub const OTHER_VERSION: u32 = 10;
 
 /// The password is not that of the record.
 pub const OTHER_PASSWORD: u32 = 11;
 
-/// There is no such mechanism: of a client 0 is SCRAM, 1 PLAIN, 2 ANONYMOUS, and 3 EXTERNAL; a server's are the sum of
-/// 1, 2, 4 and 8, and not 0, nor 8 alone where the peer's name is empty.
+/// The mechanism is none of the `mechanism` constants; or a server offers nothing, or a sum with another value than
+/// those of the `offer` constants.
 pub const NO_SUCH_MECHANISM: u32 = 12;
 
-/// The connection has ended: its client is logged in, or it is to be closed.
+/// The connection has ended: its `progress` is not IN_PROGRESS.
 pub const ENDED: u32 = 13;
 
-/// The struct of the connection is none that a call leaves.
-pub const NOT_KEPT: u32 = 14;
+/// The struct of the connection is not one that a call writes.
+pub const INVALID_SNAPSHOT: u32 = 14;
 
-/// The bytes complete no frame that names a user.
-pub const NAMES_NOBODY: u32 = 15;
+/// The bytes complete no frame that claims a user name.
+pub const NAMES_NO_USER: u32 = 15;
 
 /// The message is not UTF-8.
 pub const CLIENT_UTF8_ERROR: u32 = 20;
@@ -87,7 +87,7 @@ pub const CLIENT_NORMALIZE_ERROR: u32 = 31;
 
 /// The message names another salt or another iteration count than the client's keys are of, and the client has no
 /// password. Whoever is on the way can bring this about: it is no reason to forget the keys.
-pub const CLIENT_OTHER_KEYS: u32 = 32;
+pub const CLIENT_STALE_KEYS: u32 = 32;
 
 /// Never answered, since HMAC takes keys of every length.
 pub const CLIENT_HMAC_ERROR_INVALID_LENGTH: u32 = 33;
@@ -159,113 +159,419 @@ pub const RECORD_BASE64_DECODE_ERROR: u32 = 63;
 /// A key is not as long as a digest of the mechanism.
 pub const RECORD_KEY_LENGTH_MISMATCH: u32 = 64;
 
-/// No line feed ends the line, which is the last.
+/// The last line does not end with a line feed.
 pub const LINE_FEED_MISSING: u32 = 65;
 
-/// No space stands in the line.
+/// The line has no space.
 pub const SPACE_MISSING: u32 = 66;
 
-/// What stands before the last space of the line is no escaped name.
+/// The text before the last space of the line is not an escaped name.
 pub const INVALID_NAME: u32 = 67;
 
 /// No line has a record of this version for this name.
 pub const NO_SUCH_USER: u32 = 68;
 
-/// A line feed stands in the name, or the iteration count is 0.
+/// The name contains a line feed, or the iteration count is 0.
 pub const NOT_WRITABLE: u32 = 69;
 
-/// The other side's header is not that of SASL.
-pub const OTHER_HEADER: u32 = 70;
+/// The other side's protocol header is not that of SASL.
+pub const PROTOCOL_HEADER_MISMATCH: u32 = 70;
 
-/// The size of a frame is below 8 or above 512.
+/// The size of the frame is below 8 or above 512.
 pub const FRAME_SIZE: u32 = 71;
 
-/// The frame is not the one that is due.
-pub const OUT_OF_TURN: u32 = 72;
+/// The frame is not the expected one.
+pub const UNEXPECTED_FRAME: u32 = 72;
 
-/// The answer fits in no frame of 512 bytes.
+/// The reply does not fit into a frame of 512 bytes.
 pub const REPLY_TOO_LARGE: u32 = 73;
 
-/// The bytes of the frame are none of its type.
-pub const FRAME_UNREAD: u32 = 74;
+/// The frame cannot be parsed.
+pub const MALFORMED_FRAME: u32 = 74;
 
-/// The frame's type or its data offset is not that of a SASL frame.
+/// The type or the data offset of the frame is not that of a SASL frame.
 pub const NO_SASL_FRAME: u32 = 75;
 
-/// A size of the frame is more than 32 bits can say.
+/// A size inside the frame needs more than 32 bits.
 pub const FRAME_TOO_LARGE: u32 = 76;
 
-/// The frame is none that the client answers, or the server does not have its mechanism.
+/// The client does not answer such a frame, or the server does not offer the mechanism.
 pub const NOT_IMPLEMENTED: u32 = 77;
 
-/// The login is refused: its credentials were.
+/// The login was refused: its credentials are wrong.
 pub const REFUSED_AUTH: u32 = 81;
 
-/// The login is refused by a system error.
+/// The login was refused because of a system error.
 pub const REFUSED_SYS: u32 = 82;
 
-/// The login is refused by a system error that stays.
+/// The login was refused because of a permanent system error.
 pub const REFUSED_SYS_PERM: u32 = 83;
 
-/// The login is refused by a system error that may pass.
+/// The login was refused because of a temporary system error.
 pub const REFUSED_SYS_TEMP: u32 = 84;
 
-/// There is no such choice: 0 refuses unassigned code points, and 1 allows them.
+/// The number is none of the `unassigned` constants.
 pub const NO_SUCH_CHOICE: u32 = 85;
 
-/// What the text is prepared to holds a character that RFC 4013, section 2.3, prohibits.
+/// The prepared text contains a character that RFC 4013, section 2.3, prohibits.
 pub const PROHIBITED_CHARACTER: u32 = 86;
 
-/// What the text is prepared to holds a right-to-left character, and a left-to-right one too or another at its begin or
-/// end (RFC 3454, section 6).
+/// The prepared text mixes right-to-left and left-to-right characters, or does not begin and end with a right-to-left
+/// one (RFC 3454, section 6).
 pub const MIXED_DIRECTIONS: u32 = 87;
 
-/// The text holds a code point that Unicode 3.2 does not assign, or is prepared to one.
+/// The text, or what it is prepared to, contains a code point that Unicode 3.2 does not assign.
 pub const UNASSIGNED_CODE_POINT: u32 = 88;
 
-/// What a side of a connection keeps between its calls. All zeros is a connection of which no byte has come.
+/// `scram_version`: SCRAM-SHA-1.
+pub const SHA_1: u32 = 1;
+
+/// `scram_version`: SCRAM-SHA-256.
+pub const SHA_256: u32 = 256;
+
+/// `scram_version`: SCRAM-SHA-512.
+pub const SHA_512: u32 = 512;
+
+/// `mechanism`: SCRAM with the hash of the login.
+pub const SCRAM: u32 = 0;
+
+/// `mechanism`: PLAIN (RFC 4616).
+pub const PLAIN: u32 = 1;
+
+/// `mechanism`: ANONYMOUS (RFC 4505).
+pub const ANONYMOUS: u32 = 2;
+
+/// `mechanism`: EXTERNAL (RFC 4422, appendix A).
+pub const EXTERNAL: u32 = 3;
+
+/// `secret`: The typed password, which has to be printable ASCII.
+pub const BY_PASSWORD: u32 = 0;
+
+/// `secret`: The keys.
+pub const BY_KEYS: u32 = 1;
+
+/// `secret`: The keys if they are of the server's salt and iteration count, otherwise the typed password.
+pub const BY_PASSWORD_AND_KEYS: u32 = 2;
+
+/// `secret`: The prepared password (fe2o3_saslprep).
+pub const BY_PREPARED: u32 = 3;
+
+/// `secret`: The keys if they are of the server's salt and iteration count, otherwise the prepared password.
+pub const BY_PREPARED_AND_KEYS: u32 = 4;
+
+/// `unassigned`: It returns UNASSIGNED_CODE_POINT.
+pub const UNASSIGNED_REFUSED: u32 = 0;
+
+/// `unassigned`: It leaves them as they are.
+pub const UNASSIGNED_ALLOWED: u32 = 1;
+
+/// `offer`: SCRAM with the hash of the configuration.
+pub const OFFER_SCRAM: u32 = 1;
+
+/// `offer`: PLAIN, which sends the password in clear.
+pub const OFFER_PLAIN: u32 = 2;
+
+/// `offer`: ANONYMOUS.
+pub const OFFER_ANONYMOUS: u32 = 4;
+
+/// `offer`: EXTERNAL, if `external_authcid` is not empty.
+pub const OFFER_EXTERNAL: u32 = 8;
+
+/// `offer`: No mechanism: SCRAM also accepts the GS2 header `y,,`, like fe2o3_scram_server_first_with_cbind_flag_y.
+pub const ACCEPT_CBIND_FLAG_Y: u32 = 16;
+
+/// `progress`: The login goes on: the other side has to send more.
+pub const IN_PROGRESS: u32 = 0;
+
+/// `progress`: The login is complete.
+pub const AUTHENTICATED: u32 = 1;
+
+/// `progress`: The login has failed, and you have to close the connection.
+pub const FAILED: u32 = 2;
+
+/// `expected`: The protocol header.
+pub const EXPECTED_HEADER: u32 = 0;
+
+/// `expected`: The list of mechanisms.
+pub const EXPECTED_MECHANISMS: u32 = 1;
+
+/// `expected`: The init.
+pub const EXPECTED_INIT: u32 = 2;
+
+/// `expected`: The challenge, or already the outcome.
+pub const EXPECTED_CHALLENGE: u32 = 3;
+
+/// `expected`: The response.
+pub const EXPECTED_RESPONSE: u32 = 4;
+
+/// `expected`: The outcome.
+pub const EXPECTED_OUTCOME: u32 = 5;
+
+/// `scram_client_state`: It has sent nothing.
+pub const SCRAM_CLIENT_INITIAL: u32 = 0;
+
+/// `scram_client_state`: It has sent the client-first message.
+pub const SCRAM_CLIENT_FIRST_SENT: u32 = 1;
+
+/// `scram_client_state`: It has sent the client-final message, and expects the server's signature.
+pub const SCRAM_CLIENT_FINAL_SENT: u32 = 2;
+
+/// `scram_client_state`: The login is complete, and the server authenticated.
+pub const SCRAM_CLIENT_COMPLETE: u32 = 3;
+
+/// `scram_server_state`: No challenge is open, and no user is authenticated.
+pub const SCRAM_SERVER_INITIAL: u32 = 0;
+
+/// `scram_server_state`: A challenge is open, to a client whose GS2 header is `n,,`.
+pub const SCRAM_SERVER_CHALLENGE_OPEN: u32 = 1;
+
+/// `scram_server_state`: The user is authenticated.
+pub const SCRAM_SERVER_AUTHENTICATED: u32 = 2;
+
+/// `scram_server_state`: A challenge is open, to a client whose GS2 header is `y,,`.
+pub const SCRAM_SERVER_CHALLENGE_OPEN_CBIND_FLAG_Y: u32 = 3;
+
+/// `frame_kind`: The list of mechanisms.
+pub const KIND_MECHANISMS: u32 = 64;
+
+/// `frame_kind`: The init.
+pub const KIND_INIT: u32 = 65;
+
+/// `frame_kind`: The challenge.
+pub const KIND_CHALLENGE: u32 = 66;
+
+/// `frame_kind`: The response.
+pub const KIND_RESPONSE: u32 = 67;
+
+/// `frame_kind`: The outcome.
+pub const KIND_OUTCOME: u32 = 68;
+
+/// `sasl_code`: The login succeeded.
+pub const CODE_OK: u32 = 0;
+
+/// `sasl_code`: The credentials are wrong.
+pub const CODE_AUTH: u32 = 1;
+
+/// `sasl_code`: A system error.
+pub const CODE_SYS: u32 = 2;
+
+/// `sasl_code`: A permanent system error.
+pub const CODE_SYS_PERM: u32 = 3;
+
+/// `sasl_code`: A temporary system error.
+pub const CODE_SYS_TEMP: u32 = 4;
+
+/// A text that the library lends for as long as it is loaded.
+#[repr(C)]
+#[derive(Clone, Copy)]
+pub struct Text {
+    /// The bytes. The last one is zero.
+    pub bytes: *const u8,
+    pub bytes_len: usize,
+}
+
+/// What a server stores of a password: a SCRAM record (RFC 5802, section 3).
+#[repr(C)]
+#[derive(Clone, Copy)]
+pub struct ScramRecord {
+    /// The hash of the mechanism: one of the `scram_version` constants.
+    pub version: u32,
+    /// The iteration count.
+    pub iterations: u32,
+    /// The number of bytes of `salt` in use, at most 128.
+    pub salt_len: u32,
+    /// The salt.
+    pub salt: [u8; 128],
+    /// The StoredKey, with as many bytes as a digest of the hash.
+    pub stored_key: [u8; 64],
+    /// The ServerKey, with as many bytes as a digest of the hash.
+    pub server_key: [u8; 64],
+}
+
+/// The keys that a client can cache in place of its password. They are secret: they suffice to log in.
+#[repr(C)]
+#[derive(Clone, Copy)]
+pub struct ScramKeys {
+    /// The hash of the mechanism: one of the `scram_version` constants, or 0 if the struct holds no keys.
+    pub version: u32,
+    /// The iteration count for which the keys were derived.
+    pub iterations: u32,
+    /// The number of bytes of `salt` in use, at most 128.
+    pub salt_len: u32,
+    /// The salt for which the keys were derived.
+    pub salt: [u8; 128],
+    /// The ClientKey, with as many bytes as a digest of the hash.
+    pub client_key: [u8; 64],
+    /// The ServerKey, with as many bytes as a digest of the hash.
+    pub server_key: [u8; 64],
+}
+
+/// A user and a secret. You lend the struct to each call of an exchange, always with the same values.
+#[repr(C)]
+#[derive(Clone, Copy)]
+pub struct Login {
+    /// The hash of the mechanism: one of the `scram_version` constants.
+    pub version: u32,
+    /// What the client logs in with: one of the `secret` constants.
+    pub secret: u32,
+    /// The minimum iteration count that the client accepts. RFC 7677 requires at least 4096.
+    pub min_iterations: u32,
+    /// The maximum iteration count that the client accepts.
+    pub max_iterations: u32,
+    /// The user name, without escapes.
+    pub username: *const u8,
+    pub username_len: usize,
+    /// The password, typed or prepared.
+    pub password: *const u8,
+    pub password_len: usize,
+    /// The keys of an earlier login, or a struct of zeros.
+    pub keys: *const ScramKeys,
+}
+
+/// The state of a SCRAM client between calls. All zeros is a client that has sent nothing.
+///
+/// A call that succeeds writes zeros to every field that its new state does not use, and after every length. The struct
+/// never holds a password, and it holds keys only in `keys`.
+#[repr(C)]
+#[derive(Clone, Copy)]
+pub struct ScramClient {
+    /// How far the exchange is: one of the `scram_client_state` constants.
+    pub state: u32,
+    /// The number of bytes of `signature` in use.
+    pub signature_len: u32,
+    /// The nonce of the client-first message.
+    pub nonce: [u8; 32],
+    /// The ServerSignature that the client expects.
+    pub signature: [u8; 64],
+    /// The keys with which the client-final message was computed.
+    pub keys: ScramKeys,
+}
+
+/// The state of a SCRAM server between calls. All zeros is a server without an open challenge.
+///
+/// A call that succeeds writes zeros to every field that its new state does not use, and after every length. The struct
+/// never holds a password or a key of a record.
+#[repr(C)]
+#[derive(Clone, Copy)]
+pub struct ScramServer {
+    /// How far the exchange is: one of the `scram_server_state` constants.
+    pub state: u32,
+    /// The number of bytes of `user` in use.
+    pub user_len: u32,
+    /// The number of bytes of `bare` in use.
+    pub bare_len: u32,
+    /// The number of bytes of `nonce` in use.
+    pub nonce_len: u32,
+    /// The number of bytes of `first` in use.
+    pub first_len: u32,
+    /// The user name, without escapes. While a challenge is open the client only claims it; afterwards it is
+    /// authenticated.
+    pub user: [u8; 256],
+    /// The client-first message without its GS2 header.
+    pub bare: [u8; 1024],
+    /// The nonces of both sides.
+    pub nonce: [u8; 512],
+    /// The server-first message.
+    pub first: [u8; 1024],
+}
+
+/// One side of a connection between calls. All zeros is a connection that has received nothing.
 #[repr(C)]
 #[derive(Clone, Copy)]
 pub struct Connection {
-    /// 0 while more bytes are wanted, 1 once the client is logged in, and 2 once the connection is to be closed. So
-    /// behind an outcome a client stands at 1 where its code is Ok and, by SCRAM, it shows the signature that is waited
-    /// for; by the other mechanisms the server's word is all that there is. Behind an outcome of another code it stands
-    /// at 2, and so it does behind one that is Ok and does not show the signature. A server stands at 1 with the
-    /// outcome Ok that it writes, and at 2 with any other.
+    /// How far the login is: one of the `progress` constants.
+    ///
+    /// After an outcome frame, a client has AUTHENTICATED if the code is CODE_OK and, for SCRAM, the frame holds the
+    /// expected ServerSignature. The other mechanisms do not authenticate the server. Otherwise it has FAILED. A server
+    /// has AUTHENTICATED once it writes an outcome with CODE_OK, and FAILED once it writes another one.
     pub progress: u32,
-    /// Why it is to be closed: a status, as `REFUSED_AUTH` of an outcome that says so, or
-    /// `CLIENT_SERVER_SIGNATURE_MISMATCH` of a server that a client does not believe.
+    /// Why the login failed: a status, such as REFUSED_AUTH for an outcome with CODE_AUTH, or
+    /// CLIENT_SERVER_SIGNATURE_MISMATCH for a server that is not authenticated. OK unless `progress` is FAILED.
     pub why: u32,
-    /// What is due: 0 the other side's header, 1 the mechanisms, 2 the init, 3 the challenge, or at once the outcome, 4
-    /// the response, and 5 the outcome.
-    pub due: u32,
-    /// How many bytes of `held` there are.
+    /// What the other side has to send next: one of the `expected` constants.
+    pub expected: u32,
+    /// The number of bytes of `held` in use.
     pub held_len: u32,
-    /// What has come of the header or of the frame that is due.
+    /// The part of the expected header or frame that has been received.
     pub held: [u8; 512],
 }
 
-/// What the body of a frame says. What it shows are bytes of that body, where they stand.
+/// How a client logs in on a connection. You lend the struct to each call, always with the same values.
+#[repr(C)]
+#[derive(Clone, Copy)]
+pub struct SaslLogin {
+    /// One of the `mechanism` constants. SCRAM uses the hash of `login`.
+    pub mechanism: u32,
+    /// The hostname of the init frame. If empty, the init has none.
+    pub hostname: *const u8,
+    pub hostname_len: usize,
+    /// The user and the secret. PLAIN uses the name and the password. ANONYMOUS and EXTERNAL use nothing of it.
+    pub login: Login,
+}
+
+/// The client's side of a connection between calls. All zeros is a connection that has received nothing.
+#[repr(C)]
+#[derive(Clone, Copy)]
+pub struct SaslClient {
+    /// The connection.
+    pub connection: Connection,
+    /// The SCRAM client. After the login it holds the keys (`fe2o3_scram_client_get_keys`).
+    pub scram: ScramClient,
+}
+
+/// What a server offers, and the record of one user. You lend the struct to each call.
+#[repr(C)]
+#[derive(Clone, Copy)]
+pub struct SaslServerConfig {
+    /// The offered mechanisms: a sum of values of the `offer` constants. PLAIN sends the password in clear, so offer it
+    /// over TLS only.
+    pub mechanisms: u32,
+    /// The hash of SCRAM and of the record: one of the `scram_version` constants.
+    pub version: u32,
+    /// The iteration count with which PLAIN hashes the password of an unknown user.
+    pub iterations: u32,
+    /// The name of the user whose record this is, without escapes.
+    pub username: *const u8,
+    pub username_len: usize,
+    /// The record of the user. If it holds no record of `version`, no user is known.
+    pub record: *const ScramRecord,
+    /// The name of the client that the transport has authenticated, for instance by a certificate. EXTERNAL accepts it.
+    /// If empty, EXTERNAL is not offered, and an init for it fails with REFUSED_AUTH.
+    pub external_authcid: *const u8,
+    pub external_authcid_len: usize,
+}
+
+/// The server's side of a connection between calls. All zeros is a connection that has received nothing.
+#[repr(C)]
+#[derive(Clone, Copy)]
+pub struct SaslServer {
+    /// The connection.
+    pub connection: Connection,
+    /// The SCRAM server. After a login by any mechanism it holds the authenticated user
+    /// (`fe2o3_scram_server_authenticated_user`). ANONYMOUS has none.
+    pub scram: ScramServer,
+}
+
+/// The content of a frame body. Its pointers point into that body.
 #[repr(C)]
 #[derive(Clone, Copy)]
 pub struct SaslFrameView {
-    /// Which frame it is, by its descriptor: 64 the mechanisms, 65 an init, 66 a challenge, 67 a response, and 68 an
-    /// outcome.
+    /// Which frame it is: one of the `frame_kind` constants.
     pub kind: u32,
-    /// The code of an outcome, from 0 to 4, and else 0.
+    /// The code of an outcome: one of the `sasl_code` constants. Zero for other frames.
     pub code: u32,
-    /// 1 where there is a message, and else 0.
+    /// 1 if there is a message, otherwise 0.
     pub has_message: u32,
-    /// 1 where there is a hostname, and else 0.
+    /// 1 if there is a hostname, otherwise 0.
     pub has_hostname: u32,
-    /// How many mechanisms there are.
+    /// The number of mechanisms in a list of mechanisms.
     pub count: usize,
-    /// How many bytes of the body the frame takes. Those behind it are left alone.
+    /// The number of bytes of the body that the frame takes. Bytes after it are not read.
     pub taken: usize,
     /// The mechanism of an init.
     pub mechanism: *const u8,
     pub mechanism_len: usize,
-    /// The initial response, the challenge, the response, or what the mechanism says at its end.
+    /// The initial response, the challenge, the response, or the additional data of an outcome.
     pub message: *const u8,
     pub message_len: usize,
     /// The hostname of an init.
@@ -273,297 +579,48 @@ pub struct SaslFrameView {
     pub hostname_len: usize,
 }
 
-/// What a client keeps in place of its password: a secret, with which one can log in.
-#[repr(C)]
-#[derive(Clone, Copy)]
-pub struct ClientKeys {
-    /// 1, 256 or 512, for the mechanism's hash; 0 where there are no keys.
-    pub version: u32,
-    /// The iteration count that they are of.
-    pub iterations: u32,
-    /// How many bytes of `salt` there are.
-    pub salt_len: u32,
-    /// The salt that they are of.
-    pub salt: [u8; 128],
-    /// The ClientKey, as long as a digest of the hash.
-    pub client_key: [u8; 64],
-    /// The ServerKey, as long as a digest of the hash.
-    pub server_key: [u8; 64],
-}
-
-/// What a server keeps of a password.
-#[repr(C)]
-#[derive(Clone, Copy)]
-pub struct ScramRecord {
-    /// 1, 256 or 512, for the mechanism's hash.
-    pub version: u32,
-    /// The iteration count.
-    pub iterations: u32,
-    /// How many bytes of `salt` there are.
-    pub salt_len: u32,
-    /// The salt.
-    pub salt: [u8; 128],
-    /// The StoredKey, as long as a digest of the hash.
-    pub stored_key: [u8; 64],
-    /// The ServerKey, as long as a digest of the hash.
-    pub server_key: [u8; 64],
-}
-
-/// What a server keeps of an exchange. All zeros is a server without an open challenge. A call that succeeds writes
-/// zeros to every field that is not of the new state, and after every length. No password and no key of a record is
-/// kept.
-#[repr(C)]
-#[derive(Clone, Copy)]
-pub struct ScramServer {
-    /// 1 while a challenge is open, and 2 once its user has logged in.
-    pub stands: u32,
-    /// How many bytes of `user` there are.
-    pub user_len: u32,
-    /// How many bytes of `bare` there are.
-    pub bare_len: u32,
-    /// How many bytes of `nonce` there are.
-    pub nonce_len: u32,
-    /// How many bytes of `first` there are.
-    pub first_len: u32,
-    /// The plain name of the user.
-    pub user: [u8; 256],
-    /// The client-first message without its GS2 header.
-    pub bare: [u8; 1024],
-    /// The nonce of both sides.
-    pub nonce: [u8; 512],
-    /// The server-first message.
-    pub first: [u8; 1024],
-}
-
-/// Bytes that are lent for ever.
-#[repr(C)]
-#[derive(Clone, Copy)]
-pub struct Text {
-    /// The bytes, of which the last is zero.
-    pub bytes: *const u8,
-    pub bytes_len: usize,
-}
-
-/// Who logs in: lent for each call of an exchange, and the same for all of them.
-#[repr(C)]
-#[derive(Clone, Copy)]
-pub struct Login {
-    /// 1, 256 or 512, for the mechanism's hash.
-    pub version: u32,
-    /// 0 for the password as it is typed, 1 for the keys, and 2 for the keys where the server names the salt and the
-    /// count that they are of, and else the password as it is typed. 3 and 4 are 0 and 2 with a prepared password, as
-    /// `fe2o3_saslprep` writes one.
-    pub secret: u32,
-    /// The lowest iteration count that is answered. RFC 7677 asks for 4096 at least.
-    pub min_iterations: u32,
-    /// The highest iteration count that is answered.
-    pub max_iterations: u32,
-    /// The plain name of the user.
-    pub username: *const u8,
-    pub username_len: usize,
-    /// The password, as it is typed or prepared.
-    pub password: *const u8,
-    pub password_len: usize,
-    /// The keys that an earlier login handed out.
-    pub keys: *const ClientKeys,
-}
-
-/// What a client keeps of an exchange. All zeros is a client that has sent nothing. A call that succeeds writes zeros
-/// to every field that is not of the new state, and after every length. No password is kept, and no keys but those in
-/// `keys`.
-#[repr(C)]
-#[derive(Clone, Copy)]
-pub struct ScramClient {
-    /// What was sent last: 1 the client-first message, 2 the client-final message; 3 is a login whose server was
-    /// believed.
-    pub sent: u32,
-    /// How many bytes of `signature` there are.
-    pub signature_len: u32,
-    /// The nonce of the client-first message.
-    pub nonce: [u8; 32],
-    /// The signature that is waited for.
-    pub signature: [u8; 64],
-    /// The keys of the answer.
-    pub keys: ClientKeys,
-}
-
-/// What a server offers, and whose record it has: lent for each call.
-#[repr(C)]
-#[derive(Clone, Copy)]
-pub struct SaslHost {
-    /// Which mechanisms are offered: the sum of 1 for SCRAM of the version, 2 for PLAIN, 4 for ANONYMOUS, and 8 for
-    /// EXTERNAL where there is a peer; and of 16 where SCRAM takes a client whose GS2 header is `y,,`, as
-    /// `fe2o3_scram_server_first_with_cbind_flag_y` does. PLAIN shows the password to whoever reads the connection, and is for
-    /// TLS alone.
-    pub mechanisms: u32,
-    /// 1, 256 or 512, for the hash of SCRAM and of the record.
-    pub version: u32,
-    /// The iteration count with which PLAIN hashes the password of an unknown user.
-    pub iterations: u32,
-    /// The plain name of the user whose record is handed in.
-    pub username: *const u8,
-    pub username_len: usize,
-    /// The record of the user. Where the struct shows none of the version, nobody is known.
-    pub record: *const ScramRecord,
-    /// The name of the client that the transport has authenticated, which EXTERNAL lets in. Where it is empty the
-    /// transport has authenticated nobody: EXTERNAL is not offered, and an init of it is refused by `REFUSED_AUTH`.
-    pub peer: *const u8,
-    pub peer_len: usize,
-}
-
-/// What a server keeps of a connection between its calls. All zeros is one of which no byte has come.
-#[repr(C)]
-#[derive(Clone, Copy)]
-pub struct SaslServer {
-    /// The connection.
-    pub connection: Connection,
-    /// What SCRAM keeps. Once a client is logged in, it names the user of any mechanism
-    /// (`fe2o3_scram_server_authenticated_user`); ANONYMOUS names nobody.
-    pub scram: ScramServer,
-}
-
-/// Who logs in on a connection, and by which mechanism: lent for each call, and the same for all of them.
-#[repr(C)]
-#[derive(Clone, Copy)]
-pub struct SaslLogin {
-    /// 0 for SCRAM of the login's version, 1 for PLAIN, 2 for ANONYMOUS, and 3 for EXTERNAL.
-    pub mechanism: u32,
-    /// The hostname that the init names. Where it is empty the init names none.
-    pub hostname: *const u8,
-    pub hostname_len: usize,
-    /// The user and the secret. PLAIN takes the name and the password of it, ANONYMOUS and EXTERNAL nothing.
-    pub login: Login,
-}
-
-/// What a client keeps of a connection between its calls. All zeros is one of which no byte has come.
-#[repr(C)]
-#[derive(Clone, Copy)]
-pub struct SaslClient {
-    /// The connection.
-    pub connection: Connection,
-    /// What SCRAM keeps. Once the client is logged in, it hands out the keys (`fe2o3_scram_client_get_keys`).
-    pub scram: ScramClient,
-}
+/// The sizes of the structs here, in the order of the numbers of `fe2o3_size`.
+pub const SIZES: [usize; 11] = [
+    size_of::<Login>(),
+    size_of::<ScramClient>(),
+    size_of::<ScramKeys>(),
+    size_of::<ScramServer>(),
+    size_of::<ScramRecord>(),
+    size_of::<Connection>(),
+    size_of::<SaslLogin>(),
+    size_of::<SaslClient>(),
+    size_of::<SaslFrameView>(),
+    size_of::<SaslServerConfig>(),
+    size_of::<SaslServer>(),
+];
 
 extern "C" {
-    /// Writes the client-first message, which starts an exchange afresh at any time. The nonce is 32 random bytes,
-    /// fresh for each.
-    pub fn fe2o3_scram_client_first(
-        login: *const Login,
-        client: *mut ScramClient,
-        nonce: *const [u8; 32],
-        out: *mut u8,
-        out_size: usize,
-        len: *mut usize) -> u32;
+    /// Returns the version of the library: 10000 times the major, 100 times the minor, and the patch number.
+    pub fn fe2o3_version() -> u32;
 
-    /// Verifies the server-final message, or refuses it. The login is done only where the number is 0.
-    pub fn fe2o3_scram_client_verify(
-        login: *const Login,
-        client: *mut ScramClient,
-        server_final: *const u8,
-        server_final_len: usize) -> u32;
+    /// Returns how many bytes a struct has in the library. `which` is one of the `size_of` constants; other numbers
+    /// return 0. If your own `sizeof` differs, your header is of another version.
+    pub fn fe2o3_size(which: u32) -> usize;
 
-    /// Hands out the keys of a login whose server was believed: with them the next login to a server that keeps its
-    /// salt and its count takes no password, and two hashes of HMAC. Whoever has them can log in.
-    pub fn fe2o3_scram_client_get_keys(client: *const ScramClient, keys: *mut ClientKeys) -> u32;
+    /// Writes the text of a status to `text`. It ends with a zero byte and stays valid for as long as the library is
+    /// loaded.
+    pub fn fe2o3_status_text(status: u32, text: *mut Text);
 
-    /// Answers the server-first message with the client-final message. A room of 128 bytes more than the server-first
-    /// message suffices, and is asked for before any hash is made.
-    pub fn fe2o3_scram_client_final(
-        login: *const Login,
-        client: *mut ScramClient,
-        server_first: *const u8,
-        server_first_len: usize,
-        out: *mut u8,
-        out_size: usize,
-        len: *mut usize) -> u32;
-
-    /// Takes the body of a frame that the server sent, behind the four bytes of the frame's size, and writes the body
-    /// that is to be sent: the init to its mechanisms, the response to its challenge, and nothing (a length of 0) to
-    /// its outcome. Progress is 0 while the login goes on, 1 once the client is logged in, and the number of a refusal
-    /// (81 to 84) where the outcome is one; hand in no body after that. A room of 508 bytes suffices, and is asked for
-    /// before any hash is made. The nonce is 32 random bytes, fresh for each call.
+    /// Writes the text that SASLprep (RFC 4013) prepares `text` to. Printable ASCII is prepared to itself; other ASCII
+    /// is rejected.
     ///
-    /// It is for who reads the frames, refuses those of more than 512 bytes, and knows whose turn it is: a login takes
-    /// three bodies of the server, for PLAIN, ANONYMOUS and EXTERNAL two, and a server that may send more can have a
-    /// challenge hashed again and again. SCRAM stands at 1 only where the server has shown that it has the verifier
-    /// (RFC 5802, section 5). The others take any outcome at its word, also one before the init.
-    pub fn fe2o3_sasl_client_step(
-        login: *const SaslLogin,
-        client: *mut ScramClient,
-        body: *const u8,
-        body_len: usize,
-        nonce: *const [u8; 32],
-        progress: *mut u32,
-        out: *mut u8,
-        out_size: usize,
-        len: *mut usize) -> u32;
-
-    /// Reads the body of a frame, which begins with its data offset, behind the four bytes of its size. It takes no
-    /// memory.
-    pub fn fe2o3_sasl_view_frame(body: *const u8, body_len: usize, view: *mut SaslFrameView) -> u32;
-
-    /// Whether the body of a frame is a server's list of mechanisms with this one in it: 0, or `NOT_IMPLEMENTED` where
-    /// it is not in the list, and `OUT_OF_TURN` where the frame is another one.
-    pub fn fe2o3_sasl_offers(body: *const u8, body_len: usize, mechanism: *const u8, mechanism_len: usize) -> u32;
-
-    /// Makes the keys that stand in place of a password, for a server that keeps this salt and this count.
-    pub fn fe2o3_scram_keys_make(
-        version: u32,
-        password: *const u8,
-        password_len: usize,
-        salt: *const u8,
-        salt_len: usize,
-        iterations: u32,
-        keys: *mut ClientKeys) -> u32;
-
-    /// Makes the keys of a prepared password (RFC 4013), for a server that keeps this salt and this count: any text,
-    /// which is taken as it stands.
-    pub fn fe2o3_scram_keys_make_prepared(
-        version: u32,
-        password: *const u8,
-        password_len: usize,
-        salt: *const u8,
-        salt_len: usize,
-        iterations: u32,
-        keys: *mut ClientKeys) -> u32;
-
-    /// Finds the record of this version that a user has in a text of users, a line for each: the name, with each comma
-    /// as `=2C` and each equals sign as `=3D`, a space, the text of the record, and a line feed. Of several lines for
-    /// one name and version the first counts. Where nothing is found, `line` says which line is not read, counted from
-    /// 1, or 0 where each is.
-    pub fn fe2o3_scram_lines_find(
-        lines: *const u8,
-        lines_len: usize,
-        username: *const u8,
-        username_len: usize,
-        version: u32,
-        line: *mut usize,
-        kept: *mut ScramRecord) -> u32;
-
-    /// Writes the line of a user and a record, with its line feed, as `fe2o3_scram_lines_find` reads it. `NOT_WRITABLE`
-    /// where a line feed stands in the name, or the count is 0.
-    pub fn fe2o3_scram_line(
-        username: *const u8,
-        username_len: usize,
-        kept: *const ScramRecord,
-        out: *mut u8,
-        out_size: usize,
-        len: *mut usize) -> u32;
-
-    /// Writes what SASLprep (RFC 4013) prepares a text to, as a password is before it is compared or hashed: printable
-    /// ASCII to itself, and any other ASCII is refused. Unassigned is 0 where code points that Unicode 3.2 does not
-    /// assign are refused, as in a text that is stored, and 1 where they are allowed, as in one that is only compared
-    /// with stored ones (RFC 3454, section 7). What is prepared is handed in where a prepared password is asked for.
+    /// Prepare a non-ASCII password before you store or use it, and pass the result where a prepared password is
+    /// expected. `unassigned` is UNASSIGNED_REFUSED for a text that is stored, and UNASSIGNED_ALLOWED for one that is
+    /// only compared with stored texts (RFC 3454, section 7).
     pub fn fe2o3_saslprep(
         text: *const u8,
         text_len: usize,
         unassigned: u32,
         out: *mut u8,
         out_size: usize,
-        len: *mut usize) -> u32;
+        out_len: *mut usize) -> u32;
 
-    /// Makes the record of a password. Where the number is not 0, the struct stays as it was.
+    /// Computes the record of a typed password. The password has to be printable ASCII.
     pub fn fe2o3_scram_record_make(
         version: u32,
         password: *const u8,
@@ -573,8 +630,8 @@ extern "C" {
         iterations: u32,
         kept: *mut ScramRecord) -> u32;
 
-    /// Makes the record of a prepared password (RFC 4013), as `fe2o3_saslprep` writes one that is stored: any text,
-    /// which is taken as it stands. A client logs in by that very text alone.
+    /// Computes the record of a prepared password (`fe2o3_saslprep`): any text, used without change. A client logs in
+    /// with exactly that text.
     pub fn fe2o3_scram_record_make_prepared(
         version: u32,
         password: *const u8,
@@ -584,44 +641,190 @@ extern "C" {
         iterations: u32,
         kept: *mut ScramRecord) -> u32;
 
-    /// Reads the text of a record, as PostgreSQL writes it (RFC 5803, section 2).
-    pub fn fe2o3_scram_record_parse(text: *const u8, text_len: usize, kept: *mut ScramRecord) -> u32;
-
-    /// Writes the text of a record, as PostgreSQL reads it (RFC 5803, section 2): at most 384 bytes.
-    pub fn fe2o3_scram_record_text(kept: *const ScramRecord, out: *mut u8, out_size: usize, len: *mut usize) -> u32;
-
-    /// Makes up a record for a name that a server does not know, so that it can answer as to one that it knows: the
-    /// login is refused at its proof. The secret is 32 random bytes, the same for all names and kept as long as the
-    /// records; `made_salt_len`, of at most 64, and the count are those of the server's other records.
+    /// Computes a mock record for a name that the server does not know, so that it answers unknown users like known
+    /// ones. The login then fails at its proof.
+    ///
+    /// `secret` is 32 random bytes, one value for all names, kept as long as the records. `salt_len`, at most 64, and
+    /// `iterations` are those of the server's other records.
     pub fn fe2o3_scram_record_mock(
         version: u32,
         secret: *const u8,
         secret_len: usize,
         username: *const u8,
         username_len: usize,
-        made_salt_len: usize,
+        salt_len: usize,
         iterations: u32,
         kept: *mut ScramRecord) -> u32;
 
-    /// Whether a password that was told, as by PLAIN, is that of the record: 0 where it is. It hashes as often as the
-    /// record's count says, so the record is to be one of the caller's own.
+    /// Parses the text of a record, as PostgreSQL writes it (RFC 5803, section 2).
+    pub fn fe2o3_scram_record_parse(text: *const u8, text_len: usize, kept: *mut ScramRecord) -> u32;
+
+    /// Writes the text of a record, as PostgreSQL reads it (RFC 5803, section 2): at most 384 bytes.
+    pub fn fe2o3_scram_record_text(
+        kept: *const ScramRecord,
+        out: *mut u8,
+        out_size: usize,
+        out_len: *mut usize) -> u32;
+
+    /// Compares a typed password, for instance one received by PLAIN, with a record: OK if it is the record's,
+    /// OTHER_PASSWORD if not. It hashes as often as the record's iteration count says, so pass only records of your
+    /// own.
     pub fn fe2o3_scram_record_verify(kept: *const ScramRecord, password: *const u8, password_len: usize) -> u32;
 
-    /// Whether a prepared password (RFC 4013), which is taken as it stands, is that of the record: 0 where it is.
+    /// Compares a prepared password with a record, like `fe2o3_scram_record_verify`. The text is used without change.
     pub fn fe2o3_scram_record_verify_prepared(
         kept: *const ScramRecord,
         password: *const u8,
         password_len: usize) -> u32;
 
-    /// Writes the header of SASL, with which a client begins a connection.
-    pub fn fe2o3_sasl_client_open(out: *mut u8, out_size: usize, len: *mut usize) -> u32;
+    /// Finds the record of a user in a text that has a line for each record: the name with each comma as `=2C` and each
+    /// equals sign as `=3D`, a space, the text of the record, and a line feed. Of several lines for a name and version,
+    /// the first counts.
+    ///
+    /// If nothing is found, `line` is the number of the line that cannot be parsed, counted from 1, or 0 if every line
+    /// can.
+    pub fn fe2o3_scram_lines_find(
+        lines: *const u8,
+        lines_len: usize,
+        username: *const u8,
+        username_len: usize,
+        version: u32,
+        line: *mut usize,
+        kept: *mut ScramRecord) -> u32;
 
-    /// Takes bytes of the connection as they came, to the end of the header or of the frame that is due, and writes
-    /// what is to be sent, of at most 512 bytes, a room that is asked for before any hash is made. The number is 0 also
-    /// where these bytes close the connection, whose struct says so. Behind an outcome the connection stands at 1 where
-    /// its code is Ok and, by SCRAM, it shows the signature that is waited for; else at 2, and `why` says which. What
-    /// is left of the bytes is to be handed in again while more are wanted; behind a login it is AMQP's. The nonce is
-    /// 32 random bytes, fresh for each call.
+    /// Writes the line of a user and a record, with its line feed, as `fe2o3_scram_lines_find` reads it. Returns
+    /// NOT_WRITABLE if the name contains a line feed or the iteration count is 0.
+    pub fn fe2o3_scram_line(
+        username: *const u8,
+        username_len: usize,
+        kept: *const ScramRecord,
+        out: *mut u8,
+        out_size: usize,
+        out_len: *mut usize) -> u32;
+
+    /// Derives the keys of a typed password, for a server that uses this salt and iteration count. The password has to
+    /// be printable ASCII.
+    pub fn fe2o3_scram_keys_make(
+        version: u32,
+        password: *const u8,
+        password_len: usize,
+        salt: *const u8,
+        salt_len: usize,
+        iterations: u32,
+        keys: *mut ScramKeys) -> u32;
+
+    /// Derives the keys of a prepared password (`fe2o3_saslprep`), for a server that uses this salt and iteration
+    /// count. The text is used without change.
+    pub fn fe2o3_scram_keys_make_prepared(
+        version: u32,
+        password: *const u8,
+        password_len: usize,
+        salt: *const u8,
+        salt_len: usize,
+        iterations: u32,
+        keys: *mut ScramKeys) -> u32;
+
+    /// Writes the client-first message. This starts a new exchange, whatever the state of the client is. `nonce` is 32
+    /// fresh random bytes.
+    pub fn fe2o3_scram_client_first(
+        login: *const Login,
+        client: *mut ScramClient,
+        nonce: *const [u8; 32],
+        out: *mut u8,
+        out_size: usize,
+        out_len: *mut usize) -> u32;
+
+    /// Answers the server-first message with the client-final message. `out` needs 128 bytes more than the server-first
+    /// message has, which is tested before anything is hashed.
+    pub fn fe2o3_scram_client_final(
+        login: *const Login,
+        client: *mut ScramClient,
+        server_first: *const u8,
+        server_first_len: usize,
+        out: *mut u8,
+        out_size: usize,
+        out_len: *mut usize) -> u32;
+
+    /// Verifies the server-final message. Only OK means that the login is complete and the server authenticated.
+    pub fn fe2o3_scram_client_verify(
+        login: *const Login,
+        client: *mut ScramClient,
+        server_final: *const u8,
+        server_final_len: usize) -> u32;
+
+    /// Writes the keys of a complete login, for the next login to the same server. As long as the server keeps its salt
+    /// and iteration count, a login by keys needs no password and no PBKDF2. The keys are secret: they suffice to log
+    /// in.
+    pub fn fe2o3_scram_client_get_keys(client: *const ScramClient, keys: *mut ScramKeys) -> u32;
+
+    /// Writes the user name that a client-first message claims, without escapes. Nobody is authenticated yet: use it
+    /// only to look up the record.
+    pub fn fe2o3_scram_server_claimed_user(
+        client_first: *const u8,
+        client_first_len: usize,
+        out: *mut u8,
+        out_size: usize,
+        out_len: *mut usize) -> u32;
+
+    /// Answers a client-first message with the server-first message. This starts a new exchange, whatever the state of
+    /// the server is. The GS2 header of the message has to be `n,,`.
+    ///
+    /// `kept` is the record of the claimed user (`fe2o3_scram_server_claimed_user`), or a mock record
+    /// (`fe2o3_scram_record_mock`) for an unknown one. `nonce` is 32 fresh random bytes.
+    pub fn fe2o3_scram_server_first(
+        kept: *const ScramRecord,
+        server: *mut ScramServer,
+        nonce: *const [u8; 32],
+        client_first: *const u8,
+        client_first_len: usize,
+        out: *mut u8,
+        out_size: usize,
+        out_len: *mut usize) -> u32;
+
+    /// Answers a client-first message like `fe2o3_scram_server_first`, but also accepts the GS2 header `y,,`: the
+    /// client supports channel binding, and was offered no mechanism with `-PLUS` (RFC 5802, section 6). Only for a
+    /// server that offers none.
+    pub fn fe2o3_scram_server_first_with_cbind_flag_y(
+        kept: *const ScramRecord,
+        server: *mut ScramServer,
+        nonce: *const [u8; 32],
+        client_first: *const u8,
+        client_first_len: usize,
+        out: *mut u8,
+        out_size: usize,
+        out_len: *mut usize) -> u32;
+
+    /// Answers a client-final message with the server-final message, if its proof is right. Only OK means that the user
+    /// is authenticated.
+    ///
+    /// `kept` is the record that `fe2o3_scram_server_first` was called with. `out` needs 90 bytes, which is tested
+    /// before anything is hashed.
+    pub fn fe2o3_scram_server_final(
+        kept: *const ScramRecord,
+        server: *mut ScramServer,
+        client_final: *const u8,
+        client_final_len: usize,
+        out: *mut u8,
+        out_size: usize,
+        out_len: *mut usize) -> u32;
+
+    /// Writes the name of the authenticated user, without escapes. Returns SERVER_ILLEGAL_AUTHENTICATOR_STATE if no
+    /// user is authenticated.
+    pub fn fe2o3_scram_server_authenticated_user(
+        server: *const ScramServer,
+        out: *mut u8,
+        out_size: usize,
+        out_len: *mut usize) -> u32;
+
+    /// Writes the SASL protocol header, with which a client begins a connection.
+    pub fn fe2o3_sasl_client_open(out: *mut u8, out_size: usize, out_len: *mut usize) -> u32;
+
+    /// Takes received bytes, to the end of the expected header or frame, and writes the bytes to send, at most 512.
+    /// `out` needs 512 bytes, which is tested before anything is hashed. `nonce` is 32 fresh random bytes.
+    ///
+    /// OK does not mean that the login succeeds: look at `progress` and `why` of the connection. `taken` is how many
+    /// bytes were used. While `progress` is IN_PROGRESS, pass the rest in the next call; after the login it belongs to
+    /// AMQP.
     pub fn fe2o3_sasl_client_receive(
         login: *const SaslLogin,
         client: *mut SaslClient,
@@ -631,16 +834,31 @@ extern "C" {
         taken: *mut usize,
         out: *mut u8,
         out_size: usize,
-        len: *mut usize) -> u32;
+        out_len: *mut usize) -> u32;
 
-    /// Takes bytes of the connection as they came, to the end of the header or of the frame that is due, and writes
-    /// what is to be sent, of at most 520 bytes, a room that is asked for before any hash is made. What is left of the
-    /// bytes is to be handed in again while the connection stands at 0; behind a login it is AMQP's. Before it the
-    /// caller fetches the record of the user whom the bytes name (`fe2o3_sasl_server_claimed_user`), if they name one. The
-    /// nonce is 32 random bytes, fresh for each call. Where a name or a message has no room in the struct, the call is
-    /// refused by `TOO_LONG`, and the connection is to be closed.
+    /// Writes the user name that the next frame claims, if `bytes` complete it: that of an init for SCRAM or PLAIN, and
+    /// for a response that of the open challenge. Nobody is authenticated yet: use it only to look up the record for
+    /// `fe2o3_sasl_server_receive`. Returns NAMES_NO_USER if the frame is not complete or claims no name; then no
+    /// record is needed.
+    pub fn fe2o3_sasl_server_claimed_user(
+        server: *const SaslServer,
+        bytes: *const u8,
+        bytes_len: usize,
+        out: *mut u8,
+        out_size: usize,
+        out_len: *mut usize) -> u32;
+
+    /// Takes received bytes, to the end of the expected header or frame, and writes the bytes to send, at most 520.
+    /// `out` needs 520 bytes, which is tested before anything is hashed. `nonce` is 32 fresh random bytes.
+    ///
+    /// Before the call, look up the record of the user that the bytes claim (`fe2o3_sasl_server_claimed_user`). OK does
+    /// not mean that the login succeeds: look at `progress` and `why` of the connection. `taken` is how many bytes were
+    /// used. While `progress` is IN_PROGRESS, pass the rest in the next call; after the login it belongs to AMQP.
+    ///
+    /// If a name or a message does not fit into the struct, the call returns TOO_LONG, and you have to close the
+    /// connection.
     pub fn fe2o3_sasl_server_receive(
-        host: *const SaslHost,
+        config: *const SaslServerConfig,
         server: *mut SaslServer,
         bytes: *const u8,
         bytes_len: usize,
@@ -648,80 +866,65 @@ extern "C" {
         taken: *mut usize,
         out: *mut u8,
         out_size: usize,
-        len: *mut usize) -> u32;
+        out_len: *mut usize) -> u32;
 
-    /// Answers a client-first message with the server-first message, which starts an exchange afresh at any time. The
-    /// GS2 header of the message has to be `n,,`. The record is that of the user whom the message names
-    /// (`fe2o3_scram_server_claimed_user`), or one that is made up (`fe2o3_scram_record_mock`). The nonce is 32 random
-    /// bytes, fresh for each.
-    pub fn fe2o3_scram_server_first(
-        kept: *const ScramRecord,
-        server: *mut ScramServer,
-        nonce: *const [u8; 32],
-        client_first: *const u8,
-        client_first_len: usize,
-        out: *mut u8,
-        out_size: usize,
-        len: *mut usize) -> u32;
-
-    /// As `fe2o3_scram_server_first`, and the GS2 header may be `y,,` too: that of a client which could bind a channel
-    /// and believes that the server cannot, since it was offered no mechanism with `-PLUS` (RFC 5802, section 6). Only
-    /// for a server that offers none.
-    pub fn fe2o3_scram_server_first_with_cbind_flag_y(
-        kept: *const ScramRecord,
-        server: *mut ScramServer,
-        nonce: *const [u8; 32],
-        client_first: *const u8,
-        client_first_len: usize,
-        out: *mut u8,
-        out_size: usize,
-        len: *mut usize) -> u32;
-
-    /// Writes the plain name of the user whom a client-first message names, and whose record is to be fetched.
-    pub fn fe2o3_scram_server_claimed_user(
-        client_first: *const u8,
-        client_first_len: usize,
-        out: *mut u8,
-        out_size: usize,
-        len: *mut usize) -> u32;
-
-    /// Answers a client-final message with the server-final message, where its proof meets the record: the user is
-    /// logged in only where the number is 0. The record is the one of `fe2o3_scram_server_first`. A room of 90 bytes
-    /// suffices, and is asked for before any hash is made.
-    pub fn fe2o3_scram_server_final(
-        kept: *const ScramRecord,
-        server: *mut ScramServer,
-        client_final: *const u8,
-        client_final_len: usize,
-        out: *mut u8,
-        out_size: usize,
-        len: *mut usize) -> u32;
-
-    /// Writes the plain name of the user who has logged in: the one whose challenge was answered.
-    pub fn fe2o3_scram_server_authenticated_user(
-        server: *const ScramServer,
-        out: *mut u8,
-        out_size: usize,
-        len: *mut usize) -> u32;
-
-    /// Writes the body of the frame with which a server offers its mechanisms, to whoever has sent the header of SASL.
-    pub fn fe2o3_sasl_server_offer(host: *const SaslHost, out: *mut u8, out_size: usize, len: *mut usize) -> u32;
-
-    /// Takes the body of a frame that the client sent, behind the four bytes of the frame's size, and writes the body
-    /// that is to be sent: a challenge, or the outcome. Progress is 0 while the login goes on, 1 once the client is
-    /// logged in, and the number of a refusal (81 to 84) where the outcome is one, which is to be sent too; hand in no
-    /// body after that. A room of 508 bytes suffices, and is asked for before any hash is made. Before the call the
-    /// caller fetches the record of the user whom the body names (`fe2o3_sasl_server_step_claimed_user`), if it names one. Once
-    /// the client is logged in, the struct names the user of any mechanism (`fe2o3_scram_server_authenticated_user`); ANONYMOUS
-    /// names nobody. The nonce is 32 random bytes, fresh for each call.
+    /// Takes a frame body that the server sent, without the four bytes of the frame's size, and writes the body to
+    /// send: the init for the mechanisms, the response for a challenge, and nothing (`out_len` is 0) for the outcome.
+    /// `out` needs 508 bytes, which is tested before anything is hashed. `nonce` is 32 fresh random bytes.
     ///
-    /// It is for who reads the frames, refuses those of more than 512 bytes, and knows whose turn it is: a login takes
-    /// an init and for SCRAM one response, and a client that may send more can try again and again. A response without
-    /// a challenge is answered by an outcome that refuses, and a frame that no client sends is refused by
-    /// `NO_SASL_FRAME`. Where a name or a message has no room in the struct, the call is refused by `TOO_LONG`, and the
-    /// connection is to be closed.
+    /// `progress` is IN_PROGRESS while the login goes on, AUTHENTICATED once it is complete, and from REFUSED_AUTH to
+    /// REFUSED_SYS_TEMP if the outcome refuses it. Pass no body after that.
+    ///
+    /// This call is for programs that read frames themselves, reject those above 512 bytes, and limit their number. A
+    /// login takes three bodies of the server for SCRAM, and two for the other mechanisms. A server that may send more
+    /// can make the client hash again and again. For SCRAM, AUTHENTICATED means that the server is authenticated (RFC
+    /// 5802, section 5). The other mechanisms accept any outcome, even one before the init.
+    pub fn fe2o3_sasl_client_step(
+        login: *const SaslLogin,
+        client: *mut ScramClient,
+        body: *const u8,
+        body_len: usize,
+        nonce: *const [u8; 32],
+        progress: *mut u32,
+        out: *mut u8,
+        out_size: usize,
+        out_len: *mut usize) -> u32;
+
+    /// Writes the frame body with which a server offers its mechanisms. Send it after the client's SASL header.
+    pub fn fe2o3_sasl_server_offer(
+        config: *const SaslServerConfig,
+        out: *mut u8,
+        out_size: usize,
+        out_len: *mut usize) -> u32;
+
+    /// Writes the user name that a frame body claims: that of an init for SCRAM or PLAIN, and for a response that of
+    /// the open challenge. Nobody is authenticated yet: use it only to look up the record for `fe2o3_sasl_server_step`.
+    /// Returns NAMES_NO_USER if the body claims no name; then no record is needed.
+    pub fn fe2o3_sasl_server_step_claimed_user(
+        server: *const ScramServer,
+        body: *const u8,
+        body_len: usize,
+        out: *mut u8,
+        out_size: usize,
+        out_len: *mut usize) -> u32;
+
+    /// Takes a frame body that the client sent, without the four bytes of the frame's size, and writes the body to
+    /// send: a challenge, or the outcome. `out` needs 508 bytes, which is tested before anything is hashed. `nonce` is
+    /// 32 fresh random bytes.
+    ///
+    /// Before the call, look up the record of the user that the body claims (`fe2o3_sasl_server_step_claimed_user`).
+    /// `progress` is IN_PROGRESS while the login goes on, AUTHENTICATED once it is complete, and from REFUSED_AUTH to
+    /// REFUSED_SYS_TEMP if the outcome refuses it. Send that outcome too, and pass no body after it. After a login by
+    /// any mechanism the struct holds the authenticated user (`fe2o3_scram_server_authenticated_user`). ANONYMOUS has
+    /// none.
+    ///
+    /// This call is for programs that read frames themselves, reject those above 512 bytes, and limit their number. A
+    /// login takes an init, and for SCRAM one response. A client that may send more can try passwords again and again.
+    /// A response without a challenge is answered by an outcome that refuses. A frame that no client sends returns
+    /// NO_SASL_FRAME. If a name or a message does not fit into the struct, the call returns TOO_LONG, and you have to
+    /// close the connection.
     pub fn fe2o3_sasl_server_step(
-        host: *const SaslHost,
+        config: *const SaslServerConfig,
         server: *mut ScramServer,
         body: *const u8,
         body_len: usize,
@@ -729,40 +932,12 @@ extern "C" {
         progress: *mut u32,
         out: *mut u8,
         out_size: usize,
-        len: *mut usize) -> u32;
+        out_len: *mut usize) -> u32;
 
-    /// Writes the plain name of the user whom the body of a frame names, and whose record is to be fetched before it is
-    /// taken: that of an init of SCRAM or PLAIN, and for a response that of the open challenge. Where it names nobody,
-    /// the number is that of `NAMES_NOBODY`, and no record is needed.
-    pub fn fe2o3_sasl_server_step_claimed_user(
-        server: *const ScramServer,
-        body: *const u8,
-        body_len: usize,
-        out: *mut u8,
-        out_size: usize,
-        len: *mut usize) -> u32;
+    /// Parses a frame body, without the four bytes of the frame's size. It allocates no memory.
+    pub fn fe2o3_sasl_view_frame(body: *const u8, body_len: usize, view: *mut SaslFrameView) -> u32;
 
-    /// Writes the plain name of the user whom the frame names that these bytes complete, and whose record is to be
-    /// fetched before they are taken: that of an init of SCRAM or PLAIN, and for a response that of the open challenge.
-    /// Where they complete no frame, or one that names nobody, the number is that of `NAMES_NOBODY`, and no record is
-    /// needed.
-    pub fn fe2o3_sasl_server_claimed_user(
-        server: *const SaslServer,
-        bytes: *const u8,
-        bytes_len: usize,
-        out: *mut u8,
-        out_size: usize,
-        len: *mut usize) -> u32;
-
-    /// Lends the text of a status for ever, with a zero behind it.
-    pub fn fe2o3_status_text(status: u32, text: *mut Text);
-
-    /// The version of the library: its three numbers, each of two digits.
-    pub fn fe2o3_version() -> u32;
-
-    /// How many bytes a struct has here: 0 `fe2o3_login`, 1 `fe2o3_scram_client`, 2 `fe2o3_scram_keys`, 3
-    /// `fe2o3_scram_server`, 4 `fe2o3_scram_record`, 5 `fe2o3_connection`, 6 `fe2o3_sasl_login`, 7 `fe2o3_sasl_client`,
-    /// 8 `fe2o3_sasl_frame_view`, 9 `fe2o3_sasl_server_config`, 10 `fe2o3_sasl_server`; of other numbers 0. A caller whose own
-    /// declarations have other sizes has another header.
-    pub fn fe2o3_size(which: u32) -> usize;
+    /// Tests whether a frame body is a list of mechanisms with `mechanism` in it. Returns NOT_IMPLEMENTED if the list
+    /// lacks it, and UNEXPECTED_FRAME for another frame.
+    pub fn fe2o3_sasl_offers(body: *const u8, body_len: usize, mechanism: *const u8, mechanism_len: usize) -> u32;
 }

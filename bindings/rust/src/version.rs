@@ -2,7 +2,7 @@
 
 use crate::sys;
 
-/// Which hash a SCRAM mechanism stands on.
+/// The hash of a SCRAM mechanism.
 #[derive(Clone, Copy, Debug, PartialEq, Eq)]
 pub enum ScramVersion {
     /// SHA-1
@@ -16,7 +16,7 @@ pub enum ScramVersion {
 }
 
 impl ScramVersion {
-    /// The name of the SASL mechanism.
+    /// Returns the name of the SASL mechanism.
     ///
     /// ```
     /// assert_eq!(fe2o3_sasl_proved::ScramVersion::Sha256.mechanism(), "SCRAM-SHA-256");
@@ -29,7 +29,7 @@ impl ScramVersion {
         }
     }
 
-    /// How many bytes a digest has.
+    /// Returns how many bytes a digest has.
     pub(crate) fn digest_len(self) -> usize {
         match self {
             ScramVersion::Sha1 => 20,
@@ -38,7 +38,7 @@ impl ScramVersion {
         }
     }
 
-    /// The number of the version in the structs of the library.
+    /// Returns the number of the version in the structs of the library.
     pub(crate) fn number(self) -> u32 {
         match self {
             ScramVersion::Sha1 => 1,
@@ -47,13 +47,13 @@ impl ScramVersion {
         }
     }
 
-    /// The version of a record that the library wrote.
+    /// Returns the version of a record that the library wrote.
     pub(crate) fn of_record(record: &sys::ScramRecord) -> Self {
         Self::of_number(record.version)
     }
 
-    /// The version of keys that the library wrote.
-    pub(crate) fn of_keys(keys: &sys::ClientKeys) -> Self {
+    /// Returns the version of keys that the library wrote.
+    pub(crate) fn of_keys(keys: &sys::ScramKeys) -> Self {
         Self::of_number(keys.version)
     }
 

@@ -76,10 +76,10 @@ fn logins_by_scram() {
         (ScramVersion::Sha512, "SCRAM-SHA-512"),
     ] {
         let (side, last) = connected(ScramClient::new("user", "pencil", version), version, mechanism);
-        assert_eq!((side.progress(), last.sent.len()), (Progress::LoggedIn, 0));
+        assert_eq!((side.progress(), last.sent.len()), (Progress::Authenticated, 0));
         assert!(side.keys().is_some());
         let (side, _) = connected(ScramClient::new("user", "pencils", version), version, mechanism);
-        assert_eq!(side.progress(), Progress::Closed(ConnectionError::RefusedAuth));
+        assert_eq!(side.progress(), Progress::Failed(ConnectionError::RefusedAuth));
         assert!(side.keys().is_none());
     }
 }
@@ -96,7 +96,7 @@ fn other_mechanisms() {
         let init = fields(&side.receive(&offer(name)).unwrap().sent);
         assert_eq!((init[0].as_deref(), init.get(1).cloned().flatten()), (Some(name.as_bytes()), says));
         side.receive(&frame(OUTCOME, &[&[0x50, 0]])).unwrap();
-        assert_eq!(side.progress(), Progress::LoggedIn);
+        assert_eq!(side.progress(), Progress::Authenticated);
     }
 }
 
@@ -123,7 +123,7 @@ fn refusals() {
     ] {
         let mut side = side();
         assert!(side.receive(&bytes).unwrap().sent.is_empty());
-        assert_eq!(side.progress(), Progress::Closed(why));
+        assert_eq!(side.progress(), Progress::Failed(why));
         assert!(!why.to_string().is_empty() && why.scram().is_none());
         // what has ended takes nothing
         assert_eq!(side.receive(b"bytes"), Ok(Received { taken: 0, sent: Vec::new() }));
@@ -131,7 +131,7 @@ fn refusals() {
     let mut side = side();
     side.receive(&offer("SCRAM-SHA-256")).unwrap();
     side.receive(&frame(CHALLENGE, &[&binary(b"r=x,s=AAAA,i=4096")])).unwrap();
-    let Progress::Closed(why) = side.progress() else { panic!("the challenge is refused") };
+    let Progress::Failed(why) = side.progress() else { panic!("the challenge is refused") };
     assert_eq!(why.scram(), Some(ScramErrorKind::ClientNonceMismatch));
 }
 
@@ -148,20 +148,20 @@ fn both_sides() {
     let plain = |password: &str| SaslProfile::Plain { username: "user".to_owned(), password: password.to_owned() };
     let scram = |password: &str| ScramClient::new("user", password, ScramVersion::Sha256).into();
     let all = Offers { scram: true, plain: true, anonymous: true, external: true };
-    let refused = Progress::Closed(ConnectionError::RefusedAuth);
+    let refused = Progress::Failed(ConnectionError::RefusedAuth);
     for (profile, progress, user) in [
-        (scram("pencil"), Progress::LoggedIn, Some("user")),
-        (plain("pencil"), Progress::LoggedIn, Some("user")),
-        (SaslProfile::External, Progress::LoggedIn, Some("peer")),
-        (SaslProfile::Anonymous, Progress::LoggedIn, None),
+        (scram("pencil"), Progress::Authenticated, Some("user")),
+        (plain("pencil"), Progress::Authenticated, Some("user")),
+        (SaslProfile::External, Progress::Authenticated, Some("peer")),
+        (SaslProfile::Anonymous, Progress::Authenticated, None),
         (scram("pencils"), refused, None),
         (plain("pencils"), refused, None),
     ] {
         let mut client = ClientNegotiation::new(profile, None);
-        let mut side = ServerNegotiation::new(server(ScramVersion::Sha256), all).with_peer("peer");
+        let mut side = ServerNegotiation::new(server(ScramVersion::Sha256), all).with_external_authcid("peer");
         joined(&mut client, &mut side);
         assert_eq!((client.progress(), side.progress()), (progress, progress));
-        assert_eq!(side.user().as_deref(), user);
+        assert_eq!(side.authenticated_user().as_deref(), user);
     }
 }
 
@@ -172,7 +172,7 @@ fn a_client_that_could_bind_a_channel() {
     let came = [HEADER, &init].concat();
     let mut side = ServerNegotiation::new(server(ScramVersion::Sha256), Offers::scram());
     side.receive(&came).unwrap();
-    assert_eq!(side.progress(), Progress::Closed(ConnectionError::RefusedAuth));
+    assert_eq!(side.progress(), Progress::Failed(ConnectionError::RefusedAuth));
     let mut side = ServerNegotiation::new(server(ScramVersion::Sha256).accept_cbind_flag_y(), Offers::scram());
     let sent = side.receive(&came).unwrap().sent;
     assert_eq!(side.progress(), Progress::InProgress);
@@ -188,5 +188,5 @@ fn a_server_that_offers_nothing() {
     assert_eq!(side.receive(HEADER), Err(ConnectionError::NoSuchMechanism));
     let mut side = ServerNegotiation::new(server(ScramVersion::Sha1), Offers::scram());
     assert!(side.receive(b"AMQP\0\x01\0\0").unwrap().sent.starts_with(HEADER));
-    assert_eq!(side.progress(), Progress::Closed(ConnectionError::ProtocolHeaderMismatch));
+    assert_eq!(side.progress(), Progress::Failed(ConnectionError::ProtocolHeaderMismatch));
 }

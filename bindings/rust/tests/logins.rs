@@ -58,10 +58,10 @@ fn the_library_is_the_one_of_the_declarations() {
 fn logins_by_password() {
     for version in VERSIONS {
         let mut server = server(version, &SALT);
-        assert_eq!(server.user(), None);
+        assert_eq!(server.authenticated_user(), None);
         let mut client = ScramClient::new("user", "pencil", version).with_min_iterations(4096);
         assert_eq!(log_in(&mut client, &mut server), Ok(()));
-        assert_eq!(server.user().as_deref(), Some("user"));
+        assert_eq!(server.authenticated_user().as_deref(), Some("user"));
     }
 }
 
@@ -71,7 +71,7 @@ fn a_name_that_is_escaped() {
     let record = record(ScramVersion::Sha256, &SALT);
     let mut server = ScramAuthenticator::new(SingleScramCredential::with_record(name, record));
     assert_eq!(log_in(&mut ScramClient::new(name, "pencil", ScramVersion::Sha256), &mut server), Ok(()));
-    assert_eq!(server.user().as_deref(), Some(name));
+    assert_eq!(server.authenticated_user().as_deref(), Some(name));
 }
 
 #[test]
@@ -110,7 +110,7 @@ fn a_wrong_password() {
     for version in VERSIONS {
         let mut server = server(version, &SALT);
         assert_eq!(log_in(&mut ScramClient::new("user", "pencils", version), &mut server), refused);
-        assert_eq!(server.user(), None);
+        assert_eq!(server.authenticated_user(), None);
         assert_eq!(log_in(&mut ScramClient::new("user", "pencil", version), &mut server), Ok(()));
     }
 }
@@ -122,7 +122,7 @@ fn an_unknown_user() {
         let mut stranger = ScramClient::new("nobody", "pencil", version);
         assert_eq!(log_in(&mut stranger, &mut server(version, &SALT)), Err(Refused::NoSuchUser));
 
-        let mut hiding = server(version, &SALT).hiding_unknown_users(SECRET, SALT.len(), 4096);
+        let mut hiding = server(version, &SALT).mock_unknown_users(SECRET, SALT.len(), 4096);
         assert_eq!(log_in(&mut stranger, &mut hiding), refused);
         assert_eq!(log_in(&mut ScramClient::new("user", "pencil", version), &mut hiding), Ok(()));
 
@@ -236,7 +236,7 @@ fn a_client_that_could_bind_a_channel() {
     assert_eq!(server.compute_server_final_message(other_final.as_bytes()), Err(InvalidChannelBinding));
     let server_final = server.compute_server_final_message(client_final.as_bytes()).unwrap().unwrap();
     assert_eq!(text(&server_final), "v=mZx4E2gu+jcdDC0u/pNy5NPrR0Zh6PMH8UcHTIgvIxU=");
-    assert_eq!(server.user().as_deref(), Some("user"));
+    assert_eq!(server.authenticated_user().as_deref(), Some("user"));
 
     // and one that could not
     let mut client = ScramClient::new("user", "pencil", ScramVersion::Sha256);
@@ -329,7 +329,7 @@ fn what_a_server_refuses_first() {
     }
     let long = format!("n,,n=user,r={}", "x".repeat(512));
     assert_eq!(server.compute_server_first_message(long.as_bytes()), Err(TooLong));
-    let mut answers_all = self::server(ScramVersion::Sha256, &SALT).hiding_unknown_users(SECRET, 16, 4096);
+    let mut answers_all = self::server(ScramVersion::Sha256, &SALT).mock_unknown_users(SECRET, 16, 4096);
     let mut named = |len| answers_all.compute_server_first_message(format!("n,,n={},r=x", "u".repeat(len)).as_bytes());
     assert!(matches!(named(256), Ok(Some(_))));
     assert_eq!(named(257), Err(TooLong));
@@ -361,11 +361,11 @@ fn what_a_server_refuses_last() {
     assert_eq!(server.compute_server_final_message(b"\xff"), Err(Utf8Error));
     assert_eq!(server.compute_server_first_message(b"y,,"), Err(CannotParseGs2Header));
     assert_eq!(server.compute_server_first_message(b"n,,n=nobody,r=x"), Ok(None));
-    assert_eq!(server.user(), None);
+    assert_eq!(server.authenticated_user(), None);
     // None of them has closed the challenge: its answer still logs in, and once only.
     let server_final = server.compute_server_final_message(&client_final).unwrap().unwrap();
     assert_eq!(client.validate_server_final(&server_final), Ok(()));
-    assert_eq!(server.user().as_deref(), Some("user"));
+    assert_eq!(server.authenticated_user().as_deref(), Some("user"));
     assert_eq!(server.compute_server_final_message(&client_final), Err(IllegalAuthenticatorState));
     assert_eq!(client.validate_server_final(&server_final), Err(ScramErrorKind::IllegalClientState));
 }

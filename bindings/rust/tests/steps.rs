@@ -25,7 +25,7 @@ const SIGNATURE: &str = "50uHbJV+ANf1NSOfnBbK910b8IC4PmQ5G06TO7VnXz8=";
 const UNBOUND_PROOF: &str = "SJ1/Pm0x+vAkhmfEkR72IPuVMVkUt0BF477aSDSc3vM=";
 const UNBOUND_SIGNATURE: &str = "mZx4E2gu+jcdDC0u/pNy5NPrR0Zh6PMH8UcHTIgvIxU=";
 
-const REFUSED: Progress = Progress::Closed(ConnectionError::RefusedAuth);
+const REFUSED: Progress = Progress::Failed(ConnectionError::RefusedAuth);
 
 fn nonce(first: u8) -> [u8; 32] {
     let mut nonce = [0; 32];
@@ -79,13 +79,13 @@ type Store = SingleScramCredential;
 
 fn server(version: ScramVersion, offers: Offers) -> ServerSteps<Store> {
     let credential = SingleScramCredential::with_record("user", record(version));
-    ServerSteps::new(ScramAuthenticator::new(credential), offers).with_peer("peer")
+    ServerSteps::new(ScramAuthenticator::new(credential), offers).with_external_authcid("peer")
 }
 
 /// The same, which hides the users whom it does not know.
 fn hiding(version: ScramVersion) -> ServerSteps<Store> {
     let credential = SingleScramCredential::with_record("user", record(version));
-    let server = ScramAuthenticator::new(credential).hiding_unknown_users([3; 32], SALT.len(), 4096);
+    let server = ScramAuthenticator::new(credential).mock_unknown_users([3; 32], SALT.len(), 4096);
     ServerSteps::new(server, Offers::scram())
 }
 
@@ -132,8 +132,8 @@ fn each_body_of_a_login() {
     assert_eq!((client.progress(), server.progress()), (Progress::InProgress, Progress::InProgress));
     let last = server.on_frame_with(&response.body, &nonce(4)).unwrap();
     assert_eq!(last.body, body(OUTCOME, &[&[0x50, 0], &binary(&format!("v={SIGNATURE}"))]));
-    assert_eq!(client.on_frame(&last.body), Ok(Answered { body: Vec::new(), progress: Progress::LoggedIn }));
-    assert_eq!((server.progress(), server.user().as_deref()), (Progress::LoggedIn, Some("user")));
+    assert_eq!(client.on_frame(&last.body), Ok(Answered { body: Vec::new(), progress: Progress::Authenticated }));
+    assert_eq!((server.progress(), server.authenticated_user().as_deref()), (Progress::Authenticated, Some("user")));
 }
 
 #[test]
@@ -152,7 +152,7 @@ fn a_client_that_could_bind_a_channel() {
     assert_eq!(challenge.body, body(CHALLENGE, &[&binary(&format!("{both},s={SALT_TEXT},i=4096"))]));
     let last = server.on_frame(&response).unwrap();
     assert_eq!(last.body, body(OUTCOME, &[&[0x50, 0], &binary(&format!("v={UNBOUND_SIGNATURE}"))]));
-    assert_eq!((server.progress(), server.user().as_deref()), (Progress::LoggedIn, Some("user")));
+    assert_eq!((server.progress(), server.authenticated_user().as_deref()), (Progress::Authenticated, Some("user")));
 }
 
 #[test]
@@ -164,7 +164,7 @@ fn prepared_passwords() {
     let client = ScramClient::with_prepared_password("user", password, ScramVersion::Sha256);
     let (mut side, mut other) = (ClientSteps::new(client, None), server());
     assert_eq!(joined(&mut side, &mut other), Ok(()));
-    assert_eq!((side.progress(), other.user().as_deref()), (Progress::LoggedIn, Some("user")));
+    assert_eq!((side.progress(), other.authenticated_user().as_deref()), (Progress::Authenticated, Some("user")));
 }
 
 #[test]
@@ -173,20 +173,20 @@ fn logins_by_scram() {
         let mut side = server(version, Offers::scram());
         assert_eq!(side.sasl_mechanisms().unwrap(), list_of(&[version.mechanism()]));
         let mut client = ClientSteps::new(ScramClient::new("user", "pencil", version), None);
-        assert_eq!((joined(&mut client, &mut side), side.user().as_deref()), (Ok(()), Some("user")));
-        assert_eq!((client.progress(), side.progress()), (Progress::LoggedIn, Progress::LoggedIn));
+        assert_eq!((joined(&mut client, &mut side), side.authenticated_user().as_deref()), (Ok(()), Some("user")));
+        assert_eq!((client.progress(), side.progress()), (Progress::Authenticated, Progress::Authenticated));
 
         let keys = client.keys().unwrap();
         let mut by_keys = ClientSteps::new(ScramClient::with_keys("user", keys), None);
         assert_eq!(joined(&mut by_keys, &mut server(version, Offers::scram())), Ok(()));
-        assert_eq!(by_keys.progress(), Progress::LoggedIn);
+        assert_eq!(by_keys.progress(), Progress::Authenticated);
 
         let sides = || [server(version, Offers::scram()), hiding(version)];
         let strangers = [("user", "pencils"), ("nobody", "pencil")];
         for ((user, password), mut side) in strangers.into_iter().flat_map(|who| sides().map(|side| (who, side))) {
             let mut client = ClientSteps::new(ScramClient::new(user, password, version), None);
             assert_eq!(joined(&mut client, &mut side), Ok(()));
-            assert_eq!((client.progress(), side.progress(), side.user()), (REFUSED, REFUSED, None));
+            assert_eq!((client.progress(), side.progress(), side.authenticated_user()), (REFUSED, REFUSED, None));
             assert!(client.keys().is_none());
         }
     }
@@ -196,10 +196,10 @@ fn logins_by_scram() {
 fn other_mechanisms() {
     let asked = |name: &str, response: &[u8]| body(INIT, &[&symbol(name), response, &short(0xa1, b"host")]);
     for (profile, init, progress, user) in [
-        (plain("pencil"), asked("PLAIN", &binary("\0user\0pencil")), Progress::LoggedIn, Some("user")),
+        (plain("pencil"), asked("PLAIN", &binary("\0user\0pencil")), Progress::Authenticated, Some("user")),
         (plain("pencils"), asked("PLAIN", &binary("\0user\0pencils")), REFUSED, None),
-        (SaslProfile::Anonymous, asked("ANONYMOUS", NULL), Progress::LoggedIn, None),
-        (SaslProfile::External, asked("EXTERNAL", NULL), Progress::LoggedIn, Some("peer")),
+        (SaslProfile::Anonymous, asked("ANONYMOUS", NULL), Progress::Authenticated, None),
+        (SaslProfile::External, asked("EXTERNAL", NULL), Progress::Authenticated, Some("peer")),
     ] {
         let mut side = server(ScramVersion::Sha256, all());
         let mut client = ClientSteps::new(profile, Some("host"));
@@ -208,7 +208,7 @@ fn other_mechanisms() {
         let reply = side.on_frame(&sent.body).unwrap();
         assert_eq!(reply.body, outcome(u8::from(progress == REFUSED)));
         assert_eq!(client.on_frame(&reply.body), Ok(Answered { body: Vec::new(), progress }));
-        assert_eq!((side.progress(), side.user().as_deref()), (progress, user));
+        assert_eq!((side.progress(), side.authenticated_user().as_deref()), (progress, user));
     }
 }
 
@@ -220,11 +220,12 @@ fn external_without_a_peer() {
     };
     let init = body(INIT, &[&symbol("EXTERNAL"), NULL, &short(0xa1, b"host")]);
     for peer in [None, Some("")] {
-        let named = |side: ServerSteps<Store>| if let Some(peer) = peer { side.with_peer(peer) } else { side };
+        let named =
+            |side: ServerSteps<Store>| if let Some(peer) = peer { side.with_external_authcid(peer) } else { side };
         let mut side = named(steps(all()));
         assert_eq!(side.sasl_mechanisms().unwrap(), list_of(&["SCRAM-SHA-256", "PLAIN", "ANONYMOUS"]));
         assert_eq!(side.on_frame(&init).unwrap().body, outcome(1));
-        assert_eq!((side.progress(), side.user()), (REFUSED, None));
+        assert_eq!((side.progress(), side.authenticated_user()), (REFUSED, None));
         let alone = named(steps(Offers { external: true, ..Offers::default() }));
         assert_eq!(alone.sasl_mechanisms(), Err(ConnectionError::NoSuchMechanism));
     }
@@ -252,7 +253,7 @@ fn refusals_of_a_client() {
     let signed = body(OUTCOME, &[&[0x50, 0], &binary(&format!("v={SIGNATURE}"))]);
     assert_eq!(kind(scram().on_frame(&signed)), Some(ScramErrorKind::IllegalClientState));
     assert_eq!(kind(scram().on_frame(&outcome(0))), Some(ScramErrorKind::ServerSignatureMismatch));
-    assert_eq!(scram().on_frame(&outcome(4)).unwrap().progress, Progress::Closed(ConnectionError::RefusedSysTemp));
+    assert_eq!(scram().on_frame(&outcome(4)).unwrap().progress, Progress::Failed(ConnectionError::RefusedSysTemp));
     let challenge = body(CHALLENGE, &[&binary("r=x,s=AAAA,i=4096")]);
     assert_eq!(kind(scram().on_frame(&challenge)), Some(ScramErrorKind::IllegalClientState));
     let mut begun = scram();
@@ -264,13 +265,13 @@ fn refusals_of_a_client() {
         (challenge, ConnectionError::NotImplemented),
         (list_of(&["SCRAM-SHA-256"]), ConnectionError::NotImplemented),
         (body(RESPONSE, &[&binary("c=biws")]), ConnectionError::NotImplemented),
-        (vec![2, 1, 0, 0], ConnectionError::FrameUnread),
+        (vec![2, 1, 0, 0], ConnectionError::MalformedFrame),
         (vec![2, 0, 0, 0, 0, 0x53, 0x44, 0xc0, 3, 1, 0x50, 0], ConnectionError::NoSaslFrame),
     ] {
         assert_eq!(other().on_frame(&came), Err(why), "{:?}", came);
     }
     // (without SCRAM a client takes the server at its word, whenever that comes)
-    assert_eq!(other().on_frame(&outcome(0)).unwrap().progress, Progress::LoggedIn);
+    assert_eq!(other().on_frame(&outcome(0)).unwrap().progress, Progress::Authenticated);
 
     let long = ScramClient::new("u".repeat(500), "pencil", ScramVersion::Sha256);
     let offer = list_of(&["SCRAM-SHA-256"]);
@@ -281,7 +282,7 @@ fn refusals_of_a_client() {
 fn refusals_of_a_server() {
     let mut side = server(ScramVersion::Sha256, Offers::scram());
     assert_eq!(side.on_frame(&outcome(0)), Err(ConnectionError::NoSaslFrame));
-    assert_eq!(side.on_frame(&[2, 1, 0, 0]), Err(ConnectionError::FrameUnread));
+    assert_eq!(side.on_frame(&[2, 1, 0, 0]), Err(ConnectionError::MalformedFrame));
     let long = wide_init(&format!("n,,n=user,r={}", "x".repeat(420)));
     assert_eq!(side.on_frame(&long), Err(ConnectionError::ReplyTooLarge));
     let name = wide_init(&format!("n,,n={},r=x", "u".repeat(257)));
@@ -304,9 +305,9 @@ fn what_has_ended_stays() {
     joined(&mut client, &mut side).unwrap();
     let init = body(INIT, &[&symbol("ANONYMOUS")]);
     assert_eq!(side.on_frame(&init), Err(ConnectionError::Ended));
-    assert_eq!((side.progress(), side.user().as_deref()), (Progress::LoggedIn, Some("user")));
+    assert_eq!((side.progress(), side.authenticated_user().as_deref()), (Progress::Authenticated, Some("user")));
     assert_eq!(client.on_frame(&outcome(1)), Err(ConnectionError::Ended));
-    assert_eq!(client.progress(), Progress::LoggedIn);
+    assert_eq!(client.progress(), Progress::Authenticated);
 }
 
 #[test]

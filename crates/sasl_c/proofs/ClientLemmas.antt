@@ -30,11 +30,11 @@ use Rattle.sasl_c.specs.declared.status.Status.TheVariants as statuses
 use Rattle.sasl_c.specs.declared.client.Login.{Login}
 use Rattle.sasl_c.specs.declared.client.ScramClient.{ScramClient as Struct}
 use Rattle.sasl_c.specs.Client.{AnswersByMessage, AwaitsSignature, Verifies, HasSecret, Holds, IsAnswer, IsClientOf, IsTestedLogin, IsNoLogin, IsNoSecret, IsReached, IsSecretOf, IsSide, IsState, NotAnswered, Responds, WritesClient, complete_struct, name_tests}
-use Rattle.sasl_c.specs.declared.keys.ClientKeys.{ClientKeys as KeysStruct}
+use Rattle.sasl_c.specs.declared.keys.ScramKeys.{ScramKeys as KeysStruct}
 use Rattle.sasl_c.specs.Keys.{shown_keys}
 use Rattle.sasl_c.specs.Records.{IsVersion}
 use Rattle.sasl_c.proofs.LoginLemmas.{no_secrets}
-use Rattle.sasl_c.proofs.StatusLemmas.{carried, client_not_room}
+use Rattle.sasl_c.proofs.StatusLemmas.{carried}
 use Rattle.sasl_c.proofs.TextLemmas.{short, short_text, text_length}
 use Rattle.sasl_c.specs.Status.{client_status}
 use Rattle.fe2o3_scram.proofs.lemmas.hashes.DigestLemmas.{length-hmac_of}
@@ -153,7 +153,7 @@ first_side login before version secret = record {
 }
 
 is_first_side : (login : Login) (before : Struct) (version : ScramVersion) (secret : Secret)
-    → IsVersion login.version version → IsSecretOf login secret → before.sent ≡ 1
+    → IsVersion login.version version → IsSecretOf login secret → before.state ≡ 1
     → IsSide login before (first_side login before version secret)
 is_first_side login before version secret known has sent = (
   record {
@@ -185,7 +185,7 @@ as_sent login before version secret nonce bare text answer spelled first held =
 -- what it answers by a secret, and what it refuses
 pub answered_by : (login : Login) (before : Struct) (version : ScramVersion) (secret : Secret)
     (nonce bare text : List ℕ)
-    (answer : Answer) → IsVersion login.version version → IsSecretOf login secret → before.sent ≡ 1
+    (answer : Answer) → IsVersion login.version version → IsSecretOf login secret → before.state ≡ 1
     → nonce ≡ base64_text before.nonce → bare ≡ client_first_bare login.username.now nonce
     → AnswersServerFirst version
     (client_of nonce secret (record { min_iterations = login.min_iterations; max_iterations = login.max_iterations })) bare text
@@ -205,7 +205,7 @@ answered_by login before version secret nonce bare text answer known has sent sp
 
 pub refused_by : (login : Login) (before : Struct) (version : ScramVersion) (secret : Secret) (nonce bare text : List ℕ)
     (why : ScramErrorKind) (status : Status) → IsVersion login.version version → IsSecretOf login secret
-    → before.sent ≡ 1 → nonce ≡ base64_text before.nonce → bare ≡ client_first_bare login.username.now nonce
+    → before.state ≡ 1 → nonce ≡ base64_text before.nonce → bare ≡ client_first_bare login.username.now nonce
     → (why ≢ NoMemory → AnswersServerFirst version
     (client_of nonce secret (record { min_iterations = login.min_iterations; max_iterations = login.max_iterations })) bare text
     (Err why)) → status ≡ client_status why → status ≢ statuses.OutOfMemory
@@ -219,7 +219,7 @@ refused_by login before version secret nonce bare text why status known has sent
 
 -- a client that has sent another message last
 not_due_in : (user : List ℕ) (before : Struct) (state : ClientState) (side : ClientSide) (text : List ℕ)
-    → IsState user before state → before.sent ≢ 1 → AnswersIn state side text (Err IllegalClientState) side
+    → IsState user before state → before.state ≢ 1 → AnswersIn state side text (Err IllegalClientState) side
 not_due_in user before ClientInitial side text is other = (refl, refl)
 not_due_in user before (ClientFirstSent nonce bare) side text is other = absurd (other is.0)
 not_due_in user before (ClientFinalSent signature keys) side text is other = (refl, refl)
@@ -258,7 +258,7 @@ holds kept = held_by kept (known_of kept.version (equal_or kept.version 1) (equa
     (equal_or kept.version 512)) (cases_lt 128 kept.salt_len)
 
 -- the state of a struct that has not sent its client-first message last
-state_by : (user : List ℕ) (before : Struct) → before.sent ≢ 1 → (before.sent ≡ 2) ⊎ (before.sent ≢ 2)
+state_by : (user : List ℕ) (before : Struct) → before.state ≢ 1 → (before.state ≡ 2) ⊎ (before.state ≢ 2)
     → (64 < before.signature_len) ⊎ (before.signature_len ≤ 64) → (state : ClientState) × IsState user before state
 state_by user before other (inl two) (inr few) =
     let keys = holds before.keys in
@@ -295,12 +295,12 @@ unfolding HasSecret
 secret_of_login login held = held.0
 
 pub not_due : (login : Login) (before : Struct) (text : List ℕ) (version : ScramVersion)
-    → IsVersion login.version version → IsTestedLogin login → before.sent ≢ 1
+    → IsVersion login.version version → IsTestedLogin login → before.state ≢ 1
     → NotAnswered login before text (statuses.Client IllegalClientState)
 unfolding NotAnswered
 not_due login before text version known is other =
     let secret = secret_of_login login is.1 in
-    let state = state_by login.username.now before other (equal_or before.sent 2) (cases_lt 64 before.signature_len) in
+    let state = state_by login.username.now before other (equal_or before.state 2) (cases_lt 64 before.signature_len) in
     let side = side_with login version secret.0 state.0 in
     inr (
       IllegalClientState,
@@ -379,7 +379,7 @@ verifying_login login (ClientFirstSent nonce bare) side next text held is = absu
 verifying_login login (Complete keys) side next text held is = absurd held
 
 done_state : (user other : List ℕ) (before after : Struct) (state : ClientState) (side next : ClientSide)
-    (text : List ℕ) → IsState user before state → VerifiesIn state side text (Ok tt) next → after.sent ≡ 3
+    (text : List ℕ) → IsState user before state → VerifiesIn state side text (Ok tt) next → after.state ≡ 3
     → after.keys ≡ before.keys → IsState other after next.state
 done_state user other before after (ClientFinalSent signature keys) side next text is held done same =
     let moved : next.state ≡ Complete keys = ap (λ (last : ClientSide). last.state) held.1 in
@@ -401,16 +401,16 @@ verifies login before after side next text verified is held written = (
   (
     verifying_login login side.state side next text held is.0,
     done_state side.user next.user before after side.state side next text is.1 held
-        (ap (λ (client : Struct). client.sent) written) (ap (λ (client : Struct). client.keys) written),
+        (ap (λ (client : Struct). client.state) written) (ap (λ (client : Struct). client.keys) written),
   ),
   written,
 )
 
-pub verified : (login : Login) (before after : Struct) (text signature : List ℕ) (version : ScramVersion)
+pub server_verified : (login : Login) (before after : Struct) (text signature : List ℕ) (version : ScramVersion)
     (verified : Unit {0}) → IsVersion login.version version → IsTestedLogin login → AwaitsSignature before
     → signature ≡ take before.signature_len before.signature → ReadsServerFinal signature text (Ok verified)
     → after ≡ complete_struct before.keys → Verifies login text before after (Ok tt)
-verified login before after text signature version verified known is waits same reads written =
+server_verified login before after text signature version verified known is waits same reads written =
     let secret = secret_of_login login is.1 in
     let keys = holds before.keys in
     let side = side_with login version secret.0 (ClientFinalSent signature keys.0) in
@@ -453,12 +453,12 @@ not_waiting_in user before (ClientFirstSent nonce bare) side text is other = (re
 not_waiting_in user before (ClientFinalSent signature keys) side text is other = absurd (other (is.0, is.1))
 not_waiting_in user before (Complete keys) side text is other = (refl, refl)
 
-any_state : (user : List ℕ) (before : Struct) → (before.sent ≡ 1) ⊎ (before.sent ≢ 1)
+any_state : (user : List ℕ) (before : Struct) → (before.state ≡ 1) ⊎ (before.state ≢ 1)
     → (state : ClientState) × IsState user before state
 any_state user before (inl one) =
     (ClientFirstSent (base64_text before.nonce) (client_first_bare user (base64_text before.nonce)), (one, refl, refl))
 any_state user before (inr other) =
-    state_by user before other (equal_or before.sent 2) (cases_lt 64 before.signature_len)
+    state_by user before other (equal_or before.state 2) (cases_lt 64 before.signature_len)
 
 pub not_waiting : (login : Login) (before : Struct) (text : List ℕ) (version : ScramVersion)
     → IsVersion login.version version → IsTestedLogin login → ¬ AwaitsSignature before
@@ -468,7 +468,7 @@ not_waiting login before text version known is other = (
   refl,
   λ memory.
       let secret = secret_of_login login is.1 in
-      let state = any_state login.username.now before (equal_or before.sent 1) in
+      let state = any_state login.username.now before (equal_or before.state 1) in
       let side = side_with login version secret.0 state.0 in
       inr (
         IllegalClientState,
@@ -486,7 +486,7 @@ pub no_verification : (login : Login) (before : Struct) (text : List ℕ) (statu
 unfolding Verifies
 no_verification login before text status wrong = (refl, λ other. inl wrong)
 
-pub ruleset verifies = (verified, unverified, not_waiting, no_verification)
+pub ruleset verifying = (server_verified, unverified, not_waiting, no_verification)
 
 -- what the client's answer takes
 -- why a client whose login has a version and a user has no secret
@@ -509,7 +509,7 @@ mapped_err P Q (Err fault) held map = map fault held
 
 pub ruleset secrets = (unanswered, no_secrets)
 
-pub ruleset answers = (answered_by, refused_by, no_login, client_not_room)
+pub ruleset answers = (answered_by, refused_by, no_login)
 
 pub ruleset not_dues = (no_login, not_due)
 

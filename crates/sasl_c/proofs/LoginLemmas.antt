@@ -8,7 +8,7 @@ use Rattle.sasl_c.specs.declared.status.Status.TheVariants as statuses
 use Rattle.fe2o3_scram.specs.ClientSecret.{Password, Keys, Both}
 use Rattle.fe2o3_scram.specs.Passwords.{Prepared, Typed}
 use Rattle.fe2o3_scram.specs.Readings.{IsFirst, NoneHolds}
-use Rattle.sasl_c.specs.declared.keys.ClientKeys.{ClientKeys as KeysStruct}
+use Rattle.sasl_c.specs.declared.keys.ScramKeys.{ScramKeys as KeysStruct}
 use Rattle.sasl_c.specs.Client.{HasSecret, HoldsNone, IsNoLogin, IsNoSecret, keys_tests, name_tests}
 use Rattle.sasl_c.specs.Keys.{ShowsSomeKeys, shown_keys}
 use Rattle.sasl_c.specs.Records.{IsVersion}
@@ -206,18 +206,10 @@ pub has_no_secret : (login : Login) (status : Status) → NoneHolds (name_tests 
     → IsNoLogin login status
 has_no_secret login status none wrong = inr (none, wrong)
 
-name_status : (login : Login) (status : Status) → IsFirst (name_tests login) status
-    → (status ≢ statuses.OutOfMemory) × (status ≢ statuses.RoomTooSmall)
-name_status login status (inl (none, same)) = ((λ other. absurd (cc)), λ other. absurd (cc))
-name_status login status (inr (some, inl (wrong, same))) = ((λ other. absurd (cc)), λ other. absurd (cc))
-name_status login status (inr (some, inr (right, none))) = absurd none
-
 pub name_not_memory : (login : Login) (status : Status) → IsFirst (name_tests login) status
     → status ≢ statuses.OutOfMemory
-name_not_memory login status first = (name_status login status first).0
+name_not_memory login status (inl (none, same)) = λ other. absurd (cc)
+name_not_memory login status (inr (some, inl (wrong, same))) = λ other. absurd (cc)
+name_not_memory login status (inr (some, inr (right, none))) = absurd none
 
-pub name_not_room : (login : Login) (status : Status) → IsFirst (name_tests login) status
-    → status ≢ statuses.RoomTooSmall
-name_not_room login status first = (name_status login status first).1
-
-pub ruleset login_tests = (no_name, has_no_secret, name_not_memory, name_not_room)
+pub ruleset login_tests = (no_name, has_no_secret, name_not_memory)

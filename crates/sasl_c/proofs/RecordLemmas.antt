@@ -11,7 +11,7 @@ use Rattle.sasl_c.specs.declared.passwords.PasswordForm.TheVariants as forms
 use Rattle.sasl_c.specs.declared.records.ScramRecord.{ScramRecord as Struct}
 use Rattle.sasl_c.specs.declared.status.Status.TheVariants as statuses
 use Rattle.sasl_c.specs.Passwords.{in_form}
-use Rattle.sasl_c.specs.Records.{IsVersion, ShowsRecord, ShowsSomeRecord, Verifies, struct_making_tests}
+use Rattle.sasl_c.specs.Records.{IsVersion, ShowsRecord, ShowsSomeRecord, VerifiesPassword, struct_making_tests}
 use Rattle.sasl_c.proofs.StatusLemmas.{carried}
 
 -- keys are made of the same bytes in either form
@@ -25,7 +25,7 @@ shows_some kept shown is = (shown, is)
 
 pub verified : (kept : Struct) (form : PasswordForm) (given password : List ℕ) (version : ScramVersion)
     (stored : Record) → ShowsRecord kept (versioned version stored) → password ≡ given
-    → MeetsRecord version (in_form form password) stored → Verifies kept (in_form form given) (Ok tt)
+    → MeetsRecord version (in_form form password) stored → VerifiesPassword kept (in_form form given) (Ok tt)
 verified kept form given password version stored is spelled meets = (
   versioned version stored,
   is,
@@ -35,7 +35,7 @@ verified kept form given password version stored is spelled meets = (
 pub other_password : (kept : Struct) (form : PasswordForm) (given password : List ℕ) (shown : VersionedRecord)
     (version : ScramVersion) (stored : Record) → ShowsRecord kept shown → version ≡ shown.version → stored ≡ shown.stored
     → password ≡ given → IsUtf8 given → ¬ MeetsRecord version (in_form form password) stored
-    → Verifies kept (in_form form given) (Err statuses.OtherPassword)
+    → VerifiesPassword kept (in_form form given) (Err statuses.OtherPassword)
 other_password kept form given password shown version stored is same alike spelled utf8 wrong =
     let other : ¬ MeetsRecord shown.version (in_form form given) shown.stored = λ meets.
     wrong (carried (λ v. MeetsRecord v (in_form form password) stored) shown.version version (sym same)
@@ -45,7 +45,7 @@ other_password kept form given password shown version stored is same alike spell
     inr (shown, is, inr (refl, rw (bytes_in_form form given) utf8, other))
 
 pub not_text : (kept : Struct) (form : PasswordForm) (given : List ℕ) (shown : VersionedRecord) → ShowsRecord kept shown
-    → ¬ IsUtf8 given → Verifies kept (in_form form given) (Err statuses.NotUtf8)
+    → ¬ IsUtf8 given → VerifiesPassword kept (in_form form given) (Err statuses.NotUtf8)
 not_text kept form given shown is wrong = inr (shown, is, inl (refl, rw (bytes_in_form form given) wrong))
 
 pub zero_iterations : (version : ℕ) (known : ScramVersion) (password : PasswordText) (salt : List ℕ) (count : ℕ)

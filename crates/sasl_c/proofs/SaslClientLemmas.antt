@@ -35,7 +35,7 @@ use Rattle.sasl_c.specs.declared.sasl_client.SaslLogin.{SaslLogin as Login}
 use Rattle.sasl_c.specs.declared.status.Status.{Status}
 use Rattle.sasl_c.specs.declared.status.Status.TheVariants as statuses
 use Rattle.sasl_c.specs.Client.{IsNoLogin, IsReached, IsState, WritesClient, fresh_client_struct}
-use Rattle.sasl_c.specs.Connection.{Keeps, KeepsNoPartOf, due_number, side_tests, connection_struct}
+use Rattle.sasl_c.specs.Connection.{Keeps, KeepsNoPartOf, expected_number, side_tests, connection_struct}
 use Rattle.sasl_c.specs.SaslClient.{ProfileIsReached, HasNoHostname, HasNoClientWords, IsClient, IsHostname, IsNoClient, IsNoProfile, IsProfile, ReadsClient, ReceivesAsClient, ClientIsReached, WritesProfile, WritesSide}
 use Rattle.sasl_c.proofs.ClientLemmas.{answer_fits, answering_login, verifying_login, moved_login}
 use Rattle.sasl_c.proofs.StateLemmas.{reached}
@@ -388,7 +388,7 @@ due_named number = if nat_eq number 0 then Header else if nat_eq number 1 then F
     else if nat_eq number 2 then Frame turns.Init else if nat_eq number 3 then Frame turns.Challenge
     else if nat_eq number 4 then Frame turns.Response else Frame turns.Outcome
 
-named_back : (expected : Expected) → due_named (due_number expected) ≡ expected
+named_back : (expected : Expected) → due_named (expected_number expected) ≡ expected
 unfolding due_named
 named_back Header = refl
 named_back (Frame turns.Mechanisms) = refl
@@ -397,7 +397,7 @@ named_back (Frame turns.Challenge) = refl
 named_back (Frame turns.Response) = refl
 named_back (Frame turns.Outcome) = refl
 
-pub one_due : (expected other : Expected) → due_number expected ≡ due_number other → expected ≡ other
+pub one_due : (expected other : Expected) → expected_number expected ≡ expected_number other → expected ≡ other
 one_due expected other same = sym (named_back expected) ∙ (ap due_named same ∙ named_back other)
 
 keeps_no_part : (client : Struct) (kept : Snapshot)

@@ -19,14 +19,14 @@ use Rattle.fe2o3_sasl_negotiation.specs.declared.progress.Progress.TheVariants.{
 use Rattle.fe2o3_sasl_negotiation.specs.Negotiations.{Side}
 use Rattle.sasl_c.specs.declared.records.ScramRecord.{ScramRecord as Kept}
 use Rattle.sasl_c.specs.declared.sasl_server.Choice.{Choice}
-use Rattle.sasl_c.specs.declared.sasl_server.SaslHost.{SaslHost as Host}
+use Rattle.sasl_c.specs.declared.sasl_server.SaslServerConfig.{SaslServerConfig as Config}
 use Rattle.sasl_c.specs.declared.sasl_server.SaslServer.{SaslServer as Struct}
 use Rattle.sasl_c.specs.declared.server.ScramServer.{ScramServer as ScramStruct}
 use Rattle.sasl_c.specs.declared.status.Status.{Status}
 use Rattle.sasl_c.specs.declared.status.Status.TheVariants as statuses
 use Rattle.sasl_c.specs.Records.{IsVersion, ShowsRecord, SpellsStruct}
-use Rattle.sasl_c.specs.SaslServer.{All, Code, ServerIsReached, HasNoServerWords, HasNoStruct, HasRecords, IsAll, IsNoHost, IsOf, IsServer, HasNone, host_tests, ShowsBy, ShowsOpen, ShowsSide, ShowsProgress, ShowsState, ShowsExchange, State, allowed_of, one_where, open_in, struct_server, side_in, side_struct, state_names, value_state, state_struct, struct_by, sum_of, user_in}
-use Rattle.sasl_c.specs.Server.{HasLoggedIn, ChallengeHasRoom, IsOpen, open_number}
+use Rattle.sasl_c.specs.SaslServer.{All, Code, ServerIsReached, HasNoServerWords, HasNoStruct, HasRecords, IsAll, IsNoConfig, IsOf, IsServer, HasNone, config_tests, ShowsBy, ShowsOpen, ShowsSide, ShowsProgress, ShowsState, ShowsExchange, State, allowed_of, one_where, open_in, struct_server, side_in, side_struct, state_names, value_state, state_struct, struct_by, sum_of, user_in}
+use Rattle.sasl_c.specs.Server.{IsAuthenticated, ChallengeHasRoom, IsOpen, open_number}
 use Rattle.sasl_c.specs.Status.{version_number}
 use Rattle.sasl_c.proofs.StatusLemmas.{carried}
 
@@ -47,13 +47,12 @@ sum_small choice = omega (
   within choice.cbind_flag_y 16,
 )
 
--- ---- the record of a host's user
+-- ---- the record of a configuration's user
 
 -- a struct that shows no record for this reason shows none
 shows_none : (kept : Kept) (status : Status) (shown : VersionedRecord) → SpellsStruct kept (Err status)
     → ShowsRecord kept shown → ⊥
 shows_none kept statuses.OutOfMemory shown wrong is = absurd wrong
-shows_none kept statuses.RoomTooSmall shown wrong is = absurd wrong
 shows_none kept statuses.NotUtf8 shown wrong is = absurd wrong
 shows_none kept statuses.NoSuchVersion shown wrong is = wrong shown.version is.0
 shows_none kept statuses.TooLong shown wrong is = absurd (omega (arith, wrong, is.1))
@@ -79,7 +78,7 @@ shows_none kept statuses.ProtocolHeaderMismatch shown wrong is = absurd wrong
 shows_none kept statuses.FrameSize shown wrong is = absurd wrong
 shows_none kept statuses.UnexpectedFrame shown wrong is = absurd wrong
 shows_none kept statuses.ReplyTooLarge shown wrong is = absurd wrong
-shows_none kept statuses.FrameUnread shown wrong is = absurd wrong
+shows_none kept statuses.MalformedFrame shown wrong is = absurd wrong
 shows_none kept statuses.NoSaslFrame shown wrong is = absurd wrong
 shows_none kept statuses.FrameTooLarge shown wrong is = absurd wrong
 shows_none kept statuses.NotImplemented shown wrong is = absurd wrong
@@ -104,45 +103,45 @@ one_number versions.Sha512 versions.Sha1 same = absurd (omega (arith, same))
 one_number versions.Sha512 versions.Sha256 same = absurd (omega (arith, same))
 one_number versions.Sha512 versions.Sha512 same = refl
 
-pub no_record : (host : Host) (version : ScramVersion) (status : Status) → SpellsStruct host.record.now (Err status)
-    → HasRecords host version []
-no_record host version status wrong =
-    inr (λ stored is. shows_none host.record.now status (versioned version stored) wrong is, refl)
+pub no_record : (config : Config) (version : ScramVersion) (status : Status) → SpellsStruct config.record.now (Err status)
+    → HasRecords config version []
+no_record config version status wrong =
+    inr (λ stored is. shows_none config.record.now status (versioned version stored) wrong is, refl)
 
-pub other_version : (host : Host) (version : ScramVersion) (shown : VersionedRecord) → ShowsRecord host.record.now shown
-    → shown.version ≢ version → HasRecords host version []
-other_version host version shown is other =
+pub other_version : (config : Config) (version : ScramVersion) (shown : VersionedRecord) → ShowsRecord config.record.now shown
+    → shown.version ≢ version → HasRecords config version []
+other_version config version shown is other =
     inr (λ stored held. other (one_number shown.version version (is.0 ∙ sym held.0)), refl)
 
-pub one_record : (host : Host) (version : ScramVersion) (shown : VersionedRecord) (name : List ℕ)
-    → ShowsRecord host.record.now shown → shown.version ≡ version → name ≡ host.username.now
-    → HasRecords host version ((name, shown.stored) ∷ [])
-one_record host version shown name is same named = inl (
+pub one_record : (config : Config) (version : ScramVersion) (shown : VersionedRecord) (name : List ℕ)
+    → ShowsRecord config.record.now shown → shown.version ≡ version → name ≡ config.username.now
+    → HasRecords config version ((name, shown.stored) ∷ [])
+one_record config version shown name is same named = inl (
   shown.stored,
-  carried (λ (v : ScramVersion). ShowsRecord host.record.now (versioned v shown.stored)) shown.version version same is,
+  carried (λ (v : ScramVersion). ShowsRecord config.record.now (versioned v shown.stored)) shown.version version same is,
   ap (λ (n : List ℕ). (n, shown.stored) ∷ []) named,
 )
 
 pub ruleset store = (no_record, other_version, one_record)
 
--- ---- the server of a host
+-- ---- the server of a configuration
 
 -- the server that is offered of all four
-whole : (host : Host) (version : ScramVersion) (choice : Choice) (all other : All) (names : List (List ℕ))
-    (server : State) → names ≡ allowed_of version choice host.peer.now → server ≡ record { inner = all; allowed = names }
-    → all ≡ other → server ≡ record { inner = other; allowed = allowed_of version choice host.peer.now }
-whole host version choice all other names server named is same = is
-    ∙ (ap (λ (n : List (List ℕ)). offering all n) named ∙ ap (λ a. offering a (allowed_of version choice host.peer.now)) same)
+whole : (config : Config) (version : ScramVersion) (choice : Choice) (all other : All) (names : List (List ℕ))
+    (server : State) → names ≡ allowed_of version choice config.external_authcid.now → server ≡ record { inner = all; allowed = names }
+    → all ≡ other → server ≡ record { inner = other; allowed = allowed_of version choice config.external_authcid.now }
+whole config version choice all other names server named is same = is
+    ∙ (ap (λ (n : List (List ℕ)). offering all n) named ∙ ap (λ a. offering a (allowed_of version choice config.external_authcid.now)) same)
   where
     offering : All → List (List ℕ) → State
     offering inner allowed = record { inner = inner; allowed = allowed }
 
-is_of : (host : Host) (version : ScramVersion) (choice : Choice) (records : Records) (state other : ServerState)
-    (asked last : Option Selected) (server : State) → IsVersion host.version version → sum_of choice ≡ host.mechanisms
-    → HasRecords host version records → server ≡ struct_server host version choice records state asked → state ≡ other
-    → asked ≡ last → IsOf host other last server
+is_of : (config : Config) (version : ScramVersion) (choice : Choice) (records : Records) (state other : ServerState)
+    (asked last : Option Selected) (server : State) → IsVersion config.version version → sum_of choice ≡ config.mechanisms
+    → HasRecords config version records → server ≡ struct_server config version choice records state asked → state ≡ other
+    → asked ≡ last → IsOf config other last server
 unfolding IsOf
-is_of host version choice records state other asked last server known sum has is same too = (
+is_of config version choice records state other asked last server known sum has is same too = (
   version,
   choice,
   records,
@@ -150,8 +149,8 @@ is_of host version choice records state other asked last server known sum has is
   sum,
   has,
   is
-      ∙ (ap (λ (s : ServerState). struct_server host version choice records s asked) same
-      ∙ ap (λ (a : Option Selected). struct_server host version choice records other a) too),
+      ∙ (ap (λ (s : ServerState). struct_server config version choice records s asked) same
+      ∙ ap (λ (a : Option Selected). struct_server config version choice records other a) too),
 )
 
 shows_it : (scram : ScramStruct) (server : State) (challenge : Option ServerChallenge) → open_in server ≡ challenge
@@ -159,57 +158,57 @@ shows_it : (scram : ScramStruct) (server : State) (challenge : Option ServerChal
 shows_it scram server challenge same shows =
     carried (ShowsOpen scram) challenge (open_in server) (sym same) shows
 
--- the server that was made of a host and of what a struct shows
-pub made : (host : Host) (version : ScramVersion) (choice : Choice) (scram : ScramStruct) (all : All)
-    (names : List (List ℕ)) (server : State) → IsVersion host.version version → sum_of choice ≡ host.mechanisms
-    → names ≡ allowed_of version choice host.peer.now → server ≡ record { inner = all; allowed = names }
-    → IsAll host version choice.cbind_flag_y scram all → ServerIsReached host InProgress server × ShowsState scram InProgress server
-made host version choice scram all names server known sum named is (records, state, asked, has, stands, same) =
+-- the server that was made of a configuration and of what a struct shows
+pub made : (config : Config) (version : ScramVersion) (choice : Choice) (scram : ScramStruct) (all : All)
+    (names : List (List ℕ)) (server : State) → IsVersion config.version version → sum_of choice ≡ config.mechanisms
+    → names ≡ allowed_of version choice config.external_authcid.now → server ≡ record { inner = all; allowed = names }
+    → IsAll config version choice.cbind_flag_y scram all → ServerIsReached config InProgress server × ShowsState scram InProgress server
+made config version choice scram all names server known sum named is (records, state, asked, has, stands, same) =
     go stands
   where
-    all_is : server ≡ struct_server host version choice records state asked
-    all_is = whole host version choice all _ names server named is same
+    all_is : server ≡ struct_server config version choice records state asked
+    all_is = whole config version choice all _ names server named is same
 
-    go : ShowsExchange scram state asked → ServerIsReached host InProgress server × ShowsState scram InProgress server
+    go : ShowsExchange scram state asked → ServerIsReached config InProgress server × ShowsState scram InProgress server
     go (inl (challenge, opened, stood, last)) = (
-      inr (challenge, is_of host version choice records state _ asked _ server known sum has all_is stood last),
+      inr (challenge, is_of config version choice records state _ asked _ server known sum has all_is stood last),
       shows_it scram server (Some challenge) (ap open_in all_is ∙ ap open_challenge stood) opened,
     )
     go (inr (none, stood, last)) = (
-      inl (is_of host version choice records state _ asked _ server known sum has all_is stood last),
+      inl (is_of config version choice records state _ asked _ server known sum has all_is stood last),
       shows_it scram server None (ap open_in all_is ∙ ap open_challenge stood) none,
     )
 
 -- why there is none
-pub no_version : (host : Host) → ((known : ScramVersion) → ¬ IsVersion host.version known)
-    → IsNoHost host statuses.NoSuchVersion
-unfolding IsNoHost
-no_version host none = inl (inl (none, refl))
+pub no_version : (config : Config) → ((known : ScramVersion) → ¬ IsVersion config.version known)
+    → IsNoConfig config statuses.NoSuchVersion
+unfolding IsNoConfig
+no_version config none = inl (inl (none, refl))
 
-pub no_choice : (host : Host) (version : ScramVersion) → IsVersion host.version version
-    → ((choice : Choice) → sum_of choice ≢ host.mechanisms) → IsNoHost host statuses.NoSuchMechanism
-unfolding IsNoHost
-no_choice host version known none = inl (inr ((λ wrong. wrong version known), inl (none, refl)))
+pub no_choice : (config : Config) (version : ScramVersion) → IsVersion config.version version
+    → ((choice : Choice) → sum_of choice ≢ config.mechanisms) → IsNoConfig config statuses.NoSuchMechanism
+unfolding IsNoConfig
+no_choice config version known none = inl (inr ((λ wrong. wrong version known), inl (none, refl)))
 
-pub no_words : (host : Host) (version : ScramVersion) (choice : Choice) (status : Status)
-    → IsVersion host.version version → sum_of choice ≡ host.mechanisms → HasNoServerWords host status
-    → IsNoHost host status
-unfolding IsNoHost
-no_words host version choice status known sum (is, inl wrong) =
+pub no_words : (config : Config) (version : ScramVersion) (choice : Choice) (status : Status)
+    → IsVersion config.version version → sum_of choice ≡ config.mechanisms → HasNoServerWords config status
+    → IsNoConfig config status
+unfolding IsNoConfig
+no_words config version choice status known sum (is, inl wrong) =
     inl (inr ((λ none. none version known), inr ((λ none. none choice sum), inl (wrong, is))))
-no_words host version choice status known sum (is, inr (name, wrong)) = inl (inr (
+no_words config version choice status known sum (is, inr (name, wrong)) = inl (inr (
   (λ none. none version known),
   inr ((λ none. none choice sum), inr ((λ other. other name), inl (wrong, is))),
 ))
 
-pub no_offer : (host : Host) (version : ScramVersion) (choice : Choice) (scram : ScramStruct) (all : All)
-    (names : List (List ℕ)) (server : State) → IsVersion host.version version → sum_of choice ≡ host.mechanisms
-    → names ≡ allowed_of version choice host.peer.now → server ≡ record { inner = all; allowed = names }
-    → IsAll host version choice.cbind_flag_y scram all → IsUtf8 host.username.now → IsUtf8 host.peer.now
+pub no_offer : (config : Config) (version : ScramVersion) (choice : Choice) (scram : ScramStruct) (all : All)
+    (names : List (List ℕ)) (server : State) → IsVersion config.version version → sum_of choice ≡ config.mechanisms
+    → names ≡ allowed_of version choice config.external_authcid.now → server ≡ record { inner = all; allowed = names }
+    → IsAll config version choice.cbind_flag_y scram all → IsUtf8 config.username.now → IsUtf8 config.external_authcid.now
     → state_names server ≡ []
-    → IsNoHost host statuses.NoSuchMechanism
-unfolding IsNoHost
-no_offer host version choice scram all names server known sum named is (records, state, asked, has, stands, same)
+    → IsNoConfig config statuses.NoSuchMechanism
+unfolding IsNoConfig
+no_offer config version choice scram all names server known sum named is (records, state, asked, has, stands, same)
     name peer nothing = inr (
       (
         (λ none. none version known),
@@ -220,15 +219,15 @@ no_offer host version choice scram all names server known sum named is (records,
         state,
         asked,
         server,
-        is_of host version choice records state state asked asked server known sum has
-            (whole host version choice all _ names server named is same) refl refl,
+        is_of config version choice records state state asked asked server known sum has
+            (whole config version choice all _ names server named is same) refl refl,
         nothing,
       ),
     )
 
-pub no_test : (host : Host) (version : ScramVersion) (choice : Choice) → IsVersion host.version version
-    → sum_of choice ≡ host.mechanisms → IsUtf8 host.username.now → IsUtf8 host.peer.now → NoneHolds (host_tests host)
-no_test host version choice known sum name peer = (
+pub no_test : (config : Config) (version : ScramVersion) (choice : Choice) → IsVersion config.version version
+    → sum_of choice ≡ config.mechanisms → IsUtf8 config.username.now → IsUtf8 config.external_authcid.now → NoneHolds (config_tests config)
+no_test config version choice known sum name peer = (
   (λ none. none version known),
   ((λ none. none choice sum), ((λ wrong. wrong name), ((λ wrong. wrong peer), tt))),
 )
@@ -252,7 +251,7 @@ open_room scram challenge is = let lengths = is.1 in (
         omega (arith, ap length same, long, few)
 
 -- a user whom it shows too
-user_room : (scram : ScramStruct) (user : List ℕ) → HasLoggedIn scram user → length user ≤ 256
+user_room : (scram : ScramStruct) (user : List ℕ) → IsAuthenticated scram user → length user ≤ 256
 user_room scram user is =
     let long : length (take scram.user_len scram.user) ≤ scram.user_len =
     omega (arith, length-take scram.user_len scram.user) in
@@ -279,7 +278,7 @@ never_zero NotSupported same = omega (arith, same)
 never_zero ClientSupports same = omega (arith, same)
 
 pub shows_no_challenge : (scram : ScramStruct) (progress : Progress) (opened : Option ServerChallenge)
-    (user : Option (List ℕ)) → progress ≡ InProgress → opened ≡ None → scram.stands ≡ 0
+    (user : Option (List ℕ)) → progress ≡ InProgress → opened ≡ None → scram.state ≡ 0
     → ShowsProgress scram progress opened user
 shows_no_challenge scram progress opened user wants none fresh =
     stands_so scram progress InProgress opened None user user wants none refl
@@ -293,13 +292,13 @@ no_challenge_room progress opened user challenge wants some wide scram shows =
     wide (open_room scram challenge is)
 
 pub shows_user : (scram : ScramStruct) (progress : Progress) (opened : Option ServerChallenge) (user : Option (List ℕ))
-    (name : List ℕ) → progress ≡ Authenticated → user ≡ Some name → HasLoggedIn scram name
+    (name : List ℕ) → progress ≡ Authenticated → user ≡ Some name → IsAuthenticated scram name
     → ShowsProgress scram progress opened user
 shows_user scram progress opened user name in_is some is =
     stands_so scram progress Authenticated opened opened user (Some name) in_is refl some is
 
 pub shows_no_user : (scram : ScramStruct) (progress : Progress) (opened : Option ServerChallenge)
-    (user : Option (List ℕ)) → progress ≡ Authenticated → user ≡ None → scram.stands ≡ 0
+    (user : Option (List ℕ)) → progress ≡ Authenticated → user ≡ None → scram.state ≡ 0
     → ShowsProgress scram progress opened user
 shows_no_user scram progress opened user in_is none fresh =
     stands_so scram progress Authenticated opened opened user None in_is refl none fresh
@@ -312,7 +311,7 @@ no_user_room progress opened user name in_is some long scram shows =
     absurd (omega (arith, user_room scram name is, long))
 
 pub shows_closed : (scram : ScramStruct) (progress : Progress) (opened : Option ServerChallenge)
-    (user : Option (List ℕ)) (why : CloseReason) → progress ≡ Failed why → scram.stands ≡ 0
+    (user : Option (List ℕ)) (why : CloseReason) → progress ≡ Failed why → scram.state ≡ 0
     → ShowsProgress scram progress opened user
 shows_closed scram progress opened user why closed fresh =
     stands_so scram progress (Failed why) opened opened user user closed refl refl fresh
@@ -365,13 +364,13 @@ pub shows_nothing : (next : ServerNegotiation Code) → HasNone value_state Show
 unfolding HasNoStruct
 shows_nothing next none = none
 
-pub is_server : (host : Host) (server : Struct) (side : Side State) → ShowsSide server side
-    → ServerIsReached host side.progress side.state → side.limit ≡ 512 → IsServer host server side
+pub is_server : (config : Config) (server : Struct) (side : Side State) → ShowsSide server side
+    → ServerIsReached config side.progress side.state → side.limit ≡ 512 → IsServer config server side
 unfolding IsServer
-is_server host server side shows comes limit = (shows, limit, comes)
+is_server config server side shows comes limit = (shows, limit, comes)
 
-pub no_server : (host : Host) (side : Side State) → HasNoStruct side → length side.held ≤ 512
-    → (server : Struct) → ¬ IsServer host server side
+pub no_server : (config : Config) (side : Side State) → HasNoStruct side → length side.held ≤ 512
+    → (server : Struct) → ¬ IsServer config server side
 unfolding IsServer HasNoStruct ShowsSide
-no_server host side (inl many) few server is = absurd (omega (arith, few, many))
-no_server host side (inr none) few server is = none server.scram is.0.1
+no_server config side (inl many) few server is = absurd (omega (arith, few, many))
+no_server config side (inr none) few server is = none server.scram is.0.1

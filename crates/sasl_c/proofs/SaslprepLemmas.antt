@@ -51,12 +51,6 @@ refuses number text given choice (faults.UnassignedCodePoint c) status is same u
     let told = ap (λ (bytes : List ℕ). refusal choice (chars bytes)) (sym same) ∙ says (λ odd. absurd (cc)) in
     rw gives (choice, is, (utf8, (faults.UnassignedCodePoint c, told, refl)))
 
-pub not_room : (why : SaslprepError) → saslprep_status why ≢ statuses.RoomTooSmall
-not_room faults.OutOfMemory = λ same. absurd (cc)
-not_room (faults.ProhibitedCharacter c) = λ same. absurd (cc)
-not_room faults.MixedDirections = λ same. absurd (cc)
-not_room (faults.UnassignedCodePoint c) = λ same. absurd (cc)
-
 -- memory is asked for where the text is not ASCII
 pub asks : (number : ℕ) (text given : List ℕ) (choice : Unassigned) (why : SaslprepError) (status : Status)
     → choice_number choice ≡ number → given ≡ text → IsUtf8 text
@@ -68,4 +62,4 @@ asks number text given choice (faults.ProhibitedCharacter c) status is same utf8
 asks number text given choice faults.MixedDirections status is same utf8 ascii gives memory = absurd (cc)
 asks number text given choice (faults.UnassignedCodePoint c) status is same utf8 ascii gives memory = absurd (cc)
 
-pub ruleset prepares_to = (asks, no_choice, no_text, accepts, refuses, not_room)
+pub ruleset prepares_to = (asks, no_choice, no_text, accepts, refuses)

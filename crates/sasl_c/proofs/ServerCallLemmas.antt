@@ -42,12 +42,12 @@ use Rattle.fe2o3_sasl_negotiation.specs.Snapshot.{server_fits, server_due, IsKep
 use Rattle.fe2o3_sasl_negotiation.proofs.lemmas.UnitLemmas.{length-framed}
 use Rattle.sasl_c.specs.declared.connection.Connection.{Connection}
 use Rattle.sasl_c.specs.declared.sasl_server.Choice.{Choice}
-use Rattle.sasl_c.specs.declared.sasl_server.SaslHost.{SaslHost as Host}
+use Rattle.sasl_c.specs.declared.sasl_server.SaslServerConfig.{SaslServerConfig as Config}
 use Rattle.sasl_c.specs.declared.sasl_server.SaslServer.{SaslServer as Struct}
 use Rattle.sasl_c.specs.declared.status.Status.{Status}
 use Rattle.sasl_c.specs.declared.status.Status.TheVariants as statuses
 use Rattle.sasl_c.specs.Connection.{Keeps, KeepsNoPart, side_tests, KeepsNoPartOf}
-use Rattle.sasl_c.specs.SaslServer.{All, Code, ServerIsReached, HasNone, IsNoHost, IsNoServer, IsOf, IsServer, Last, NotReceived, Others, Received, ShowsBy, ShowsSide, ShowsState, State, all_machine, all_names, external_names, last_machine, last_names, other_machine, other_names, plain_names, struct_server, side_in, side_struct, state_machine, state_names, value_state, struct_by}
+use Rattle.sasl_c.specs.SaslServer.{All, Code, ServerIsReached, HasNone, IsNoConfig, IsNoServer, IsOf, IsServer, Last, NotReceived, Others, Received, ShowsBy, ShowsSide, ShowsState, State, all_machine, all_names, external_names, last_machine, last_names, other_machine, other_names, plain_names, struct_server, side_in, side_struct, state_machine, state_names, value_state, struct_by}
 use Rattle.sasl_c.proofs.SaslClientLemmas.{one_due, part_short, tests_without_memory}
 use Rattle.sasl_c.proofs.SaslServerLemmas.{Shown, is_server, no_server, shows_nothing, shows_side, writes_side, written_for}
 use Rattle.sasl_c.proofs.StatusLemmas.{carried}
@@ -143,13 +143,13 @@ scram_opens provider state nonce (frames.Mechanisms names) reply next is = absur
 scram_opens provider state nonce (frames.Challenge text) reply next is = absurd is
 scram_opens provider state nonce (frames.Outcome code more) reply next is = absurd is
 
--- what the machine makes of the server of a host
-abbrev Goes : Host → SaslFrame → State → Type 0
-Goes host reply next = Ends reply ⊎ ServerIsReached host InProgress next
+-- what the machine makes of the server of a configuration
+abbrev Goes : Config → SaslFrame → State → Type 0
+Goes config reply next = Ends reply ⊎ ServerIsReached config InProgress next
 
-module _ (host : Host) (version : ScramVersion) (choice : Choice) (records : Records) where
+module _ (config : Config) (version : ScramVersion) (choice : Choice) (records : Records) where
   abbrev one : ServerState → Option Selected → State
-  one state asked = struct_server host version choice records state asked
+  one state asked = struct_server config version choice records state asked
 
   abbrev Then : SaslFrame → State → Type 0
   Then reply next = Ends reply ⊎ ((challenge : ServerChallenge) × (next ≡ one (ServerFirstSent challenge) (Some First)))
@@ -193,27 +193,27 @@ module _ (host : Host) (version : ScramVersion) (choice : Choice) (records : Rec
       part_goes state asked (part_for acceptor_names other_names (one state asked).inner frame) nonce frame reply moved
       next held then
 
-of_goes : (host : Host) (state : ServerState) (asked : Option Selected) (server next : State) (nonce : List ℕ)
-    (frame reply : SaslFrame) → IsOf host state asked server → state_machine server nonce frame reply next
-    → Goes host reply next
+of_goes : (config : Config) (state : ServerState) (asked : Option Selected) (server next : State) (nonce : List ℕ)
+    (frame reply : SaslFrame) → IsOf config state asked server → state_machine server nonce frame reply next
+    → Goes config reply next
 unfolding IsOf
-of_goes host state asked server next nonce frame reply (version, choice, records, known, sum, has, is) held =
-    go (offered_goes host version choice records state asked
-    (is_passed_on all_names (struct_server host version choice records state asked) frame) nonce frame reply next
+of_goes config state asked server next nonce frame reply (version, choice, records, known, sum, has, is) held =
+    go (offered_goes config version choice records state asked
+    (is_passed_on all_names (struct_server config version choice records state asked) frame) nonce frame reply next
     (carried (λ (s : State). state_machine s nonce frame reply next) server _ is held))
   where
-    go : Then host version choice records reply next → Goes host reply next
+    go : Then config version choice records reply next → Goes config reply next
     go (inl ends) = inl ends
     go (inr (challenge, same)) = inr (inr (challenge, (version, choice, records, known, sum, has, same)))
 
-comes_goes : (host : Host) (server next : State) (nonce : List ℕ) (frame reply : SaslFrame)
-    → ServerIsReached host InProgress server → state_machine server nonce frame reply next → Goes host reply next
-comes_goes host server next nonce frame reply (inl fresh) held =
-    of_goes host Initial None server next nonce frame reply fresh held
-comes_goes host server next nonce frame reply (inr (challenge, waits)) held =
-    of_goes host (ServerFirstSent challenge) (Some First) server next nonce frame reply waits held
+comes_goes : (config : Config) (server next : State) (nonce : List ℕ) (frame reply : SaslFrame)
+    → ServerIsReached config InProgress server → state_machine server nonce frame reply next → Goes config reply next
+comes_goes config server next nonce frame reply (inl fresh) held =
+    of_goes config Initial None server next nonce frame reply fresh held
+comes_goes config server next nonce frame reply (inr (challenge, waits)) held =
+    of_goes config (ServerFirstSent challenge) (Some First) server next nonce frame reply waits held
 
--- ---- so a server that sends a challenge is one that the host comes to
+-- ---- so a server that sends a challenge is one that the configuration comes to
 
 not_failed : (body : List ℕ) (fault : Error) → Challenged body ≢ Failed fault
 not_failed body fault same = absurd (cc)
@@ -224,233 +224,233 @@ ends_concluded body reply sent (code, more, is) same =
     let one : Challenged body ≡ Concluded code sent = same ∙ ap (λ (r : SaslFrame). server_says r sent) is in
     absurd (cc)
 
-carried_comes : (host : Host) (server moved next : State) (body : List ℕ) (reply : SaslFrame)
-    (sent : Option (List ℕ)) → Goes host reply moved
+carried_comes : (config : Config) (server moved next : State) (body : List ℕ) (reply : SaslFrame)
+    (sent : Option (List ℕ)) → Goes config reply moved
     → Challenged body ≡ sent_or_not (Failed faults.TooLarge) (server_says reply) sent
-    → next ≡ sent_or_not server (λ _. moved) sent → ServerIsReached host InProgress next
-carried_comes host server moved next body reply None goes says is = absurd (not_failed body faults.TooLarge says)
-carried_comes host server moved next body reply (Some sent) (inl ends) says is =
+    → next ≡ sent_or_not server (λ _. moved) sent → ServerIsReached config InProgress next
+carried_comes config server moved next body reply None goes says is = absurd (not_failed body faults.TooLarge says)
+carried_comes config server moved next body reply (Some sent) (inl ends) says is =
     absurd (ends_concluded body reply sent ends says)
-carried_comes host server moved next body reply (Some sent) (inr comes) says is =
-    carried (ServerIsReached host InProgress) moved next (sym is) comes
+carried_comes config server moved next body reply (Some sent) (inr comes) says is =
+    carried (ServerIsReached config InProgress) moved next (sym is) comes
 
-pub gives_comes : (host : Host) (server next : State) (event : Given) (spelled : Result SaslFrame Error)
-    (body : List ℕ) → ServerIsReached host InProgress server
-    → AcceptorGives state_machine server event spelled (Challenged body) next → ServerIsReached host InProgress next
-gives_comes host server next event (Err fault) body comes is = absurd (not_failed body fault is.0)
-gives_comes host server next event (Ok (frames.Mechanisms names)) body comes is =
+pub gives_comes : (config : Config) (server next : State) (event : Given) (spelled : Result SaslFrame Error)
+    (body : List ℕ) → ServerIsReached config InProgress server
+    → AcceptorGives state_machine server event spelled (Challenged body) next → ServerIsReached config InProgress next
+gives_comes config server next event (Err fault) body comes is = absurd (not_failed body fault is.0)
+gives_comes config server next event (Ok (frames.Mechanisms names)) body comes is =
     absurd (not_failed body faults.NotImplemented is.0)
-gives_comes host server next event (Ok (frames.Challenge text)) body comes is =
+gives_comes config server next event (Ok (frames.Challenge text)) body comes is =
     absurd (not_failed body faults.NotImplemented is.0)
-gives_comes host server next event (Ok (frames.Outcome code more)) body comes is =
+gives_comes config server next event (Ok (frames.Outcome code more)) body comes is =
     absurd (not_failed body faults.NotImplemented is.0)
-gives_comes host server next event (Ok (frames.Init mechanism response hostname)) body comes (inl failed) =
+gives_comes config server next event (Ok (frames.Init mechanism response hostname)) body comes (inl failed) =
     absurd (not_failed body faults.OutOfMemory failed.0)
-gives_comes host server next event (Ok (frames.Init mechanism response hostname)) body comes
+gives_comes config server next event (Ok (frames.Init mechanism response hostname)) body comes
     (inr (reply, moved, held, sends)) =
-    carried_comes host server moved next body reply (canonical reply)
-    (comes_goes host server moved event.nonce (frames.Init mechanism response hostname) reply comes held) sends.0
+    carried_comes config server moved next body reply (canonical reply)
+    (comes_goes config server moved event.nonce (frames.Init mechanism response hostname) reply comes held) sends.0
     sends.1
-gives_comes host server next event (Ok (frames.Response text)) body comes (inl failed) =
+gives_comes config server next event (Ok (frames.Response text)) body comes (inl failed) =
     absurd (not_failed body faults.OutOfMemory failed.0)
-gives_comes host server next event (Ok (frames.Response text)) body comes (inr (reply, moved, held, sends)) =
-    carried_comes host server moved next body reply (canonical reply)
-    (comes_goes host server moved event.nonce (frames.Response text) reply comes held) sends.0 sends.1
+gives_comes config server next event (Ok (frames.Response text)) body comes (inr (reply, moved, held, sends)) =
+    carried_comes config server moved next body reply (canonical reply)
+    (comes_goes config server moved event.nonce (frames.Response text) reply comes held) sends.0 sends.1
 
--- ---- what is behind an answer: a server that the host comes to, and at most 520 bytes sent (part 5, section 5.3.1)
+-- ---- what is behind an answer: a server that the configuration comes to, and at most 520 bytes sent (part 5, section 5.3.1)
 
-record Fine (host : Host) (answer : SideOutput) (next : State) : Type 0 where
-  comes : ServerIsReached host answer.progress next
+record Fine (config : Config) (answer : SideOutput) (next : State) : Type 0 where
+  comes : ServerIsReached config answer.progress next
   short : length answer.sent ≤ 520
 
-fine_so : (host : Host) (answer other : SideOutput) (next : State) → answer ≡ other → ServerIsReached host other.progress next
-    → length other.sent ≤ 520 → Fine host answer next
-fine_so host answer other next same comes short =
-    carried (λ (a : SideOutput). Fine host a next) other answer (sym same) (record { comes = comes; short = short })
+fine_so : (config : Config) (answer other : SideOutput) (next : State) → answer ≡ other → ServerIsReached config other.progress next
+    → length other.sent ≤ 520 → Fine config answer next
+fine_so config answer other next same comes short =
+    carried (λ (a : SideOutput). Fine config a next) other answer (sym same) (record { comes = comes; short = short })
 
-closes_fine : (host : Host) (answer : SideOutput) (next : State) (why : CloseReason) (expected : Expected)
-    → answer ≡ closes why expected → Fine host answer next
-closes_fine host answer next why expected same = fine_so host answer (closes why expected) next same tt (omega arith)
+closes_fine : (config : Config) (answer : SideOutput) (next : State) (why : CloseReason) (expected : Expected)
+    → answer ≡ closes why expected → Fine config answer next
+closes_fine config answer next why expected same = fine_so config answer (closes why expected) next same tt (omega arith)
 
-sends_fine : (host : Host) (answer : SideOutput) (next : State) (body : List ℕ) (progress : Progress) (expected : Expected)
-    → ServerIsReached host progress next → Sends body progress expected answer → Fine host answer next
-sends_fine host answer next body progress expected comes (inl (fits, same)) =
-    fine_so host answer (record { sent = framed body; progress = progress; expected = expected }) next same comes
+sends_fine : (config : Config) (answer : SideOutput) (next : State) (body : List ℕ) (progress : Progress) (expected : Expected)
+    → ServerIsReached config progress next → Sends body progress expected answer → Fine config answer next
+sends_fine config answer next body progress expected comes (inl (fits, same)) =
+    fine_so config answer (record { sent = framed body; progress = progress; expected = expected }) next same comes
     (omega (arith, fits, length-framed body))
-sends_fine host answer next body progress expected comes (inr (long, same)) =
-    closes_fine host answer next ReplyTooLarge expected same
+sends_fine config answer next body progress expected comes (inr (long, same)) =
+    closes_fine config answer next ReplyTooLarge expected same
 
 -- behind a header
-first_fine : (host : Host) (first : SideOutput) (server : State) (offer : Option (List ℕ)) → ServerIsReached host InProgress server
-    → Offers offer first → ServerIsReached host first.progress server × (length first.sent ≤ 512)
-first_fine host first server None comes same = (
-  carried (λ (a : SideOutput). ServerIsReached host a.progress server) (closes ReplyTooLarge Header) first (sym same) tt,
+first_fine : (config : Config) (first : SideOutput) (server : State) (offer : Option (List ℕ)) → ServerIsReached config InProgress server
+    → Offers offer first → ServerIsReached config first.progress server × (length first.sent ≤ 512)
+first_fine config first server None comes same = (
+  carried (λ (a : SideOutput). ServerIsReached config a.progress server) (closes ReplyTooLarge Header) first (sym same) tt,
   carried (λ (a : SideOutput). length a.sent ≤ 512) (closes ReplyTooLarge Header) first (sym same) (omega arith),
 )
-first_fine host first server (Some body) comes (inl (fits, same)) = (
-  carried (λ (a : SideOutput). ServerIsReached host a.progress server)
+first_fine config first server (Some body) comes (inl (fits, same)) = (
+  carried (λ (a : SideOutput). ServerIsReached config a.progress server)
       (record { sent = framed body; progress = InProgress; expected = Frame turns.Init }) first (sym same) comes,
   carried (λ (a : SideOutput). length a.sent ≤ 512)
       (record { sent = framed body; progress = InProgress; expected = Frame turns.Init }) first (sym same)
       (omega (arith, fits, length-framed body)),
 )
-first_fine host first server (Some body) comes (inr (long, same)) = (
-  carried (λ (a : SideOutput). ServerIsReached host a.progress server) (closes ReplyTooLarge (Frame turns.Init)) first (sym same) tt,
+first_fine config first server (Some body) comes (inr (long, same)) = (
+  carried (λ (a : SideOutput). ServerIsReached config a.progress server) (closes ReplyTooLarge (Frame turns.Init)) first (sym same) tt,
   carried (λ (a : SideOutput). length a.sent ≤ 512) (closes ReplyTooLarge (Frame turns.Init)) first (sym same)
       (omega arith),
 )
 
-header_fine : (host : Host) (answer first : SideOutput) (next : State) → answer ≡ behind_header first
-    → ServerIsReached host first.progress next → length first.sent ≤ 512 → Fine host answer next
-header_fine host answer first next same comes short =
+header_fine : (config : Config) (answer first : SideOutput) (next : State) → answer ≡ behind_header first
+    → ServerIsReached config first.progress next → length first.sent ≤ 512 → Fine config answer next
+header_fine config answer first next same comes short =
     let eight : length sasl_header ≡ 8 = refl in
-    fine_so host answer (behind_header first) next same comes
+    fine_so config answer (behind_header first) next same comes
     (omega (arith, short, eight, length-append sasl_header first.sent))
 
-says_fine : (host : Host) (says : ServerSays) (turn : FrameKind) (answer : SideOutput) (next : State)
-    → ((body : List ℕ) → says ≡ Challenged body → ServerIsReached host InProgress next) → ServerOutputs says turn answer
-    → Fine host answer next
-says_fine host (Challenged body) turns.Init answer next comes sends =
-    sends_fine host answer next body InProgress (Frame turns.Response) (comes body refl) sends
-says_fine host (Challenged body) turns.Mechanisms answer next comes same = closes_fine host answer next _ _ same
-says_fine host (Challenged body) turns.Challenge answer next comes same = closes_fine host answer next _ _ same
-says_fine host (Challenged body) turns.Response answer next comes same = closes_fine host answer next _ _ same
-says_fine host (Challenged body) turns.Outcome answer next comes same = closes_fine host answer next _ _ same
-says_fine host (Concluded outcomes.Ok body) turn answer next comes sends =
-    sends_fine host answer next body Authenticated (Frame turn) tt sends
-says_fine host (Concluded outcomes.Auth body) turn answer next comes sends =
-    sends_fine host answer next body _ (Frame turn) tt sends
-says_fine host (Concluded outcomes.Sys body) turn answer next comes sends =
-    sends_fine host answer next body _ (Frame turn) tt sends
-says_fine host (Concluded outcomes.SysPerm body) turn answer next comes sends =
-    sends_fine host answer next body _ (Frame turn) tt sends
-says_fine host (Concluded outcomes.SysTemp body) turn answer next comes sends =
-    sends_fine host answer next body _ (Frame turn) tt sends
-says_fine host (Failed faults.OutOfMemory) turn answer next comes never = absurd never
-says_fine host (Failed faults.DecodeError) turn answer next comes same = closes_fine host answer next _ _ same
-says_fine host (Failed faults.NotImplemented) turn answer next comes same = closes_fine host answer next _ _ same
-says_fine host (Failed faults.TooLarge) turn answer next comes same = closes_fine host answer next _ _ same
+says_fine : (config : Config) (says : ServerSays) (turn : FrameKind) (answer : SideOutput) (next : State)
+    → ((body : List ℕ) → says ≡ Challenged body → ServerIsReached config InProgress next) → ServerOutputs says turn answer
+    → Fine config answer next
+says_fine config (Challenged body) turns.Init answer next comes sends =
+    sends_fine config answer next body InProgress (Frame turns.Response) (comes body refl) sends
+says_fine config (Challenged body) turns.Mechanisms answer next comes same = closes_fine config answer next _ _ same
+says_fine config (Challenged body) turns.Challenge answer next comes same = closes_fine config answer next _ _ same
+says_fine config (Challenged body) turns.Response answer next comes same = closes_fine config answer next _ _ same
+says_fine config (Challenged body) turns.Outcome answer next comes same = closes_fine config answer next _ _ same
+says_fine config (Concluded outcomes.Ok body) turn answer next comes sends =
+    sends_fine config answer next body Authenticated (Frame turn) tt sends
+says_fine config (Concluded outcomes.Auth body) turn answer next comes sends =
+    sends_fine config answer next body _ (Frame turn) tt sends
+says_fine config (Concluded outcomes.Sys body) turn answer next comes sends =
+    sends_fine config answer next body _ (Frame turn) tt sends
+says_fine config (Concluded outcomes.SysPerm body) turn answer next comes sends =
+    sends_fine config answer next body _ (Frame turn) tt sends
+says_fine config (Concluded outcomes.SysTemp body) turn answer next comes sends =
+    sends_fine config answer next body _ (Frame turn) tt sends
+says_fine config (Failed faults.OutOfMemory) turn answer next comes never = absurd never
+says_fine config (Failed faults.DecodeError) turn answer next comes same = closes_fine config answer next _ _ same
+says_fine config (Failed faults.NotImplemented) turn answer next comes same = closes_fine config answer next _ _ same
+says_fine config (Failed faults.TooLarge) turn answer next comes same = closes_fine config answer next _ _ same
 
-answers_fine : (host : Host) (expected : Expected) (server next : State) (nonce unit : List ℕ) (answer : SideOutput)
-    → ServerIsReached host InProgress server → ServerSideAnswers state_names state_machine expected server nonce unit answer next
-    → Fine host answer next
-answers_fine host Header server next nonce unit answer comes (inl (other, same), kept) =
-    header_fine host answer (closes ProtocolHeaderMismatch Header) next same tt (omega arith)
-answers_fine host Header server next nonce unit answer comes (inr (is, (first, offers, same)), kept) =
-    let both = first_fine host first server (offer_body (state_names server)) comes offers in
-    header_fine host answer first next same
-    (carried (λ (s : State). ServerIsReached host first.progress s) server next (sym kept) both.0) both.1
-answers_fine host (Frame turn) server next nonce unit answer comes (Err fault, spells, unread) =
-    closes_fine host answer next _ _ unread.0
-answers_fine host (Frame turn) server next nonce unit answer comes (Ok frame, spells, inl out) =
-    closes_fine host answer next _ _ out.1
-answers_fine host (Frame turn) server next nonce unit answer comes
+answers_fine : (config : Config) (expected : Expected) (server next : State) (nonce unit : List ℕ) (answer : SideOutput)
+    → ServerIsReached config InProgress server → ServerSideAnswers state_names state_machine expected server nonce unit answer next
+    → Fine config answer next
+answers_fine config Header server next nonce unit answer comes (inl (other, same), kept) =
+    header_fine config answer (closes ProtocolHeaderMismatch Header) next same tt (omega arith)
+answers_fine config Header server next nonce unit answer comes (inr (is, (first, offers, same)), kept) =
+    let both = first_fine config first server (offer_body (state_names server)) comes offers in
+    header_fine config answer first next same
+    (carried (λ (s : State). ServerIsReached config first.progress s) server next (sym kept) both.0) both.1
+answers_fine config (Frame turn) server next nonce unit answer comes (Err fault, spells, unread) =
+    closes_fine config answer next _ _ unread.0
+answers_fine config (Frame turn) server next nonce unit answer comes (Ok frame, spells, inl out) =
+    closes_fine config answer next _ _ out.1
+answers_fine config (Frame turn) server next nonce unit answer comes
     (Ok frame, spells, inr (in_turn, (says, (spelled, is, gives), said))) =
     let event : Given = record { body = drop 4 unit; nonce = nonce } in
-    says_fine host says turn answer next
-    (λ body same. gives_comes host server next event spelled body comes
+    says_fine config says turn answer next
+    (λ body same. gives_comes config server next event spelled body comes
     (carried (λ (s : ServerSays). AcceptorGives state_machine server event spelled s next) says (Challenged body) same
     gives)) said
 
 -- ---- a call
 
 -- what is behind it
-record Behind (host : Host) (next : Side State) (sent : List ℕ) : Type 0 where
-  comes : ServerIsReached host next.progress next.state
+record Behind (config : Config) (next : Side State) (sent : List ℕ) : Type 0 where
+  comes : ServerIsReached config next.progress next.state
   limit : next.limit ≡ 512
   held : length next.held ≤ 512
   short : length sent ≤ 520
 
-behind : (host : Host) (next other : Side State) (sent more : List ℕ) → next ≡ other → sent ≡ more
-    → ServerIsReached host other.progress other.state → other.limit ≡ 512 → length other.held ≤ 512 → length more ≤ 520
-    → Behind host next sent
-behind host next other sent more same is comes limit held short =
-    carried (λ given. Behind host given sent) other next (sym same) (record {
+behind : (config : Config) (next other : Side State) (sent more : List ℕ) → next ≡ other → sent ≡ more
+    → ServerIsReached config other.progress other.state → other.limit ≡ 512 → length other.held ≤ 512 → length more ≤ 520
+    → Behind config next sent
+behind config next other sent more same is comes limit held short =
+    carried (λ given. Behind config given sent) other next (sym same) (record {
       comes = comes;
       limit = limit;
       held = held;
       short = carried (λ (s : List ℕ). length s ≤ 520) more sent (sym is) short;
     })
 
-wanting_behind : (host : Host) (side next : Side State) (bytes nonce : List ℕ) (taken : ℕ) (sent : List ℕ)
+wanting_behind : (config : Config) (side next : Side State) (bytes nonce : List ℕ) (taken : ℕ) (sent : List ℕ)
     → ReceivesAt InProgress (ServerSideAnswers state_names state_machine) side bytes nonce taken sent next
-    → side.progress ≡ InProgress → side.limit ≡ 512 → ServerIsReached host InProgress side.state → Behind host next sent
-wanting_behind host side next bytes nonce taken sent (inl (part, waits)) wants limit comes =
-    behind host next _ sent [] waits.2 waits.1
-    (carried (λ (s : Progress). ServerIsReached host s side.state) InProgress side.progress (sym wants) comes) limit
+    → side.progress ≡ InProgress → side.limit ≡ 512 → ServerIsReached config InProgress side.state → Behind config next sent
+wanting_behind config side next bytes nonce taken sent (inl (part, waits)) wants limit comes =
+    behind config next _ sent [] waits.2 waits.1
+    (carried (λ (s : Progress). ServerIsReached config s side.state) InProgress side.progress (sym wants) comes) limit
     (part_short side.expected (side.held ++ bytes)
     (carried (λ n. IsPart side.expected n (side.held ++ bytes)) side.limit 512 limit part)) (omega arith)
-wanting_behind host side next bytes nonce taken sent (inr (inl (refused, ends))) wants limit comes =
-    behind host next _ sent [] ends.2 ends.1 tt limit (omega arith) (omega arith)
-wanting_behind host side next bytes nonce taken sent (inr (inr (answer, state, whole, answers, ends))) wants limit
+wanting_behind config side next bytes nonce taken sent (inr (inl (refused, ends))) wants limit comes =
+    behind config next _ sent [] ends.2 ends.1 tt limit (omega arith) (omega arith)
+wanting_behind config side next bytes nonce taken sent (inr (inr (answer, state, whole, answers, ends))) wants limit
     comes =
-    let fine = answers_fine host side.expected side.state state nonce _ answer comes answers in
-    behind host next _ sent answer.sent ends.2 ends.1 fine.comes limit (omega arith) fine.short
+    let fine = answers_fine config side.expected side.state state nonce _ answer comes answers in
+    behind config next _ sent answer.sent ends.2 ends.1 fine.comes limit (omega arith) fine.short
 
-receives_behind : (host : Host) (before : Struct) (side next : Side State) (bytes nonce : List ℕ) (taken : ℕ)
-    (sent : List ℕ) → IsServer host before side → side.progress ≡ InProgress
-    → ServerReceives state_names state_machine side bytes nonce taken sent next → Behind host next sent
+receives_behind : (config : Config) (before : Struct) (side next : Side State) (bytes nonce : List ℕ) (taken : ℕ)
+    (sent : List ℕ) → IsServer config before side → side.progress ≡ InProgress
+    → ServerReceives state_names state_machine side bytes nonce taken sent next → Behind config next sent
 unfolding IsServer
-receives_behind host before side next bytes nonce taken sent is wants held =
-    wanting_behind host side next bytes nonce taken sent
+receives_behind config before side next bytes nonce taken sent is wants held =
+    wanting_behind config side next bytes nonce taken sent
     (carried (λ s. ReceivesAt s (ServerSideAnswers state_names state_machine) side bytes nonce taken sent next)
     side.progress InProgress wants held) wants is.1
-    (carried (λ (s : Progress). ServerIsReached host s side.state) side.progress InProgress wants is.2)
+    (carried (λ (s : Progress). ServerIsReached config s side.state) side.progress InProgress wants is.2)
 
-pub behind_comes : (host : Host) (before : Struct) (side next : Side State) (bytes nonce : List ℕ) (taken : ℕ)
-    (sent : List ℕ) → IsServer host before side → side.progress ≡ InProgress
+pub behind_comes : (config : Config) (before : Struct) (side next : Side State) (bytes nonce : List ℕ) (taken : ℕ)
+    (sent : List ℕ) → IsServer config before side → side.progress ≡ InProgress
     → ServerReceives state_names state_machine side bytes nonce taken sent next
-    → ServerIsReached host next.progress next.state
-behind_comes host before side next bytes nonce taken sent is wants held =
-    (receives_behind host before side next bytes nonce taken sent is wants held).comes
+    → ServerIsReached config next.progress next.state
+behind_comes config before side next bytes nonce taken sent is wants held =
+    (receives_behind config before side next bytes nonce taken sent is wants held).comes
 
-pub behind_limit : (host : Host) (before : Struct) (side next : Side State) (bytes nonce : List ℕ) (taken : ℕ)
-    (sent : List ℕ) → IsServer host before side → side.progress ≡ InProgress
+pub behind_limit : (config : Config) (before : Struct) (side next : Side State) (bytes nonce : List ℕ) (taken : ℕ)
+    (sent : List ℕ) → IsServer config before side → side.progress ≡ InProgress
     → ServerReceives state_names state_machine side bytes nonce taken sent next → next.limit ≡ 512
-behind_limit host before side next bytes nonce taken sent is wants held =
-    (receives_behind host before side next bytes nonce taken sent is wants held).limit
+behind_limit config before side next bytes nonce taken sent is wants held =
+    (receives_behind config before side next bytes nonce taken sent is wants held).limit
 
-pub behind_held : (host : Host) (before : Struct) (side next : Side State) (bytes nonce : List ℕ) (taken : ℕ)
-    (sent : List ℕ) → IsServer host before side → side.progress ≡ InProgress
+pub behind_held : (config : Config) (before : Struct) (side next : Side State) (bytes nonce : List ℕ) (taken : ℕ)
+    (sent : List ℕ) → IsServer config before side → side.progress ≡ InProgress
     → ServerReceives state_names state_machine side bytes nonce taken sent next → length next.held ≤ 512
-behind_held host before side next bytes nonce taken sent is wants held =
-    (receives_behind host before side next bytes nonce taken sent is wants held).held
+behind_held config before side next bytes nonce taken sent is wants held =
+    (receives_behind config before side next bytes nonce taken sent is wants held).held
 
-pub behind_short : (host : Host) (before : Struct) (side next : Side State) (bytes nonce : List ℕ) (taken : ℕ)
-    (sent : List ℕ) → IsServer host before side → side.progress ≡ InProgress
+pub behind_short : (config : Config) (before : Struct) (side next : Side State) (bytes nonce : List ℕ) (taken : ℕ)
+    (sent : List ℕ) → IsServer config before side → side.progress ≡ InProgress
     → ServerReceives state_names state_machine side bytes nonce taken sent next → length sent ≤ 520
-behind_short host before side next bytes nonce taken sent is wants held =
-    (receives_behind host before side next bytes nonce taken sent is wants held).short
+behind_short config before side next bytes nonce taken sent is wants held =
+    (receives_behind config before side next bytes nonce taken sent is wants held).short
 
 -- ---- the structs of a call
 
 -- the side that was taken up
-pub taken_up : (host : Host) (before : Struct) (kept : Snapshot) (state : State)
+pub taken_up : (config : Config) (before : Struct) (kept : Snapshot) (state : State)
     → Keeps before.connection kept.progress kept.expected kept.held.now → kept.progress ≡ InProgress → kept.limit ≡ 512
-    → ServerIsReached host InProgress state → ShowsState before.scram InProgress state
-    → IsServer host before (side_of kept state)
+    → ServerIsReached config InProgress state → ShowsState before.scram InProgress state
+    → IsServer config before (side_of kept state)
 unfolding IsServer ShowsSide
-taken_up host before kept state keeps wants limit comes shows = (
+taken_up config before kept state keeps wants limit comes shows = (
   (keeps, carried (λ (s : Progress). ShowsState before.scram s state) InProgress kept.progress (sym wants) shows),
   limit,
-  carried (λ (s : Progress). ServerIsReached host s state) InProgress kept.progress (sym wants) comes,
+  carried (λ (s : Progress). ServerIsReached config s state) InProgress kept.progress (sym wants) comes,
 )
 
-pub received : (host : Host) (bytes nonce : List ℕ) (before after : Struct) (side next : Side State) (taken : ℕ)
-    (sent : List ℕ) → IsServer host before side → side.progress ≡ InProgress
-    → ServerReceives state_names state_machine side bytes nonce taken sent next → IsServer host after next
-    → after ≡ side_struct next → Received host bytes nonce before after taken sent
+pub received : (config : Config) (bytes nonce : List ℕ) (before after : Struct) (side next : Side State) (taken : ℕ)
+    (sent : List ℕ) → IsServer config before side → side.progress ≡ InProgress
+    → ServerReceives state_names state_machine side bytes nonce taken sent next → IsServer config after next
+    → after ≡ side_struct next → Received config bytes nonce before after taken sent
 unfolding Received
-received host bytes nonce before after side next taken sent is wants held then written =
+received config bytes nonce before after side next taken sent is wants held then written =
     (side, next, is, wants, held, then, written)
 
-pub too_long : (host : Host) (bytes nonce : List ℕ) (before : Struct) (side next : Side State) (taken : ℕ)
-    (sent : List ℕ) → IsServer host before side → side.progress ≡ InProgress
+pub too_long : (config : Config) (bytes nonce : List ℕ) (before : Struct) (side next : Side State) (taken : ℕ)
+    (sent : List ℕ) → IsServer config before side → side.progress ≡ InProgress
     → ServerReceives state_names state_machine side bytes nonce taken sent next
-    → ((other : Struct) → ¬ IsServer host other next)
-    → NotReceived host bytes nonce before statuses.TooLong
+    → ((other : Struct) → ¬ IsServer config other next)
+    → NotReceived config bytes nonce before statuses.TooLong
 unfolding NotReceived
-too_long host bytes nonce before side next taken sent is wants held none =
+too_long config bytes nonce before side next taken sent is wants held none =
     inr (refl, (side, next, taken, sent, is, wants, held, none))
 
 -- none of the tests of the struct holds
@@ -490,42 +490,42 @@ keeps_no_server connection kept keeps wants limit mock wrong = λ expected held 
       λ _. mock,
     )) expected held other part
 
-pub no_connection : (host : Host) (bytes nonce : List ℕ) (before : Struct) (status : Status)
-    → IsFirst (side_tests before.connection) status → NotReceived host bytes nonce before status
+pub no_connection : (config : Config) (bytes nonce : List ℕ) (before : Struct) (status : Status)
+    → IsFirst (side_tests before.connection) status → NotReceived config bytes nonce before status
 unfolding NotReceived IsNoServer
-no_connection host bytes nonce before status wrong = inl (inl wrong)
+no_connection config bytes nonce before status wrong = inl (inl wrong)
 
-pub no_host : (host : Host) (bytes nonce : List ℕ) (before : Struct) (kept : Snapshot) (status : Status)
-    → Keeps before.connection kept.progress kept.expected kept.held.now → kept.progress ≡ InProgress → IsNoHost host status
-    → NotReceived host bytes nonce before status
+pub no_config : (config : Config) (bytes nonce : List ℕ) (before : Struct) (kept : Snapshot) (status : Status)
+    → Keeps before.connection kept.progress kept.expected kept.held.now → kept.progress ≡ InProgress → IsNoConfig config status
+    → NotReceived config bytes nonce before status
 unfolding NotReceived IsNoServer
-no_host host bytes nonce before kept status keeps wants wrong =
+no_config config bytes nonce before kept status keeps wants wrong =
     inl (inr (none_holds before.connection kept keeps wants, inl wrong))
 
-pub not_kept : (host : Host) (bytes nonce : List ℕ) (before : Struct) (kept : Snapshot) (state : State)
+pub not_kept : (config : Config) (bytes nonce : List ℕ) (before : Struct) (kept : Snapshot) (state : State)
     (status : Status) → Keeps before.connection kept.progress kept.expected kept.held.now → kept.progress ≡ InProgress
-    → kept.limit ≡ 512 → shown kept.user ≡ None → ServerIsReached host InProgress state
-    → (status ≡ statuses.InvalidSnapshot) × ¬ IsServerKept kept → NotReceived host bytes nonce before status
+    → kept.limit ≡ 512 → shown kept.user ≡ None → ServerIsReached config InProgress state
+    → (status ≡ statuses.InvalidSnapshot) × ¬ IsServerKept kept → NotReceived config bytes nonce before status
 unfolding NotReceived IsNoServer
-not_kept host bytes nonce before kept state status keeps wants limit mock comes (is, wrong) = inl (inr (
+not_kept config bytes nonce before kept state status keeps wants limit mock comes (is, wrong) = inl (inr (
   none_holds before.connection kept keeps wants,
-  inr (is, keeps_no_server before.connection kept keeps wants limit mock wrong, host_has comes),
+  inr (is, keeps_no_server before.connection kept keeps wants limit mock wrong, config_has comes),
 ))
   where
-    host_has : ServerIsReached host InProgress state → (at : ServerState) × (asked : Option Selected) × (server : State)
-        × IsOf host at asked server
-    host_has (inl fresh) = (Initial, None, state, fresh)
-    host_has (inr (challenge, waits)) = (ServerFirstSent challenge, Some First, state, waits)
+    config_has : ServerIsReached config InProgress state → (at : ServerState) × (asked : Option Selected) × (server : State)
+        × IsOf config at asked server
+    config_has (inl fresh) = (Initial, None, state, fresh)
+    config_has (inr (challenge, waits)) = (ServerFirstSent challenge, Some First, state, waits)
 
 -- what comes of a side that was taken up
-module _ (host : Host) (bytes nonce : List ℕ) (before : Struct) (kept : Snapshot) (state : State)
+module _ (config : Config) (bytes nonce : List ℕ) (before : Struct) (kept : Snapshot) (state : State)
     (keeps : Keeps before.connection kept.progress kept.expected kept.held.now) (wants : kept.progress ≡ InProgress)
-    (limit : kept.limit ≡ 512) (known : ServerIsReached host InProgress state × ShowsState before.scram InProgress state) where
+    (limit : kept.limit ≡ 512) (known : ServerIsReached config InProgress state × ShowsState before.scram InProgress state) where
   abbrev taken_side : Side State
   taken_side = side_of kept state
 
-  is : IsServer host before taken_side
-  is = taken_up host before kept state keeps wants limit known.0 known.1
+  is : IsServer config before taken_side
+  is = taken_up config before kept state keeps wants limit known.0 known.1
 
   -- a side that it can be behind these bytes
   abbrev Follows : ℕ → List ℕ → ServerNegotiation Code → Type 0
@@ -534,27 +534,27 @@ module _ (host : Host) (bytes nonce : List ℕ) (before : Struct) (kept : Snapsh
 
   pub answered : (after : Struct) (taken : ℕ) (sent : List ℕ)
       → (next : ServerNegotiation Code) × Follows taken sent next × ShowsBy value_state Shown after next
-      × (after ≡ struct_by value_state written_for next) → Received host bytes nonce before after taken sent
+      × (after ≡ struct_by value_state written_for next) → Received config bytes nonce before after taken sent
   answered after taken sent (next, held, shows, written) =
-      received host bytes nonce before after taken_side (side_in next) taken sent is wants held
-      (is_server host after (side_in next) (shows_side after next shows)
-      (behind_comes host before taken_side (side_in next) bytes nonce taken sent is wants held)
-      (behind_limit host before taken_side (side_in next) bytes nonce taken sent is wants held))
+      received config bytes nonce before after taken_side (side_in next) taken sent is wants held
+      (is_server config after (side_in next) (shows_side after next shows)
+      (behind_comes config before taken_side (side_in next) bytes nonce taken sent is wants held)
+      (behind_limit config before taken_side (side_in next) bytes nonce taken sent is wants held))
       (writes_side after next written)
 
   pub short_answer : (after : Struct) (taken : ℕ) (sent : List ℕ)
       → (next : ServerNegotiation Code) × Follows taken sent next × ShowsBy value_state Shown after next
       × (after ≡ struct_by value_state written_for next) → length sent ≤ 520
   short_answer after taken sent (next, held, shows, written) =
-      behind_short host before taken_side (side_in next) bytes nonce taken sent is wants held
+      behind_short config before taken_side (side_in next) bytes nonce taken sent is wants held
 
   pub unanswered : (status : Status) → shown kept.user ≡ None → ((status ≡ statuses.InvalidSnapshot) × ¬ IsServerKept kept)
       ⊎ ((status ≡ statuses.TooLong) × ((next : ServerNegotiation Code) × (taken : ℕ) × (sent : List ℕ)
-      × Follows taken sent next × HasNone value_state Shown next)) → NotReceived host bytes nonce before status
+      × Follows taken sent next × HasNone value_state Shown next)) → NotReceived config bytes nonce before status
   unanswered status mock (inl wrong) =
-      not_kept host bytes nonce before kept state status keeps wants limit mock known.0 wrong
+      not_kept config bytes nonce before kept state status keeps wants limit mock known.0 wrong
   unanswered status mock (inr (same, (next, taken, sent, held, none))) =
-      carried (NotReceived host bytes nonce before) statuses.TooLong status (sym same)
-      (too_long host bytes nonce before taken_side (side_in next) taken sent is wants held
-      (no_server host (side_in next) (shows_nothing next none)
-      (behind_held host before taken_side (side_in next) bytes nonce taken sent is wants held)))
+      carried (NotReceived config bytes nonce before) statuses.TooLong status (sym same)
+      (too_long config bytes nonce before taken_side (side_in next) taken sent is wants held
+      (no_server config (side_in next) (shows_nothing next none)
+      (behind_held config before taken_side (side_in next) bytes nonce taken sent is wants held)))

@@ -24,9 +24,11 @@ use Rattle.sasl_c.specs.declared.status.Status.{Status}
 use Rattle.sasl_c.specs.declared.status.Status.TheVariants as statuses
 use Rattle.sasl_c.specs.Records.{ShowsRecord, SpellsStruct}
 use Rattle.sasl_c.specs.declared.server.ScramServer.{ScramServer as Struct}
-use Rattle.sasl_c.specs.Server.{MakesChallenge, Challenges, ConcludesLogin, Concludes, FinalAsks, HasLoggedIn, MemoryCosts, ChallengeHasRoom, IsOpen, NotChallenged, logged_in_struct, one_user}
+use Rattle.sasl_c.specs.Server.{MakesChallenge, Challenges, ConcludesLogin, Concludes, FinalAsks, IsAuthenticated, MemoryCosts, ChallengeHasRoom, IsOpen, NotChallenged, OpensExchange, WritesChallenge, authenticated_struct, one_user, open_struct}
 use Rattle.sasl_c.proofs.StatusLemmas.{carried, server_is_memory}
-use Rattle.sasl_c.specs.Status.{server_status}
+use Rattle.sasl_c.specs.declared.status.WriteError.{WriteError}
+use Rattle.sasl_c.specs.declared.status.WriteError.TheVariants.{RoomTooSmall, Other}
+use Rattle.sasl_c.specs.Status.{AsksText, Fills, Room, server_status}
 
 -- a message that is refused
 pub unread : (cbind_flag_y : Bool) (kept : Kept) (nonce text : List ℕ) (why : ServerScramErrorKind) (status : Status)
@@ -48,15 +50,48 @@ pub no_room : (cbind_flag_y : Bool) (kept : Kept) (nonce text : List ℕ) (chall
 unfolding NotChallenged
 no_room cbind_flag_y kept nonce text challenge held wide = inr (inr (refl, (challenge, held, wide)))
 
--- the struct of the open challenge holds its message
-pub says_first : (cbind_flag_y : Bool) (kept : Kept) (nonce text : List ℕ) (state : ServerState)
-    (challenge shown : ServerChallenge) (server : Struct) → state ≡ ServerFirstSent challenge
-    → MakesChallenge cbind_flag_y kept nonce text challenge → Some shown ≡ open_challenge state → IsOpen server shown
-    → Challenges cbind_flag_y kept nonce text (Ok (take server.first_len server.first)) × (server.first_len ≤ 1024)
-says_first cbind_flag_y kept nonce text state challenge shown server stands held opened is =
-    let same : Some shown ≡ Some challenge = opened ∙ ap open_challenge stands in
-    let one : shown ≡ challenge = cc in
-    ((challenge, held, sym (ap (λ (c : ServerChallenge). c.first) (sym one ∙ is.2))), is.1.3)
+-- the challenge that is open is the one that was made
+pub one_challenge : (state : ServerState) (challenge shown : ServerChallenge) → state ≡ ServerFirstSent challenge
+    → Some shown ≡ open_challenge state → shown ≡ challenge
+one_challenge state challenge shown stands opened =
+    let same : Some shown ≡ Some challenge = opened ∙ ap open_challenge stands in cc
+
+-- what is written of it
+pub opens_text : (cbind_flag_y : Bool) (kept : Kept) (nonce text : List ℕ) (challenge shown : ServerChallenge)
+    (before after : Struct) (room filled : Room) (answer : Result (Unit {0}) WriteError)
+    → MakesChallenge cbind_flag_y kept nonce text challenge → shown ≡ challenge
+    → WritesChallenge shown before after room filled answer
+    → Fills (Challenges cbind_flag_y kept nonce text) room filled answer
+opens_text cbind_flag_y kept nonce text challenge shown before after room filled (Ok done) held same is =
+    (shown.first, (challenge, held, ap (λ (c : ServerChallenge). c.first) same), is.2, is.3, is.4)
+opens_text cbind_flag_y kept nonce text challenge shown before after room filled (Err RoomTooSmall) held same is =
+    (is.1, (shown.first, (challenge, held, ap (λ (c : ServerChallenge). c.first) same), is.2))
+opens_text cbind_flag_y kept nonce text challenge shown before after room filled (Err (Other status)) held same is = (
+  is.1,
+  is.2,
+  λ _. carried (λ s. NotChallenged cbind_flag_y kept nonce text s) statuses.TooLong status (sym is.3)
+      (no_room cbind_flag_y kept nonce text challenge held
+      (carried (λ c. ¬ ChallengeHasRoom c) shown challenge same is.4)),
+)
+
+pub opens_exchange : (cbind_flag_y : Bool) (kept : Kept) (nonce text : List ℕ) (challenge shown : ServerChallenge)
+    (before after : Struct) (room filled : Room) (answer : Result (Unit {0}) WriteError)
+    → MakesChallenge cbind_flag_y kept nonce text challenge → shown ≡ challenge
+    → WritesChallenge shown before after room filled answer
+    → OpensExchange cbind_flag_y kept nonce text before after answer
+opens_exchange cbind_flag_y kept nonce text challenge shown before after room filled (Ok done) held same is =
+    (challenge, held, carried (λ c. IsOpen after c) shown challenge same is.0, is.1 ∙ ap open_struct same)
+opens_exchange cbind_flag_y kept nonce text challenge shown before after room filled (Err RoomTooSmall) held same is = is.0
+opens_exchange cbind_flag_y kept nonce text challenge shown before after room filled (Err (Other status)) held same is =
+    is.0
+
+pub opens_asks : (Asks : Type 0) (challenge : ServerChallenge) (before after : Struct) (room filled : Room)
+    (answer : Result (Unit {0}) WriteError) → WritesChallenge challenge before after room filled answer
+    → AsksText Asks answer
+opens_asks Asks challenge before after room filled (Ok done) is = tt
+opens_asks Asks challenge before after room filled (Err RoomTooSmall) is = λ same. absurd (cc)
+opens_asks Asks challenge before after room filled (Err (Other status)) is =
+    λ same. let other : Other statuses.TooLong ≡ Other statuses.OutOfMemory = ap Other (sym is.3) ∙ same in absurd (cc)
 
 -- a server that takes whom another takes answers what that one answers
 pub challenges_so : (state next : ServerState) (store : Store) (own cbind_flag_y : Bool) (nonce text : List ℕ)
@@ -182,11 +217,11 @@ memory_costs A kept before text challenge shown why status counted after is show
 )
 
 -- the struct of a server that has logged its user in
-logged_in : (user : List ℕ) → length user ≤ 256 → HasLoggedIn (logged_in_struct user) user
+logged_in : (user : List ℕ) → length user ≤ 256 → IsAuthenticated (authenticated_struct user) user
 logged_in user few = (refl, few, sym (take-append_seam user (replicate (256 - length user) 0)))
 
 pub concludes : (kept : Kept) (before after : Struct) (text message user : List ℕ)
-    → ConcludesLogin kept before text message user → after ≡ logged_in_struct (take before.user_len before.user)
+    → ConcludesLogin kept before text message user → after ≡ authenticated_struct (take before.user_len before.user)
     → Concludes kept text before after (Ok message)
 unfolding Concludes ConcludesLogin
 concludes kept before after text message user held written =
@@ -194,5 +229,5 @@ concludes kept before after text message user held written =
     held.4 ∙ ap (λ (challenge : ServerChallenge). challenge.user) held.2.2 in
     let few : length user ≤ 256 =
     omega (arith, ap length named, length-take before.user_len before.user, held.2.1.0) in
-    let same : after ≡ logged_in_struct user = written ∙ ap logged_in_struct (sym named) in
-    (user, held, carried (λ s. HasLoggedIn s user) (logged_in_struct user) after (sym same) (logged_in user few), same)
+    let same : after ≡ authenticated_struct user = written ∙ ap authenticated_struct (sym named) in
+    (user, held, carried (λ s. IsAuthenticated s user) (authenticated_struct user) after (sym same) (logged_in user few), same)

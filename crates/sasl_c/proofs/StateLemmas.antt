@@ -11,14 +11,14 @@ use Rattle.sasl_c.specs.Keys.{WritesKeys}
 use Rattle.sasl_c.proofs.StatusLemmas.{carried}
 
 pub first_sent : (user : List ℕ) (client : Struct) (state : ClientState) (nonce bare : List ℕ)
-    → state ≡ ClientFirstSent (base64_text nonce) bare → IsReached user state → client.sent ≡ 1 → client.nonce ≡ nonce
+    → state ≡ ClientFirstSent (base64_text nonce) bare → IsReached user state → client.state ≡ 1 → client.nonce ≡ nonce
     → IsState user client state
 first_sent user client state nonce bare is reached sent same =
     let of_user = carried (IsReached user) state (ClientFirstSent (base64_text nonce) bare) is reached in
     carried (IsState user client) (ClientFirstSent (base64_text nonce) bare) state (sym is)
     (sent, ap base64_text (sym same), of_user)
 
-pub completed : (user : List ℕ) (client : Struct) (state : ClientState) → is_complete state ≡ true → client.sent ≡ 3
+pub completed : (user : List ℕ) (client : Struct) (state : ClientState) → is_complete state ≡ true → client.state ≡ 3
     → Holds client.keys (login_keys state) → IsState user client state
 completed user client (Complete keys) is sent holds = (sent, holds)
 completed user client ClientInitial is sent holds = absurd (cc)

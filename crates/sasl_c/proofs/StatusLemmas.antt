@@ -1,5 +1,5 @@
--- What a refusal is not: want of room, and want of memory only where that is its kind.
-use Rattle.std.proofs.Common.{ap, refl, sym, ◌≡◌, ◌≢◌}
+-- That a refusal is out of memory only where that is its kind.
+use Rattle.std.proofs.Common.{ap, refl, sym, ◌∙◌, ◌≡◌, ◌≢◌, ℕ, List}
 use Rattle.fe2o3_scram.specs.declared.scram_messages.error.ScramErrorKind.{ScramErrorKind}
 use Rattle.fe2o3_scram.specs.declared.scram_messages.error.ScramErrorKind.TheVariants as client
 use Rattle.fe2o3_scram.specs.declared.scram_messages.error.ServerScramErrorKind.{ServerScramErrorKind}
@@ -10,46 +10,11 @@ use Rattle.fe2o3_sasl_wire.specs.declared.sasl_frames.error.Error.TheVariants as
 use Rattle.fe2o3_sasl_core.specs.declared.sasl_profile.error.ProfileError.{ProfileError}
 use Rattle.fe2o3_sasl_core.specs.declared.sasl_profile.error.ProfileError.TheVariants as profile
 use Rattle.sasl_c.specs.Connection.{frame_status, profile_status}
-use Rattle.sasl_c.specs.Status.{AsksWhere, client_status, server_status}
+use Rattle.sasl_c.specs.Status.{AsksText, AsksWhere, Fills, Room, WritesText, client_status, server_status}
 use Rattle.sasl_c.specs.declared.status.Status.{Status}
-use Rattle.sasl_c.specs.declared.status.Status.TheVariants.{OutOfMemory, RoomTooSmall}
-
-pub client_not_room : (why : ScramErrorKind) → client_status why ≢ RoomTooSmall
-client_not_room client.Utf8Error = λ same. absurd (cc)
-client_not_room client.InsufficientParts = λ same. absurd (cc)
-client_not_room client.ExtensionNotSupported = λ same. absurd (cc)
-client_not_room client.NonceNotFound = λ same. absurd (cc)
-client_not_room client.ClientNonceMismatch = λ same. absurd (cc)
-client_not_room client.SaltNotFound = λ same. absurd (cc)
-client_not_room client.Base64DecodeError = λ same. absurd (cc)
-client_not_room client.IterationCountNotFound = λ same. absurd (cc)
-client_not_room client.IterationCountParseError = λ same. absurd (cc)
-client_not_room client.IterationCountTooSmall = λ same. absurd (cc)
-client_not_room client.IterationCountTooLarge = λ same. absurd (cc)
-client_not_room client.NormalizeError = λ same. absurd (cc)
-client_not_room client.StaleKeys = λ same. absurd (cc)
-client_not_room client.HmacErrorInvalidLength = λ same. absurd (cc)
-client_not_room client.XorLengthMismatch = λ same. absurd (cc)
-client_not_room client.IllegalClientState = λ same. absurd (cc)
-client_not_room client.ServerSignatureMismatch = λ same. absurd (cc)
-client_not_room client.OutOfMemory = λ same. absurd (cc)
-
-pub server_not_room : (why : ServerScramErrorKind) → server_status why ≢ RoomTooSmall
-server_not_room server.Utf8Error = λ same. absurd (cc)
-server_not_room server.CannotParseGs2Header = λ same. absurd (cc)
-server_not_room server.CannotParseUsername = λ same. absurd (cc)
-server_not_room server.CannotParseClientNonce = λ same. absurd (cc)
-server_not_room server.HmacErrorInvalidLength = λ same. absurd (cc)
-server_not_room server.XorLengthMismatch = λ same. absurd (cc)
-server_not_room server.NormalizeError = λ same. absurd (cc)
-server_not_room server.CannotParseClientFinalMessage = λ same. absurd (cc)
-server_not_room server.InvalidChannelBinding = λ same. absurd (cc)
-server_not_room server.Base64DecodeError = λ same. absurd (cc)
-server_not_room server.IncorrectClientFinalNonce = λ same. absurd (cc)
-server_not_room server.ProofNotFoundInClientFinal = λ same. absurd (cc)
-server_not_room server.AuthenticationFailed = λ same. absurd (cc)
-server_not_room server.IllegalAuthenticatorState = λ same. absurd (cc)
-server_not_room server.OutOfMemory = λ same. absurd (cc)
+use Rattle.sasl_c.specs.declared.status.Status.TheVariants.{OutOfMemory}
+use Rattle.sasl_c.specs.declared.status.WriteError.{WriteError}
+use Rattle.sasl_c.specs.declared.status.WriteError.TheVariants.{RoomTooSmall, Other}
 
 pub client_memory : (why : ScramErrorKind) → client_status why ≢ OutOfMemory → why ≢ client.OutOfMemory
 client_memory why other same = other (ap client_status same)
@@ -97,19 +62,6 @@ server_is_memory server.AuthenticationFailed status gives memory = absurd (cc)
 server_is_memory server.IllegalAuthenticatorState status gives memory = absurd (cc)
 server_is_memory server.OutOfMemory status gives memory = refl
 
-pub frame_not_room : (fault : Error) → frame_status fault ≢ RoomTooSmall
-frame_not_room faults.DecodeError = λ same. absurd (cc)
-frame_not_room faults.NotImplemented = λ same. absurd (cc)
-frame_not_room faults.TooLarge = λ same. absurd (cc)
-frame_not_room faults.OutOfMemory = λ same. absurd (cc)
-
-pub profile_not_room : (fault : ProfileError) → profile_status fault ≢ RoomTooSmall
-profile_not_room profile.NotImplemented = λ same. absurd (cc)
-profile_not_room (profile.Scram kind) = client_not_room kind
-profile_not_room profile.StaleKeys = λ same. absurd (cc)
-profile_not_room (profile.Frame fault) = frame_not_room fault
-profile_not_room profile.OutOfMemory = λ same. absurd (cc)
-
 -- what holds of an answer's value, and of its refusal, where it says more
 pub ok_so : {A E : Type 0} (answer : Result A E) (P Q : A → Type 0) → ((x : A) → P x → Q x) → IfOk answer P
     → IfOk answer Q
@@ -137,3 +89,29 @@ on_err_so P Q (Err e) says held = says held
 -- what holds of one holds of its equal
 pub carried : {A : Type 0} (P : A → Type 0) (x y : A) → x ≡ y → P x → P y
 carried P x y same held = rw (sym same) held
+
+-- ---- what was made and is written
+
+pub fills : {T : Type 0} (items : T → List ℕ) (Due : Result (List ℕ) Status → Type 0) (text : Result T Status)
+    (before after : Room) (answer : Result (Unit {0}) WriteError) → IfOk text (λ t. Due (Ok (items t)))
+    → IfErr text (λ status. status ≢ OutOfMemory → Due (Err status)) → WritesText items text before after answer
+    → Fills Due before after answer
+fills items Due (Ok text) before after (Ok done) due why is = (items text, due, is.0, is.1, is.2)
+fills items Due (Ok text) before after (Err RoomTooSmall) due why is = (is.0, (items text, due, is.1))
+fills items Due (Ok text) before after (Err (Other status)) due why is = absurd is
+fills items Due (Err status) before after (Ok done) due why is = absurd is
+fills items Due (Err status) before after (Err RoomTooSmall) due why is = absurd is
+fills items Due (Err status) before after (Err (Other told)) due why is =
+    (is.1, is.2, carried (λ s. s ≢ OutOfMemory → Due (Err s)) status told (sym is.0) why)
+
+pub asks_text : {T : Type 0} (items : T → List ℕ) (Asks : Type 0) (text : Result T Status) (before after : Room)
+    (answer : Result (Unit {0}) WriteError) → AsksWhere Asks text → WritesText items text before after answer
+    → AsksText Asks answer
+asks_text items Asks text before after (Ok done) asks is = tt
+asks_text items Asks (Ok text) before after (Err RoomTooSmall) asks is = λ same. absurd (cc)
+asks_text items Asks (Ok text) before after (Err (Other status)) asks is = absurd is
+asks_text items Asks (Err status) before after (Err RoomTooSmall) asks is = absurd is
+asks_text items Asks (Err status) before after (Err (Other told)) asks is =
+    λ same. let memory : told ≡ OutOfMemory = cc in asks (sym is.0 ∙ memory)
+
+pub ruleset written = (fills, asks_text)

@@ -12,14 +12,14 @@ use Rattle.fe2o3_sasl_negotiation.specs.declared.progress.Progress.{Progress}
 use Rattle.fe2o3_sasl_negotiation.specs.declared.progress.Progress.TheVariants.{InProgress}
 use Rattle.sasl_c.specs.declared.client.ScramClient.{ScramClient as ClientStruct}
 use Rattle.sasl_c.specs.declared.sasl_client.SaslLogin.{SaslLogin as Login}
-use Rattle.sasl_c.specs.declared.sasl_server.SaslHost.{SaslHost as Host}
+use Rattle.sasl_c.specs.declared.sasl_server.SaslServerConfig.{SaslServerConfig as Config}
 use Rattle.sasl_c.specs.declared.server.ScramServer.{ScramServer as ServerStruct}
 use Rattle.sasl_c.specs.declared.status.Status.{Status}
 use Rattle.sasl_c.specs.declared.status.Status.TheVariants as statuses
 use Rattle.sasl_c.specs.Connection.{profile_status}
 use Rattle.sasl_c.specs.SaslClient.{ProfileIsReached as LoginComes, HasNoHostname, IsHostname, IsNoProfile, IsProfile}
-use Rattle.sasl_c.specs.SaslServer.{ServerIsReached, IsNoHost, State, state_machine, value_state}
-use Rattle.sasl_c.specs.Steps.{ClientHides, ClientNotStepped, ClientStepped, ClientTells, IsStepped, NotStepped, ProfileNotStepped, ProfileStepped, ServerNotStepped, ServerStepped, ServerTells, HostServes, behind_code, progress_number}
+use Rattle.sasl_c.specs.SaslServer.{ServerIsReached, IsNoConfig, State, state_machine, value_state}
+use Rattle.sasl_c.specs.Steps.{ClientHides, ClientNotStepped, ClientStepped, ClientTells, IsStepped, NotStepped, ProfileNotStepped, ProfileStepped, ServerNotStepped, ServerStepped, ServerTells, ConfigServes, behind_code, progress_number}
 use Rattle.sasl_c.proofs.SaslClientLemmas.{gives_comes as profile_gives, profile_comes}
 use Rattle.sasl_c.proofs.SaslServerLemmas.{Shown, written_for}
 use Rattle.sasl_c.proofs.ServerCallLemmas.{gives_comes as acceptor_gives}
@@ -111,30 +111,30 @@ server_short (Challenged body) sent stands is = no_longer body sent is.0.0 is.0.
 server_short (Concluded code body) sent stands is = no_longer body sent is.0.0 is.0.1
 server_short (Failed fault) sent stands is = absurd is
 
--- the acceptor behind a step is one that the host comes to
-code_comes : (host : Host) (code : SaslCode) (next : State) → ServerIsReached host (behind_code code) next
-code_comes host outcomes.Ok next = tt
-code_comes host outcomes.Auth next = tt
-code_comes host outcomes.Sys next = tt
-code_comes host outcomes.SysPerm next = tt
-code_comes host outcomes.SysTemp next = tt
+-- the acceptor behind a step is one that the configuration comes to
+code_comes : (config : Config) (code : SaslCode) (next : State) → ServerIsReached config (behind_code code) next
+code_comes config outcomes.Ok next = tt
+code_comes config outcomes.Auth next = tt
+code_comes config outcomes.Sys next = tt
+code_comes config outcomes.SysPerm next = tt
+code_comes config outcomes.SysTemp next = tt
 
-server_comes : (host : Host) (event : Given) (server next : State) (says : ServerSays) (sent : List ℕ)
-    (stands : Progress) → ServerIsReached host InProgress server → AcceptorSteps state_machine server event says next
-    → ServerTells says sent stands → ServerIsReached host stands next
-server_comes host event server next (Challenged body) sent stands comes steps tells =
-    carried (λ (s : Progress). ServerIsReached host s next) InProgress stands (sym tells.1)
-    (acceptor_gives host server next event steps.0 body comes steps.2)
-server_comes host event server next (Concluded code body) sent stands comes steps tells =
-    carried (λ (s : Progress). ServerIsReached host s next) (behind_code code) stands (sym tells.1) (code_comes host code next)
-server_comes host event server next (Failed fault) sent stands comes steps tells = absurd tells
+server_comes : (config : Config) (event : Given) (server next : State) (says : ServerSays) (sent : List ℕ)
+    (stands : Progress) → ServerIsReached config InProgress server → AcceptorSteps state_machine server event says next
+    → ServerTells says sent stands → ServerIsReached config stands next
+server_comes config event server next (Challenged body) sent stands comes steps tells =
+    carried (λ (s : Progress). ServerIsReached config s next) InProgress stands (sym tells.1)
+    (acceptor_gives config server next event steps.0 body comes steps.2)
+server_comes config event server next (Concluded code body) sent stands comes steps tells =
+    carried (λ (s : Progress). ServerIsReached config s next) (behind_code code) stands (sym tells.1) (code_comes config code next)
+server_comes config event server next (Failed fault) sent stands comes steps tells = absurd tells
 
-pub server_stepped : (host : Host) (event : Given) (before after : ServerStruct) (server : State)
-    (stands : Progress) (sent : List ℕ) → HostServes host before InProgress server
+pub server_stepped : (config : Config) (event : Given) (before after : ServerStruct) (server : State)
+    (stands : Progress) (sent : List ℕ) → ConfigServes config before InProgress server
     → IsStepped value_state state_machine Shown written_for server event after stands sent
-    → ServerStepped host event before after (progress_number stands) sent
+    → ServerStepped config event before after (progress_number stands) sent
 unfolding ServerStepped
-server_stepped host event before after server stands sent serves (next, says, steps, tells, shows, written) = (
+server_stepped config event before after server stands sent serves (next, says, steps, tells, shows, written) = (
   server,
   stands,
   serves,
@@ -143,7 +143,7 @@ server_stepped host event before after server stands sent serves (next, says, st
     says,
     steps,
     tells,
-    (server_comes host event server (value_state next) says sent stands serves.0 steps tells, shows),
+    (server_comes config event server (value_state next) says sent stands serves.0 steps tells, shows),
     written,
   ),
   refl,
@@ -154,18 +154,18 @@ pub server_steps_short : (server : State) (event : Given) (after : ServerStruct)
 server_steps_short server event after stands sent (next, says, steps, tells, shows, written) =
     server_short says sent stands tells
 
-pub server_no_host : (host : Host) (event : Given) (before : ServerStruct) (status : Status) → IsNoHost host status
-    → ServerNotStepped host event before status
+pub server_no_config : (config : Config) (event : Given) (before : ServerStruct) (status : Status) → IsNoConfig config status
+    → ServerNotStepped config event before status
 unfolding ServerNotStepped
-server_no_host host event before status wrong = inl wrong
+server_no_config config event before status wrong = inl wrong
 
-pub server_not_stepped : (host : Host) (event : Given) (before : ServerStruct) (server : State) (status : Status)
-    → HostServes host before InProgress server → NotStepped value_state state_machine Shown server event status
-    → ServerNotStepped host event before status
+pub server_not_stepped : (config : Config) (event : Given) (before : ServerStruct) (server : State) (status : Status)
+    → ConfigServes config before InProgress server → NotStepped value_state state_machine Shown server event status
+    → ServerNotStepped config event before status
 unfolding ServerNotStepped
-server_not_stepped host event before server status serves (next, says, steps, inl hides) =
+server_not_stepped config event before server status serves (next, says, steps, inl hides) =
     inr (server, serves, (value_state next, says, steps, inl hides))
-server_not_stepped host event before server status serves
+server_not_stepped config event before server status serves
     (next, says, steps, inr (is, (stands, sent, tells, none))) = inr (
       server,
       serves,

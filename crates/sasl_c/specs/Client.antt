@@ -16,9 +16,10 @@ use Rattle.fe2o3_scram.specs.ServerFinal.{ReachesVerifier}
 use Rattle.fe2o3_scram.specs.Texts.{base64_text}
 use Rattle.sasl_c.specs.declared.client.ScramClient.{ScramClient as Struct}
 use Rattle.sasl_c.specs.declared.client.Login.{Login}
-use Rattle.sasl_c.specs.declared.keys.ClientKeys.{ClientKeys as KeysStruct}
+use Rattle.sasl_c.specs.declared.keys.ScramKeys.{ScramKeys as KeysStruct}
 use Rattle.sasl_c.specs.declared.status.Status.{Status}
 use Rattle.sasl_c.specs.declared.status.Status.TheVariants as statuses
+use Rattle.sasl_c.specs.declared.status.WriteError.{WriteError}
 use Rattle.sasl_c.specs.Keys.{KeysHaveRoom, ShowsKeys, WritesKeys, no_keys_struct}
 use Rattle.sasl_c.specs.Records.{IsVersion}
 use Rattle.sasl_c.specs.Status.{client_status}
@@ -85,16 +86,16 @@ Holds kept (Some keys) = ShowsKeys kept keys ⊎ (¬ KeysHaveRoom keys × HoldsN
 -- the struct of a client of this user in this state: what was sent last, 1 for the client-first message and 2 for the
 -- client-final message; 3 is a login whose server was believed, and all else a client that has sent nothing
 abbrev pub IsState : List ℕ → Struct → ClientState → Type 0
-IsState user client ClientInitial = (client.sent ≢ 1) × (client.sent ≡ 2 → 64 < client.signature_len)
-IsState user client (ClientFirstSent nonce bare) = (client.sent ≡ 1) × (nonce ≡ base64_text client.nonce)
+IsState user client ClientInitial = (client.state ≢ 1) × (client.state ≡ 2 → 64 < client.signature_len)
+IsState user client (ClientFirstSent nonce bare) = (client.state ≡ 1) × (nonce ≡ base64_text client.nonce)
     × (bare ≡ client_first_bare user nonce)
-IsState user client (ClientFinalSent signature keys) = (client.sent ≡ 2) × (client.signature_len ≤ 64)
+IsState user client (ClientFinalSent signature keys) = (client.state ≡ 2) × (client.signature_len ≤ 64)
     × (signature ≡ take client.signature_len client.signature) × Holds client.keys keys
-IsState user client (Complete keys) = (client.sent ≡ 3) × Holds client.keys keys
+IsState user client (Complete keys) = (client.state ≡ 3) × Holds client.keys keys
 
 -- the struct waits for a signature
 abbrev pub AwaitsSignature : Struct → Type 0
-AwaitsSignature client = (client.sent ≡ 2) × (client.signature_len ≤ 64)
+AwaitsSignature client = (client.state ≡ 2) × (client.signature_len ≤ 64)
 
 -- what holds of each state that a client comes to: its message is that of its user, and the signature that it waits for
 -- has room
@@ -112,7 +113,7 @@ IsSide login client side = IsClientOf login side × IsState side.user client sid
 -- of a client that has sent nothing
 abbrev pub fresh_client_struct : Struct
 fresh_client_struct = record {
-  sent = 0;
+  state = 0;
   signature_len = 0;
   nonce = replicate 32 0;
   signature = replicate 64 0;
@@ -122,7 +123,7 @@ fresh_client_struct = record {
 -- of one that has sent its client-first message, with this nonce
 abbrev pub started_struct : List ℕ → Struct
 started_struct nonce = record {
-  sent = 1;
+  state = 1;
   signature_len = 0;
   nonce = nonce;
   signature = replicate 64 0;
@@ -132,7 +133,7 @@ started_struct nonce = record {
 -- of one that has sent its client-final message, and waits for this signature
 abbrev pub waiting_struct : List ℕ → KeysStruct → Struct
 waiting_struct signature keys = record {
-  sent = 2;
+  state = 2;
   signature_len = length signature;
   nonce = replicate 32 0;
   signature = zero_filled 64 signature;
@@ -142,7 +143,7 @@ waiting_struct signature keys = record {
 -- of one whose login is complete
 abbrev pub complete_struct : KeysStruct → Struct
 complete_struct keys = record {
-  sent = 3;
+  state = 3;
   signature_len = 0;
   nonce = replicate 32 0;
   signature = replicate 64 0;
@@ -167,10 +168,10 @@ Starts login nonce (Ok message) = (side : ClientSide) × IsClientOf login side
 Starts login nonce (Err status) = IsNoLogin login status
 
 -- the struct after it
-abbrev pub StartsClient : Login → List ℕ → Struct → Struct → Result (Unit {0}) Status → Type 0
+abbrev pub StartsClient : Login → List ℕ → Struct → Struct → Result (Unit {0}) WriteError → Type 0
 StartsClient login nonce before after (Ok done) = ((side : ClientSide) × IsClientOf login side
     × IsSide login after (started side nonce)) × (after ≡ started_struct nonce)
-StartsClient login nonce before after (Err status) = after ≡ before
+StartsClient login nonce before after (Err why) = after ≡ before
 
 -- a refusal of a client by the library
 abbrev pub Refuses : Login → Struct → (ClientSide → ScramErrorKind → Type 0) → Status → Type 0
@@ -203,7 +204,7 @@ Responds login text before after (Err status) = ((status ≡ client_status Utf8E
 -- memory is asked for to answer a server-first message: the message is UTF-8, the login is one, and its client-first
 -- message was sent last
 abbrev pub AnswerAsks : Login → List ℕ → Struct → Type 0
-AnswerAsks login text before = IsUtf8 text × IsTestedLogin login × (before.sent ≡ 1)
+AnswerAsks login text before = IsUtf8 text × IsTestedLogin login × (before.state ≡ 1)
 
 -- memory is asked for to verify a server-final message: the login is one, its client waits for a signature, and the
 -- message is read as far as its own
@@ -219,6 +220,6 @@ Verifies login text before after (Err status) = (after ≡ before) × (status �
 
 -- the keys of a login whose server was believed, and of no other
 abbrev pub HandsOut : Struct → Result KeysStruct Status → Type 0
-HandsOut client (Ok keys) = (client.sent ≡ 3) × (keys ≡ client.keys) × (keys.version ≢ 0)
-HandsOut client (Err statuses.NoKeys) = (client.sent ≡ 3) × (client.keys.version ≡ 0)
-HandsOut client (Err status) = (client.sent ≢ 3) × (status ≡ client_status IllegalClientState)
+HandsOut client (Ok keys) = (client.state ≡ 3) × (keys ≡ client.keys) × (keys.version ≢ 0)
+HandsOut client (Err statuses.NoKeys) = (client.state ≡ 3) × (client.keys.version ≡ 0)
+HandsOut client (Err status) = (client.state ≢ 3) × (status ≡ client_status IllegalClientState)

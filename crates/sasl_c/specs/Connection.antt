@@ -23,17 +23,17 @@ use Rattle.sasl_c.specs.declared.status.Status.TheVariants as statuses
 use Rattle.sasl_c.specs.Status.{client_status, status_number}
 
 -- the number of what is expected
-abbrev pub due_number : Expected → ℕ
-due_number Header = 0
-due_number (Frame turns.Mechanisms) = 1
-due_number (Frame turns.Init) = 2
-due_number (Frame turns.Challenge) = 3
-due_number (Frame turns.Response) = 4
-due_number (Frame turns.Outcome) = 5
+abbrev pub expected_number : Expected → ℕ
+expected_number Header = 0
+expected_number (Frame turns.Mechanisms) = 1
+expected_number (Frame turns.Init) = 2
+expected_number (Frame turns.Challenge) = 3
+expected_number (Frame turns.Response) = 4
+expected_number (Frame turns.Outcome) = 5
 
 -- why a frame is not read or not written
 abbrev pub frame_status : Error → Status
-frame_status faults.DecodeError = statuses.FrameUnread
+frame_status faults.DecodeError = statuses.MalformedFrame
 frame_status faults.NotImplemented = statuses.NoSaslFrame
 frame_status faults.TooLarge = statuses.FrameTooLarge
 frame_status faults.OutOfMemory = statuses.OutOfMemory
@@ -80,7 +80,7 @@ abbrev pub connection_struct : Progress → Expected → List ℕ → Struct
 connection_struct progress expected held = record {
   progress = progress_code progress;
   why = why_code progress;
-  expected = due_number expected;
+  expected = expected_number expected;
   held_len = length held;
   held = zero_filled 512 held;
 }
@@ -94,7 +94,7 @@ SaysProgress kept (Failed why) = (kept.progress ≡ 2) × (kept.why ≡ status_n
 -- the struct keeps how a side stands, what is expected, and what has come of that
 pub record Keeps (kept : Struct) (stands : Progress) (unit : Expected) (come : List ℕ) : Type 0 where
   pub progress : SaysProgress kept stands
-  pub expected : due_number unit ≡ kept.expected
+  pub expected : expected_number unit ≡ kept.expected
   pub len : kept.held_len ≤ 512
   pub held : come ≡ take kept.held_len kept.held
 
@@ -114,5 +114,5 @@ KeepsNoPart kept = (expected : Expected) (held : List ℕ) → Keeps kept InProg
 
 -- or it is never expected to that side
 abbrev pub KeepsNoPartOf : (Expected → Bool) → Struct → Type 0
-KeepsNoPartOf is_due kept = (expected : Expected) (held : List ℕ) → Keeps kept InProgress expected held → IsTrue (is_due expected)
+KeepsNoPartOf is_expected kept = (expected : Expected) (held : List ℕ) → Keeps kept InProgress expected held → IsTrue (is_expected expected)
     → ¬ IsPart expected 512 held

@@ -5,7 +5,7 @@ use Rattle.fe2o3_scram.specs.ClientKeys.{AreSized, ClientKeys, keys_of, keys_wit
 use Rattle.fe2o3_scram.specs.Hmac.{digest_len, zero_filled}
 use Rattle.fe2o3_scram.specs.Passwords.{PasswordText, password_bytes}
 use Rattle.fe2o3_scram.specs.Readings.{Reads}
-use Rattle.sasl_c.specs.declared.keys.ClientKeys.{ClientKeys as Struct}
+use Rattle.sasl_c.specs.declared.keys.ScramKeys.{ScramKeys as Struct}
 use Rattle.sasl_c.specs.declared.status.Status.{Status}
 use Rattle.sasl_c.specs.declared.status.Status.TheVariants as statuses
 use Rattle.sasl_c.specs.Records.{IsVersion, struct_making_tests}

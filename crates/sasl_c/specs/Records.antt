@@ -94,10 +94,10 @@ MakesUp version secret name salt_len count answer = Reads (mock_tests version na
 
 -- whether a password that was told is that of the record (RFC 5802, section 3); or that the struct shows none, or it
 -- shows one and the password is not UTF-8, or it is and is another one
-abbrev pub Verifies : Struct → PasswordText → Result (Unit {0}) Status → Type 0
-Verifies kept password (Ok done) = (shown : VersionedRecord) × ShowsRecord kept shown
+abbrev pub VerifiesPassword : Struct → PasswordText → Result (Unit {0}) Status → Type 0
+VerifiesPassword kept password (Ok done) = (shown : VersionedRecord) × ShowsRecord kept shown
     × MeetsRecord shown.version password shown.stored
-Verifies kept password (Err status) = SpellsStruct kept (Err status)
+VerifiesPassword kept password (Err status) = SpellsStruct kept (Err status)
     ⊎ ((shown : VersionedRecord) × ShowsRecord kept shown
     × (((status ≡ statuses.NotUtf8) × ¬ IsUtf8 (password_bytes password))
     ⊎ ((status ≡ statuses.OtherPassword) × IsUtf8 (password_bytes password)

@@ -38,14 +38,14 @@ use Rattle.fe2o3_sasl_negotiation.specs.Sides.{acceptor_in, server_side}
 use Rattle.sasl_c.specs.declared.connection.Connection.{Connection}
 use Rattle.sasl_c.specs.declared.others.Others.{Others as OthersCode}
 use Rattle.sasl_c.specs.declared.sasl_server.Choice.{Choice}
-use Rattle.sasl_c.specs.declared.sasl_server.SaslHost.{SaslHost as Host}
+use Rattle.sasl_c.specs.declared.sasl_server.SaslServerConfig.{SaslServerConfig as Config}
 use Rattle.sasl_c.specs.declared.sasl_server.SaslServer.{SaslServer as Struct}
 use Rattle.sasl_c.specs.declared.server.ScramServer.{ScramServer as ScramStruct}
 use Rattle.sasl_c.specs.declared.status.Status.{Status}
 use Rattle.sasl_c.specs.declared.status.Status.TheVariants as statuses
 use Rattle.sasl_c.specs.Connection.{IsSideOf, Keeps, KeepsNoPart, side_tests, connection_struct, KeepsNoPartOf}
 use Rattle.sasl_c.specs.Records.{IsVersion, ShowsRecord}
-use Rattle.sasl_c.specs.Server.{HasLoggedIn, IsOpen, fresh_server_struct, logged_in_struct, open_struct}
+use Rattle.sasl_c.specs.Server.{IsAuthenticated, IsOpen, fresh_server_struct, authenticated_struct, open_struct}
 
 -- ---- the library's acceptor: one server of SCRAM, PLAIN, ANONYMOUS and EXTERNAL, of which some are offered
 
@@ -115,7 +115,7 @@ open_of acceptor = None
 abbrev pub open_in : State → Option ServerChallenge
 open_in state = open_of state.inner.first
 
--- ---- the server of a host
+-- ---- the server of a configuration
 
 -- a number where it is so, and else 0
 abbrev pub one_where : Bool → ℕ → ℕ
@@ -153,13 +153,13 @@ allowed_of version choice peer = name_where choice.scram (mechanism_name version
     ∷ name_where choice.external (external_mechanism peer)
     ∷ []
 
--- the records of a host (RFC 5802, section 3): that of its user, where the struct shows one of the host's version, and
+-- the records of a configuration (RFC 5802, section 3): that of its user, where the struct shows one of the configuration's version, and
 -- else none, so that nobody is known
-abbrev pub HasRecords : Host → ScramVersion → Records → Type 0
-HasRecords host version records =
-    ((stored : Record) × ShowsRecord host.record.now (versioned version stored)
-    × (records ≡ (host.username.now, stored) ∷ []))
-    ⊎ (((stored : Record) → ¬ ShowsRecord host.record.now (versioned version stored)) × (records ≡ []))
+abbrev pub HasRecords : Config → ScramVersion → Records → Type 0
+HasRecords config version records =
+    ((stored : Record) × ShowsRecord config.record.now (versioned version stored)
+    × (records ≡ (config.username.now, stored) ∷ []))
+    ⊎ (((stored : Record) → ¬ ShowsRecord config.record.now (versioned version stored)) × (records ≡ []))
 
 -- PLAIN over a store, ANONYMOUS and EXTERNAL, which lets in this name, before any init
 abbrev pub others_of : Store → ℕ → List ℕ → Others
@@ -183,25 +183,25 @@ all_of cbind_flag_y store count peer state asked = record {
 }
 
 -- the server of these
-abbrev pub struct_server : Host → ScramVersion → Choice → Records → ServerState → Option Selected → State
-struct_server host version choice records state asked = record {
-  inner = all_of choice.cbind_flag_y (record { version = version; records = records }) host.iterations host.peer.now state
+abbrev pub struct_server : Config → ScramVersion → Choice → Records → ServerState → Option Selected → State
+struct_server config version choice records state asked = record {
+  inner = all_of choice.cbind_flag_y (record { version = version; records = records }) config.iterations config.external_authcid.now state
       asked;
-  allowed = allowed_of version choice host.peer.now;
+  allowed = allowed_of version choice config.external_authcid.now;
 }
 
--- the server is that of a host, with SCRAM in this state, and the mechanism that was asked last
-unfoldable pub IsOf : Host → ServerState → Option Selected → State → Type 0
-IsOf host state asked server = (version : ScramVersion) × (choice : Choice) × (records : Records)
-    × IsVersion host.version version × (sum_of choice ≡ host.mechanisms) × HasRecords host version records
-    × (server ≡ struct_server host version choice records state asked)
+-- the server is that of a configuration, with SCRAM in this state, and the mechanism that was asked last
+unfoldable pub IsOf : Config → ServerState → Option Selected → State → Type 0
+IsOf config state asked server = (version : ScramVersion) × (choice : Choice) × (records : Records)
+    × IsVersion config.version version × (sum_of choice ≡ config.mechanisms) × HasRecords config version records
+    × (server ≡ struct_server config version choice records state asked)
 
--- the servers that a host comes to while more bytes are wanted: before the init, and with a challenge of SCRAM open
-abbrev pub ServerIsReached : Host → Progress → State → Type 0
-ServerIsReached host InProgress server = IsOf host Initial None server
-    ⊎ ((challenge : ServerChallenge) × IsOf host (ServerFirstSent challenge) (Some First) server)
-ServerIsReached host Authenticated server = Unit {0}
-ServerIsReached host (Failed why) server = Unit {0}
+-- the servers that a configuration comes to while more bytes are wanted: before the init, and with a challenge of SCRAM open
+abbrev pub ServerIsReached : Config → Progress → State → Type 0
+ServerIsReached config InProgress server = IsOf config Initial None server
+    ⊎ ((challenge : ServerChallenge) × IsOf config (ServerFirstSent challenge) (Some First) server)
+ServerIsReached config Authenticated server = Unit {0}
+ServerIsReached config (Failed why) server = Unit {0}
 
 -- the struct shows this challenge as open, or that none is
 abbrev pub ShowsOpen : ScramStruct → Option ServerChallenge → Type 0
@@ -214,16 +214,16 @@ ShowsExchange scram state asked = ((challenge : ServerChallenge) × IsOpen scram
     × (asked ≡ Some First))
     ⊎ (((challenge : ServerChallenge) → ¬ IsOpen scram challenge) × (state ≡ Initial) × (asked ≡ None))
 
--- and so all four mechanisms of a host in the exchange that a struct shows
-abbrev pub IsAll : Host → ScramVersion → Bool → ScramStruct → All → Type 0
-IsAll host version cbind_flag_y scram all = (records : Records) × (state : ServerState) × (asked : Option Selected)
-    × HasRecords host version records × ShowsExchange scram state asked
-    × (all ≡ all_of cbind_flag_y (record { version = version; records = records }) host.iterations host.peer.now state asked)
+-- and so all four mechanisms of a configuration in the exchange that a struct shows
+abbrev pub IsAll : Config → ScramVersion → Bool → ScramStruct → All → Type 0
+IsAll config version cbind_flag_y scram all = (records : Records) × (state : ServerState) × (asked : Option Selected)
+    × HasRecords config version records × ShowsExchange scram state asked
+    × (all ≡ all_of cbind_flag_y (record { version = version; records = records }) config.iterations config.external_authcid.now state asked)
 
 -- the struct shows that this user has logged in, or nothing of whom no name is known
 abbrev pub ShowsUser : ScramStruct → Option (List ℕ) → Type 0
-ShowsUser scram None = scram.stands ≡ 0
-ShowsUser scram (Some user) = HasLoggedIn scram user
+ShowsUser scram None = scram.state ≡ 0
+ShowsUser scram (Some user) = IsAuthenticated scram user
 
 -- the struct of SCRAM shows how far a login is that stands so: the challenge that is open, who has logged in, or
 -- nothing
@@ -231,14 +231,14 @@ ShowsUser scram (Some user) = HasLoggedIn scram user
 abbrev pub ShowsProgress : ScramStruct → Progress → Option ServerChallenge → Option (List ℕ) → Type 0
 ShowsProgress scram InProgress opened user = ShowsOpen scram opened
 ShowsProgress scram Authenticated opened user = ShowsUser scram user
-ShowsProgress scram (Failed why) opened user = scram.stands ≡ 0
+ShowsProgress scram (Failed why) opened user = scram.state ≡ 0
 
 -- the struct of SCRAM that a call writes for such a login
 abbrev pub progress_struct : Progress → Option ServerChallenge → Option (List ℕ) → ScramStruct
 progress_struct InProgress None user = fresh_server_struct
 progress_struct InProgress (Some challenge) user = open_struct challenge
 progress_struct Authenticated opened None = fresh_server_struct
-progress_struct Authenticated opened (Some user) = logged_in_struct user
+progress_struct Authenticated opened (Some user) = authenticated_struct user
 progress_struct (Failed why) opened user = fresh_server_struct
 
 -- so it shows a server
@@ -284,54 +284,54 @@ unfoldable pub HasNoStruct : Side State → Type 0
 HasNoStruct side = (512 < length side.held) ⊎ ((scram : ScramStruct) → ¬ ShowsState scram side.progress side.state)
 
 -- the structs are those of this side, whose frames have 512 bytes at most (part 5, section 5.3.1)
-unfoldable pub IsServer : Host → Struct → Side State → Type 0
-IsServer host server side = ShowsSide server side × (side.limit ≡ 512) × ServerIsReached host side.progress side.state
+unfoldable pub IsServer : Config → Struct → Side State → Type 0
+IsServer config server side = ShowsSide server side × (side.limit ≡ 512) × ServerIsReached config side.progress side.state
 
--- the words of a host are not UTF-8: the user's name, or else the peer's
-abbrev pub HasNoServerWords : Host → Status → Type 0
-HasNoServerWords host status = (status ≡ statuses.NotUtf8)
-    × (¬ IsUtf8 host.username.now ⊎ (IsUtf8 host.username.now × ¬ IsUtf8 host.peer.now))
+-- the words of a configuration are not UTF-8: the user's name, or else the peer's
+abbrev pub HasNoServerWords : Config → Status → Type 0
+HasNoServerWords config status = (status ≡ statuses.NotUtf8)
+    × (¬ IsUtf8 config.username.now ⊎ (IsUtf8 config.username.now × ¬ IsUtf8 config.external_authcid.now))
 
--- the tests of a host, in their order
-abbrev pub host_tests : Host → List (Status × Type 0)
-host_tests host = (statuses.NoSuchVersion, (known : ScramVersion) → ¬ IsVersion host.version known)
-    ∷ (statuses.NoSuchMechanism, (choice : Choice) → sum_of choice ≢ host.mechanisms)
-    ∷ (statuses.NotUtf8, ¬ IsUtf8 host.username.now) ∷ (statuses.NotUtf8, ¬ IsUtf8 host.peer.now) ∷ []
+-- the tests of a configuration, in their order
+abbrev pub config_tests : Config → List (Status × Type 0)
+config_tests config = (statuses.NoSuchVersion, (known : ScramVersion) → ¬ IsVersion config.version known)
+    ∷ (statuses.NoSuchMechanism, (choice : Choice) → sum_of choice ≢ config.mechanisms)
+    ∷ (statuses.NotUtf8, ¬ IsUtf8 config.username.now) ∷ (statuses.NotUtf8, ¬ IsUtf8 config.external_authcid.now) ∷ []
 
--- why a host has no server: a test that holds, or a server that would offer nothing, in place of which ANONYMOUS were
+-- why a configuration has no server: a test that holds, or a server that would offer nothing, in place of which ANONYMOUS were
 -- offered (part 5, section 5.3.3.1)
-unfoldable pub IsNoHost : Host → Status → Type 0
-IsNoHost host status = IsFirst (host_tests host) status
-    ⊎ (NoneHolds (host_tests host) × (status ≡ statuses.NoSuchMechanism)
-    × ((state : ServerState) × (asked : Option Selected) × (server : State) × IsOf host state asked server
+unfoldable pub IsNoConfig : Config → Status → Type 0
+IsNoConfig config status = IsFirst (config_tests config) status
+    ⊎ (NoneHolds (config_tests config) × (status ≡ statuses.NoSuchMechanism)
+    × ((state : ServerState) × (asked : Option Selected) × (server : State) × IsOf config state asked server
     × (state_names server ≡ [])))
 
--- why the structs are those of no side that wants more bytes: the tests of the connection, those of the host, and last
+-- why the structs are those of no side that wants more bytes: the tests of the connection, those of the configuration, and last
 -- that what was kept is a part of what is expected
-unfoldable pub IsNoServer : Host → Struct → Status → Type 0
-IsNoServer host server status = IsFirst (side_tests server.connection) status
-    ⊎ (NoneHolds (side_tests server.connection) × (IsNoHost host status
+unfoldable pub IsNoServer : Config → Struct → Status → Type 0
+IsNoServer config server status = IsFirst (side_tests server.connection) status
+    ⊎ (NoneHolds (side_tests server.connection) × (IsNoConfig config status
     ⊎ ((status ≡ statuses.InvalidSnapshot) × KeepsNoPartOf server_due server.connection
-    × ((state : ServerState) × (asked : Option Selected) × (kept : State) × IsOf host state asked kept))))
+    × ((state : ServerState) × (asked : Option Selected) × (kept : State) × IsOf config state asked kept))))
 
 -- a call answers bytes: between two structs, what the library's side of the connection makes of them
-unfoldable pub Received : Host → List ℕ → List ℕ → Struct → Struct → ℕ → List ℕ → Type 0
-Received host bytes nonce before after taken sent = (side next : Side State) × IsServer host before side
+unfoldable pub Received : Config → List ℕ → List ℕ → Struct → Struct → ℕ → List ℕ → Type 0
+Received config bytes nonce before after taken sent = (side next : Side State) × IsServer config before side
     × (side.progress ≡ InProgress) × ServerReceives state_names state_machine side bytes nonce taken sent next
-    × IsServer host after next × (after ≡ side_struct next)
+    × IsServer config after next × (after ≡ side_struct next)
 
 -- or it does not, because the structs are those of no side, or no struct is that of the side behind the call
-unfoldable pub NotReceived : Host → List ℕ → List ℕ → Struct → Status → Type 0
-NotReceived host bytes nonce before status = IsNoServer host before status
+unfoldable pub NotReceived : Config → List ℕ → List ℕ → Struct → Status → Type 0
+NotReceived config bytes nonce before status = IsNoServer config before status
     ⊎ ((status ≡ statuses.TooLong) × ((side next : Side State) × (taken : ℕ) × (sent : List ℕ)
-    × IsServer host before side × (side.progress ≡ InProgress)
+    × IsServer config before side × (side.progress ≡ InProgress)
     × ServerReceives state_names state_machine side bytes nonce taken sent next
-    × ((other : Struct) → ¬ IsServer host other next)))
+    × ((other : Struct) → ¬ IsServer config other next)))
 
 -- what a call makes of bytes
-abbrev pub ReceivesAsServer : Host → List ℕ → List ℕ → Struct → Struct → ℕ → Result (List ℕ) Status → Type 0
-ReceivesAsServer host bytes nonce before after taken (Ok sent) = Received host bytes nonce before after taken sent
-ReceivesAsServer host bytes nonce before after taken (Err status) = NotReceived host bytes nonce before status
+abbrev pub ReceivesAsServer : Config → List ℕ → List ℕ → Struct → Struct → ℕ → Result (List ℕ) Status → Type 0
+ReceivesAsServer config bytes nonce before after taken (Ok sent) = Received config bytes nonce before after taken sent
+ReceivesAsServer config bytes nonce before after taken (Err status) = NotReceived config bytes nonce before status
 
 -- ---- whom a frame names
 

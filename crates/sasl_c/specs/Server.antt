@@ -18,7 +18,9 @@ use Rattle.sasl_c.specs.declared.server.ScramServer.{ScramServer as Struct}
 use Rattle.sasl_c.specs.declared.status.Status.{Status}
 use Rattle.sasl_c.specs.declared.status.Status.TheVariants as statuses
 use Rattle.sasl_c.specs.Records.{ShowsSomeRecord, ShowsRecord, SpellsStruct}
-use Rattle.sasl_c.specs.Status.{server_status}
+use Rattle.sasl_c.specs.declared.status.WriteError.{WriteError}
+use Rattle.sasl_c.specs.declared.status.WriteError.TheVariants.{RoomTooSmall, Other}
+use Rattle.sasl_c.specs.Status.{Lacks, Room, server_status, with_written}
 
 -- the store of one user
 abbrev pub one_user : List ℕ → VersionedRecord → Store
@@ -51,19 +53,19 @@ struct_challenge header server = record {
 
 -- the struct is that of a server whose challenge is open
 abbrev pub IsOpen : Struct → ServerChallenge → Type 0
-IsOpen server challenge = (server.stands ≡ open_number challenge.header) × AreLengths server
+IsOpen server challenge = (server.state ≡ open_number challenge.header) × AreLengths server
     × (challenge ≡ struct_challenge challenge.header server) × IsUtf8 challenge.user
 
 -- the struct is that of a server that has logged this user in
-abbrev pub HasLoggedIn : Struct → List ℕ → Type 0
-HasLoggedIn server user = (server.stands ≡ 2) × (server.user_len ≤ 256) × (user ≡ take server.user_len server.user)
+abbrev pub IsAuthenticated : Struct → List ℕ → Type 0
+IsAuthenticated server user = (server.state ≡ 2) × (server.user_len ≤ 256) × (user ≡ take server.user_len server.user)
 
 -- ---- the structs that calls write: every field that a state does not name is zero, and so is each byte after a length
 
 -- of a server with no open challenge, which has logged nobody in
 abbrev pub fresh_server_struct : Struct
 fresh_server_struct = record {
-  stands = 0;
+  state = 0;
   user_len = 0;
   bare_len = 0;
   nonce_len = 0;
@@ -77,7 +79,7 @@ fresh_server_struct = record {
 -- of one whose challenge is open
 abbrev pub open_struct : ServerChallenge → Struct
 open_struct challenge = record {
-  stands = open_number challenge.header;
+  state = open_number challenge.header;
   user_len = length challenge.user;
   bare_len = length challenge.bare;
   nonce_len = length challenge.nonce;
@@ -91,7 +93,7 @@ open_struct challenge = record {
 -- of one that has logged in the user whose name is so many bytes of this array
 abbrev pub user_struct : ℕ → List ℕ → Struct
 user_struct len array = record {
-  stands = 2;
+  state = 2;
   user_len = len;
   bare_len = 0;
   nonce_len = 0;
@@ -103,8 +105,8 @@ user_struct len array = record {
 }
 
 -- of one that has logged this user in
-abbrev pub logged_in_struct : List ℕ → Struct
-logged_in_struct user = user_struct (length user) (zero_filled 256 user)
+abbrev pub authenticated_struct : List ℕ → Struct
+authenticated_struct user = user_struct (length user) (zero_filled 256 user)
 
 -- ---- what the calls answer (RFC 5802, section 5), and the struct after them
 
@@ -134,15 +136,26 @@ Challenges cbind_flag_y kept nonce text (Ok message) = (challenge : ServerChalle
 Challenges cbind_flag_y kept nonce text (Err status) = NotChallenged cbind_flag_y kept nonce text status
 
 -- the struct after it
-abbrev pub OpensExchange : Bool → Kept → List ℕ → List ℕ → Struct → Struct → Result (Unit {0}) Status → Type 0
+abbrev pub OpensExchange : Bool → Kept → List ℕ → List ℕ → Struct → Struct → Result (Unit {0}) WriteError → Type 0
 OpensExchange cbind_flag_y kept nonce text before after (Ok done) = (challenge : ServerChallenge)
     × MakesChallenge cbind_flag_y kept nonce text challenge × IsOpen after challenge × (after ≡ open_struct challenge)
-OpensExchange cbind_flag_y kept nonce text before after (Err status) = after ≡ before
+OpensExchange cbind_flag_y kept nonce text before after (Err why) = after ≡ before
 
--- the user whom the message of an init names, behind either GS2 header
-abbrev pub AuthenticatedUser : List ℕ → Result (List ℕ) Status → Type 0
-AuthenticatedUser text (Ok name) = (first : ClientFirst) × ReadsClientFirst true text (Ok first) × (name ≡ first.user)
-AuthenticatedUser text (Err status) = (why : ServerScramErrorKind) × (status ≡ server_status why)
+-- the message of a challenge is written, and the struct that shows the challenge; or nothing changes, since the challenge
+-- has no room in the struct, or its message none where it is to be written
+abbrev pub WritesChallenge : ServerChallenge → Struct → Struct → Room → Room → Result (Unit {0}) WriteError → Type 0
+WritesChallenge challenge before after room filled (Ok done) = IsOpen after challenge × (after ≡ open_struct challenge)
+    × (length challenge.first ≤ length room.bytes) × (filled.bytes ≡ with_written challenge.first room.bytes)
+    × (filled.len ≡ length challenge.first)
+WritesChallenge challenge before after room filled (Err RoomTooSmall) = (after ≡ before)
+    × (filled.bytes ≡ room.bytes) × Lacks room filled challenge.first
+WritesChallenge challenge before after room filled (Err (Other status)) = (after ≡ before)
+    × (filled.bytes ≡ room.bytes) × (filled.len ≡ room.len) × (status ≡ statuses.TooLong) × ¬ ChallengeHasRoom challenge
+
+-- the user whom the message of an init claims to be, behind either GS2 header
+abbrev pub ClaimedUser : List ℕ → Result (List ℕ) Status → Type 0
+ClaimedUser text (Ok name) = (first : ClientFirst) × ReadsClientFirst true text (Ok first) × (name ≡ first.user)
+ClaimedUser text (Err status) = (why : ServerScramErrorKind) × (status ≡ server_status why)
     × ReadsClientFirst true text (Err why)
 
 -- the struct's open challenge is answered by this message, where the record is that of its user; whom a server takes
@@ -171,7 +184,7 @@ MemoryCosts kept text before counted after = (challenge : ServerChallenge) × (s
 -- record shows none, or it shows one and the message is refused
 unfoldable pub Concludes : Kept → List ℕ → Struct → Struct → Result (List ℕ) Status → Type 0
 Concludes kept text before after (Ok message) = (user : List ℕ) × ConcludesLogin kept before text message user
-    × HasLoggedIn after user × (after ≡ logged_in_struct user)
+    × IsAuthenticated after user × (after ≡ authenticated_struct user)
 Concludes kept text before after (Err status) =
     ((status ≡ server_status IllegalAuthenticatorState) × ((challenge : ServerChallenge) → ¬ IsOpen before challenge))
     ⊎ ((challenge : ServerChallenge) × IsOpen before challenge × SpellsStruct kept (Err status))
@@ -182,6 +195,6 @@ Concludes kept text before after (Err status) =
 
 -- who has logged in
 abbrev pub TellsUser : Struct → Result (List ℕ) Status → Type 0
-TellsUser server (Ok user) = HasLoggedIn server user
+TellsUser server (Ok user) = IsAuthenticated server user
 TellsUser server (Err status) = (status ≡ server_status IllegalAuthenticatorState)
-    × ((user : List ℕ) → ¬ HasLoggedIn server user)
+    × ((user : List ℕ) → ¬ IsAuthenticated server user)

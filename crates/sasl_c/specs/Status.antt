@@ -10,7 +10,9 @@ use Rattle.fe2o3_scram.specs.declared.scram_messages.error.ServerScramErrorKind.
 use Rattle.fe2o3_scram.specs.declared.scram_messages.error.ServerScramErrorKind.TheVariants as server
 use Rattle.sasl_c.specs.declared.status.Status.{Status}
 use Rattle.sasl_c.specs.declared.status.Status.TheVariants as statuses
-use Rattle.sasl_c.specs.declared.status.Status.TheVariants.{OutOfMemory, RoomTooSmall}
+use Rattle.sasl_c.specs.declared.status.Status.TheVariants.{OutOfMemory}
+use Rattle.sasl_c.specs.declared.status.WriteError.{WriteError}
+use Rattle.sasl_c.specs.declared.status.WriteError.TheVariants.{RoomTooSmall, Other}
 
 -- the number of a version: that of its hash, as in the name of its mechanism
 abbrev pub version_number : ScramVersion → ℕ
@@ -69,7 +71,6 @@ server_number server.OutOfMemory = 1
 -- the number of why a call is not done
 abbrev pub status_number : Status → ℕ
 status_number statuses.OutOfMemory = 1
-status_number statuses.RoomTooSmall = 2
 status_number statuses.NotUtf8 = 3
 status_number statuses.NoSuchVersion = 4
 status_number statuses.TooLong = 5
@@ -95,7 +96,7 @@ status_number statuses.ProtocolHeaderMismatch = 70
 status_number statuses.FrameSize = 71
 status_number statuses.UnexpectedFrame = 72
 status_number statuses.ReplyTooLarge = 73
-status_number statuses.FrameUnread = 74
+status_number statuses.MalformedFrame = 74
 status_number statuses.NoSaslFrame = 75
 status_number statuses.FrameTooLarge = 76
 status_number statuses.NotImplemented = 77
@@ -127,9 +128,23 @@ answer_number (Err status) = status_number status
 abbrev pub Answers : ℕ → (Result (Unit {0}) Status → Type 0) → Type 0
 Answers number Answer = (answer : Result (Unit {0}) Status) × (number ≡ answer_number answer) × Answer answer
 
+-- the number of an answer of a call that writes a text
+abbrev pub text_answer_number : {A : Type 0} → Result A WriteError → ℕ
+text_answer_number (Ok done) = 0
+text_answer_number (Err RoomTooSmall) = 2
+text_answer_number (Err (Other status)) = status_number status
+
+-- the number is that of an answer of this kind, of a call that writes a text
+abbrev pub AnswersText : ℕ → (Result (Unit {0}) WriteError → Type 0) → Type 0
+AnswersText number Answer = (answer : Result (Unit {0}) WriteError) × (number ≡ text_answer_number answer)
+    × Answer answer
+
 -- a call is out of memory only where this holds: then no refusal was expected before it asked for memory
 abbrev pub AsksWhere : {A : Type 0} → Type 0 → Result A Status → Type 0
 AsksWhere Asks answer = IfErr answer (λ status. status ≡ OutOfMemory → Asks)
+
+abbrev pub AsksText : {A : Type 0} → Type 0 → Result A WriteError → Type 0
+AsksText Asks answer = IfErr answer (λ why. why ≡ Other OutOfMemory → Asks)
 
 -- ---- what a call writes
 
@@ -139,6 +154,11 @@ abbrev pub Makes : {S : Type 0} → Type 0 → (Result S Status → Type 0) → 
 Makes Allocates Due before after (Ok done) = Due (Ok after)
 Makes Allocates Due before after (Err status) = (status ≡ OutOfMemory → Allocates)
     × (status ≢ OutOfMemory → Due (Err status)) × (after ≡ before)
+
+-- what was made is stored: the struct is it, or it stays and the refusal is its
+abbrev pub Stores : {S : Type 0} → Result S Status → S → S → Result (Unit {0}) Status → Type 0
+Stores (Ok made) before after answer = (answer ≡ Ok tt) × (after ≡ made)
+Stores (Err status) before after answer = (answer ≡ Err status) × (after ≡ before)
 
 -- the bytes at the head of the room, which is as it was behind them
 abbrev pub with_written : List ℕ → List ℕ → List ℕ
@@ -156,19 +176,32 @@ Lacks before after text = (length before.bytes < length text) × (after.len ≡ 
 -- a text: where the call is done, one that it may say, at the head of the room, with its length; otherwise the room
 -- stays, and the refusal is the one that is expected, or want of memory, or `RoomTooSmall` with the length of a text that it
 -- may say, and that has no room
-abbrev pub Fills : (Result (List ℕ) Status → Type 0) → Room → Room → Result (Unit {0}) Status → Type 0
+abbrev pub Fills : (Result (List ℕ) Status → Type 0) → Room → Room → Result (Unit {0}) WriteError → Type 0
 Fills Due before after (Ok done) = (text : List ℕ) × Due (Ok text) × (length text ≤ length before.bytes)
     × (after.bytes ≡ with_written text before.bytes) × (after.len ≡ length text)
-Fills Due before after (Err status) = (after.bytes ≡ before.bytes)
-    × (status ≡ RoomTooSmall → (text : List ℕ) × Due (Ok text) × Lacks before after text)
-    × (status ≢ RoomTooSmall → (after.len ≡ before.len) × (status ≢ OutOfMemory → Due (Err status)))
+Fills Due before after (Err RoomTooSmall) = (after.bytes ≡ before.bytes)
+    × ((text : List ℕ) × Due (Ok text) × Lacks before after text)
+Fills Due before after (Err (Other status)) = (after.bytes ≡ before.bytes) × (after.len ≡ before.len)
+    × (status ≢ OutOfMemory → Due (Err status))
+
+-- a text that was made, whose bytes `items` gives, is written: it stands at the head of the room, or has none there; or
+-- there is no text, and the refusal is its
+abbrev pub WritesText : {T : Type 0} → (T → List ℕ) → Result T Status → Room → Room → Result (Unit {0}) WriteError → Type 0
+WritesText items (Ok text) before after (Ok done) = (length (items text) ≤ length before.bytes)
+    × (after.bytes ≡ with_written (items text) before.bytes) × (after.len ≡ length (items text))
+WritesText items (Ok text) before after (Err RoomTooSmall) = (after.bytes ≡ before.bytes) × Lacks before after (items text)
+WritesText items (Ok text) before after (Err (Other status)) = ⊥
+WritesText items (Err status) before after (Ok done) = ⊥
+WritesText items (Err status) before after (Err RoomTooSmall) = ⊥
+WritesText items (Err status) before after (Err (Other why)) = (why ≡ status) × (after.bytes ≡ before.bytes)
+    × (after.len ≡ before.len)
 
 -- a text that has room wherever there are so many bytes: where there are fewer, `RoomTooSmall` is answered with this
 -- number before anything else, and the room stays
-abbrev pub FillsWithin : ℕ → (Result (List ℕ) Status → Type 0) → Room → Room → Result (Unit {0}) Status → Type 0
+abbrev pub FillsWithin : ℕ → (Result (List ℕ) Status → Type 0) → Room → Room → Result (Unit {0}) WriteError → Type 0
 FillsWithin suffices Due before after (Ok done) = (text : List ℕ) × Due (Ok text) × (suffices ≤ length before.bytes)
     × (after.bytes ≡ with_written text before.bytes) × (after.len ≡ length text)
-FillsWithin suffices Due before after (Err status) = (after.bytes ≡ before.bytes)
-    × (status ≡ RoomTooSmall → (length before.bytes < suffices) × (after.len ≡ suffices))
-    × (status ≢ RoomTooSmall → (suffices ≤ length before.bytes) × (after.len ≡ before.len)
-    × (status ≢ OutOfMemory → Due (Err status)))
+FillsWithin suffices Due before after (Err RoomTooSmall) = (after.bytes ≡ before.bytes)
+    × (length before.bytes < suffices) × (after.len ≡ suffices)
+FillsWithin suffices Due before after (Err (Other status)) = (after.bytes ≡ before.bytes)
+    × (suffices ≤ length before.bytes) × (after.len ≡ before.len) × (status ≢ OutOfMemory → Due (Err status))

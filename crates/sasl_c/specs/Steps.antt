@@ -14,13 +14,13 @@ use Rattle.fe2o3_sasl_negotiation.specs.declared.progress.FrameKind.TheVariants 
 use Rattle.fe2o3_sasl_negotiation.specs.ServerNegotiation.{offer_body}
 use Rattle.sasl_c.specs.declared.client.ScramClient.{ScramClient as ClientStruct}
 use Rattle.sasl_c.specs.declared.sasl_client.SaslLogin.{SaslLogin as Login}
-use Rattle.sasl_c.specs.declared.sasl_server.SaslHost.{SaslHost as Host}
+use Rattle.sasl_c.specs.declared.sasl_server.SaslServerConfig.{SaslServerConfig as Config}
 use Rattle.sasl_c.specs.declared.server.ScramServer.{ScramServer as ServerStruct}
 use Rattle.sasl_c.specs.declared.status.Status.{Status}
 use Rattle.sasl_c.specs.declared.status.Status.TheVariants as statuses
 use Rattle.sasl_c.specs.Connection.{closed_status, frame_status, profile_status}
 use Rattle.sasl_c.specs.SaslClient.{ProfileIsReached, HasNoHostname, IsHostname, IsNoProfile, IsProfile, WritesProfile}
-use Rattle.sasl_c.specs.SaslServer.{BodyNames, BodyNamesNoUser, ServerIsReached as HostComes, IsNoHost, ShowsState, State, state_machine, state_names, state_struct}
+use Rattle.sasl_c.specs.SaslServer.{BodyNames, BodyNamesNoUser, ServerIsReached as ConfigReached, IsNoConfig, ShowsState, State, state_machine, state_names, state_struct}
 use Rattle.sasl_c.specs.Status.{status_number}
 
 -- how a login stands behind an outcome of this code (part 5, section 5.3.3.6)
@@ -92,15 +92,15 @@ ClientSteps login event before after progress (Err status) = ClientNotStepped lo
 
 -- ---- a server
 
--- the struct is that of this server of a host, whose login stands so
-abbrev pub HostServes : Host → ServerStruct → Progress → State → Type 0
-HostServes host scram stands server = HostComes host stands server × ShowsState scram stands server
+-- the struct is that of this server of a configuration, whose login stands so
+abbrev pub ConfigServes : Config → ServerStruct → Progress → State → Type 0
+ConfigServes config scram stands server = ConfigReached config stands server × ShowsState scram stands server
 
 -- the body with which a server offers its mechanisms (part 5, section 5.3.3.1), or why there is none
-abbrev pub HostOffers : Host → Result (List ℕ) Status → Type 0
-HostOffers host (Ok body) = (server : State) × HostComes host InProgress server × (offer_body (state_names server) ≡ Some body)
-HostOffers host (Err status) = IsNoHost host status ⊎ ((status ≡ statuses.FrameTooLarge)
-    × ((server : State) × HostComes host InProgress server × (offer_body (state_names server) ≡ None)))
+abbrev pub ConfigOffers : Config → Result (List ℕ) Status → Type 0
+ConfigOffers config (Ok body) = (server : State) × ConfigReached config InProgress server × (offer_body (state_names server) ≡ Some body)
+ConfigOffers config (Err status) = IsNoConfig config status ⊎ ((status ≡ statuses.FrameTooLarge)
+    × ((server : State) × ConfigReached config InProgress server × (offer_body (state_names server) ≡ None)))
 
 -- what it tells with what it says: a challenge and an outcome are sent
 abbrev pub ServerTells : ServerSays → List ℕ → Progress → Type 0
@@ -130,23 +130,23 @@ NotStepped {A} state machine shows server event status = (next : A) × (says : S
     ⊎ ((status ≡ statuses.TooLong) × ((stands : Progress) × (sent : List ℕ) × ServerTells says sent stands
     × ((after : ServerStruct) → ¬ shows after stands next))))
 
--- a step between two structs: the one that the library's acceptor of the host makes over the body
-unfoldable pub ServerStepped : Host → Given → ServerStruct → ServerStruct → ℕ → List ℕ → Type 0
-ServerStepped host event before after progress sent = (server : State) × (stands : Progress)
-    × HostServes host before InProgress server
-    × IsStepped (λ (next : State). next) state_machine (HostServes host) state_struct server event after stands sent
+-- a step between two structs: the one that the library's acceptor of the configuration makes over the body
+unfoldable pub ServerStepped : Config → Given → ServerStruct → ServerStruct → ℕ → List ℕ → Type 0
+ServerStepped config event before after progress sent = (server : State) × (stands : Progress)
+    × ConfigServes config before InProgress server
+    × IsStepped (λ (next : State). next) state_machine (ConfigServes config) state_struct server event after stands sent
     × (progress ≡ progress_number stands)
 
--- or none: the host has no acceptor, or it makes none
-unfoldable pub ServerNotStepped : Host → Given → ServerStruct → Status → Type 0
-ServerNotStepped host event before status = IsNoHost host status
-    ⊎ ((server : State) × HostServes host before InProgress server
-    × NotStepped (λ (next : State). next) state_machine (HostServes host) server event status)
+-- or none: the configuration has no acceptor, or it makes none
+unfoldable pub ServerNotStepped : Config → Given → ServerStruct → Status → Type 0
+ServerNotStepped config event before status = IsNoConfig config status
+    ⊎ ((server : State) × ConfigServes config before InProgress server
+    × NotStepped (λ (next : State). next) state_machine (ConfigServes config) server event status)
 
 -- what a call makes of a body
-abbrev pub ServerSteps : Host → Given → ServerStruct → ServerStruct → ℕ → Result (List ℕ) Status → Type 0
-ServerSteps host event before after progress (Ok sent) = ServerStepped host event before after progress sent
-ServerSteps host event before after progress (Err status) = ServerNotStepped host event before status
+abbrev pub ServerSteps : Config → Given → ServerStruct → ServerStruct → ℕ → Result (List ℕ) Status → Type 0
+ServerSteps config event before after progress (Ok sent) = ServerStepped config event before after progress sent
+ServerSteps config event before after progress (Err status) = ServerNotStepped config event before status
 
 -- the user whom a body names, as an init or as a response
 abbrev pub StepNames : ServerStruct → List ℕ → Result (List ℕ) Status → Type 0

@@ -119,14 +119,14 @@ sasl_login_size = (word + 4) + slice + login_size
 abbrev pub view_size : ℕ
 view_size = 4 * word + 8 + 8 + slice + slice + slice
 
-abbrev pub host_size : ℕ
-host_size = (3 * word + 4) + slice + 8 + slice
+abbrev pub config_size : ℕ
+config_size = (3 * word + 4) + slice + 8 + slice
 
 -- the sizes by the numbers of `fe2o3_size`, and 0 of every other number
 abbrev pub struct_sizes : List (ℕ × ℕ)
 struct_sizes = (0, login_size) ∷ (1, client_size) ∷ (2, keys_size) ∷ (3, server_size) ∷ (4, record_size)
     ∷ (5, connection_size) ∷ (6, sasl_login_size) ∷ (7, connection_size + client_size) ∷ (8, view_size)
-    ∷ (9, host_size) ∷ (10, connection_size + server_size) ∷ []
+    ∷ (9, config_size) ∷ (10, connection_size + server_size) ∷ []
 
 abbrev pub size_in : List (ℕ × ℕ) → ℕ → ℕ
 size_in [] number = 0

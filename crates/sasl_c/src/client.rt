@@ -9,76 +9,74 @@ ghost use Rattle.sasl_c.specs.Records.{IsVersion};
 ghost use Rattle.fe2o3_scram.specs.ClientKeys.{ClientKeys as Keys};
 ghost use Rattle.sasl_c.specs.Client.{AwaitsSignature, Verifies, HandsOut, HasSecret, Holds, HoldsNone, IsClientOf, IsTestedLogin, IsNoLogin, IsNoSecret, IsSecretOf, IsReached, IsSide, IsState, StartsClient, Starts, VerifyAsks, WritesClient, complete_struct, fresh_client_struct, keys_tests, name_tests, started_struct};
 ghost use Rattle.sasl_c.specs.Keys.{ShowsKeys, ShowsSomeKeys, WritesKeys, no_keys_struct};
-ghost use Rattle.sasl_c.specs.Status.{Answers, AsksWhere, Fills, Makes, with_written};
-ghost use Rattle.sasl_c.specs.declared.status.Status.TheVariants.{OutOfMemory as StatusOutOfMemory, NotUtf8 as StatusNotUtf8, RoomTooSmall};
+ghost use Rattle.sasl_c.specs.Status.{Answers, AnswersText, AsksText, AsksWhere, Fills, Makes, with_written};
+ghost use Rattle.sasl_c.specs.declared.status.Status.TheVariants.{OutOfMemory as StatusOutOfMemory, NotUtf8 as StatusNotUtf8};
+ghost use Rattle.sasl_c.specs.declared.status.WriteError.TheVariants.{RoomTooSmall};
 
-use crate::arrays::{head, padded, put};
-use crate::keys::ClientKeys;
-use crate::status::{Status, number, text, version_of};
+use crate::arrays::{head, padded, put, store};
+use crate::keys::ScramKeys;
+use crate::status::{Status, WriteError, number, text, text_number, version_of};
 use bytes::Bytes;
 use fe2o3_scram::{
-    ClientAnswer, IterationLimits, ScramClient as Machine, CachedKeys, ScramErrorKind,
-    ScramVersion,
+    CachedKeys, ClientAnswer, IterationLimits, ScramClient as Machine, ScramErrorKind, ScramVersion,
 };
 use std::alloc::Global;
 
-/// Who logs in: lent for each call of an exchange, and the same for all of them.
+/// A user and a secret. You lend the struct to each call of an exchange, always with the same values.
 #[repr(C)]
 #[derive(Drop)]
 pub struct Login<'a> {
-    /// 1, 256 or 512, for the mechanism's hash.
+    /// The hash of the mechanism: one of enum fe2o3_scram_version.
     pub version: u32,
 
-    /// 0 for the password as it is typed, 1 for the keys, and 2 for the keys where the server names the salt and the
-    /// count that they are of, and else the password as it is typed. 3 and 4 are 0 and 2 with a prepared password, as
-    /// `fe2o3_saslprep` writes one.
+    /// What the client logs in with: one of enum fe2o3_secret.
     pub secret: u32,
 
-    /// The lowest iteration count that is answered. RFC 7677 asks for 4096 at least.
+    /// The minimum iteration count that the client accepts. RFC 7677 requires at least 4096.
     pub min_iterations: u32,
 
-    /// The highest iteration count that is answered.
+    /// The maximum iteration count that the client accepts.
     pub max_iterations: u32,
 
-    /// The plain name of the user.
+    /// The user name, without escapes.
     pub username: &'a [u8],
 
-    /// The password, as it is typed or prepared.
+    /// The password, typed or prepared.
     pub password: &'a [u8],
 
-    /// The keys that an earlier login handed out.
-    pub keys: &'a ClientKeys,
+    /// The keys of an earlier login, or a struct of zeros.
+    pub keys: &'a ScramKeys,
 }
 
-/// What a client keeps of an exchange. All zeros is a client that has sent nothing. A call that succeeds writes zeros to
-/// every field that is not of the new state, and after every length. No password is kept, and no keys but those in
-/// `keys`.
+/// The state of a SCRAM client between calls. All zeros is a client that has sent nothing.
+///
+/// A call that succeeds writes zeros to every field that its new state does not use, and after every length. The
+/// struct never holds a password, and it holds keys only in `keys`.
 #[repr(C)]
 #[derive(Drop)]
 pub struct ScramClient {
-    /// What was sent last: 1 the client-first message, 2 the client-final message; 3 is a login whose server was
-    /// believed.
-    pub sent: u32,
+    /// How far the exchange is: one of enum fe2o3_scram_client_state.
+    pub state: u32,
 
-    /// How many bytes of `signature` there are.
+    /// The number of bytes of `signature` in use.
     pub signature_len: u32,
 
     /// The nonce of the client-first message.
     pub nonce: [u8; 32],
 
-    /// The signature that is waited for.
+    /// The ServerSignature that the client expects.
     pub signature: [u8; 64],
 
-    /// The keys of the answer.
-    pub keys: ClientKeys,
+    /// The keys with which the client-final message was computed.
+    pub keys: ScramKeys,
 }
 
 /// A struct that shows no keys.
-fn no_keys() -> ClientKeys
+fn no_keys() -> ScramKeys
     ensures none { HoldsNone result }
     ensures writes { result ≡ no_keys_struct }
 {
-    ClientKeys {
+    ScramKeys {
         version: 0,
         iterations: 0,
         salt_len: 0,
@@ -89,12 +87,12 @@ fn no_keys() -> ClientKeys
 }
 
 /// The struct of a client's keys, where it has some that have room.
-fn held(keys: Option<&CachedKeys>) -> ClientKeys
+fn held(keys: Option<&CachedKeys>) -> ScramKeys
     ensures holds { Holds result (option_map (λ held. held.now) keys.entry) }
     ensures writes { WritesKeys result (option_map (λ held. held.now) keys.entry) }
 {
     match keys {
-        Some(keys) => match ClientKeys::of(keys) {
+        Some(keys) => match ScramKeys::of(keys) {
             Some(held) => held,
             None => no_keys(),
         },
@@ -109,7 +107,7 @@ impl ScramClient {
         ensures writes { result ≡ fresh_client_struct }
     {
         ScramClient {
-            sent: 0,
+            state: 0,
             signature_len: 0,
             nonce: [0; 32],
             signature: [0; 64],
@@ -119,12 +117,12 @@ impl ScramClient {
 
     /// The struct of a client that has sent its client-first message, with this nonce.
     fn started(nonce: &[u8; 32]) -> ScramClient
-        ensures sent { result.sent ≡ 1 }
+        ensures sent { result.state ≡ 1 }
         ensures nonce { result.nonce ≡ nonce.now }
         ensures writes { result ≡ started_struct nonce.now }
     {
         ScramClient {
-            sent: 1,
+            state: 1,
             signature_len: 0,
             nonce: *nonce,
             signature: [0; 64],
@@ -144,7 +142,7 @@ impl ScramClient {
         }
         if machine.is_complete() {
             return Some(ScramClient {
-                sent: 3,
+                state: 3,
                 signature_len: 0,
                 nonce: [0; 32],
                 signature: [0; 64],
@@ -166,7 +164,7 @@ impl ScramClient {
             WritesClient client (ClientFinalSent signature.now (option_map (λ held. held.now) keys.entry))) }
     {
         Some(ScramClient {
-            sent: 2,
+            state: 2,
             signature: padded(signature)?,
             signature_len: signature.len() as u32,
             nonce: [0; 32],
@@ -200,7 +198,7 @@ impl ScramClient {
         ensures { MatchOption result (¬ AwaitsSignature self.now) (λ signature. AwaitsSignature self.now
             × (signature.now ≡ take self.now.signature_len self.now.signature)) }
     {
-        if self.sent != 2 {
+        if self.state != 2 {
             return None;
         }
         head(&self.signature, self.signature_len)
@@ -210,7 +208,7 @@ impl ScramClient {
     fn complete(&mut self)
         ensures { self.new ≡ complete_struct self.old.keys }
     {
-        self.sent = 3;
+        self.state = 3;
         self.signature_len = 0;
         self.nonce = [0; 32];
         self.signature = [0; 64];
@@ -221,21 +219,19 @@ impl ScramClient {
         ensures ok { IfOk result (λ side. IsSide login.now self.now side) }
         ensures err { IfErr result (λ status. status ≢ StatusOutOfMemory → IsNoLogin login.now status) }
         ensures memory { AsksWhere (IsTestedLogin login.now) result }
-        ensures room { IfErr result (λ status. status ≢ RoomTooSmall) }
     {
-        match self.sent {
-            1 => self.behind_first(alloc, login),
-            2 => self.behind_final(alloc, login),
+        match self.state {
+            1 => self.after_first(alloc, login),
+            2 => self.after_final(alloc, login),
             _ => login.client(alloc),
         }
     }
 
     /// The client that has sent its client-first message.
-    fn behind_first(&self, alloc: Global, login: &Login<'_>) -> Result<Machine, Status>
-        ensures ok { IfOk result (λ side. self.now.sent ≡ 1 → IsSide login.now self.now side) }
+    fn after_first(&self, alloc: Global, login: &Login<'_>) -> Result<Machine, Status>
+        ensures ok { IfOk result (λ side. self.now.state ≡ 1 → IsSide login.now self.now side) }
         ensures err { IfErr result (λ status. status ≢ StatusOutOfMemory → IsNoLogin login.now status) }
         ensures memory { AsksWhere (IsTestedLogin login.now) result }
-        ensures room { IfErr result (λ status. status ≢ RoomTooSmall) }
     {
         let mut machine = match login.client(alloc) {
             Ok(machine) => machine,
@@ -251,11 +247,10 @@ impl ScramClient {
     }
 
     /// The client that waits for the signature, where it has room.
-    fn behind_final(&self, alloc: Global, login: &Login<'_>) -> Result<Machine, Status>
-        ensures ok { IfOk result (λ side. self.now.sent ≡ 2 → IsSide login.now self.now side) }
+    fn after_final(&self, alloc: Global, login: &Login<'_>) -> Result<Machine, Status>
+        ensures ok { IfOk result (λ side. self.now.state ≡ 2 → IsSide login.now self.now side) }
         ensures err { IfErr result (λ status. status ≢ StatusOutOfMemory → IsNoLogin login.now status) }
         ensures memory { AsksWhere (IsTestedLogin login.now) result }
-        ensures room { IfErr result (λ status. status ≢ RoomTooSmall) }
     {
         let Some(signature) = head(&self.signature, self.signature_len) else {
             return login.client(alloc);
@@ -275,7 +270,7 @@ impl ScramClient {
 
 /// The keys that a struct shows, if it shows some. `OutOfMemory` is the only refusal.
 #[tactic(auto, using(crate::proofs::LoginLemmas::none_shown))]
-fn shown(alloc: Global, keys: &ClientKeys) -> Result<Option<CachedKeys>, Status>
+fn shown(alloc: Global, keys: &ScramKeys) -> Result<Option<CachedKeys>, Status>
     ensures ok { IfOk result (λ shown. MatchOption shown (HoldsNone keys.now) (λ shown. ShowsKeys keys.now shown)) }
     ensures err { IfErr result (λ status. status ≡ StatusOutOfMemory) }
     ensures memory { OnErr result (ShowsSomeKeys keys.now) }
@@ -297,7 +292,6 @@ impl Login<'_> {
         ensures utf8 { IfOk result (λ _. IsUtf8 self.now.password.now) }
         ensures err { IfErr result (λ status. status ≢ StatusOutOfMemory
             → (status ≡ StatusNotUtf8) × ¬ IsUtf8 self.now.password.now) }
-        ensures room { IfErr result (λ status. status ≢ RoomTooSmall) }
     {
         Ok(text(self.password)?.to_string(alloc)?)
     }
@@ -326,7 +320,7 @@ impl Login<'_> {
     fn has_keys(&self) -> Result<(), Status>
         ensures tested { MatchResult result (λ _. NoneHolds (keys_tests self.now) × ShowsSomeKeys self.now.keys.now)
             (λ status. IsFirst (keys_tests self.now) status) }
-        ensures status { IfErr result (λ status. (status ≢ StatusOutOfMemory) × (status ≢ RoomTooSmall)) }
+        ensures status { IfErr result (λ status. status ≢ StatusOutOfMemory) }
     {
         if !self.keys.shows() {
             return Err(Status::NoKeys);
@@ -341,7 +335,7 @@ impl Login<'_> {
     #[tactic(auto, using(crate::proofs::LoginLemmas::secret_tests))]
     fn has_secret(&self) -> Result<(), Status>
         ensures tested { MatchResult result (λ _. HasSecret self.now) (λ status. IsNoSecret self.now status) }
-        ensures status { IfErr result (λ status. (status ≢ StatusOutOfMemory) × (status ≢ RoomTooSmall)) }
+        ensures status { IfErr result (λ status. status ≢ StatusOutOfMemory) }
     {
         match self.secret {
             0 => match text(self.password) {
@@ -370,7 +364,7 @@ impl Login<'_> {
     fn has_prepared(&self) -> Result<(), Status>
         requires { 2 < self.now.secret }
         ensures tested { MatchResult result (λ _. HasSecret self.now) (λ status. IsNoSecret self.now status) }
-        ensures status { IfErr result (λ status. (status ≢ StatusOutOfMemory) × (status ≢ RoomTooSmall)) }
+        ensures status { IfErr result (λ status. status ≢ StatusOutOfMemory) }
     {
         match self.secret {
             3 => match text(self.password) {
@@ -395,7 +389,7 @@ impl Login<'_> {
     pub fn tested(&self) -> Result<ScramVersion, Status>
         ensures ok { IfOk result (λ version. IsVersion self.now.version version × IsTestedLogin self.now) }
         ensures err { IfErr result (λ status. IsNoLogin self.now status) }
-        ensures status { IfErr result (λ status. (status ≢ StatusOutOfMemory) × (status ≢ RoomTooSmall)) }
+        ensures status { IfErr result (λ status. status ≢ StatusOutOfMemory) }
     {
         let version = match self.named_version() {
             Ok(version) => version,
@@ -412,7 +406,6 @@ impl Login<'_> {
         ensures ok { IfOk result (λ keys. ShowsKeys self.now.keys.now keys × IsVersion self.now.version keys.version) }
         ensures err { IfErr result (λ status. status ≢ StatusOutOfMemory
             → IsFirst (keys_tests self.now) status) }
-        ensures room { IfErr result (λ status. status ≢ RoomTooSmall) }
     {
         let Some(keys) = shown(alloc, self.keys)? else {
             return Err(Status::NoKeys);
@@ -436,7 +429,6 @@ impl Login<'_> {
         ensures version { IfOk result (λ side. IsVersion self.now.version version
             → IsVersion self.now.version side.version) }
         ensures err { IfErr result (λ status. status ≢ StatusOutOfMemory → IsNoSecret self.now status) }
-        ensures room { IfErr result (λ status. status ≢ RoomTooSmall) }
     {
         match self.secret {
             0 => Ok(Machine::new(username, self.password(alloc)?, version)),
@@ -464,7 +456,6 @@ impl Login<'_> {
         ensures version { IfOk result (λ side. IsVersion self.now.version version
             → IsVersion self.now.version side.version) }
         ensures err { IfErr result (λ status. status ≢ StatusOutOfMemory → IsNoSecret self.now status) }
-        ensures room { IfErr result (λ status. status ≢ RoomTooSmall) }
     {
         match self.secret {
             3 => Ok(Machine::with_prepared_password(username, self.password(alloc)?, version)),
@@ -484,7 +475,6 @@ impl Login<'_> {
         ensures login { IfOk result (λ _. IsTestedLogin self.now) }
         ensures err { IfErr result (λ status. status ≢ StatusOutOfMemory → IsNoLogin self.now status) }
         ensures memory { AsksWhere (IsTestedLogin self.now) result }
-        ensures room { IfErr result (λ status. status ≢ RoomTooSmall) }
     {
         // The login is tested before memory is asked for.
         let version = match self.tested() {
@@ -508,7 +498,6 @@ fn first_message(alloc: Global, login: &Login<'_>, nonce: &[u8; 32]) -> Result<B
     ensures ok { IfOk result (λ message. Starts login.now nonce.now (Ok message)) }
     ensures err { IfErr result (λ status. status ≢ StatusOutOfMemory → IsNoLogin login.now status) }
     ensures memory { AsksWhere (IsTestedLogin login.now) result }
-    ensures room { IfErr result (λ status. status ≢ RoomTooSmall) }
 {
     let mut machine = match login.client(alloc) {
         Ok(machine) => machine,
@@ -528,16 +517,16 @@ fn begin(
     nonce: &[u8; 32],
     message: &[u8],
     out: &mut [u8],
-    len: &mut usize,
-) -> Result<(), Status>
-    ensures len { len.new ≡ length message.now }
+    out_len: &mut usize,
+) -> Result<(), WriteError>
+    ensures len { out_len.new ≡ length message.now }
     ensures ok { IfOk result (λ _. (length message.now ≤ length out.old) × (out.new ≡ with_written message.now out.old)) }
     ensures sent { IfOk result (λ _. client.new ≡ started_struct nonce.now) }
     ensures err { IfErr result (λ status. (status ≡ RoomTooSmall) × (length out.old < length message.now)
         × (out.new ≡ out.old)) }
     ensures stays { IfErr result (λ _. client.new ≡ client.old) }
 {
-    match put(message, out, len) {
+    match put(message, out, out_len) {
         Ok(()) => {
             *client = ScramClient::started(nonce);
             Ok(())
@@ -553,22 +542,22 @@ fn first(
     client: &mut ScramClient,
     nonce: &[u8; 32],
     out: &mut [u8],
-    len: &mut usize,
-) -> Result<(), Status>
-    ensures text { Fills (Starts login.now nonce.now) (record { bytes = out.old; len = len.old })
-        (record { bytes = out.new; len = len.new }) result }
+    out_len: &mut usize,
+) -> Result<(), WriteError>
+    ensures text { Fills (Starts login.now nonce.now) (record { bytes = out.old; len = out_len.old })
+        (record { bytes = out.new; len = out_len.new }) result }
     ensures moved { StartsClient login.now nonce.now client.old client.new result }
-    ensures memory { AsksWhere (IsTestedLogin login.now) result }
+    ensures memory { AsksText (IsTestedLogin login.now) result }
 {
     let message = match first_message(alloc, login, nonce) {
         Ok(message) => message,
-        Err(status) => return Err(status),
+        Err(status) => return Err(WriteError::Other(status)),
     };
-    begin(client, nonce, message.as_slice(), out, len)
+    begin(client, nonce, message.as_slice(), out, out_len)
 }
 
-/// Writes the client-first message, which starts an exchange afresh at any time. The nonce is 32 random bytes, fresh
-/// for each.
+/// Writes the client-first message. This starts a new exchange, whatever the state of the client is. `nonce` is 32
+/// fresh random bytes.
 #[unsafe(no_mangle)]
 pub extern "C" fn fe2o3_scram_client_first(
     alloc: Global,
@@ -576,13 +565,13 @@ pub extern "C" fn fe2o3_scram_client_first(
     client: &mut ScramClient,
     nonce: &[u8; 32],
     out: &mut [u8],
-    len: &mut usize,
+    out_len: &mut usize,
 ) -> u32
-    ensures { Answers result (λ answer. Fills (Starts login.now nonce.now) (record { bytes = out.old; len = len.old })
-        (record { bytes = out.new; len = len.new }) answer × StartsClient login.now nonce.now client.old client.new answer
-        × AsksWhere (IsTestedLogin login.now) answer) }
+    ensures { AnswersText result (λ answer. Fills (Starts login.now nonce.now) (record { bytes = out.old; len = out_len.old })
+        (record { bytes = out.new; len = out_len.new }) answer × StartsClient login.now nonce.now client.old client.new answer
+        × AsksText (IsTestedLogin login.now) answer) }
 {
-    number(first(alloc, login, client, nonce, out, len))
+    text_number(first(alloc, login, client, nonce, out, out_len))
 }
 
 /// Verifies the server, or not.
@@ -609,7 +598,7 @@ fn verify(
     Ok(())
 }
 
-/// Verifies the server-final message, or refuses it. The login is done only where the number is 0.
+/// Verifies the server-final message. Only FE2O3_OK means that the login is complete and the server authenticated.
 #[unsafe(no_mangle)]
 pub extern "C" fn fe2o3_scram_client_verify(
     alloc: Global,
@@ -623,11 +612,11 @@ pub extern "C" fn fe2o3_scram_client_verify(
     number(verify(alloc, login, client, server_final))
 }
 
-/// The keys of a login whose server was believed.
-fn handed_out(client: &ScramClient) -> Result<ClientKeys, Status>
+/// The keys of a complete login.
+fn compute_keys_of(client: &ScramClient) -> Result<ScramKeys, Status>
     ensures { HandsOut client.now result }
 {
-    if client.sent != 3 {
+    if client.state != 3 {
         return Err(Status::Client(ScramErrorKind::IllegalClientState));
     }
     if client.keys.version == 0 {
@@ -636,19 +625,11 @@ fn handed_out(client: &ScramClient) -> Result<ClientKeys, Status>
     Ok(client.keys.copied())
 }
 
-/// Hands out the keys of a login whose server was believed, for the next login to the same server.
-fn hand_out(client: &ScramClient, keys: &mut ClientKeys) -> Result<(), Status>
-    ensures { Makes ⊥ (HandsOut client.now) keys.old keys.new result }
-{
-    *keys = handed_out(client)?;
-    Ok(())
-}
-
-/// Hands out the keys of a login whose server was believed: with them the next login to a server that keeps its salt
-/// and its count takes no password, and two hashes of HMAC. Whoever has them can log in.
+/// Writes the keys of a complete login, for the next login to the same server. As long as the server keeps its salt
+/// and iteration count, a login by keys needs no password and no PBKDF2. The keys are secret: they suffice to log in.
 #[unsafe(no_mangle)]
-pub extern "C" fn fe2o3_scram_client_get_keys(client: &ScramClient, keys: &mut ClientKeys) -> u32
+pub extern "C" fn fe2o3_scram_client_get_keys(client: &ScramClient, keys: &mut ScramKeys) -> u32
     ensures { Answers result (Makes ⊥ (HandsOut client.now) keys.old keys.new) }
 {
-    number(hand_out(client, keys))
+    number(store(compute_keys_of(client), keys))
 }

@@ -8,12 +8,13 @@ ghost use Rattle.fe2o3_scram.specs.ClientSecret.{secret_of};
 ghost use Rattle.fe2o3_scram.specs.Texts.{base64_text};
 ghost use Rattle.sasl_c.specs.Client.{AnswerAsks, Responds, IsAnswer, IsTestedLogin, IsSecretOf, NotAnswered, name_tests};
 ghost use Rattle.std.specs.Str.{IsUtf8};
-ghost use Rattle.sasl_c.specs.Status.{Answers, AsksWhere, FillsWithin};
-ghost use Rattle.sasl_c.specs.declared.status.Status.TheVariants.{OutOfMemory as StatusOutOfMemory, RoomTooSmall};
+ghost use Rattle.sasl_c.specs.Status.{Answers, AnswersText, AsksText, AsksWhere, FillsWithin};
+ghost use Rattle.sasl_c.specs.declared.status.Status.TheVariants.{OutOfMemory as StatusOutOfMemory};
+ghost use Rattle.sasl_c.specs.declared.status.WriteError.TheVariants.{RoomTooSmall};
 
 use crate::arrays::put;
 use crate::client::{Login, ScramClient};
-use crate::status::{Status, number, text};
+use crate::status::{Status, WriteError, text, text_number};
 use base64::engine::general_purpose::STANDARD;
 use fe2o3_scram::{ClientAnswer, ClientSecret, Meter, ScramErrorKind, ScramVersion};
 use std::alloc::Global;
@@ -47,11 +48,10 @@ fn answered_by(
     requires { meter.old ≤ 2 ^ 63 }
     ensures ok { IfOk result (λ answer. IsVersion login.now.version version → IsSecretOf login.now
         (secret_of secret.entry)
-        → client.now.sent ≡ 1 → IsAnswer login.now client.now server_first.now (answer_values answer)) }
+        → client.now.state ≡ 1 → IsAnswer login.now client.now server_first.now (answer_values answer)) }
     ensures err { IfErr result (λ status. status ≢ StatusOutOfMemory → IsVersion login.now.version version
-        → IsSecretOf login.now (secret_of secret.entry) → client.now.sent ≡ 1
+        → IsSecretOf login.now (secret_of secret.entry) → client.now.state ≡ 1
         → NotAnswered login.now client.now server_first.now status) }
-    ensures room { IfErr result (λ status. status ≢ RoomTooSmall) }
 {
     let mut room = [0; 44];
     let nonce = nonce_text(&client.nonce, &mut room);
@@ -83,12 +83,11 @@ fn answered_of_prepared(
 ) -> Result<ClientAnswer, Status>
     requires secret { 2 < login.now.secret }
     requires room { meter.old ≤ 2 ^ 63 }
-    ensures ok { IfOk result (λ answer. IsVersion login.now.version version → client.now.sent ≡ 1
+    ensures ok { IfOk result (λ answer. IsVersion login.now.version version → client.now.state ≡ 1
         → IsAnswer login.now client.now server_first.now (answer_values answer)) }
     ensures err { IfErr result (λ status. status ≢ StatusOutOfMemory → NoneHolds (name_tests login.now)
-        → IsVersion login.now.version version → client.now.sent ≡ 1
+        → IsVersion login.now.version version → client.now.state ≡ 1
         → NotAnswered login.now client.now server_first.now status) }
-    ensures room { IfErr result (λ status. status ≢ RoomTooSmall) }
 {
     match login.secret {
         3 => {
@@ -129,12 +128,11 @@ fn answered_of(
     meter: &mut Meter,
 ) -> Result<ClientAnswer, Status>
     requires { meter.old ≤ 2 ^ 63 }
-    ensures ok { IfOk result (λ answer. IsVersion login.now.version version → client.now.sent ≡ 1
+    ensures ok { IfOk result (λ answer. IsVersion login.now.version version → client.now.state ≡ 1
         → IsAnswer login.now client.now server_first.now (answer_values answer)) }
     ensures err { IfErr result (λ status. status ≢ StatusOutOfMemory → NoneHolds (name_tests login.now)
-        → IsVersion login.now.version version → client.now.sent ≡ 1
+        → IsVersion login.now.version version → client.now.state ≡ 1
         → NotAnswered login.now client.now server_first.now status) }
-    ensures room { IfErr result (λ status. status ≢ RoomTooSmall) }
 {
     match login.secret {
         0 => {
@@ -175,10 +173,9 @@ fn answered_of(
 /// Why a client that has not sent its client-first message last does not answer.
 #[tactic(auto, using(crate::proofs::ClientLemmas::not_dues))]
 fn not_due(login: &Login<'_>, client: &ScramClient) -> Status
-    ensures why { client.now.sent ≢ 1 → (text : List ℕ)
+    ensures why { client.now.state ≢ 1 → (text : List ℕ)
         → NotAnswered login.now client.now text result }
     ensures memory { result ≢ StatusOutOfMemory }
-    ensures room { result ≢ RoomTooSmall }
 {
     match login.tested() {
         Ok(_) => Status::Client(ScramErrorKind::IllegalClientState),
@@ -199,10 +196,9 @@ fn answered(
     ensures ok { IfOk result (λ answer. IsAnswer login.now client.now server_first.now (answer_values answer)) }
     ensures err { IfErr result (λ status. status ≢ StatusOutOfMemory
         → NotAnswered login.now client.now server_first.now status) }
-    ensures memory { AsksWhere (IsTestedLogin login.now × (client.now.sent ≡ 1)) result }
-    ensures room { IfErr result (λ status. status ≢ RoomTooSmall) }
+    ensures memory { AsksWhere (IsTestedLogin login.now × (client.now.state ≡ 1)) result }
 {
-    if client.sent != 1 {
+    if client.state != 1 {
         return Err(not_due(login, client));
     }
     let version = match login.tested() {
@@ -221,35 +217,35 @@ fn answer(
     server_first: &[u8],
     meter: &mut Meter,
     out: &mut [u8],
-    len: &mut usize,
-) -> Result<(), Status>
+    out_len: &mut usize,
+) -> Result<(), WriteError>
     requires { meter.old ≤ 2 ^ 63 }
     ensures text { FillsWithin (length server_first.now + 128)
-        (Responds login.now server_first.now client.old client.new) (record { bytes = out.old; len = len.old })
-        (record { bytes = out.new; len = len.new }) result }
+        (Responds login.now server_first.now client.old client.new) (record { bytes = out.old; len = out_len.old })
+        (record { bytes = out.new; len = out_len.new }) result }
     ensures stays { OnErr result (client.new ≡ client.old) }
     ensures first { IfErr result (λ status. status ≡ RoomTooSmall → meter.new ≡ meter.old) }
-    ensures memory { AsksWhere (AnswerAsks login.now server_first.now client.old) result }
+    ensures memory { AsksText (AnswerAsks login.now server_first.now client.old) result }
 {
     let suffices = server_first.len() + ANSWER_MORE;
     if out.len() < suffices {
-        *len = suffices;
-        return Err(Status::RoomTooSmall);
+        *out_len = suffices;
+        return Err(WriteError::RoomTooSmall);
     }
     let Ok(text) = str::from_utf8(server_first) else {
-        return Err(Status::Client(ScramErrorKind::Utf8Error));
+        return Err(WriteError::Other(Status::Client(ScramErrorKind::Utf8Error)));
     };
     let answer = answered(alloc, login, client, text, meter)?;
     let Some(waiting) = ScramClient::answered(&answer) else {
-        return Err(Status::TooLong);
+        return Err(WriteError::Other(Status::TooLong));
     };
-    put(&answer.message, out, len)?;
+    put(&answer.message, out, out_len)?;
     *client = waiting;
     Ok(())
 }
 
-/// Answers the server-first message with the client-final message. A room of 128 bytes more than the server-first
-/// message suffices, and is asked for before any hash is made.
+/// Answers the server-first message with the client-final message. `out` needs 128 bytes more than the server-first
+/// message has, which is tested before anything is hashed.
 #[unsafe(no_mangle)]
 pub extern "C" fn fe2o3_scram_client_final(
     alloc: Global,
@@ -257,13 +253,13 @@ pub extern "C" fn fe2o3_scram_client_final(
     client: &mut ScramClient,
     server_first: &[u8],
     out: &mut [u8],
-    len: &mut usize,
+    out_len: &mut usize,
 ) -> u32
-    ensures { Answers result (λ answer. FillsWithin (length server_first.now + 128)
-        (Responds login.now server_first.now client.old client.new) (record { bytes = out.old; len = len.old })
-        (record { bytes = out.new; len = len.new }) answer × OnErr answer (client.new ≡ client.old)
-        × AsksWhere (AnswerAsks login.now server_first.now client.old) answer) }
+    ensures { AnswersText result (λ answer. FillsWithin (length server_first.now + 128)
+        (Responds login.now server_first.now client.old client.new) (record { bytes = out.old; len = out_len.old })
+        (record { bytes = out.new; len = out_len.new }) answer × OnErr answer (client.new ≡ client.old)
+        × AsksText (AnswerAsks login.now server_first.now client.old) answer) }
 {
     let mut meter = Meter::new();
-    number(answer(alloc, login, client, server_first, &mut meter, out, len))
+    text_number(answer(alloc, login, client, server_first, &mut meter, out, out_len))
 }

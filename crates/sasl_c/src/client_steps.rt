@@ -5,18 +5,19 @@ ghost use Rattle.fe2o3_sasl_wire.specs.FrameView.{shown};
 ghost use Rattle.fe2o3_sasl_core.specs.Runs.{client_reply};
 ghost use Rattle.fe2o3_sasl_core.specs.SaslProfile.{profile_of};
 ghost use Rattle.sasl_c.specs.SaslClient.{HasNoHostname};
-ghost use Rattle.sasl_c.specs.Status.{Answers, AsksWhere, FillsWithin};
+ghost use Rattle.sasl_c.specs.Status.{AnswersText, AsksText, AsksWhere, FillsWithin};
 ghost use Rattle.sasl_c.specs.Steps.{ClientHides, ClientNotStepped, ClientStepped, ClientSteps, ClientTells, ProfileNotStepped, ProfileStepped, progress_number};
-ghost use Rattle.sasl_c.specs.declared.status.Status.TheVariants.{OutOfMemory as StatusOutOfMemory, RoomTooSmall};
+ghost use Rattle.sasl_c.specs.declared.status.Status.TheVariants.{OutOfMemory as StatusOutOfMemory};
+ghost use Rattle.sasl_c.specs.declared.status.WriteError.TheVariants.{RoomTooSmall};
 
 use crate::arrays::put;
 use crate::client::ScramClient;
 use crate::connection::of_profile;
 use crate::sasl_client::{SaslLogin, scram_of};
-use crate::status::{Status, number};
+use crate::status::{Status, WriteError, text_number};
 use crate::steps::{behind, has_room, number_of, sendable};
-use fe2o3_sasl_negotiation::Progress;
 use fe2o3_sasl_core::{ClientReply, SaslProfile, profile_body_step};
+use fe2o3_sasl_negotiation::Progress;
 use fe2o3_scram::Meter;
 use std::alloc::Global;
 
@@ -24,7 +25,6 @@ use std::alloc::Global;
 fn told(alloc: Global, reply: ClientReply) -> Result<(Vec<u8>, Progress), Status>
     ensures told { MatchResult result (λ told. ClientTells (client_reply reply) told.0.items told.1)
         (λ status. ClientHides (client_reply reply) status) }
-    ensures room { IfErr result (λ status. status ≢ RoomTooSmall) }
 {
     match reply {
         ClientReply::Init { body } => Ok((sendable(body)?, Progress::InProgress)),
@@ -70,7 +70,6 @@ fn stepped(
         (record { body = body.now; nonce = nonce.now }) made.next made.progress made.sent.items) }
     ensures err { IfErr result (λ status. status ≢ StatusOutOfMemory → ProfileNotStepped (shown hostname.entry)
         (profile_of profile.old) (record { body = body.now; nonce = nonce.now }) status) }
-    ensures room { IfErr result (λ status. status ≢ RoomTooSmall) }
 {
     let reply = match profile_body_step(alloc, profile, body, nonce, hostname, meter) {
         Ok(reply) => reply,
@@ -106,7 +105,6 @@ fn answered(
     ensures err { IfErr result (λ status. status ≢ StatusOutOfMemory
         → ClientNotStepped login.now (record { body = body.now; nonce = nonce.now }) client.now status) }
     ensures memory { AsksWhere (¬ HasNoHostname login.now) result }
-    ensures room { IfErr result (λ status. status ≢ RoomTooSmall) }
 {
     let hostname = match login.hostname(alloc) {
         Ok(hostname) => hostname,
@@ -132,37 +130,38 @@ fn step(
     meter: &mut Meter,
     progress: &mut u32,
     out: &mut [u8],
-    len: &mut usize,
-) -> Result<(), Status>
+    out_len: &mut usize,
+) -> Result<(), WriteError>
     requires { meter.old ≤ 2 ^ 63 }
     ensures text { FillsWithin 508 (ClientSteps login.now (record { body = body.now; nonce = nonce.now }) client.old
-        client.new progress.new) (record { bytes = out.old; len = len.old })
-        (record { bytes = out.new; len = len.new }) result }
+        client.new progress.new) (record { bytes = out.old; len = out_len.old })
+        (record { bytes = out.new; len = out_len.new }) result }
     ensures stays { OnErr result ((client.new ≡ client.old) × (progress.new ≡ progress.old)) }
     ensures first { IfErr result (λ status. status ≡ RoomTooSmall → meter.new ≡ meter.old) }
-    ensures memory { AsksWhere (¬ HasNoHostname login.now) result }
+    ensures memory { AsksText (¬ HasNoHostname login.now) result }
 {
-    has_room(out, len)?;
+    has_room(out, out_len)?;
     let made = match answered(alloc, login, client, body, nonce, meter) {
         Ok(made) => made,
-        Err(status) => return Err(status),
+        Err(status) => return Err(WriteError::Other(status)),
     };
-    put(&made.sent, out, len)?;
+    put(&made.sent, out, out_len)?;
     *progress = number_of(made.progress);
     *client = made.next;
     Ok(())
 }
 
-/// Takes the body of a frame that the server sent, behind the four bytes of the frame's size, and writes the body that
-/// is to be sent: the init to its mechanisms, the response to its challenge, and nothing (a length of 0) to its outcome.
-/// Progress is 0 while the login goes on, 1 once the client is logged in, and the number of a refusal (81 to 84) where
-/// the outcome is one; hand in no body after that. A room of 508 bytes suffices, and is asked for before any hash is
-/// made. The nonce is 32 random bytes, fresh for each call.
+/// Takes a frame body that the server sent, without the four bytes of the frame's size, and writes the body to send:
+/// the init for the mechanisms, the response for a challenge, and nothing (`out_len` is 0) for the outcome. `out`
+/// needs 508 bytes, which is tested before anything is hashed. `nonce` is 32 fresh random bytes.
 ///
-/// It is for who reads the frames, refuses those of more than 512 bytes, and knows whose turn it is: a login takes three
-/// bodies of the server, for PLAIN, ANONYMOUS and EXTERNAL two, and a server that may send more can have a challenge
-/// hashed again and again. SCRAM stands at 1 only where the server has shown that it has the verifier (RFC 5802, section
-/// 5). The others take any outcome at its word, also one before the init.
+/// `progress` is FE2O3_IN_PROGRESS while the login goes on, FE2O3_AUTHENTICATED once it is complete, and from
+/// FE2O3_REFUSED_AUTH to FE2O3_REFUSED_SYS_TEMP if the outcome refuses it. Pass no body after that.
+///
+/// This call is for programs that read frames themselves, reject those above 512 bytes, and limit their number. A
+/// login takes three bodies of the server for SCRAM, and two for the other mechanisms. A server that may send more can
+/// make the client hash again and again. For SCRAM, FE2O3_AUTHENTICATED means that the server is authenticated (RFC
+/// 5802, section 5). The other mechanisms accept any outcome, even one before the init.
 #[unsafe(no_mangle)]
 pub extern "C" fn fe2o3_sasl_client_step(
     alloc: Global,
@@ -172,16 +171,16 @@ pub extern "C" fn fe2o3_sasl_client_step(
     nonce: &[u8; 32],
     progress: &mut u32,
     out: &mut [u8],
-    len: &mut usize,
+    out_len: &mut usize,
 ) -> u32
-    ensures { Answers result (λ answer. FillsWithin 508 (ClientSteps login.now
+    ensures { AnswersText result (λ answer. FillsWithin 508 (ClientSteps login.now
         (record { body = body.now; nonce = nonce.now }) client.old client.new progress.new)
-        (record { bytes = out.old; len = len.old }) (record { bytes = out.new; len = len.new }) answer
+        (record { bytes = out.old; len = out_len.old }) (record { bytes = out.new; len = out_len.new }) answer
         × OnErr answer ((client.new ≡ client.old) × (progress.new ≡ progress.old))
-        × AsksWhere (¬ HasNoHostname login.now) answer) }
+        × AsksText (¬ HasNoHostname login.now) answer) }
 {
     let mut meter = Meter::new();
-    number(step(
-        alloc, login, client, body, nonce, &mut meter, progress, out, len,
+    text_number(step(
+        alloc, login, client, body, nonce, &mut meter, progress, out, out_len,
     ))
 }

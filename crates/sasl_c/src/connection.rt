@@ -2,48 +2,48 @@
 
 ghost use Rattle.std.specs.Prelude.{◌≡◌, ◌≢◌, ◌<◌, length, IfOk, IfErr, IfSome, MatchOption, None};
 ghost use Rattle.fe2o3_sasl_wire.specs.FrameView.{shown};
-ghost use Rattle.fe2o3_sasl_negotiation.specs.declared.progress.Expected.{Expected as DueUnit};
+ghost use Rattle.fe2o3_sasl_negotiation.specs.declared.progress.Expected.{Expected as ExpectedUnit};
 ghost use Rattle.fe2o3_sasl_negotiation.specs.declared.progress.Progress.TheVariants.{InProgress};
-ghost use Rattle.sasl_c.specs.declared.status.Status.TheVariants.{RoomTooSmall};
 ghost use Rattle.fe2o3_scram.specs.Readings.{IsFirst};
-ghost use Rattle.sasl_c.specs.Connection.{Keeps, closed_status, code_status, due_number, frame_status, profile_status, side_tests, connection_struct};
+ghost use Rattle.sasl_c.specs.Connection.{Keeps, closed_status, code_status, expected_number, frame_status, profile_status, side_tests, connection_struct};
 
 use crate::arrays::{head, padded};
 use crate::status::Status;
-use fe2o3_sasl_negotiation::{CloseReason, Expected, Snapshot, Progress, FrameKind};
 use fe2o3_sasl_core::ProfileError;
+use fe2o3_sasl_negotiation::{CloseReason, Expected, FrameKind, Progress, Snapshot};
 use fe2o3_sasl_wire::{Error, SaslCode};
 use fe2o3_scram::ScramErrorKind;
 
-/// What a side of a connection keeps between its calls. All zeros is a connection of which no byte has come.
+/// One side of a connection between calls. All zeros is a connection that has received nothing.
 #[repr(C)]
 #[derive(Drop)]
 pub struct Connection {
-    /// 0 while more bytes are wanted, 1 once the client is logged in, and 2 once the connection is to be closed. So
-    /// behind an outcome a client stands at 1 where its code is Ok and, by SCRAM, it shows the signature that is
-    /// waited for; by the other mechanisms the server's word is all that there is. Behind an outcome of another code
-    /// it stands at 2, and so it does behind one that is Ok and does not show the signature. A server stands at 1 with
-    /// the outcome Ok that it writes, and at 2 with any other.
+    /// How far the login is: one of enum fe2o3_progress.
+    ///
+    /// After an outcome frame, a client has FE2O3_AUTHENTICATED if the code is FE2O3_CODE_OK and, for SCRAM, the frame
+    /// holds the expected ServerSignature. The other mechanisms do not authenticate the server. Otherwise it has
+    /// FE2O3_FAILED. A server has FE2O3_AUTHENTICATED once it writes an outcome with FE2O3_CODE_OK, and FE2O3_FAILED
+    /// once it writes another one.
     pub progress: u32,
 
-    /// Why it is to be closed: a status, as `REFUSED_AUTH` of an outcome that says so, or
-    /// `CLIENT_SERVER_SIGNATURE_MISMATCH` of a server that a client does not believe.
+    /// Why the login failed: a status, such as FE2O3_REFUSED_AUTH for an outcome with FE2O3_CODE_AUTH, or
+    /// FE2O3_CLIENT_SERVER_SIGNATURE_MISMATCH for a server that is not authenticated. FE2O3_OK unless `progress` is
+    /// FE2O3_FAILED.
     pub why: u32,
 
-    /// What is expected: 0 the other side's header, 1 the mechanisms, 2 the init, 3 the challenge, or at once the outcome,
-    /// 4 the response, and 5 the outcome.
+    /// What the other side has to send next: one of enum fe2o3_expected.
     pub expected: u32,
 
-    /// How many bytes of `held` there are.
+    /// The number of bytes of `held` in use.
     pub held_len: u32,
 
-    /// What has come of the header or of the frame that is expected.
+    /// The part of the expected header or frame that has been received.
     pub held: [u8; 512],
 }
 
 /// The number of what is expected.
 fn number_of(expected: Expected) -> u32
-    ensures { result ≡ due_number expected }
+    ensures { result ≡ expected_number expected }
 {
     match expected {
         Expected::Header => 0,
@@ -56,8 +56,8 @@ fn number_of(expected: Expected) -> u32
 }
 
 /// What is expected, of its number.
-fn due_of(number: u32) -> Option<Expected>
-    ensures { MatchOption result ((expected : DueUnit) → due_number expected ≢ number) (λ expected. due_number expected ≡ number) }
+fn expected_of(number: u32) -> Option<Expected>
+    ensures { MatchOption result ((expected : ExpectedUnit) → expected_number expected ≢ number) (λ expected. expected_number expected ≡ number) }
 {
     match number {
         0 => Some(Expected::Header),
@@ -75,7 +75,7 @@ pub fn of_frame(fault: Error) -> Status
     ensures { result ≡ frame_status fault }
 {
     match fault {
-        Error::DecodeError => Status::FrameUnread,
+        Error::DecodeError => Status::MalformedFrame,
         Error::NotImplemented => Status::NoSaslFrame,
         Error::TooLarge => Status::FrameTooLarge,
         Error::OutOfMemory => Status::OutOfMemory,
@@ -151,12 +151,11 @@ impl Connection {
         ensures wanting { IfOk result (λ kept. (kept.progress ≡ InProgress) × (kept.limit ≡ 512)) }
         ensures mock { IfOk result (λ kept. shown kept.user ≡ None) }
         ensures err { IfErr result (λ status. IsFirst (side_tests self.now) status) }
-        ensures room { IfErr result (λ status. status ≢ RoomTooSmall) }
     {
         if self.progress != 0 {
             return Err(Status::Ended);
         }
-        let expected = due_of(self.expected).ok_or(Status::InvalidSnapshot)?;
+        let expected = expected_of(self.expected).ok_or(Status::InvalidSnapshot)?;
         let held = head(&self.held, self.held_len).ok_or(Status::InvalidSnapshot)?;
         Ok(Snapshot {
             progress: Progress::InProgress,

@@ -9,33 +9,32 @@ use crate::connection::of_frame;
 use crate::status::{Status, number, text};
 use fe2o3_sasl_wire::{FrameView, SaslCode, view_frame};
 
-/// What the body of a frame says. What it shows are bytes of that body, where they stand.
+/// The content of a frame body. Its pointers point into that body.
 #[repr(C)]
 #[derive(Drop)]
 pub struct SaslFrameView<'a> {
-    /// Which frame it is, by its descriptor: 64 the mechanisms, 65 an init, 66 a challenge, 67 a response, and 68 an
-    /// outcome.
+    /// Which frame it is: one of enum fe2o3_frame_kind.
     pub kind: u32,
 
-    /// The code of an outcome, from 0 to 4, and else 0.
+    /// The code of an outcome: one of enum fe2o3_sasl_code. Zero for other frames.
     pub code: u32,
 
-    /// 1 where there is a message, and else 0.
+    /// 1 if there is a message, otherwise 0.
     pub has_message: u32,
 
-    /// 1 where there is a hostname, and else 0.
+    /// 1 if there is a hostname, otherwise 0.
     pub has_hostname: u32,
 
-    /// How many mechanisms there are.
+    /// The number of mechanisms in a list of mechanisms.
     pub count: usize,
 
-    /// How many bytes of the body the frame takes. Those behind it are left alone.
+    /// The number of bytes of the body that the frame takes. Bytes after it are not read.
     pub taken: usize,
 
     /// The mechanism of an init.
     pub mechanism: &'a [u8],
 
-    /// The initial response, the challenge, the response, or what the mechanism says at its end.
+    /// The initial response, the challenge, the response, or the additional data of an outcome.
     pub message: &'a [u8],
 
     /// The hostname of an init.
@@ -131,7 +130,7 @@ fn view_body<'a>(body: &'a [u8], view: &mut SaslFrameView<'a>) -> Result<(), Sta
     }
 }
 
-/// Reads the body of a frame, which begins with its data offset, behind the four bytes of its size. It takes no memory.
+/// Parses a frame body, without the four bytes of the frame's size. It allocates no memory.
 #[unsafe(no_mangle)]
 pub extern "C" fn fe2o3_sasl_view_frame<'a>(body: &'a [u8], view: &mut SaslFrameView<'a>) -> u32
     ensures { Answers result (Views body.now view.old view.new) }
@@ -157,8 +156,8 @@ fn offers(body: &[u8], mechanism: &[u8]) -> Result<(), Status>
     }
 }
 
-/// Whether the body of a frame is a server's list of mechanisms with this one in it: 0, or `NOT_IMPLEMENTED` where it is
-/// not in the list, and `OUT_OF_TURN` where the frame is another one.
+/// Tests whether a frame body is a list of mechanisms with `mechanism` in it. Returns FE2O3_NOT_IMPLEMENTED if the
+/// list lacks it, and FE2O3_UNEXPECTED_FRAME for another frame.
 #[unsafe(no_mangle)]
 pub extern "C" fn fe2o3_sasl_offers(body: &[u8], mechanism: &[u8]) -> u32
     ensures { Answers result (OffersName body.now mechanism.now) }

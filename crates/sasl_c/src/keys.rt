@@ -7,41 +7,41 @@ ghost use Rattle.sasl_c.specs.Keys.{KeysHaveRoom, MakesKeysStruct, ShowsKeys, Sh
 ghost use Rattle.sasl_c.specs.Passwords.{in_form};
 ghost use Rattle.sasl_c.specs.Records.{struct_making_tests};
 ghost use Rattle.sasl_c.specs.Status.{Answers, Makes};
-ghost use Rattle.sasl_c.specs.declared.keys.ClientKeys.{ClientKeys as Struct};
+ghost use Rattle.sasl_c.specs.declared.keys.ScramKeys.{ScramKeys as Struct};
 ghost use Rattle.sasl_c.specs.declared.status.Status.TheVariants.{OutOfMemory as StatusOutOfMemory};
 
-use crate::arrays::{head, padded};
+use crate::arrays::{head, padded, store};
 use crate::passwords::PasswordForm;
 use crate::status::{Status, digest_len, number, number_of, text, version_of};
-use fe2o3_scram::{Meter, CachedKeys};
+use fe2o3_scram::{CachedKeys, Meter};
 use std::alloc::Global;
 
-/// What a client keeps in place of its password: a secret, with which one can log in.
+/// The keys that a client can cache in place of its password. They are secret: they suffice to log in.
 #[repr(C)]
 #[derive(Drop)]
-pub struct ClientKeys {
-    /// 1, 256 or 512, for the mechanism's hash; 0 where there are no keys.
+pub struct ScramKeys {
+    /// The hash of the mechanism: one of enum fe2o3_scram_version, or 0 if the struct holds no keys.
     pub version: u32,
 
-    /// The iteration count that they are of.
+    /// The iteration count for which the keys were derived.
     pub iterations: u32,
 
-    /// How many bytes of `salt` there are.
+    /// The number of bytes of `salt` in use, at most 128.
     pub salt_len: u32,
 
-    /// The salt that they are of.
+    /// The salt for which the keys were derived.
     pub salt: [u8; 128],
 
-    /// The ClientKey, as long as a digest of the hash.
+    /// The ClientKey, with as many bytes as a digest of the hash.
     pub client_key: [u8; 64],
 
-    /// The ServerKey, as long as a digest of the hash.
+    /// The ServerKey, with as many bytes as a digest of the hash.
     pub server_key: [u8; 64],
 }
 
-impl ClientKeys {
+impl ScramKeys {
     /// The struct of keys, or `None` where it cannot hold them.
-    pub fn of(keys: &CachedKeys) -> Option<ClientKeys>
+    pub fn of(keys: &CachedKeys) -> Option<ScramKeys>
         ensures { MatchOption result (¬ KeysHaveRoom keys.now) (λ shown. KeysHaveRoom keys.now × (shown ≡ keys_struct keys.now)) }
     {
         let (version, salt) = (keys.scram_version(), keys.salt());
@@ -49,7 +49,7 @@ impl ClientKeys {
         if keys.client_key().len() != len || keys.server_key().len() != len {
             return None;
         }
-        Some(ClientKeys {
+        Some(ScramKeys {
             version: number_of(version),
             iterations: keys.iterations(),
             salt: padded(salt)?,
@@ -60,10 +60,10 @@ impl ClientKeys {
     }
 
     /// The same struct.
-    pub fn copied(&self) -> ClientKeys
+    pub fn copied(&self) -> ScramKeys
         ensures { result ≡ self.now }
     {
-        ClientKeys {
+        ScramKeys {
             version: self.version,
             iterations: self.iterations,
             salt_len: self.salt_len,
@@ -109,14 +109,14 @@ impl ClientKeys {
 
 /// The struct of a password's keys.
 #[tactic(auto, using(crate::proofs::RoomLemmas::keys_have_room))]
-fn made(
+fn compute_keys(
     alloc: Global,
     version: u32,
     form: PasswordForm,
     password: &[u8],
     salt: &[u8],
     iterations: u32,
-) -> Result<ClientKeys, Status>
+) -> Result<ScramKeys, Status>
     ensures { Gives StatusOutOfMemory (NoneHolds (struct_making_tests version (in_form form password.now) salt.now iterations))
         (λ (keys : Struct). keys) result (MakesKeysStruct version (in_form form password.now) salt.now iterations) }
 {
@@ -138,35 +138,14 @@ fn made(
     ) else {
         return Err(Status::OutOfMemory);
     };
-    match ClientKeys::of(&keys) {
+    match ScramKeys::of(&keys) {
         Some(made) => Ok(made),
         None => Err(Status::TooLong),
     }
 }
 
-/// Makes the struct of a password's keys.
-fn make(
-    alloc: Global,
-    version: u32,
-    form: PasswordForm,
-    password: &[u8],
-    salt: &[u8],
-    iterations: u32,
-    keys: &mut ClientKeys,
-) -> Result<(), Status>
-    ensures { Makes (NoneHolds (struct_making_tests version (in_form form password.now) salt.now iterations))
-        (MakesKeysStruct version (in_form form password.now) salt.now iterations) keys.old keys.new result }
-{
-    match made(alloc, version, form, password, salt, iterations) {
-        Ok(made) => {
-            *keys = made;
-            Ok(())
-        }
-        Err(status) => Err(status),
-    }
-}
-
-/// Makes the keys that stand in place of a password, for a server that keeps this salt and this count.
+/// Derives the keys of a typed password, for a server that uses this salt and iteration count. The password has to be
+/// printable ASCII.
 #[unsafe(no_mangle)]
 pub extern "C" fn fe2o3_scram_keys_make(
     alloc: Global,
@@ -174,24 +153,20 @@ pub extern "C" fn fe2o3_scram_keys_make(
     password: &[u8],
     salt: &[u8],
     iterations: u32,
-    keys: &mut ClientKeys,
+    keys: &mut ScramKeys,
 ) -> u32
     ensures { Answers result (Makes (NoneHolds (struct_making_tests version (Typed password.now) salt.now iterations))
         (MakesKeysStruct version (Typed password.now) salt.now iterations) keys.old keys.new) }
 {
-    number(make(
-        alloc,
-        version,
-        PasswordForm::Typed,
-        password,
-        salt,
-        iterations,
+    let form = PasswordForm::Typed;
+    number(store(
+        compute_keys(alloc, version, form, password, salt, iterations),
         keys,
     ))
 }
 
-/// Makes the keys of a prepared password (RFC 4013), for a server that keeps this salt and this count: any text, which is
-/// taken as it stands.
+/// Derives the keys of a prepared password (`fe2o3_saslprep`), for a server that uses this salt and iteration count.
+/// The text is used without change.
 #[unsafe(no_mangle)]
 pub extern "C" fn fe2o3_scram_keys_make_prepared(
     alloc: Global,
@@ -199,18 +174,14 @@ pub extern "C" fn fe2o3_scram_keys_make_prepared(
     password: &[u8],
     salt: &[u8],
     iterations: u32,
-    keys: &mut ClientKeys,
+    keys: &mut ScramKeys,
 ) -> u32
     ensures { Answers result (Makes (NoneHolds (struct_making_tests version (Prepared password.now) salt.now iterations))
         (MakesKeysStruct version (Prepared password.now) salt.now iterations) keys.old keys.new) }
 {
-    number(make(
-        alloc,
-        version,
-        PasswordForm::Prepared,
-        password,
-        salt,
-        iterations,
+    let form = PasswordForm::Prepared;
+    number(store(
+        compute_keys(alloc, version, form, password, salt, iterations),
         keys,
     ))
 }

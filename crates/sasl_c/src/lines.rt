@@ -3,12 +3,12 @@
 ghost use Rattle.std.specs.Prelude.{◌≡◌, ◌≢◌, Ok, Err, IfOk, IfErr};
 ghost use Rattle.std.specs.Str.{IsUtf8};
 ghost use Rattle.sasl_c.specs.Lines.{Chosen, FindAsks, FindsRecord, FindsInto, NotChosen, SpellsLine, line_status};
-ghost use Rattle.sasl_c.specs.Status.{Answers, AsksWhere, Fills};
-ghost use Rattle.sasl_c.specs.declared.status.Status.TheVariants.{OutOfMemory as StatusOutOfMemory, RoomTooSmall};
+ghost use Rattle.sasl_c.specs.Status.{Answers, AnswersText, AsksText, AsksWhere, Fills};
+ghost use Rattle.sasl_c.specs.declared.status.Status.TheVariants.{OutOfMemory as StatusOutOfMemory};
 
-use crate::arrays::put;
+use crate::arrays::write;
 use crate::records::ScramRecord;
-use crate::status::{Status, number, text, version_of};
+use crate::status::{Status, WriteError, number, text, text_number, version_of};
 use fe2o3_scram::{
     MultiRecordStore, ReadLinesErrorKind, RecordTextError, ScramVersion, WriteLinesError,
 };
@@ -133,10 +133,12 @@ fn find(
     }
 }
 
-/// Finds the record of this version that a user has in a text of users, a line for each: the name, with each comma as
-/// `=2C` and each equals sign as `=3D`, a space, the text of the record, and a line feed. Of several lines for one name
-/// and version the first counts. Where nothing is found, `line` says which line is not read, counted from 1, or 0 where
-/// each is.
+/// Finds the record of a user in a text that has a line for each record: the name with each comma as `=2C` and each
+/// equals sign as `=3D`, a space, the text of the record, and a line feed. Of several lines for a name and version,
+/// the first counts.
+///
+/// If nothing is found, `line` is the number of the line that cannot be parsed, counted from 1, or 0 if every line
+/// can.
 #[unsafe(no_mangle)]
 pub extern "C" fn fe2o3_scram_lines_find(
     alloc: Global,
@@ -153,12 +155,11 @@ pub extern "C" fn fe2o3_scram_lines_find(
 }
 
 /// The line of a user.
-fn line_of(alloc: Global, username: &[u8], kept: &ScramRecord) -> Result<Vec<u8>, Status>
+fn compute_line(alloc: Global, username: &[u8], kept: &ScramRecord) -> Result<Vec<u8>, Status>
     ensures ok { IfOk result (λ text. SpellsLine username.now kept.now (Ok text.items)) }
     ensures err { IfErr result (λ status. status ≢ StatusOutOfMemory
         → SpellsLine username.now kept.now (Err status)) }
     ensures memory { AsksWhere (IsUtf8 username.now) result }
-    ensures room { IfErr result (λ status. status ≢ RoomTooSmall) }
 {
     let username = text(username)?.to_string(alloc)?;
     let kept = match kept.read(alloc) {
@@ -179,34 +180,19 @@ fn line_of(alloc: Global, username: &[u8], kept: &ScramRecord) -> Result<Vec<u8>
     }
 }
 
-/// Writes the line of a user.
-fn write(
-    alloc: Global,
-    username: &[u8],
-    kept: &ScramRecord,
-    out: &mut [u8],
-    len: &mut usize,
-) -> Result<(), Status>
-    ensures text { Fills (SpellsLine username.now kept.now) (record { bytes = out.old; len = len.old })
-        (record { bytes = out.new; len = len.new }) result }
-    ensures memory { AsksWhere (IsUtf8 username.now) result }
-{
-    let line = line_of(alloc, username, kept)?;
-    put(&line, out, len)
-}
-
-/// Writes the line of a user and a record, with its line feed, as `fe2o3_scram_lines_find` reads it. `NOT_WRITABLE`
-/// where a line feed stands in the name, or the count is 0.
+/// Writes the line of a user and a record, with its line feed, as `fe2o3_scram_lines_find` reads it. Returns
+/// FE2O3_NOT_WRITABLE if the name contains a line feed or the iteration count is 0.
 #[unsafe(no_mangle)]
+#[tactic(auto, using(crate::proofs::StatusLemmas::written))]
 pub extern "C" fn fe2o3_scram_line(
     alloc: Global,
     username: &[u8],
     kept: &ScramRecord,
     out: &mut [u8],
-    len: &mut usize,
+    out_len: &mut usize,
 ) -> u32
-    ensures { Answers result (λ answer. Fills (SpellsLine username.now kept.now) (record { bytes = out.old; len = len.old })
-        (record { bytes = out.new; len = len.new }) answer × AsksWhere (IsUtf8 username.now) answer) }
+    ensures { AnswersText result (λ answer. Fills (SpellsLine username.now kept.now) (record { bytes = out.old; len = out_len.old })
+        (record { bytes = out.new; len = out_len.new }) answer × AsksText (IsUtf8 username.now) answer) }
 {
-    number(write(alloc, username, kept, out, len))
+    text_number(write(compute_line(alloc, username, kept), out, out_len))
 }

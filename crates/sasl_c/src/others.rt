@@ -6,7 +6,7 @@ ghost use Rattle.fe2o3_sasl_core.specs.SaslAcceptor.{AnonymousAcceptor};
 ghost use Rattle.sasl_c.specs.SaslServer.{Others as OtherStates, other_machine, other_names, other_state, external_name, other_user, others_of};
 
 use fe2o3_sasl_core::{
-    ExternalServer, HasMechanism, AuthenticatedUser, AnyMechanism, OutOfMemory, PlainServer,
+    AnyMechanism, AuthenticatedUser, ExternalServer, HasMechanism, OutOfMemory, PlainServer,
     SaslAcceptor, SaslAnonymousMechanism, SaslServerFrame,
 };
 use fe2o3_sasl_wire::{Array, SaslInit, SaslResponse, Symbol};

@@ -4,11 +4,11 @@ ghost use Rattle.std.specs.Prelude.{◌≡◌, ◌≢◌, Ok, Err, IfOk, IfErr, 
 ghost use Rattle.std.specs.Cow.{cow_str_bytes};
 ghost use Rattle.saslprep.specs.declared.Unassigned.{Unassigned as Choice};
 ghost use Rattle.sasl_c.specs.Saslprep.{PrepareAsks, PreparesTo, choice_number, saslprep_status};
-ghost use Rattle.sasl_c.specs.Status.{Answers, AsksWhere, Fills};
-ghost use Rattle.sasl_c.specs.declared.status.Status.TheVariants.{OutOfMemory as StatusOutOfMemory, RoomTooSmall};
+ghost use Rattle.sasl_c.specs.Status.{AnswersText, AsksText, AsksWhere, Fills};
+ghost use Rattle.sasl_c.specs.declared.status.Status.TheVariants.{OutOfMemory as StatusOutOfMemory};
 
 use crate::arrays::put;
-use crate::status::{Status, number, text};
+use crate::status::{Status, WriteError, text, text_number};
 use saslprep::{SaslprepError, Unassigned, saslprep};
 use std::alloc::Global;
 use std::borrow::CowStr;
@@ -44,7 +44,6 @@ fn prepared(alloc: Global, bytes: &[u8], unassigned: u32) -> Result<CowStr<'_>, 
     ensures ok { IfOk result (λ out. PreparesTo unassigned bytes.now (Ok (cow_str_bytes out))) }
     ensures err { IfErr result (λ status. status ≢ StatusOutOfMemory → PreparesTo unassigned bytes.now (Err status)) }
     ensures memory { AsksWhere (PrepareAsks unassigned bytes.now) result }
-    ensures room { IfErr result (λ status. status ≢ RoomTooSmall) }
 {
     let Some(choice) = choice_of(unassigned) else {
         return Err(Status::NoSuchChoice);
@@ -64,33 +63,35 @@ fn prepare(
     bytes: &[u8],
     unassigned: u32,
     out: &mut [u8],
-    len: &mut usize,
-) -> Result<(), Status>
-    ensures text { Fills (PreparesTo unassigned bytes.now) (record { bytes = out.old; len = len.old })
-        (record { bytes = out.new; len = len.new }) result }
-    ensures memory { AsksWhere (PrepareAsks unassigned bytes.now) result }
+    out_len: &mut usize,
+) -> Result<(), WriteError>
+    ensures text { Fills (PreparesTo unassigned bytes.now) (record { bytes = out.old; len = out_len.old })
+        (record { bytes = out.new; len = out_len.new }) result }
+    ensures memory { AsksText (PrepareAsks unassigned bytes.now) result }
 {
     let text = match prepared(alloc, bytes, unassigned) {
         Ok(text) => text,
-        Err(status) => return Err(status),
+        Err(status) => return Err(WriteError::Other(status)),
     };
-    put(text.as_bytes(), out, len)
+    put(text.as_bytes(), out, out_len)
 }
 
-/// Writes what SASLprep (RFC 4013) prepares a text to, as a password is before it is compared or hashed: printable ASCII
-/// to itself, and any other ASCII is refused. Unassigned is 0 where code points that Unicode 3.2 does not assign are
-/// refused, as in a text that is stored, and 1 where they are allowed, as in one that is only compared with stored ones
-/// (RFC 3454, section 7). What is prepared is handed in where a prepared password is asked for.
+/// Writes the text that SASLprep (RFC 4013) prepares `text` to. Printable ASCII is prepared to itself; other ASCII is
+/// rejected.
+///
+/// Prepare a non-ASCII password before you store or use it, and pass the result where a prepared password is expected.
+/// `unassigned` is FE2O3_UNASSIGNED_REFUSED for a text that is stored, and FE2O3_UNASSIGNED_ALLOWED for one that is
+/// only compared with stored texts (RFC 3454, section 7).
 #[unsafe(no_mangle)]
 pub extern "C" fn fe2o3_saslprep(
     alloc: Global,
     text: &[u8],
     unassigned: u32,
     out: &mut [u8],
-    len: &mut usize,
+    out_len: &mut usize,
 ) -> u32
-    ensures { Answers result (λ answer. Fills (PreparesTo unassigned text.now) (record { bytes = out.old; len = len.old })
-        (record { bytes = out.new; len = len.new }) answer × AsksWhere (PrepareAsks unassigned text.now) answer) }
+    ensures { AnswersText result (λ answer. Fills (PreparesTo unassigned text.now) (record { bytes = out.old; len = out_len.old })
+        (record { bytes = out.new; len = out_len.new }) answer × AsksText (PrepareAsks unassigned text.now) answer) }
 {
-    number(prepare(alloc, text, unassigned, out, len))
+    text_number(prepare(alloc, text, unassigned, out, out_len))
 }

@@ -1,42 +1,45 @@
 //! What a server keeps of a password, as a struct.
 
-ghost use Rattle.std.specs.Prelude.{◌≡◌, ◌≢◌, MatchOption, IfOk, IfErr, Err};
+ghost use Rattle.std.specs.Prelude.{◌≡◌, ◌≢◌, MatchOption, IfOk, IfErr, Err, Ok};
+ghost use Rattle.std.specs.String.{string_bytes};
 ghost use Rattle.fe2o3_scram.specs.Readings.{Gives, NoneHolds};
 ghost use Rattle.fe2o3_scram.specs.Credentials.{kept, versioned};
 ghost use Rattle.fe2o3_scram.specs.RecordText.{ReachesValues};
 ghost use Rattle.fe2o3_scram.specs.Passwords.{Prepared, Typed};
 ghost use Rattle.sasl_c.specs.Passwords.{in_form};
-ghost use Rattle.sasl_c.specs.Status.{Answers, AsksWhere, Fills, Makes};
-ghost use Rattle.sasl_c.specs.Records.{RecordHasRoom, ShowsSomeRecord, ShowsRecord, record_struct, struct_making_tests, MakesRecordStruct, MakesUp, mock_tests, ParsesStruct, SpellsStruct, Verifies};
+ghost use Rattle.sasl_c.specs.Status.{Answers, AnswersText, AsksText, AsksWhere, Fills, Makes};
+ghost use Rattle.sasl_c.specs.Records.{RecordHasRoom, ShowsSomeRecord, ShowsRecord, record_struct, struct_making_tests, MakesRecordStruct, MakesUp, mock_tests, ParsesStruct, SpellsStruct, VerifiesPassword};
 ghost use Rattle.sasl_c.specs.declared.records.ScramRecord.{ScramRecord as Struct};
-ghost use Rattle.sasl_c.specs.declared.status.Status.TheVariants.{OutOfMemory as StatusOutOfMemory, RoomTooSmall};
+ghost use Rattle.sasl_c.specs.declared.status.Status.TheVariants.{OutOfMemory as StatusOutOfMemory};
 
-use crate::arrays::{head, padded, put};
+use crate::arrays::{head, padded, store, write};
 use crate::passwords::PasswordForm;
-use crate::status::{Status, digest_len, number, number_of, text, version_of};
+use crate::status::{
+    Status, WriteError, digest_len, number, number_of, text, text_number, version_of,
+};
 use fe2o3_scram::{RecordTextError, ScramVersion, StoredPassword};
 use std::alloc::Global;
 
-/// What a server keeps of a password.
+/// What a server stores of a password: a SCRAM record (RFC 5802, section 3).
 #[repr(C)]
 #[derive(Drop)]
 pub struct ScramRecord {
-    /// 1, 256 or 512, for the mechanism's hash.
+    /// The hash of the mechanism: one of enum fe2o3_scram_version.
     pub version: u32,
 
     /// The iteration count.
     pub iterations: u32,
 
-    /// How many bytes of `salt` there are.
+    /// The number of bytes of `salt` in use, at most 128.
     pub salt_len: u32,
 
     /// The salt.
     pub salt: [u8; 128],
 
-    /// The StoredKey, as long as a digest of the hash.
+    /// The StoredKey, with as many bytes as a digest of the hash.
     pub stored_key: [u8; 64],
 
-    /// The ServerKey, as long as a digest of the hash.
+    /// The ServerKey, with as many bytes as a digest of the hash.
     pub server_key: [u8; 64],
 }
 
@@ -66,7 +69,6 @@ impl ScramRecord {
         ensures ok { IfOk result (λ shown. ShowsRecord self.now (versioned shown.0 (kept shown.1))) }
         ensures err { IfErr result (λ status. SpellsStruct self.now (Err status)) }
         ensures memory { IfErr result (λ status. status ≢ StatusOutOfMemory) }
-        ensures room { IfErr result (λ status. status ≢ RoomTooSmall) }
     {
         let version = version_of(self.version).ok_or(Status::NoSuchVersion)?;
         let salt = head(&self.salt, self.salt_len).ok_or(Status::TooLong)?;
@@ -100,7 +102,7 @@ impl ScramRecord {
 
 /// The struct of a password's record.
 #[tactic(auto, using(crate::proofs::RoomLemmas::record_has_room))]
-fn made(
+fn compute_record(
     alloc: Global,
     version: u32,
     form: PasswordForm,
@@ -134,29 +136,7 @@ fn made(
     }
 }
 
-/// Makes the struct of a password's record.
-fn make(
-    alloc: Global,
-    version: u32,
-    form: PasswordForm,
-    password: &[u8],
-    salt: &[u8],
-    iterations: u32,
-    kept: &mut ScramRecord,
-) -> Result<(), Status>
-    ensures { Makes (NoneHolds (struct_making_tests version (in_form form password.now) salt.now iterations))
-        (MakesRecordStruct version (in_form form password.now) salt.now iterations) kept.old kept.new result }
-{
-    match made(alloc, version, form, password, salt, iterations) {
-        Ok(made) => {
-            *kept = made;
-            Ok(())
-        }
-        Err(status) => Err(status),
-    }
-}
-
-/// Makes the record of a password. Where the number is not 0, the struct stays as it was.
+/// Computes the record of a typed password. The password has to be printable ASCII.
 #[unsafe(no_mangle)]
 pub extern "C" fn fe2o3_scram_record_make(
     alloc: Global,
@@ -169,19 +149,15 @@ pub extern "C" fn fe2o3_scram_record_make(
     ensures { Answers result (Makes (NoneHolds (struct_making_tests version (Typed password.now) salt.now iterations))
         (MakesRecordStruct version (Typed password.now) salt.now iterations) kept.old kept.new) }
 {
-    number(make(
-        alloc,
-        version,
-        PasswordForm::Typed,
-        password,
-        salt,
-        iterations,
+    let form = PasswordForm::Typed;
+    number(store(
+        compute_record(alloc, version, form, password, salt, iterations),
         kept,
     ))
 }
 
-/// Makes the record of a prepared password (RFC 4013), as `fe2o3_saslprep` writes one that is stored: any text, which is
-/// taken as it stands. A client logs in by that very text alone.
+/// Computes the record of a prepared password (`fe2o3_saslprep`): any text, used without change. A client logs in with
+/// exactly that text.
 #[unsafe(no_mangle)]
 pub extern "C" fn fe2o3_scram_record_make_prepared(
     alloc: Global,
@@ -194,19 +170,15 @@ pub extern "C" fn fe2o3_scram_record_make_prepared(
     ensures { Answers result (Makes (NoneHolds (struct_making_tests version (Prepared password.now) salt.now iterations))
         (MakesRecordStruct version (Prepared password.now) salt.now iterations) kept.old kept.new) }
 {
-    number(make(
-        alloc,
-        version,
-        PasswordForm::Prepared,
-        password,
-        salt,
-        iterations,
+    let form = PasswordForm::Prepared;
+    number(store(
+        compute_record(alloc, version, form, password, salt, iterations),
         kept,
     ))
 }
 
 /// The struct of the record that a text spells.
-fn parsed(alloc: Global, bytes: &[u8]) -> Result<ScramRecord, Status>
+fn compute_parsed(alloc: Global, bytes: &[u8]) -> Result<ScramRecord, Status>
     ensures { Gives StatusOutOfMemory (ReachesValues bytes.now) (λ (kept : Struct). kept) result
         (ParsesStruct bytes.now) }
 {
@@ -221,15 +193,7 @@ fn parsed(alloc: Global, bytes: &[u8]) -> Result<ScramRecord, Status>
     }
 }
 
-/// Makes the struct of the record that a text spells.
-fn parse(alloc: Global, bytes: &[u8], kept: &mut ScramRecord) -> Result<(), Status>
-    ensures { Makes (ReachesValues bytes.now) (ParsesStruct bytes.now) kept.old kept.new result }
-{
-    *kept = parsed(alloc, bytes)?;
-    Ok(())
-}
-
-/// Reads the text of a record, as PostgreSQL writes it (RFC 5803, section 2).
+/// Parses the text of a record, as PostgreSQL writes it (RFC 5803, section 2).
 #[unsafe(no_mangle)]
 pub extern "C" fn fe2o3_scram_record_parse(
     alloc: Global,
@@ -238,59 +202,54 @@ pub extern "C" fn fe2o3_scram_record_parse(
 ) -> u32
     ensures { Answers result (Makes (ReachesValues text.now) (ParsesStruct text.now) kept.old kept.new) }
 {
-    number(parse(alloc, text, kept))
+    number(store(compute_parsed(alloc, text), kept))
 }
 
-/// Writes the text of the record that the struct shows.
-fn spell(alloc: Global, kept: &ScramRecord, out: &mut [u8], len: &mut usize) -> Result<(), Status>
-    ensures text { Fills (SpellsStruct kept.now) (record { bytes = out.old; len = len.old })
-        (record { bytes = out.new; len = len.new }) result }
+/// The text of the record that a struct holds.
+fn compute_text(alloc: Global, kept: &ScramRecord) -> Result<String, Status>
+    ensures ok { IfOk result (λ text. SpellsStruct kept.now (Ok (string_bytes text))) }
+    ensures err { IfErr result (λ status. status ≢ StatusOutOfMemory → SpellsStruct kept.now (Err status)) }
     ensures memory { AsksWhere (ShowsSomeRecord kept.now) result }
 {
     let kept = kept.read(alloc)?;
-    let text = kept.to_text(alloc)?;
-    put(text.as_bytes(), out, len)
+    Ok(kept.to_text(alloc)?)
 }
 
 /// Writes the text of a record, as PostgreSQL reads it (RFC 5803, section 2): at most 384 bytes.
 #[unsafe(no_mangle)]
+#[tactic(auto, using(crate::proofs::StatusLemmas::written))]
 pub extern "C" fn fe2o3_scram_record_text(
     alloc: Global,
     kept: &ScramRecord,
     out: &mut [u8],
-    len: &mut usize,
+    out_len: &mut usize,
 ) -> u32
-    ensures { Answers result (λ answer. Fills (SpellsStruct kept.now) (record { bytes = out.old; len = len.old })
-        (record { bytes = out.new; len = len.new }) answer × AsksWhere (ShowsSomeRecord kept.now) answer) }
+    ensures { AnswersText result (λ answer. Fills (SpellsStruct kept.now) (record { bytes = out.old; len = out_len.old })
+        (record { bytes = out.new; len = out_len.new }) answer × AsksText (ShowsSomeRecord kept.now) answer) }
 {
-    number(spell(alloc, kept, out, len))
+    text_number(write(compute_text(alloc, kept), out, out_len))
 }
 
 /// The struct of the record that is made up for a name.
 #[tactic(auto, using(crate::proofs::RoomLemmas::mock_has_room))]
-fn made_up(
+fn compute_mock(
     alloc: Global,
     version: u32,
     secret: &[u8],
     username: &[u8],
-    made_salt_len: usize,
+    salt_len: usize,
     iterations: u32,
 ) -> Result<ScramRecord, Status>
-    ensures { Gives StatusOutOfMemory (NoneHolds (mock_tests version username.now made_salt_len))
-        (λ (kept : Struct). kept) result (MakesUp version secret.now username.now made_salt_len iterations) }
+    ensures { Gives StatusOutOfMemory (NoneHolds (mock_tests version username.now salt_len))
+        (λ (kept : Struct). kept) result (MakesUp version secret.now username.now salt_len iterations) }
 {
     let version = version_of(version).ok_or(Status::NoSuchVersion)?;
     let username = text(username)?;
-    if made_salt_len > 64 {
+    if salt_len > 64 {
         return Err(Status::TooLong);
     }
     let made = fe2o3_scram::ScramRecord::mock(
-        alloc,
-        version,
-        secret,
-        username,
-        made_salt_len,
-        iterations,
+        alloc, version, secret, username, salt_len, iterations,
     );
     let Ok(kept) = made else {
         return Err(Status::OutOfMemory);
@@ -301,58 +260,33 @@ fn made_up(
     }
 }
 
-/// Makes up the struct of a record for a name.
-fn make_up(
-    alloc: Global,
-    version: u32,
-    secret: &[u8],
-    username: &[u8],
-    made_salt_len: usize,
-    iterations: u32,
-    kept: &mut ScramRecord,
-) -> Result<(), Status>
-    ensures { Makes (NoneHolds (mock_tests version username.now made_salt_len))
-        (MakesUp version secret.now username.now made_salt_len iterations) kept.old kept.new result }
-{
-    match made_up(alloc, version, secret, username, made_salt_len, iterations) {
-        Ok(made) => {
-            *kept = made;
-            Ok(())
-        }
-        Err(status) => Err(status),
-    }
-}
-
-/// Makes up a record for a name that a server does not know, so that it can answer as to one that it knows: the login
-/// is refused at its proof. The secret is 32 random bytes, the same for all names and kept as long as the records;
-/// `made_salt_len`, of at most 64, and the count are those of the server's other records.
+/// Computes a mock record for a name that the server does not know, so that it answers unknown users like known ones.
+/// The login then fails at its proof.
+///
+/// `secret` is 32 random bytes, one value for all names, kept as long as the records. `salt_len`, at most 64, and
+/// `iterations` are those of the server's other records.
 #[unsafe(no_mangle)]
 pub extern "C" fn fe2o3_scram_record_mock(
     alloc: Global,
     version: u32,
     secret: &[u8],
     username: &[u8],
-    made_salt_len: usize,
+    salt_len: usize,
     iterations: u32,
     kept: &mut ScramRecord,
 ) -> u32
-    ensures { Answers result (Makes (NoneHolds (mock_tests version username.now made_salt_len))
-        (MakesUp version secret.now username.now made_salt_len iterations) kept.old kept.new) }
+    ensures { Answers result (Makes (NoneHolds (mock_tests version username.now salt_len))
+        (MakesUp version secret.now username.now salt_len iterations) kept.old kept.new) }
 {
-    number(make_up(
-        alloc,
-        version,
-        secret,
-        username,
-        made_salt_len,
-        iterations,
+    number(store(
+        compute_mock(alloc, version, secret, username, salt_len, iterations),
         kept,
     ))
 }
 
 /// Whether a password is that of the record, which takes no memory.
 fn verify(kept: &ScramRecord, form: PasswordForm, password: &[u8]) -> Result<(), Status>
-    ensures { Verifies kept.now (in_form form password.now) result }
+    ensures { VerifiesPassword kept.now (in_form form password.now) result }
 {
     let (version, stored) = kept.lent()?;
     let Ok(password) = text(password) else {
@@ -365,19 +299,20 @@ fn verify(kept: &ScramRecord, form: PasswordForm, password: &[u8]) -> Result<(),
     }
 }
 
-/// Whether a password that was told, as by PLAIN, is that of the record: 0 where it is. It hashes as often as the
-/// record's count says, so the record is to be one of the caller's own.
+/// Compares a typed password, for instance one received by PLAIN, with a record: FE2O3_OK if it is the record's,
+/// FE2O3_OTHER_PASSWORD if not. It hashes as often as the record's iteration count says, so pass only records of your
+/// own.
 #[unsafe(no_mangle)]
 pub extern "C" fn fe2o3_scram_record_verify(kept: &ScramRecord, password: &[u8]) -> u32
-    ensures { Answers result (Verifies kept.now (Typed password.now)) }
+    ensures { Answers result (VerifiesPassword kept.now (Typed password.now)) }
 {
     number(verify(kept, PasswordForm::Typed, password))
 }
 
-/// Whether a prepared password (RFC 4013), which is taken as it stands, is that of the record: 0 where it is.
+/// Compares a prepared password with a record, like `fe2o3_scram_record_verify`. The text is used without change.
 #[unsafe(no_mangle)]
 pub extern "C" fn fe2o3_scram_record_verify_prepared(kept: &ScramRecord, password: &[u8]) -> u32
-    ensures { Answers result (Verifies kept.now (Prepared password.now)) }
+    ensures { Answers result (VerifiesPassword kept.now (Prepared password.now)) }
 {
     number(verify(kept, PasswordForm::Prepared, password))
 }

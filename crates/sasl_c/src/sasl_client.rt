@@ -9,42 +9,43 @@ ghost use Rattle.fe2o3_sasl_negotiation.specs.Sides.{client_side, hostname_in};
 ghost use Rattle.sasl_c.specs.SaslClient.{ProfileIsReached, HasNoClientWords, IsClient, IsHostname, IsNoClient, HasNoHostname, IsNoProfile, ReadsClient, IsProfile, OpensConnection, ReceivesAsClient, WritesProfile, WritesSide};
 ghost use Rattle.sasl_c.specs.declared.sasl_client.SaslClient.{SaslClient as Structs};
 ghost use Rattle.sasl_c.specs.declared.sasl_client.SaslLogin.{SaslLogin as LoginStruct};
-ghost use Rattle.sasl_c.specs.Status.{Answers, AsksWhere, Fills, FillsWithin};
-ghost use Rattle.sasl_c.specs.declared.status.Status.TheVariants.{NotUtf8, OutOfMemory as StatusOutOfMemory, RoomTooSmall};
+ghost use Rattle.sasl_c.specs.Status.{AnswersText, AsksText, AsksWhere, Fills, FillsWithin};
+ghost use Rattle.sasl_c.specs.declared.status.Status.TheVariants.{NotUtf8, OutOfMemory as StatusOutOfMemory};
+ghost use Rattle.sasl_c.specs.declared.status.WriteError.TheVariants.{RoomTooSmall};
 
 use crate::arrays::put;
 use crate::client::{Login, ScramClient};
 use crate::connection::Connection;
-use crate::status::{Status, number, text};
+use crate::status::{Status, WriteError, text, text_number};
 use bytes::BytesMut;
-use fe2o3_sasl_negotiation::{ClientNegotiation, RestoreError};
 use fe2o3_sasl_core::SaslProfile;
+use fe2o3_sasl_negotiation::{ClientNegotiation, RestoreError};
 use fe2o3_sasl_wire::ProtocolHeader;
 use fe2o3_scram::Meter;
 use std::alloc::Global;
 
-/// Who logs in on a connection, and by which mechanism: lent for each call, and the same for all of them.
+/// How a client logs in on a connection. You lend the struct to each call, always with the same values.
 #[repr(C)]
 #[derive(Drop)]
 pub struct SaslLogin<'a> {
-    /// 0 for SCRAM of the login's version, 1 for PLAIN, 2 for ANONYMOUS, and 3 for EXTERNAL.
+    /// One of enum fe2o3_mechanism. FE2O3_SCRAM uses the hash of `login`.
     pub mechanism: u32,
 
-    /// The hostname that the init names. Where it is empty the init names none.
+    /// The hostname of the init frame. If empty, the init has none.
     pub hostname: &'a [u8],
 
-    /// The user and the secret. PLAIN takes the name and the password of it, ANONYMOUS and EXTERNAL nothing.
+    /// The user and the secret. PLAIN uses the name and the password. ANONYMOUS and EXTERNAL use nothing of it.
     pub login: Login<'a>,
 }
 
-/// What a client keeps of a connection between its calls. All zeros is one of which no byte has come.
+/// The client's side of a connection between calls. All zeros is a connection that has received nothing.
 #[repr(C)]
 #[derive(Drop)]
 pub struct SaslClient {
     /// The connection.
     pub connection: Connection,
 
-    /// What SCRAM keeps. Once the client is logged in, it hands out the keys (`fe2o3_scram_client_get_keys`).
+    /// The SCRAM client. After the login it holds the keys (`fe2o3_scram_client_get_keys`).
     pub scram: ScramClient,
 }
 
@@ -55,7 +56,6 @@ impl SaslLogin<'_> {
         ensures utf8 { IfOk result (λ _. ¬ HasNoHostname self.now) }
         ensures err { IfErr result (λ status. status ≢ StatusOutOfMemory → (status ≡ NotUtf8) × HasNoHostname self.now) }
         ensures memory { AsksWhere (¬ HasNoHostname self.now) result }
-        ensures room { IfErr result (λ status. status ≢ RoomTooSmall) }
     {
         if self.hostname.is_empty() {
             return Ok(None);
@@ -68,7 +68,6 @@ impl SaslLogin<'_> {
         ensures ok { IfOk result (λ profile.
             profile_of profile ≡ PlainProfile self.now.login.username.now self.now.login.password.now) }
         ensures err { IfErr result (λ status. status ≢ StatusOutOfMemory → HasNoClientWords self.now.login status) }
-        ensures room { IfErr result (λ status. status ≢ RoomTooSmall) }
     {
         let username = text(self.login.username)?.to_string(alloc)?;
         let password = self.login.password(alloc)?;
@@ -80,7 +79,6 @@ impl SaslLogin<'_> {
     pub fn profile(&self, alloc: Global, scram: &ScramClient) -> Result<SaslProfile, Status>
         ensures ok { IfOk result (λ profile. IsProfile self.now scram.now (profile_of profile)) }
         ensures err { IfErr result (λ status. status ≢ StatusOutOfMemory → IsNoProfile self.now status) }
-        ensures room { IfErr result (λ status. status ≢ RoomTooSmall) }
     {
         match self.mechanism {
             0 => match scram.read(alloc, &self.login) {
@@ -133,7 +131,6 @@ impl SaslClient {
         ensures reads { IfOk result (λ _. ReadsClient login.now self.now) }
         ensures err { IfErr result (λ status. status ≢ StatusOutOfMemory → IsNoClient login.now self.now status) }
         ensures memory { AsksWhere (ReadsClient login.now self.now) result }
-        ensures room { IfErr result (λ status. status ≢ RoomTooSmall) }
     {
         let kept = self.connection.read()?;
         let hostname = login.hostname(alloc)?;
@@ -150,22 +147,13 @@ impl SaslClient {
     }
 }
 
-/// Writes the header of SASL.
-fn open(out: &mut [u8], len: &mut usize) -> Result<(), Status>
-    ensures text { Fills OpensConnection (record { bytes = out.old; len = len.old })
-        (record { bytes = out.new; len = len.new }) result }
-    ensures memory { AsksWhere ⊥ result }
-{
-    put(&<[u8; 8]>::from(ProtocolHeader::sasl()), out, len)
-}
-
-/// Writes the header of SASL, with which a client begins a connection.
+/// Writes the SASL protocol header, with which a client begins a connection.
 #[unsafe(no_mangle)]
-pub extern "C" fn fe2o3_sasl_client_open(out: &mut [u8], len: &mut usize) -> u32
-    ensures { Answers result (λ answer. Fills OpensConnection (record { bytes = out.old; len = len.old })
-        (record { bytes = out.new; len = len.new }) answer × AsksWhere ⊥ answer) }
+pub extern "C" fn fe2o3_sasl_client_open(out: &mut [u8], out_len: &mut usize) -> u32
+    ensures { AnswersText result (λ answer. Fills OpensConnection (record { bytes = out.old; len = out_len.old })
+        (record { bytes = out.new; len = out_len.new }) answer × AsksText ⊥ answer) }
 {
-    number(open(out, len))
+    text_number(put(&<[u8; 8]>::from(ProtocolHeader::sasl()), out, out_len))
 }
 
 /// What a call makes of bytes.
@@ -197,7 +185,6 @@ fn taken(
         × (length made.sent.items ≤ 512) × WritesSide made.next (client_side side.new)) }
     ensures err { IfErr result (λ status. status ≢ StatusOutOfMemory → (login : LoginStruct) (before : Structs)
         → IsClient login before (client_side side.old) → (client_side side.old).progress ≢ InProgress) }
-    ensures room { IfErr result (λ status. status ≢ RoomTooSmall) }
 {
     let mut sent = BytesMut::new(alloc);
     let received = side.receive(alloc, bytes, nonce, meter, &mut sent)?;
@@ -226,7 +213,6 @@ fn received(
     ensures fits { IfOk result (λ made. length made.sent.items ≤ 512) }
     ensures err { IfErr result (λ status. status ≢ StatusOutOfMemory → IsNoClient login.now client.now status) }
     ensures memory { AsksWhere (ReadsClient login.now client.now) result }
-    ensures room { IfErr result (λ status. status ≢ RoomTooSmall) }
 {
     let mut side = match client.read(alloc, login) {
         Ok(side) => side,
@@ -250,35 +236,35 @@ fn receive(
     meter: &mut Meter,
     taken: &mut usize,
     out: &mut [u8],
-    len: &mut usize,
-) -> Result<(), Status>
+    out_len: &mut usize,
+) -> Result<(), WriteError>
     requires { meter.old ≤ 2 ^ 63 }
     ensures text { FillsWithin 512 (ReceivesAsClient login.now bytes.now nonce.now client.old client.new taken.new)
-        (record { bytes = out.old; len = len.old }) (record { bytes = out.new; len = len.new }) result }
+        (record { bytes = out.old; len = out_len.old }) (record { bytes = out.new; len = out_len.new }) result }
     ensures stays { OnErr result ((client.new ≡ client.old) × (taken.new ≡ taken.old)) }
     ensures first { IfErr result (λ status. status ≡ RoomTooSmall → meter.new ≡ meter.old) }
-    ensures memory { AsksWhere (ReadsClient login.now client.old) result }
+    ensures memory { AsksText (ReadsClient login.now client.old) result }
 {
     if out.len() < FRAME_MOST {
-        *len = FRAME_MOST;
-        return Err(Status::RoomTooSmall);
+        *out_len = FRAME_MOST;
+        return Err(WriteError::RoomTooSmall);
     }
     let made = match received(alloc, login, client, bytes, nonce, meter) {
         Ok(made) => made,
-        Err(status) => return Err(status),
+        Err(status) => return Err(WriteError::Other(status)),
     };
-    put(&made.sent, out, len)?;
+    put(&made.sent, out, out_len)?;
     *taken = made.taken;
     *client = made.next;
     Ok(())
 }
 
-/// Takes bytes of the connection as they came, to the end of the header or of the frame that is expected, and writes what is
-/// to be sent, of at most 512 bytes, a room that is asked for before any hash is made. The number is 0 also where these
-/// bytes close the connection, whose struct says so. Behind an outcome the connection stands at 1 where its code is Ok
-/// and, by SCRAM, it shows the signature that is waited for; else at 2, and `why` says which. What is left of the bytes
-/// is to be handed in again while more are wanted; behind a login it is AMQP's. The nonce is 32 random bytes, fresh for
-/// each call.
+/// Takes received bytes, to the end of the expected header or frame, and writes the bytes to send, at most 512. `out`
+/// needs 512 bytes, which is tested before anything is hashed. `nonce` is 32 fresh random bytes.
+///
+/// FE2O3_OK does not mean that the login succeeds: look at `progress` and `why` of the connection. `taken` is how many
+/// bytes were used. While `progress` is FE2O3_IN_PROGRESS, pass the rest in the next call; after the login it belongs
+/// to AMQP.
 #[unsafe(no_mangle)]
 pub extern "C" fn fe2o3_sasl_client_receive(
     alloc: Global,
@@ -288,16 +274,16 @@ pub extern "C" fn fe2o3_sasl_client_receive(
     nonce: &[u8; 32],
     taken: &mut usize,
     out: &mut [u8],
-    len: &mut usize,
+    out_len: &mut usize,
 ) -> u32
-    ensures { Answers result (λ answer. FillsWithin 512
+    ensures { AnswersText result (λ answer. FillsWithin 512
         (ReceivesAsClient login.now bytes.now nonce.now client.old client.new taken.new)
-        (record { bytes = out.old; len = len.old }) (record { bytes = out.new; len = len.new }) answer
+        (record { bytes = out.old; len = out_len.old }) (record { bytes = out.new; len = out_len.new }) answer
         × OnErr answer ((client.new ≡ client.old) × (taken.new ≡ taken.old))
-        × AsksWhere (ReadsClient login.now client.old) answer) }
+        × AsksText (ReadsClient login.now client.old) answer) }
 {
     let mut meter = Meter::new();
-    number(receive(
-        alloc, login, client, bytes, nonce, &mut meter, taken, out, len,
+    text_number(receive(
+        alloc, login, client, bytes, nonce, &mut meter, taken, out, out_len,
     ))
 }

@@ -9,66 +9,67 @@ ghost use Rattle.fe2o3_sasl_negotiation.specs.declared.progress.Progress.TheVari
 ghost use Rattle.fe2o3_sasl_negotiation.specs.ServerNegotiation.{ServerReceives};
 ghost use Rattle.fe2o3_sasl_negotiation.specs.Snapshot.{IsServerKept, side_of};
 ghost use Rattle.fe2o3_sasl_negotiation.specs.Sides.{server_side};
-ghost use Rattle.sasl_c.specs.SaslServer.{ServerIsReached, HasNoServerWords, HasNone, HasRecords, IsAll, IsNoHost, NotReceived, Received, ReceivesAsServer, ShowsBy, ShowsProgress, ShowsState, ShowsExchange, all_in, all_of, allowed_of, external_mechanism, external_name, host_tests, name_where, one_where, progress_struct, value_state, state_struct, struct_by, sum_of};
+ghost use Rattle.sasl_c.specs.SaslServer.{ServerIsReached, HasNoServerWords, HasNone, HasRecords, IsAll, IsNoConfig, NotReceived, Received, ReceivesAsServer, ShowsBy, ShowsProgress, ShowsState, ShowsExchange, all_in, all_of, allowed_of, external_mechanism, external_name, config_tests, name_where, one_where, progress_struct, value_state, state_struct, struct_by, sum_of};
 ghost use Rattle.sasl_c.specs.declared.sasl_server.Choice.{Choice as Choices};
 ghost use Rattle.sasl_c.specs.declared.server.ScramServer.{ScramServer as ScramStruct};
 ghost use Rattle.fe2o3_scram.specs.Readings.{NoneHolds};
 ghost use Rattle.sasl_c.specs.Connection.{side_tests};
-ghost use Rattle.sasl_c.specs.Status.{Answers, AsksWhere, FillsWithin};
-ghost use Rattle.sasl_c.specs.declared.status.Status.TheVariants.{OutOfMemory as StatusOutOfMemory, InvalidSnapshot as StatusInvalidSnapshot, NotUtf8 as StatusNotUtf8, RoomTooSmall, TooLong as StatusTooLong};
+ghost use Rattle.sasl_c.specs.Status.{AnswersText, AsksText, AsksWhere, FillsWithin};
+ghost use Rattle.sasl_c.specs.declared.status.Status.TheVariants.{OutOfMemory as StatusOutOfMemory, InvalidSnapshot as StatusInvalidSnapshot, NotUtf8 as StatusNotUtf8, TooLong as StatusTooLong};
+ghost use Rattle.sasl_c.specs.declared.status.WriteError.TheVariants.{RoomTooSmall};
 
 use crate::arrays::put;
 use crate::connection::Connection;
 use crate::others::Others;
 use crate::records::ScramRecord;
 use crate::server::{ScramServer, server_over};
-use crate::status::{Status, number, text, version_of};
+use crate::status::{Status, WriteError, text, text_number, version_of};
 use bytes::BytesMut;
-use fe2o3_sasl_negotiation::{ServerNegotiation, Snapshot, Progress, RestoreError};
-use fe2o3_sasl_core::{ExternalServer, AuthenticatedUser, OfferError, RestrictMechanisms, AnyMechanism, Selected};
-use fe2o3_scram::{Meter, OpenChallenge, ScramAuthenticator, RecordStore, ScramVersion};
+use fe2o3_sasl_core::{
+    AnyMechanism, AuthenticatedUser, ExternalServer, OfferError, RestrictMechanisms, Selected,
+};
+use fe2o3_sasl_negotiation::{Progress, RestoreError, ServerNegotiation, Snapshot};
+use fe2o3_scram::{Meter, OpenChallenge, RecordStore, ScramAuthenticator, ScramVersion};
 use std::alloc::Global;
 
-/// What a server offers, and whose record it has: lent for each call.
+/// What a server offers, and the record of one user. You lend the struct to each call.
 #[repr(C)]
 #[derive(Drop)]
-pub struct SaslHost<'a> {
-    /// Which mechanisms are offered: the sum of 1 for SCRAM of the version, 2 for PLAIN, 4 for ANONYMOUS, and 8 for
-    /// EXTERNAL where there is a peer; and of 16 where SCRAM takes a client whose GS2 header is `y,,`, as
-    /// `fe2o3_scram_server_first_with_cbind_flag_y` does. PLAIN shows the password to whoever reads the connection, and is for
-    /// TLS alone.
+pub struct SaslServerConfig<'a> {
+    /// The offered mechanisms: a sum of values of enum fe2o3_offer. PLAIN sends the password in clear, so offer it
+    /// over TLS only.
     pub mechanisms: u32,
 
-    /// 1, 256 or 512, for the hash of SCRAM and of the record.
+    /// The hash of SCRAM and of the record: one of enum fe2o3_scram_version.
     pub version: u32,
 
     /// The iteration count with which PLAIN hashes the password of an unknown user.
     pub iterations: u32,
 
-    /// The plain name of the user whose record is handed in.
+    /// The name of the user whose record this is, without escapes.
     pub username: &'a [u8],
 
-    /// The record of the user. Where the struct shows none of the version, nobody is known.
+    /// The record of the user. If it holds no record of `version`, no user is known.
     pub record: &'a ScramRecord,
 
-    /// The name of the client that the transport has authenticated, which EXTERNAL lets in. Where it is empty the
-    /// transport has authenticated nobody: EXTERNAL is not offered, and an init of it is refused by `REFUSED_AUTH`.
-    pub peer: &'a [u8],
+    /// The name of the client that the transport has authenticated, for instance by a certificate. EXTERNAL accepts
+    /// it. If empty, EXTERNAL is not offered, and an init for it fails with FE2O3_REFUSED_AUTH.
+    pub external_authcid: &'a [u8],
 }
 
-/// What a server keeps of a connection between its calls. All zeros is one of which no byte has come.
+/// The server's side of a connection between calls. All zeros is a connection that has received nothing.
 #[repr(C)]
 #[derive(Drop)]
 pub struct SaslServer {
     /// The connection.
     pub connection: Connection,
 
-    /// What SCRAM keeps. Once a client is logged in, it names the user of any mechanism
-    /// (`fe2o3_scram_server_authenticated_user`); ANONYMOUS names nobody.
+    /// The SCRAM server. After a login by any mechanism it holds the authenticated user
+    /// (`fe2o3_scram_server_authenticated_user`). ANONYMOUS has none.
     pub scram: ScramServer,
 }
 
-/// SCRAM over the host's user.
+/// SCRAM over the configuration's user.
 pub type Scram = ScramAuthenticator<RecordStore>;
 
 /// All four mechanisms.
@@ -175,7 +176,7 @@ fn joined(
 }
 
 /// The server of SCRAM that a struct is, over a store, and what was asked last. `OutOfMemory` is the only refusal.
-fn stands(
+fn exchange(
     alloc: Global,
     accept_cbind_flag_y: bool,
     store: RecordStore,
@@ -193,8 +194,8 @@ fn stands(
     }
 }
 
-impl SaslHost<'_> {
-    /// The store of the host's one user, or of nobody. `NotUtf8`, and else `OutOfMemory`.
+impl SaslServerConfig<'_> {
+    /// The store of the configuration's one user, or of nobody. `NotUtf8`, and else `OutOfMemory`.
     #[tactic(auto, using(crate::proofs::SaslServerLemmas::store))]
     fn store(&self, alloc: Global, version: ScramVersion) -> Result<RecordStore, Status>
         ensures version { IfOk result (λ store. store.version ≡ version) }
@@ -202,7 +203,6 @@ impl SaslHost<'_> {
         ensures utf8 { IfOk result (λ _. IsUtf8 self.now.username.now) }
         ensures err { IfErr result (λ status. status ≢ StatusOutOfMemory
             → (status ≡ StatusNotUtf8) × ¬ IsUtf8 self.now.username.now) }
-        ensures room { IfErr result (λ status. status ≢ RoomTooSmall) }
     {
         let username = text(self.username)?.to_string(alloc)?;
         let mut store = RecordStore::new(alloc, version);
@@ -220,16 +220,15 @@ impl SaslHost<'_> {
         }
     }
 
-    /// The acceptor of EXTERNAL for the host's peer. `NotUtf8`, and otherwise `OutOfMemory`.
+    /// The acceptor of EXTERNAL for the configuration's peer. `NotUtf8`, and otherwise `OutOfMemory`.
     fn external(&self, alloc: Global) -> Result<ExternalServer, Status>
         ensures ok { IfOk result (λ external.
-            external_of external ≡ record { user = external_name self.now.peer.now; accepted = false }) }
-        ensures utf8 { IfOk result (λ _. IsUtf8 self.now.peer.now) }
+            external_of external ≡ record { user = external_name self.now.external_authcid.now; accepted = false }) }
+        ensures utf8 { IfOk result (λ _. IsUtf8 self.now.external_authcid.now) }
         ensures err { IfErr result (λ status. status ≢ StatusOutOfMemory
-            → (status ≡ StatusNotUtf8) × ¬ IsUtf8 self.now.peer.now) }
-        ensures room { IfErr result (λ status. status ≢ RoomTooSmall) }
+            → (status ≡ StatusNotUtf8) × ¬ IsUtf8 self.now.external_authcid.now) }
     {
-        let name = external_name(text(self.peer)?).to_string(alloc)?;
+        let name = external_name(text(self.external_authcid)?).to_string(alloc)?;
         match ExternalServer::new(name) {
             Ok(external) => Ok(external),
             Err(_) => unreachable!(),
@@ -245,23 +244,22 @@ impl SaslHost<'_> {
         scram: &ScramServer,
     ) -> Result<All, Status>
         ensures ok { IfOk result (λ all. IsAll self.now version accept_cbind_flag_y scram.now (all_in all)) }
-        ensures utf8 { IfOk result (λ _. IsUtf8 self.now.username.now × IsUtf8 self.now.peer.now) }
+        ensures utf8 { IfOk result (λ _. IsUtf8 self.now.username.now × IsUtf8 self.now.external_authcid.now) }
         ensures err { IfErr result (λ status. status ≢ StatusOutOfMemory → HasNoServerWords self.now status) }
-        ensures room { IfErr result (λ status. status ≢ RoomTooSmall) }
     {
         let store = self.store(alloc, version)?;
         let external = self.external(alloc)?;
-        let (machine, asked) = stands(alloc, accept_cbind_flag_y, store.clone()?, scram)?;
+        let (machine, asked) = exchange(alloc, accept_cbind_flag_y, store.clone()?, scram)?;
         Ok(joined(machine, store, self.iterations, external, asked))
     }
 
-    /// Tests that the words of the host are texts.
+    /// Tests that the words of the configuration are texts.
     fn words(&self) -> Result<(), Status>
-        ensures { MatchResult result (λ _. IsUtf8 self.now.username.now × IsUtf8 self.now.peer.now)
+        ensures { MatchResult result (λ _. IsUtf8 self.now.username.now × IsUtf8 self.now.external_authcid.now)
             (λ status. HasNoServerWords self.now status) }
     {
         text(self.username)?;
-        text(self.peer)?;
+        text(self.external_authcid)?;
         Ok(())
     }
 
@@ -270,10 +268,9 @@ impl SaslHost<'_> {
     pub fn acceptor(&self, alloc: Global, scram: &ScramServer) -> Result<Acceptor, Status>
         ensures ok { IfOk result (λ acceptor. ServerIsReached self.now InProgress (value_state acceptor)
             × ShowsState scram.now InProgress (value_state acceptor)) }
-        ensures tests { IfOk result (λ _. NoneHolds (host_tests self.now)) }
-        ensures err { IfErr result (λ status. status ≢ StatusOutOfMemory → IsNoHost self.now status) }
-        ensures memory { AsksWhere (NoneHolds (host_tests self.now)) result }
-        ensures room { IfErr result (λ status. status ≢ RoomTooSmall) }
+        ensures tests { IfOk result (λ _. NoneHolds (config_tests self.now)) }
+        ensures err { IfErr result (λ status. status ≢ StatusOutOfMemory → IsNoConfig self.now status) }
+        ensures memory { AsksWhere (NoneHolds (config_tests self.now)) result }
     {
         let Some(version) = version_of(self.version) else {
             return Err(Status::NoSuchVersion);
@@ -289,7 +286,7 @@ impl SaslHost<'_> {
             Ok(all) => all,
             Err(status) => return Err(status),
         };
-        match RestrictMechanisms::new(alloc, all, &choice.names(version, self.peer)) {
+        match RestrictMechanisms::new(alloc, all, &choice.names(version, self.external_authcid)) {
             Ok(acceptor) => Ok(acceptor),
             Err(OfferError::NoMechanismLeft) => Err(Status::NoSuchMechanism),
             Err(OfferError::OutOfMemory) => Err(Status::OutOfMemory),
@@ -325,7 +322,6 @@ fn restore<A: AuthenticatedUser + Drop>(
         × ServerReceives A.names A.machine (side_of kept.now (A.state acceptor)) bytes.now nonce.now call.taken
         call.sent.items (server_side A.state call.side)) }
     ensures err { IfErr result (λ status. status ≢ StatusOutOfMemory → (status ≡ StatusInvalidSnapshot) × ¬ IsServerKept kept.now) }
-    ensures room { IfErr result (λ status. status ≢ RoomTooSmall) }
 {
     let mut side = match ServerNegotiation::restore(alloc, acceptor, kept) {
         Ok(side) => side,
@@ -445,7 +441,6 @@ fn taken<A: Shows + Drop>(
         ⊎ ((status ≡ StatusTooLong) × ((next : ServerNegotiation A) × (taken : ℕ) × (sent : List ℕ)
         × ServerReceives A.names A.machine (side_of kept.now (A.state acceptor)) bytes.now nonce.now taken sent
         (server_side A.state next) × HasNone A.state A.shows next))) }
-    ensures room { IfErr result (λ status. status ≢ RoomTooSmall) }
 {
     let call = match restore(alloc, acceptor, kept, bytes, nonce, meter) {
         Ok(call) => call,
@@ -465,26 +460,25 @@ fn taken<A: Shows + Drop>(
 #[tactic(auto, using(crate::proofs::ServerCallLemmas::without_memory))]
 fn received(
     alloc: Global,
-    host: &SaslHost<'_>,
+    config: &SaslServerConfig<'_>,
     server: &SaslServer,
     bytes: &[u8],
     nonce: &[u8; 32],
     meter: &mut Meter,
 ) -> Result<Made, Status>
     requires { meter.old ≤ 2 ^ 63 }
-    ensures ok { IfOk result (λ made. Received host.now bytes.now nonce.now server.now made.next made.taken
+    ensures ok { IfOk result (λ made. Received config.now bytes.now nonce.now server.now made.next made.taken
         made.sent.items) }
     ensures fits { IfOk result (λ made. length made.sent.items ≤ 520) }
     ensures err { IfErr result (λ status. status ≢ StatusOutOfMemory
-        → NotReceived host.now bytes.now nonce.now server.now status) }
-    ensures memory { AsksWhere (NoneHolds (side_tests server.now.connection) × NoneHolds (host_tests host.now)) result }
-    ensures room { IfErr result (λ status. status ≢ RoomTooSmall) }
+        → NotReceived config.now bytes.now nonce.now server.now status) }
+    ensures memory { AsksWhere (NoneHolds (side_tests server.now.connection) × NoneHolds (config_tests config.now)) result }
 {
     let kept = match server.connection.read() {
         Ok(kept) => kept,
         Err(status) => return Err(status),
     };
-    let acceptor = match host.acceptor(alloc, &server.scram) {
+    let acceptor = match config.acceptor(alloc, &server.scram) {
         Ok(acceptor) => acceptor,
         Err(status) => return Err(status),
     };
@@ -500,61 +494,65 @@ const SENT_MOST: usize = 520;
 /// Takes bytes, and writes what is to be sent.
 fn receive(
     alloc: Global,
-    host: &SaslHost<'_>,
+    config: &SaslServerConfig<'_>,
     server: &mut SaslServer,
     bytes: &[u8],
     nonce: &[u8; 32],
     meter: &mut Meter,
     taken: &mut usize,
     out: &mut [u8],
-    len: &mut usize,
-) -> Result<(), Status>
+    out_len: &mut usize,
+) -> Result<(), WriteError>
     requires { meter.old ≤ 2 ^ 63 }
-    ensures text { FillsWithin 520 (ReceivesAsServer host.now bytes.now nonce.now server.old server.new taken.new)
-        (record { bytes = out.old; len = len.old }) (record { bytes = out.new; len = len.new }) result }
+    ensures text { FillsWithin 520 (ReceivesAsServer config.now bytes.now nonce.now server.old server.new taken.new)
+        (record { bytes = out.old; len = out_len.old }) (record { bytes = out.new; len = out_len.new }) result }
     ensures stays { OnErr result ((server.new ≡ server.old) × (taken.new ≡ taken.old)) }
     ensures first { IfErr result (λ status. status ≡ RoomTooSmall → meter.new ≡ meter.old) }
-    ensures memory { AsksWhere (NoneHolds (side_tests server.old.connection) × NoneHolds (host_tests host.now)) result }
+    ensures memory { AsksText (NoneHolds (side_tests server.old.connection) × NoneHolds (config_tests config.now)) result }
 {
     if out.len() < SENT_MOST {
-        *len = SENT_MOST;
-        return Err(Status::RoomTooSmall);
+        *out_len = SENT_MOST;
+        return Err(WriteError::RoomTooSmall);
     }
-    let made = match received(alloc, host, server, bytes, nonce, meter) {
+    let made = match received(alloc, config, server, bytes, nonce, meter) {
         Ok(made) => made,
-        Err(status) => return Err(status),
+        Err(status) => return Err(WriteError::Other(status)),
     };
-    put(&made.sent, out, len)?;
+    put(&made.sent, out, out_len)?;
     *taken = made.taken;
     *server = made.next;
     Ok(())
 }
 
-/// Takes bytes of the connection as they came, to the end of the header or of the frame that is expected, and writes what is
-/// to be sent, of at most 520 bytes, a room that is asked for before any hash is made. What is left of the bytes is to
-/// be handed in again while the connection stands at 0; behind a login it is AMQP's. Before it the caller fetches the
-/// record of the user whom the bytes name (`fe2o3_sasl_server_claimed_user`), if they name one. The nonce is 32 random bytes,
-/// fresh for each call. Where a name or a message has no room in the struct, the call is refused by `TOO_LONG`, and the
-/// connection is to be closed.
+/// Takes received bytes, to the end of the expected header or frame, and writes the bytes to send, at most 520. `out`
+/// needs 520 bytes, which is tested before anything is hashed. `nonce` is 32 fresh random bytes.
+///
+/// Before the call, look up the record of the user that the bytes claim (`fe2o3_sasl_server_claimed_user`). FE2O3_OK
+/// does not mean that the login succeeds: look at `progress` and `why` of the connection. `taken` is how many bytes
+/// were used. While `progress` is FE2O3_IN_PROGRESS, pass the rest in the next call; after the login it belongs to
+/// AMQP.
+///
+/// If a name or a message does not fit into the struct, the call returns FE2O3_TOO_LONG, and you have to close the
+/// connection.
 #[unsafe(no_mangle)]
 pub extern "C" fn fe2o3_sasl_server_receive(
     alloc: Global,
-    host: &SaslHost<'_>,
+    config: &SaslServerConfig<'_>,
     server: &mut SaslServer,
     bytes: &[u8],
     nonce: &[u8; 32],
     taken: &mut usize,
     out: &mut [u8],
-    len: &mut usize,
+    out_len: &mut usize,
 ) -> u32
-    ensures { Answers result (λ answer. FillsWithin 520
-        (ReceivesAsServer host.now bytes.now nonce.now server.old server.new taken.new)
-        (record { bytes = out.old; len = len.old }) (record { bytes = out.new; len = len.new }) answer
+    ensures { AnswersText result (λ answer. FillsWithin 520
+        (ReceivesAsServer config.now bytes.now nonce.now server.old server.new taken.new)
+        (record { bytes = out.old; len = out_len.old }) (record { bytes = out.new; len = out_len.new }) answer
         × OnErr answer ((server.new ≡ server.old) × (taken.new ≡ taken.old))
-        × AsksWhere (NoneHolds (side_tests server.old.connection) × NoneHolds (host_tests host.now)) answer) }
+        × AsksText (NoneHolds (side_tests server.old.connection) × NoneHolds (config_tests config.now)) answer) }
 {
     let mut meter = Meter::new();
-    number(receive(
-        alloc, host, server, bytes, nonce, &mut meter, taken, out, len,
+    text_number(receive(
+        alloc, config, server, bytes, nonce, &mut meter, taken, out, out_len,
     ))
 }

@@ -1,50 +1,54 @@
-//! A SCRAM server, which stands in a struct between its calls.
+//! A SCRAM server whose state is a struct between its calls.
 
-ghost use Rattle.std.specs.Prelude.{false, true, ◌≡◌, ◌≢◌, ◌<◌, ◌≤◌, ◌^◌, List, ℕ, length, take, Ok, Err, IfOk, IfErr, IfSome, OnErr, MatchOption};
+ghost use Rattle.std.specs.Prelude.{false, true, ◌≡◌, ◌≢◌, ◌<◌, ◌≤◌, ◌^◌, ◌↔◌, IsTrue, List, ℕ, length, take, Ok, Err, IfOk, IfErr, IfSome, OnErr, MatchOption};
 ghost use Rattle.fe2o3_scram.specs.ClientFirst.{HasEscapes};
 ghost use Rattle.fe2o3_scram.specs.ServerFirst.{ServerChallenge};
 ghost use Rattle.fe2o3_scram.specs.ScramServer.{Initial, ServerFirstSent, challenge_kept, provider_in, state_in, cbind_flag_y_in};
 ghost use Rattle.fe2o3_scram.specs.declared.scram_messages.channel_binding_flag.ChannelBindingFlag.{ChannelBindingFlag as HeaderOf};
-ghost use Rattle.sasl_c.specs.Server.{MakesChallenge, Challenges, ConcludesLogin, Concludes, FinalAsks, HasLoggedIn, ChallengeHasRoom, IsOpen, AuthenticatedUser, NotChallenged, OpensExchange, MemoryCosts, ReadsFirst, TellsUser, fresh_server_struct, logged_in_struct, open_number, open_struct, user_struct};
-ghost use Rattle.sasl_c.specs.Status.{Answers, AsksWhere, Fills, FillsWithin};
-ghost use Rattle.sasl_c.specs.declared.status.Status.TheVariants.{OutOfMemory as StatusOutOfMemory, RoomTooSmall};
+ghost use Rattle.sasl_c.specs.Server.{MakesChallenge, Challenges, ConcludesLogin, Concludes, FinalAsks, WritesChallenge, IsAuthenticated, ChallengeHasRoom, IsOpen, ClaimedUser, NotChallenged, OpensExchange, MemoryCosts, ReadsFirst, TellsUser, fresh_server_struct, authenticated_struct, open_number, open_struct, user_struct};
+ghost use Rattle.sasl_c.specs.Status.{Answers, AnswersText, AsksText, AsksWhere, Fills, FillsWithin};
+ghost use Rattle.sasl_c.specs.declared.status.Status.TheVariants.{OutOfMemory as StatusOutOfMemory};
+ghost use Rattle.sasl_c.specs.declared.status.WriteError.TheVariants.{RoomTooSmall};
 
-use crate::arrays::{cleared, head, padded, put};
+use crate::arrays::{cleared, fill, head, padded, put, write};
 use crate::records::ScramRecord;
-use crate::status::{Status, number};
+use crate::status::{Status, WriteError, text_number};
 use fe2o3_scram::{
-    ClientFirst, ChannelBindingFlag, Meter, OpenChallenge, ScramAuthenticator, ScramCredentialProvider,
-    ServerScramErrorKind, UserRecord,
+    ChannelBindingFlag, ClientFirst, Meter, OpenChallenge, ScramAuthenticator,
+    ScramCredentialProvider, ServerScramErrorKind, UserRecord,
 };
 use std::alloc::Global;
 
-/// What a server keeps of an exchange. All zeros is a server without an open challenge. A call that succeeds writes zeros
-/// to every field that is not of the new state, and after every length. No password and no key of a record is kept.
+/// The state of a SCRAM server between calls. All zeros is a server without an open challenge.
+///
+/// A call that succeeds writes zeros to every field that its new state does not use, and after every length. The
+/// struct never holds a password or a key of a record.
 #[repr(C)]
 #[derive(Drop)]
 pub struct ScramServer {
-    /// 1 while a challenge is open, and 2 once its user has logged in.
-    pub stands: u32,
+    /// How far the exchange is: one of enum fe2o3_scram_server_state.
+    pub state: u32,
 
-    /// How many bytes of `user` there are.
+    /// The number of bytes of `user` in use.
     pub user_len: u32,
 
-    /// How many bytes of `bare` there are.
+    /// The number of bytes of `bare` in use.
     pub bare_len: u32,
 
-    /// How many bytes of `nonce` there are.
+    /// The number of bytes of `nonce` in use.
     pub nonce_len: u32,
 
-    /// How many bytes of `first` there are.
+    /// The number of bytes of `first` in use.
     pub first_len: u32,
 
-    /// The plain name of the user.
+    /// The user name, without escapes. While a challenge is open the client only claims it; afterwards it is
+    /// authenticated.
     pub user: [u8; 256],
 
     /// The client-first message without its GS2 header.
     pub bare: [u8; 1024],
 
-    /// The nonce of both sides.
+    /// The nonces of both sides.
     pub nonce: [u8; 512],
 
     /// The server-first message.
@@ -57,11 +61,11 @@ type Machine = ScramAuthenticator<UserRecord>;
 impl ScramServer {
     /// The struct of a server that has nobody's challenge open, and has logged nobody in.
     pub fn fresh() -> ScramServer
-        ensures stands { result.stands ≡ 0 }
+        ensures state { result.state ≡ 0 }
         ensures writes { result ≡ fresh_server_struct }
     {
         ScramServer {
-            stands: 0,
+            state: 0,
             user_len: 0,
             bare_len: 0,
             nonce_len: 0,
@@ -78,7 +82,7 @@ impl ScramServer {
         ensures { result ≡ user_struct user_len user }
     {
         ScramServer {
-            stands: 2,
+            state: 2,
             user_len,
             bare_len: 0,
             nonce_len: 0,
@@ -92,8 +96,8 @@ impl ScramServer {
 
     /// The struct of a server that has logged this user in, or `None` where the name has no room.
     pub fn logged_in(user: &str) -> Option<ScramServer>
-        ensures user { MatchOption result (256 < length user.now) (λ server. HasLoggedIn server user.now) }
-        ensures writes { IfSome result (λ server. server ≡ logged_in_struct user.now) }
+        ensures user { MatchOption result (256 < length user.now) (λ server. IsAuthenticated server user.now) }
+        ensures writes { IfSome result (λ server. server ≡ authenticated_struct user.now) }
     {
         let name = padded(user.as_bytes())?;
         Some(ScramServer::with_user(name, user.len() as u32))
@@ -103,29 +107,51 @@ impl ScramServer {
     /// of the exchange.
     fn log_in(&mut self)
         requires { self.old.user_len ≤ 256 }
-        ensures { self.new ≡ logged_in_struct (take self.old.user_len self.old.user) }
+        ensures { self.new ≡ authenticated_struct (take self.old.user_len self.old.user) }
     {
         *self = ScramServer::with_user(cleared(&self.user, self.user_len), self.user_len);
     }
 
-    /// The struct of a server whose challenge is open, or `None` where a text of it has no room.
+    /// The struct of a server whose challenge is open, or `None` if a text of it does not fit.
     pub fn of(challenge: &OpenChallenge<'_>) -> Option<ScramServer>
         ensures open { MatchOption result (¬ ChallengeHasRoom (challenge_kept challenge.now))
             (λ server. ChallengeHasRoom (challenge_kept challenge.now) × IsOpen server (challenge_kept challenge.now)) }
         ensures writes { IfSome result (λ server. server ≡ open_struct (challenge_kept challenge.now)) }
     {
-        Some(ScramServer {
-            stands: open_number(challenge.header),
-            user: padded(challenge.username.as_bytes())?,
-            user_len: challenge.username.len() as u32,
-            bare: padded(challenge.client_first_message_bare)?,
-            bare_len: challenge.client_first_message_bare.len() as u32,
-            nonce: padded(challenge.client_server_nonce)?,
-            nonce_len: challenge.client_server_nonce.len() as u32,
-            first: padded(challenge.server_first_message)?,
-            first_len: challenge.server_first_message.len() as u32,
-        })
+        if !fits(challenge) {
+            return None;
+        }
+        let mut server = ScramServer::fresh();
+        server.open(challenge);
+        Some(server)
     }
+
+    /// Makes it the struct of a server whose challenge is open.
+    fn open(&mut self, challenge: &OpenChallenge<'_>)
+        requires { ChallengeHasRoom (challenge_kept challenge.now) }
+        ensures open { IsOpen self.new (challenge_kept challenge.now) }
+        ensures writes { self.new ≡ open_struct (challenge_kept challenge.now) }
+    {
+        self.state = open_number(challenge.header);
+        self.user_len = challenge.username.len() as u32;
+        self.bare_len = challenge.client_first_message_bare.len() as u32;
+        self.nonce_len = challenge.client_server_nonce.len() as u32;
+        self.first_len = challenge.server_first_message.len() as u32;
+        fill(&mut self.user, challenge.username.as_bytes());
+        fill(&mut self.bare, challenge.client_first_message_bare);
+        fill(&mut self.nonce, challenge.client_server_nonce);
+        fill(&mut self.first, challenge.server_first_message);
+    }
+}
+
+/// Returns whether the texts of a challenge fit into the struct.
+fn fits(challenge: &OpenChallenge<'_>) -> bool
+    ensures { IsTrue result ↔ ChallengeHasRoom (challenge_kept challenge.now) }
+{
+    challenge.username.len() <= 256
+        && challenge.client_first_message_bare.len() <= 1024
+        && challenge.client_server_nonce.len() <= 512
+        && challenge.server_first_message.len() <= 1024
 }
 
 /// The number of a struct that shows a challenge to a client with this GS2 header.
@@ -139,11 +165,11 @@ fn open_number(header: ChannelBindingFlag) -> u32
 }
 
 /// The GS2 header of the challenge that a struct with this number shows, if it shows one.
-fn open_header(stands: u32) -> Option<ChannelBindingFlag>
-    ensures { MatchOption result ((header : HeaderOf) → open_number header ≢ stands)
-        (λ header. stands ≡ open_number header) }
+fn open_header(state: u32) -> Option<ChannelBindingFlag>
+    ensures { MatchOption result ((header : HeaderOf) → open_number header ≢ state)
+        (λ header. state ≡ open_number header) }
 {
-    match stands {
+    match state {
         1 => Some(ChannelBindingFlag::NotSupported),
         3 => Some(ChannelBindingFlag::ClientSupports),
         _ => None,
@@ -174,7 +200,7 @@ impl ScramServer {
         ensures { MatchOption result ((challenge : ServerChallenge) → ¬ IsOpen self.now challenge)
             (λ challenge. IsOpen self.now (challenge_kept challenge)) }
     {
-        let header = open_header(self.stands)?;
+        let header = open_header(self.state)?;
         let user = head(&self.user, self.user_len)?;
         let bare = head(&self.bare, self.bare_len)?;
         let nonce = head(&self.nonce, self.nonce_len)?;
@@ -205,9 +231,12 @@ fn challenged(
     ensures err { IfErr result (λ status. status ≢ StatusOutOfMemory
         → NotChallenged accept_cbind_flag_y kept.now nonce.now client_first.now status) }
     ensures memory { AsksWhere (ReadsFirst accept_cbind_flag_y client_first.now) result }
-    ensures room { IfErr result (λ status. status ≢ RoomTooSmall) }
 {
-    let first = match ClientFirst::parse_with_cbind_flag_y(alloc, client_first, accept_cbind_flag_y) {
+    let first = match ClientFirst::parse_with_cbind_flag_y(
+        alloc,
+        client_first,
+        accept_cbind_flag_y,
+    ) {
         Ok(first) => first,
         Err(why) => return Err(Status::from(why)),
     };
@@ -225,47 +254,26 @@ fn challenged(
     }
 }
 
-/// The struct of a server whose challenge to a client-first message is open.
-#[tactic(auto, using(crate::proofs::ServerLemmas::no_room))]
-fn opened(
-    alloc: Global,
-    accept_cbind_flag_y: bool,
-    kept: &ScramRecord,
-    nonce: &[u8; 32],
-    client_first: &[u8],
-) -> Result<ScramServer, Status>
-    ensures ok { IfOk result (λ opened. (challenge : ServerChallenge)
-        × MakesChallenge accept_cbind_flag_y kept.now nonce.now client_first.now challenge × IsOpen opened challenge
-        × (opened ≡ open_struct challenge)) }
-    ensures message { IfOk result (λ opened. Challenges accept_cbind_flag_y kept.now nonce.now client_first.now
-        (Ok (take opened.first_len opened.first)) × (opened.first_len ≤ 1024)) }
-    ensures err { IfErr result (λ status. status ≢ StatusOutOfMemory
-        → NotChallenged accept_cbind_flag_y kept.now nonce.now client_first.now status) }
-    ensures memory { AsksWhere (ReadsFirst accept_cbind_flag_y client_first.now) result }
-    ensures room { IfErr result (λ status. status ≢ RoomTooSmall) }
+/// Writes the message of a challenge, and the struct that shows the challenge.
+fn open_into(
+    challenge: &OpenChallenge<'_>,
+    server: &mut ScramServer,
+    out: &mut [u8],
+    out_len: &mut usize,
+) -> Result<(), WriteError>
+    ensures { WritesChallenge (challenge_kept challenge.now) server.old server.new
+        (record { bytes = out.old; len = out_len.old }) (record { bytes = out.new; len = out_len.new }) result }
 {
-    let machine = match challenged(alloc, accept_cbind_flag_y, kept, nonce, client_first) {
-        Ok(machine) => machine,
-        Err(status) => return Err(status),
-    };
-    let Some(challenge) = machine.open_challenge() else {
-        drop(machine);
-        return Err(Status::TooLong);
-    };
-    match ScramServer::of(&challenge) {
-        Some(opened) => {
-            drop(machine);
-            Ok(opened)
-        }
-        None => {
-            drop(machine);
-            Err(Status::TooLong)
-        }
+    if !fits(challenge) {
+        return Err(WriteError::Other(Status::TooLong));
     }
+    put(challenge.server_first_message, out, out_len)?;
+    server.open(challenge);
+    Ok(())
 }
 
-/// Writes the server-first message.
-fn first(
+/// Writes the server-first message, and the struct of the server whose challenge is open.
+fn first_into(
     alloc: Global,
     accept_cbind_flag_y: bool,
     kept: &ScramRecord,
@@ -273,23 +281,31 @@ fn first(
     nonce: &[u8; 32],
     client_first: &[u8],
     out: &mut [u8],
-    len: &mut usize,
-) -> Result<(), Status>
+    out_len: &mut usize,
+) -> Result<(), WriteError>
     ensures text { Fills (Challenges accept_cbind_flag_y kept.now nonce.now client_first.now)
-        (record { bytes = out.old; len = len.old }) (record { bytes = out.new; len = len.new }) result }
+        (record { bytes = out.old; len = out_len.old }) (record { bytes = out.new; len = out_len.new }) result }
     ensures moved { OpensExchange accept_cbind_flag_y kept.now nonce.now client_first.now server.old server.new result }
-    ensures memory { AsksWhere (ReadsFirst accept_cbind_flag_y client_first.now) result }
+    ensures memory { AsksText (ReadsFirst accept_cbind_flag_y client_first.now) result }
 {
-    let opened = opened(alloc, accept_cbind_flag_y, kept, nonce, client_first)?;
-    put(&opened.first[..opened.first_len as usize], out, len)?;
-    *server = opened;
-    Ok(())
+    let machine = match challenged(alloc, accept_cbind_flag_y, kept, nonce, client_first) {
+        Ok(machine) => machine,
+        Err(status) => return Err(WriteError::Other(status)),
+    };
+    let Some(challenge) = machine.open_challenge() else {
+        drop(machine);
+        return Err(WriteError::Other(Status::TooLong));
+    };
+    let written = open_into(&challenge, server, out, out_len);
+    drop(machine);
+    written
 }
 
-/// Answers a client-first message with the server-first message, which starts an exchange afresh at any time. The
-/// GS2 header of the message has to be `n,,`. The record is that of the user whom the message names
-/// (`fe2o3_scram_server_claimed_user`), or one that is made up (`fe2o3_scram_record_mock`). The nonce is 32 random
-/// bytes, fresh for each.
+/// Answers a client-first message with the server-first message. This starts a new exchange, whatever the state of the
+/// server is. The GS2 header of the message has to be `n,,`.
+///
+/// `kept` is the record of the claimed user (`fe2o3_scram_server_claimed_user`), or a mock record
+/// (`fe2o3_scram_record_mock`) for an unknown one. `nonce` is 32 fresh random bytes.
 #[unsafe(no_mangle)]
 pub extern "C" fn fe2o3_scram_server_first(
     alloc: Global,
@@ -298,19 +314,28 @@ pub extern "C" fn fe2o3_scram_server_first(
     nonce: &[u8; 32],
     client_first: &[u8],
     out: &mut [u8],
-    len: &mut usize,
+    out_len: &mut usize,
 ) -> u32
-    ensures { Answers result (λ answer. Fills (Challenges false kept.now nonce.now client_first.now)
-        (record { bytes = out.old; len = len.old }) (record { bytes = out.new; len = len.new }) answer
+    ensures { AnswersText result (λ answer. Fills (Challenges false kept.now nonce.now client_first.now)
+        (record { bytes = out.old; len = out_len.old }) (record { bytes = out.new; len = out_len.new }) answer
         × OpensExchange false kept.now nonce.now client_first.now server.old server.new answer
-        × AsksWhere (ReadsFirst false client_first.now) answer) }
+        × AsksText (ReadsFirst false client_first.now) answer) }
 {
-    number(first(alloc, false, kept, server, nonce, client_first, out, len))
+    text_number(first_into(
+        alloc,
+        false,
+        kept,
+        server,
+        nonce,
+        client_first,
+        out,
+        out_len,
+    ))
 }
 
-/// As `fe2o3_scram_server_first`, and the GS2 header may be `y,,` too: that of a client which could bind a
-/// channel and believes that the server cannot, since it was offered no mechanism with `-PLUS` (RFC 5802,
-/// section 6). Only for a server that offers none.
+/// Answers a client-first message like `fe2o3_scram_server_first`, but also accepts the GS2 header `y,,`: the client
+/// supports channel binding, and was offered no mechanism with `-PLUS` (RFC 5802, section 6). Only for a server that
+/// offers none.
 #[unsafe(no_mangle)]
 pub extern "C" fn fe2o3_scram_server_first_with_cbind_flag_y(
     alloc: Global,
@@ -319,41 +344,47 @@ pub extern "C" fn fe2o3_scram_server_first_with_cbind_flag_y(
     nonce: &[u8; 32],
     client_first: &[u8],
     out: &mut [u8],
-    len: &mut usize,
+    out_len: &mut usize,
 ) -> u32
-    ensures { Answers result (λ answer. Fills (Challenges true kept.now nonce.now client_first.now)
-        (record { bytes = out.old; len = len.old }) (record { bytes = out.new; len = len.new }) answer
+    ensures { AnswersText result (λ answer. Fills (Challenges true kept.now nonce.now client_first.now)
+        (record { bytes = out.old; len = out_len.old }) (record { bytes = out.new; len = out_len.new }) answer
         × OpensExchange true kept.now nonce.now client_first.now server.old server.new answer
-        × AsksWhere (ReadsFirst true client_first.now) answer) }
+        × AsksText (ReadsFirst true client_first.now) answer) }
 {
-    number(first(alloc, true, kept, server, nonce, client_first, out, len))
+    text_number(first_into(alloc, true, kept, server, nonce, client_first, out, out_len))
 }
 
 /// Writes the name of the user.
-fn user(alloc: Global, client_first: &[u8], out: &mut [u8], len: &mut usize) -> Result<(), Status>
-    ensures text { Fills (AuthenticatedUser client_first.now) (record { bytes = out.old; len = len.old })
-        (record { bytes = out.new; len = len.new }) result }
-    ensures memory { AsksWhere (HasEscapes true client_first.now) result }
+fn user(
+    alloc: Global,
+    client_first: &[u8],
+    out: &mut [u8],
+    out_len: &mut usize,
+) -> Result<(), WriteError>
+    ensures text { Fills (ClaimedUser client_first.now) (record { bytes = out.old; len = out_len.old })
+        (record { bytes = out.new; len = out_len.new }) result }
+    ensures memory { AsksText (HasEscapes true client_first.now) result }
 {
     let first = match ClientFirst::parse_with_cbind_flag_y(alloc, client_first, true) {
         Ok(first) => first,
-        Err(why) => return Err(Status::from(why)),
+        Err(why) => return Err(WriteError::Other(Status::from(why))),
     };
-    put(first.username.as_bytes(), out, len)
+    put(first.username.as_bytes(), out, out_len)
 }
 
-/// Writes the plain name of the user whom a client-first message names, and whose record is to be fetched.
+/// Writes the user name that a client-first message claims, without escapes. Nobody is authenticated yet: use it only
+/// to look up the record.
 #[unsafe(no_mangle)]
 pub extern "C" fn fe2o3_scram_server_claimed_user(
     alloc: Global,
     client_first: &[u8],
     out: &mut [u8],
-    len: &mut usize,
+    out_len: &mut usize,
 ) -> u32
-    ensures { Answers result (λ answer. Fills (AuthenticatedUser client_first.now) (record { bytes = out.old; len = len.old })
-        (record { bytes = out.new; len = len.new }) answer × AsksWhere (HasEscapes true client_first.now) answer) }
+    ensures { AnswersText result (λ answer. Fills (ClaimedUser client_first.now) (record { bytes = out.old; len = out_len.old })
+        (record { bytes = out.new; len = out_len.new }) answer × AsksText (HasEscapes true client_first.now) answer) }
 {
-    number(user(alloc, client_first, out, len))
+    text_number(user(alloc, client_first, out, out_len))
 }
 
 /// The server-final message.
@@ -373,7 +404,6 @@ fn concluded(
         → Concludes kept.now client_final.now server.now server.now (Err status)) }
     ensures memory { AsksWhere (FinalAsks kept.now client_final.now server.now) result }
     ensures cost { AsksWhere (MemoryCosts kept.now client_final.now server.now meter.old meter.new) result }
-    ensures room { IfErr result (λ status. status ≢ RoomTooSmall) }
 {
     let Some(challenge) = server.challenge() else {
         return Err(Status::Server(ServerScramErrorKind::IllegalAuthenticatorState));
@@ -409,29 +439,31 @@ fn conclude(
     client_final: &[u8],
     meter: &mut Meter,
     out: &mut [u8],
-    len: &mut usize,
-) -> Result<(), Status>
+    out_len: &mut usize,
+) -> Result<(), WriteError>
     requires { meter.old ≤ 2 ^ 63 }
     ensures text { FillsWithin 90 (Concludes kept.now client_final.now server.old server.new)
-        (record { bytes = out.old; len = len.old }) (record { bytes = out.new; len = len.new }) result }
+        (record { bytes = out.old; len = out_len.old }) (record { bytes = out.new; len = out_len.new }) result }
     ensures stays { OnErr result (server.new ≡ server.old) }
     ensures first { IfErr result (λ status. status ≡ RoomTooSmall → meter.new ≡ meter.old) }
-    ensures memory { AsksWhere (FinalAsks kept.now client_final.now server.old) result }
-    ensures cost { AsksWhere (MemoryCosts kept.now client_final.now server.old meter.old meter.new) result }
+    ensures memory { AsksText (FinalAsks kept.now client_final.now server.old) result }
+    ensures cost { AsksText (MemoryCosts kept.now client_final.now server.old meter.old meter.new) result }
 {
     if out.len() < FINAL_MOST {
-        *len = FINAL_MOST;
-        return Err(Status::RoomTooSmall);
+        *out_len = FINAL_MOST;
+        return Err(WriteError::RoomTooSmall);
     }
     let message = concluded(alloc, kept, server, client_final, meter)?;
-    put(&message, out, len)?;
+    put(&message, out, out_len)?;
     server.log_in();
     Ok(())
 }
 
-/// Answers a client-final message with the server-final message, where its proof meets the record: the user is
-/// logged in only where the number is 0. The record is the one of `fe2o3_scram_server_first`. A room of 90 bytes
-/// suffices, and is asked for before any hash is made.
+/// Answers a client-final message with the server-final message, if its proof is right. Only FE2O3_OK means that the
+/// user is authenticated.
+///
+/// `kept` is the record that `fe2o3_scram_server_first` was called with. `out` needs 90 bytes, which is tested before
+/// anything is hashed.
 #[unsafe(no_mangle)]
 pub extern "C" fn fe2o3_scram_server_final(
     alloc: Global,
@@ -439,41 +471,40 @@ pub extern "C" fn fe2o3_scram_server_final(
     server: &mut ScramServer,
     client_final: &[u8],
     out: &mut [u8],
-    len: &mut usize,
+    out_len: &mut usize,
 ) -> u32
-    ensures { Answers result (λ answer. FillsWithin 90 (Concludes kept.now client_final.now server.old server.new)
-        (record { bytes = out.old; len = len.old }) (record { bytes = out.new; len = len.new }) answer
-        × OnErr answer (server.new ≡ server.old) × AsksWhere (FinalAsks kept.now client_final.now server.old) answer) }
+    ensures { AnswersText result (λ answer. FillsWithin 90 (Concludes kept.now client_final.now server.old server.new)
+        (record { bytes = out.old; len = out_len.old }) (record { bytes = out.new; len = out_len.new }) answer
+        × OnErr answer (server.new ≡ server.old) × AsksText (FinalAsks kept.now client_final.now server.old) answer) }
 {
     let mut meter = Meter::new();
-    number(conclude(alloc, kept, server, client_final, &mut meter, out, len))
+    text_number(conclude(alloc, kept, server, client_final, &mut meter, out, out_len))
 }
 
-/// Writes the name of the user who has logged in.
-fn tell(server: &ScramServer, out: &mut [u8], len: &mut usize) -> Result<(), Status>
-    ensures text { Fills (TellsUser server.now) (record { bytes = out.old; len = len.old })
-        (record { bytes = out.new; len = len.new }) result }
+/// The name of the authenticated user.
+fn authenticated_user(server: &ScramServer) -> Result<&[u8], Status>
+    ensures ok { IfOk result (λ user. TellsUser server.now (Ok user.now)) }
+    ensures err { IfErr result (λ status. status ≢ StatusOutOfMemory → TellsUser server.now (Err status)) }
     ensures memory { AsksWhere ⊥ result }
 {
     let illegal = Status::Server(ServerScramErrorKind::IllegalAuthenticatorState);
-    if server.stands != 2 {
+    if server.state != 2 {
         return Err(illegal);
     }
-    match head(&server.user, server.user_len) {
-        Some(user) => put(user, out, len),
-        None => Err(illegal),
-    }
+    head(&server.user, server.user_len).ok_or(illegal)
 }
 
-/// Writes the plain name of the user who has logged in: the one whose challenge was answered.
+/// Writes the name of the authenticated user, without escapes. Returns FE2O3_SERVER_ILLEGAL_AUTHENTICATOR_STATE if no
+/// user is authenticated.
 #[unsafe(no_mangle)]
+#[tactic(auto, using(crate::proofs::StatusLemmas::written))]
 pub extern "C" fn fe2o3_scram_server_authenticated_user(
     server: &ScramServer,
     out: &mut [u8],
-    len: &mut usize,
+    out_len: &mut usize,
 ) -> u32
-    ensures { Answers result (λ answer. Fills (TellsUser server.now) (record { bytes = out.old; len = len.old })
-        (record { bytes = out.new; len = len.new }) answer × AsksWhere ⊥ answer) }
+    ensures { AnswersText result (λ answer. Fills (TellsUser server.now) (record { bytes = out.old; len = out_len.old })
+        (record { bytes = out.new; len = out_len.new }) answer × AsksText ⊥ answer) }
 {
-    number(tell(server, out, len))
+    text_number(write(authenticated_user(server), out, out_len))
 }

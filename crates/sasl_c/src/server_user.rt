@@ -6,15 +6,15 @@ ghost use Rattle.fe2o3_sasl_wire.specs.FrameView.{shown, viewed_frame};
 ghost use Rattle.fe2o3_scram.specs.ClientFirst.{ClientFirst as FirstValues, ReadsClientFirst};
 ghost use Rattle.fe2o3_scram.specs.ServerFirst.{ServerChallenge};
 ghost use Rattle.sasl_c.specs.Server.{IsOpen, ReadsFirst};
-ghost use Rattle.sasl_c.specs.Status.{Answers, AsksWhere, Fills};
-ghost use Rattle.sasl_c.specs.declared.status.Status.TheVariants.{OutOfMemory as StatusOutOfMemory, RoomTooSmall};
+ghost use Rattle.sasl_c.specs.Status.{AnswersText, AsksText, AsksWhere, Fills};
+ghost use Rattle.sasl_c.specs.declared.status.Status.TheVariants.{OutOfMemory as StatusOutOfMemory};
 
-use crate::arrays::put;
+use crate::arrays::write;
 use crate::sasl_server::SaslServer;
 use crate::server::ScramServer;
-use crate::status::{Status, number};
-use fe2o3_sasl_negotiation::{Expected, RestoreError, FrameKind};
+use crate::status::{Status, WriteError, text_number};
 use fe2o3_sasl_core::plain_server::plain_user;
+use fe2o3_sasl_negotiation::{Expected, FrameKind, RestoreError};
 use fe2o3_sasl_wire::{FrameView, view_frame};
 use fe2o3_scram::{ClientFirst, ScramVersion, ServerScramErrorKind};
 use std::alloc::Global;
@@ -136,11 +136,10 @@ pub fn body_user(
 
 /// The name of the user whom the frame names that these bytes complete.
 #[tactic(auto, using(crate::proofs::ServerUserLemmas::named))]
-fn named(alloc: Global, server: &SaslServer, bytes: &[u8]) -> Result<Vec<u8>, Status>
+fn compute_claimed_user(alloc: Global, server: &SaslServer, bytes: &[u8]) -> Result<Vec<u8>, Status>
     ensures ok { IfOk result (λ name. Named server.now bytes.now name.items) }
     ensures err { IfErr result (λ status. status ≢ StatusOutOfMemory → NotNamed server.now bytes.now status) }
     ensures memory { AsksWhere (AwaitsFrame server.now.connection) result }
-    ensures room { IfErr result (λ status. status ≢ RoomTooSmall) }
 {
     let kept = server.connection.read()?;
     let body = match kept.completed(alloc, bytes) {
@@ -160,38 +159,21 @@ fn named(alloc: Global, server: &SaslServer, bytes: &[u8]) -> Result<Vec<u8>, St
     }
 }
 
-/// Writes the name of the user whom the frame names that these bytes complete.
-fn user(
-    alloc: Global,
-    server: &SaslServer,
-    bytes: &[u8],
-    out: &mut [u8],
-    len: &mut usize,
-) -> Result<(), Status>
-    ensures text { Fills (Names server.now bytes.now) (record { bytes = out.old; len = len.old })
-        (record { bytes = out.new; len = len.new }) result }
-    ensures memory { AsksWhere (AwaitsFrame server.now.connection) result }
-{
-    let name = match named(alloc, server, bytes) {
-        Ok(name) => name,
-        Err(status) => return Err(status),
-    };
-    put(&name, out, len)
-}
-
-/// Writes the plain name of the user whom the frame names that these bytes complete, and whose record is to be fetched
-/// before they are taken: that of an init of SCRAM or PLAIN, and for a response that of the open challenge. Where they
-/// complete no frame, or one that names nobody, the number is that of `NAMES_NOBODY`, and no record is needed.
+/// Writes the user name that the next frame claims, if `bytes` complete it: that of an init for SCRAM or PLAIN, and
+/// for a response that of the open challenge. Nobody is authenticated yet: use it only to look up the record for
+/// `fe2o3_sasl_server_receive`. Returns FE2O3_NAMES_NO_USER if the frame is not complete or claims no name; then no
+/// record is needed.
 #[unsafe(no_mangle)]
+#[tactic(auto, using(crate::proofs::StatusLemmas::written))]
 pub extern "C" fn fe2o3_sasl_server_claimed_user(
     alloc: Global,
     server: &SaslServer,
     bytes: &[u8],
     out: &mut [u8],
-    len: &mut usize,
+    out_len: &mut usize,
 ) -> u32
-    ensures { Answers result (λ answer. Fills (Names server.now bytes.now) (record { bytes = out.old; len = len.old })
-        (record { bytes = out.new; len = len.new }) answer × AsksWhere (AwaitsFrame server.now.connection) answer) }
+    ensures { AnswersText result (λ answer. Fills (Names server.now bytes.now) (record { bytes = out.old; len = out_len.old })
+        (record { bytes = out.new; len = out_len.new }) answer × AsksText (AwaitsFrame server.now.connection) answer) }
 {
-    number(user(alloc, server, bytes, out, len))
+    text_number(write(compute_claimed_user(alloc, server, bytes), out, out_len))
 }

@@ -2,7 +2,8 @@
 
 ghost use Rattle.std.specs.Prelude.{◌≡◌, ◌≢◌, ◌≤◌, MatchOption, MatchResult};
 ghost use Rattle.fe2o3_scram.specs.Hmac.{digest_len};
-ghost use Rattle.sasl_c.specs.Status.{answer_number, client_number, client_status, server_number, server_status, status_number, record_text_number, version_number};
+ghost use Rattle.sasl_c.specs.declared.status.WriteError.TheVariants.{Other as OtherError};
+ghost use Rattle.sasl_c.specs.Status.{answer_number, text_answer_number, client_number, client_status, server_number, server_status, status_number, record_text_number, version_number};
 ghost use Rattle.sasl_c.specs.declared.status.Status.TheVariants.{OutOfMemory as StatusOutOfMemory, NotUtf8 as StatusNotUtf8};
 ghost use Rattle.std.specs.Str.{IsUtf8};
 ghost use Rattle.fe2o3_scram.specs.declared.hmac.ScramVersion.{ScramVersion};
@@ -13,51 +14,47 @@ use std::alloc::AllocError;
 /// Why a call is not done.
 #[derive(Clone, Copy)]
 pub enum Status {
-    /// There was no memory. Nothing has changed, and the call can be made again.
+    /// An allocation failed. Nothing has changed, and you can repeat the call.
     OutOfMemory,
 
-    /// The room is too small. Nothing has changed, and the length says what suffices.
-    RoomTooSmall,
-
-    /// Bytes that are to be text are no UTF-8.
+    /// A text is not UTF-8.
     NotUtf8,
 
-    /// There is no such version: 1, 256 and 512 are known.
+    /// The version is none of enum fe2o3_scram_version.
     NoSuchVersion,
 
-    /// A text is longer than the array that is to hold it.
+    /// A text is longer than the array for it.
     TooLong,
 
-    /// The password is not printable ASCII.
+    /// The typed password is not printable ASCII.
     NotPrintable,
 
     /// The iteration count is 0.
     ZeroIterations,
 
-    /// There is no such secret: 0 is the password, 1 the keys, and 2 both; 3 is a prepared password, and 4 both with
-    /// one.
+    /// The secret is none of enum fe2o3_secret.
     NoSuchSecret,
 
-    /// The struct of keys shows none.
+    /// The struct holds no keys.
     NoKeys,
 
-    /// The keys are of another version than the login.
+    /// The keys, or the record of a line, are of another version.
     OtherVersion,
 
     /// The password is not that of the record.
     OtherPassword,
 
-    /// There is no such mechanism: of a client 0 is SCRAM, 1 PLAIN, 2 ANONYMOUS, and 3 EXTERNAL; a server's are the
-    /// sum of 1, 2, 4 and 8, and not 0, nor 8 alone where the peer's name is empty.
+    /// The mechanism is none of enum fe2o3_mechanism; or a server offers nothing, or a sum with another value than
+    /// those of enum fe2o3_offer.
     NoSuchMechanism,
 
-    /// The connection has ended: its client is logged in, or it is to be closed.
+    /// The connection has ended: its `progress` is not FE2O3_IN_PROGRESS.
     Ended,
 
-    /// The struct of the connection is none that a call leaves.
+    /// The struct of the connection is not one that a call writes.
     InvalidSnapshot,
 
-    /// The bytes complete no frame that names a user.
+    /// The bytes complete no frame that claims a user name.
     NamesNoUser,
 
     /// A client refuses what a server sent.
@@ -69,69 +66,87 @@ pub enum Status {
     /// The text is no record.
     NoRecord(RecordTextError),
 
-    /// No line feed ends the line, which is the last.
+    /// The last line does not end with a line feed.
     LineFeedMissing,
 
-    /// No space stands in the line.
+    /// The line has no space.
     SpaceMissing,
 
-    /// What stands before the last space of the line is no escaped name.
+    /// The text before the last space of the line is not an escaped name.
     InvalidName,
 
     /// No line has a record of this version for this name.
     NoSuchUser,
 
-    /// A line feed stands in the name, or the iteration count is 0.
+    /// The name contains a line feed, or the iteration count is 0.
     NotWritable,
 
-    /// The other side's header is not that of SASL.
+    /// The other side's protocol header is not that of SASL.
     ProtocolHeaderMismatch,
 
-    /// The size of a frame is below 8 or above 512.
+    /// The size of the frame is below 8 or above 512.
     FrameSize,
 
-    /// The frame is not the one that is expected.
+    /// The frame is not the expected one.
     UnexpectedFrame,
 
-    /// The answer fits in no frame of 512 bytes.
+    /// The reply does not fit into a frame of 512 bytes.
     ReplyTooLarge,
 
-    /// The bytes of the frame are none of its type.
-    FrameUnread,
+    /// The frame cannot be parsed.
+    MalformedFrame,
 
-    /// The frame's type or its data offset is not that of a SASL frame.
+    /// The type or the data offset of the frame is not that of a SASL frame.
     NoSaslFrame,
 
-    /// A size of the frame is more than 32 bits can say.
+    /// A size inside the frame needs more than 32 bits.
     FrameTooLarge,
 
-    /// The frame is none that the client answers, or the server does not have its mechanism.
+    /// The client does not answer such a frame, or the server does not offer the mechanism.
     NotImplemented,
 
-    /// The login is refused: its credentials were.
+    /// The login was refused: its credentials are wrong.
     RefusedAuth,
 
-    /// The login is refused by a system error.
+    /// The login was refused because of a system error.
     RefusedSys,
 
-    /// The login is refused by a system error that stays.
+    /// The login was refused because of a permanent system error.
     RefusedSysPerm,
 
-    /// The login is refused by a system error that may pass.
+    /// The login was refused because of a temporary system error.
     RefusedSysTemp,
 
-    /// There is no such choice: 0 refuses unassigned code points, and 1 allows them.
+    /// The number is none of enum fe2o3_unassigned.
     NoSuchChoice,
 
-    /// What the text is prepared to holds a character that RFC 4013, section 2.3, prohibits.
+    /// The prepared text contains a character that RFC 4013, section 2.3, prohibits.
     ProhibitedCharacter,
 
-    /// What the text is prepared to holds a right-to-left character, and a left-to-right one too or another at its begin
-    /// or end (RFC 3454, section 6).
+    /// The prepared text mixes right-to-left and left-to-right characters, or does not begin and end with a
+    /// right-to-left one (RFC 3454, section 6).
     MixedDirections,
 
-    /// The text holds a code point that Unicode 3.2 does not assign, or is prepared to one.
+    /// The text, or what it is prepared to, contains a code point that Unicode 3.2 does not assign.
     UnassignedCodePoint,
+}
+
+/// Why a call that writes a text is not done.
+#[derive(Clone, Copy)]
+pub enum WriteError {
+    /// `out` is too small. Nothing has changed, and `out_len` says how many bytes suffice.
+    RoomTooSmall,
+
+    /// There is no text.
+    Other(Status),
+}
+
+impl From<Status> for WriteError {
+    ghost from_gives = { λ status why. why ≡ OtherError status };
+
+    fn from(status: Status) -> Self {
+        WriteError::Other(status)
+    }
 }
 
 impl From<AllocError> for Status {
@@ -171,7 +186,6 @@ impl Status {
     {
         match self {
             Status::OutOfMemory => 1,
-            Status::RoomTooSmall => 2,
             Status::NotUtf8 => 3,
             Status::NoSuchVersion => 4,
             Status::TooLong => 5,
@@ -197,7 +211,7 @@ impl Status {
             Status::FrameSize => 71,
             Status::UnexpectedFrame => 72,
             Status::ReplyTooLarge => 73,
-            Status::FrameUnread => 74,
+            Status::MalformedFrame => 74,
             Status::NoSaslFrame => 75,
             Status::FrameTooLarge => 76,
             Status::NotImplemented => 77,
@@ -283,6 +297,17 @@ pub fn number(answer: Result<(), Status>) -> u32
     match answer {
         Ok(()) => 0,
         Err(status) => status.number(),
+    }
+}
+
+/// The number of an answer of a call that writes a text: 0 where the call is done.
+pub fn text_number(answer: Result<(), WriteError>) -> u32
+    ensures { result ≡ text_answer_number answer }
+{
+    match answer {
+        Ok(()) => 0,
+        Err(WriteError::RoomTooSmall) => 2,
+        Err(WriteError::Other(status)) => status.number(),
     }
 }
 

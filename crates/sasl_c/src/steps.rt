@@ -2,10 +2,10 @@
 
 ghost use Rattle.std.specs.Prelude.{◌≡◌, ◌<◌, ◌≤◌, length, IfOk, IfErr, MatchResult};
 ghost use Rattle.sasl_c.specs.Steps.{IsSent, IsUnsent, behind_code, progress_number};
-ghost use Rattle.sasl_c.specs.declared.status.Status.TheVariants.{RoomTooSmall};
+ghost use Rattle.sasl_c.specs.declared.status.WriteError.TheVariants.{RoomTooSmall};
 
 use crate::connection::of_closed;
-use crate::status::Status;
+use crate::status::{Status, WriteError};
 use fe2o3_sasl_negotiation::{CloseReason, Progress};
 use fe2o3_sasl_wire::SaslCode;
 
@@ -13,13 +13,13 @@ use fe2o3_sasl_wire::SaslCode;
 const BODY_MOST: usize = 508;
 
 /// Looks for room for a body that is sent. Where there is too little, the length says what suffices.
-pub fn has_room(out: &[u8], len: &mut usize) -> Result<(), Status>
-    ensures ok { IfOk result (λ _. (508 ≤ length out.now) × (len.new ≡ len.old)) }
-    ensures err { IfErr result (λ status. (status ≡ RoomTooSmall) × (length out.now < 508) × (len.new ≡ 508)) }
+pub fn has_room(out: &[u8], out_len: &mut usize) -> Result<(), WriteError>
+    ensures ok { IfOk result (λ _. (508 ≤ length out.now) × (out_len.new ≡ out_len.old)) }
+    ensures err { IfErr result (λ status. (status ≡ RoomTooSmall) × (length out.now < 508) × (out_len.new ≡ 508)) }
 {
     if out.len() < BODY_MOST {
-        *len = BODY_MOST;
-        return Err(Status::RoomTooSmall);
+        *out_len = BODY_MOST;
+        return Err(WriteError::RoomTooSmall);
     }
     Ok(())
 }

@@ -6,18 +6,18 @@ ghost use Rattle.sasl_c.specs.Texts.{size_in, status_text, struct_sizes};
 use crate::client::{Login, ScramClient};
 use crate::connection::Connection;
 use crate::frames::SaslFrameView;
-use crate::keys::ClientKeys;
+use crate::keys::ScramKeys;
 use crate::records::ScramRecord;
 use crate::sasl_client::{SaslClient, SaslLogin};
-use crate::sasl_server::{SaslHost, SaslServer};
+use crate::sasl_server::{SaslServer, SaslServerConfig};
 use crate::server::ScramServer;
 use std::mem::size_of;
 
-/// Bytes that are lent for ever.
+/// A text that the library lends for as long as it is loaded.
 #[repr(C)]
 #[derive(Drop)]
 pub struct Text<'a> {
-    /// The bytes, of which the last is zero.
+    /// The bytes. The last one is zero.
     pub bytes: &'a [u8],
 }
 
@@ -110,7 +110,8 @@ fn lend(status: u32, text: &mut Text<'static>)
     text.bytes = text_of(status);
 }
 
-/// Lends the text of a status for ever, with a zero behind it.
+/// Writes the text of a status to `text`. It ends with a zero byte and stays valid for as long as the library is
+/// loaded.
 #[unsafe(no_mangle)]
 pub extern "C" fn fe2o3_status_text(status: u32, text: &mut Text<'static>)
     ensures { text.new.bytes.now ≡ status_text status }
@@ -125,31 +126,29 @@ fn size(which: u32) -> usize
     match which {
         0 => size_of::<Login<'static>>(),
         1 => size_of::<ScramClient>(),
-        2 => size_of::<ClientKeys>(),
+        2 => size_of::<ScramKeys>(),
         3 => size_of::<ScramServer>(),
         4 => size_of::<ScramRecord>(),
         5 => size_of::<Connection>(),
         6 => size_of::<SaslLogin<'static>>(),
         7 => size_of::<SaslClient>(),
         8 => size_of::<SaslFrameView<'static>>(),
-        9 => size_of::<SaslHost<'static>>(),
+        9 => size_of::<SaslServerConfig<'static>>(),
         10 => size_of::<SaslServer>(),
         _ => 0,
     }
 }
 
-/// The version of the library: its three numbers, each of two digits.
+/// Returns the version of the library: 10000 times the major, 100 times the minor, and the patch number.
 #[unsafe(no_mangle)]
 pub extern "C" fn fe2o3_version() -> u32
-    ensures { result ≡ 200 }
+    ensures { result ≡ 300 }
 {
-    200
+    300
 }
 
-/// How many bytes a struct has here: 0 `fe2o3_login`, 1 `fe2o3_scram_client`, 2 `fe2o3_scram_keys`, 3
-/// `fe2o3_scram_server`, 4 `fe2o3_scram_record`, 5 `fe2o3_connection`, 6 `fe2o3_sasl_login`, 7 `fe2o3_sasl_client`,
-/// 8 `fe2o3_sasl_frame_view`, 9 `fe2o3_sasl_server_config`, 10 `fe2o3_sasl_server`; of other numbers 0. A caller whose own
-/// declarations have other sizes has another header.
+/// Returns how many bytes a struct has in the library. `which` is one of enum fe2o3_size_of; other numbers return 0.
+/// If your own `sizeof` differs, your header is of another version.
 #[unsafe(no_mangle)]
 pub extern "C" fn fe2o3_size(which: u32) -> usize
     ensures { result ≡ size_in struct_sizes which }

@@ -73,7 +73,7 @@ impl Users {
 
     /// A server over these users, which hides whom it does not know.
     pub fn authenticator(self) -> ScramAuthenticator<Arc<Users>> {
-        ScramAuthenticator::new(Arc::new(self)).hiding_unknown_users(generate_nonce(), 16, 4096)
+        ScramAuthenticator::new(Arc::new(self)).mock_unknown_users(generate_nonce(), 16, 4096)
     }
 }
 

@@ -3,7 +3,7 @@
 use crate::rows::Row;
 use crate::runs::profiles::profile_of;
 use fe2o3_sasl::credentials::{ScramRecord, UserRecord};
-use fe2o3_sasl::hmac::ScramVersion;
+use fe2o3_sasl::hmac::{Meter, ScramVersion};
 use fe2o3_sasl::passwords::Password;
 use fe2o3_sasl::sasl_acceptor::{AuthenticatedUser, SaslAnonymousMechanism, SaslPlainMechanism};
 use fe2o3_sasl::sasl_profile::ProfileError;

@@ -9,7 +9,7 @@
 //! The client takes the password from standard input. The server offers the mechanism alone.
 
 use fe2o3_sasl_proved::{
-    ClientNegotiation, Offers, SaslProfile, ScramClient, ScramVersion, ServerNegotiation, Progress,
+    ClientNegotiation, Offers, Progress, SaslProfile, ScramClient, ScramVersion, ServerNegotiation,
 };
 use interop::{password, told, version_of, Failure, Users};
 use std::io::{Read, Write};
@@ -46,7 +46,7 @@ fn came(channel: &mut TcpStream, room: &mut [u8]) -> Result<usize, Failure> {
 
 fn ended(progress: Progress) -> Result<(), Failure> {
     match progress {
-        Progress::Closed(why) => Err(why.into()),
+        Progress::Failed(why) => Err(why.into()),
         _ => Ok(()),
     }
 }
@@ -70,7 +70,7 @@ fn run_client(words: &[&str]) -> Result<i32, Failure> {
 }
 
 fn serve(mut channel: TcpStream, users: Users, mechanism: &str) -> Result<String, Failure> {
-    let mut side = ServerNegotiation::new(users.authenticator(), offers(mechanism)).with_peer("user");
+    let mut side = ServerNegotiation::new(users.authenticator(), offers(mechanism)).with_external_authcid("user");
     let mut room = [0; 4096];
     while side.progress() == Progress::InProgress {
         let len = came(&mut channel, &mut room)?;
@@ -78,7 +78,7 @@ fn serve(mut channel: TcpStream, users: Users, mechanism: &str) -> Result<String
         channel.write_all(&received.sent)?;
     }
     ended(side.progress())?;
-    Ok(side.user().unwrap_or_default())
+    Ok(side.authenticated_user().unwrap_or_default())
 }
 
 fn run_server(words: &[&str]) -> Result<i32, Failure> {

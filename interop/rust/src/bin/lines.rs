@@ -56,9 +56,8 @@ fn run_client(words: &[&str], options: &[&str]) -> Result<i32, Failure> {
     let (port, user) = (words[0].parse()?, words[2]);
     let (least, most) = (words[3].parse()?, words[4].parse()?);
     let version = version_of(words[1]).ok_or("no such mechanism")?;
-    let mut client = client_of(user, version, options.contains(&"prepared"))?
-        .with_min_iterations(least)
-        .with_iteration_limit(most);
+    let mut client =
+        client_of(user, version, options.contains(&"prepared"))?.with_min_iterations(least).with_iteration_limit(most);
     let ended = log_in(port, &mut client);
     let status = told("logged in", &ended);
     if ended.is_err() || !options.contains(&"again") {
@@ -88,7 +87,7 @@ fn serve(channel: TcpStream, users: Users, mechanism: &str, unbound: bool) -> Re
     lines.say(&answer)?;
     // (whether the client believes it is no matter of the server's)
     let _ = lines.line().and_then(|_| lines.say(b""));
-    server.user().ok_or_else(|| "no name".into())
+    server.authenticated_user().ok_or_else(|| "no name".into())
 }
 
 fn run_server(words: &[&str], options: &[&str]) -> Result<i32, Failure> {

@@ -1,4 +1,4 @@
-use Rattle.sasl_c.proofs.ClientLemmas.{no_verification, not_waiting, unverified, verified}
+use Rattle.sasl_c.proofs.ClientLemmas.{no_verification, not_waiting, server_verified, unverified}
 use Rattle.sasl_c.proofs.client.verify.Goals as goal
 
 pub returns-in-Err-validate_server_final-clause-verifies : goal.returns-in-Err-validate_server_final-clause-verifies
@@ -18,6 +18,6 @@ returns-in_default-clause-verifies c =
 
 pub returns-clause-verifies : goal.returns-clause-verifies
 returns-clause-verifies c =
-    verified c.args.login.now c.args.client.now c.complete.new.self c.args.server_final.now c.in-Some.signature.now
+    server_verified c.args.login.now c.args.client.now c.complete.new.self c.args.server_final.now c.in-Some.signature.now
     c.in-Ok.version c.in_default-validate_server_final.field-0 c.in-Ok.ensures.ok.0 c.in-Ok.ensures.ok.1
     c.in-Some.ensures.0 c.in-Some.ensures.1 c.in_default-validate_server_final.ensures c.complete.ensures

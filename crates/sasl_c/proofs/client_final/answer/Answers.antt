@@ -7,12 +7,9 @@ returns-in_default-answered-clause-text c =
     let held = rw c.in-Ok.ensures.cases.0 at c.in_ok-answer.ensures.ok in (
       refl,
       search rules,
-      λ _. (
-        search rules,
-        refl,
-        λ _. always_waits c.args.login.now c.args.client.now c.args.server_first.now c.in_ok-answer.answer.message.items
-            c.in_ok-answer.answer.signature.items c.in_ok-answer.answer.keys held c.in_default-answered.ensures.state,
-      ),
+      refl,
+      λ _. always_waits c.args.login.now c.args.client.now c.args.server_first.now c.in_ok-answer.answer.message.items
+          c.in_ok-answer.answer.signature.items c.in_ok-answer.answer.keys held c.in_default-answered.ensures.state,
     )
 
 pub returns-in_err-put-clause-text : goal.returns-in_err-put-clause-text

@@ -2,7 +2,6 @@ use Rattle.std.proofs.Common.{inl, inr, sym, ◌∙◌}
 use Rattle.fe2o3_sasl_core.specs.Events.{Refused}
 use Rattle.fe2o3_sasl_core.specs.Runs.{client_reply}
 use Rattle.fe2o3_sasl_core.specs.SaslProfile.{profile_of}
-use Rattle.sasl_c.proofs.StatusLemmas.{profile_not_room}
 use Rattle.sasl_c.proofs.StepLemmas.{client_hides}
 use Rattle.sasl_c.proofs.client_steps.stepped.Goals as goal
 
@@ -13,9 +12,6 @@ returns-in-Err-clause-err c = λ other. (
   c.in-Err.ensures.step,
   inl (client_hides c.in-Err.fault c.of_profile.result c.of_profile.ensures),
 )
-
-pub returns-in-Err-clause-room : goal.returns-in-Err-clause-room
-returns-in-Err-clause-room c = λ same. profile_not_room c.in-Err.fault (sym c.of_profile.ensures ∙ same)
 
 pub returns-in-Err-told-clause-err : goal.returns-in-Err-told-clause-err
 returns-in-Err-told-clause-err c = λ other. (

@@ -1,17 +1,17 @@
 use Rattle.sasl_c.specs.SaslServer.{value_state}
-use Rattle.sasl_c.proofs.StepLemmas.{server_no_host, server_not_stepped, server_stepped, server_steps_short}
+use Rattle.sasl_c.proofs.StepLemmas.{server_no_config, server_not_stepped, server_stepped, server_steps_short}
 use Rattle.sasl_c.proofs.server_steps.answered.Goals as goal
 
 pub returns-in-Err-clause-err : goal.returns-in-Err-clause-err
-returns-in-Err-clause-err c = λ other. server_no_host c.args.host.now _ c.args.server.now c.in-Err.status
+returns-in-Err-clause-err c = λ other. server_no_config c.args.config.now _ c.args.server.now c.in-Err.status
     (c.in-Err.ensures.err other)
 
 pub returns-in-Err-stepped-clause-err : goal.returns-in-Err-stepped-clause-err
-returns-in-Err-stepped-clause-err c = λ other. server_not_stepped c.args.host.now _ c.args.server.now
+returns-in-Err-stepped-clause-err c = λ other. server_not_stepped c.args.config.now _ c.args.server.now
     (value_state c.in-Ok.acceptor) c.in-Err-stepped.status c.in-Ok.ensures.ok (c.in-Err-stepped.ensures.err other)
 
 pub returns-in-Ok-stepped-clause-ok : goal.returns-in-Ok-stepped-clause-ok
-returns-in-Ok-stepped-clause-ok c = server_stepped c.args.host.now _ c.args.server.now c.in-Ok-stepped.made.next
+returns-in-Ok-stepped-clause-ok c = server_stepped c.args.config.now _ c.args.server.now c.in-Ok-stepped.made.next
     (value_state c.in-Ok.acceptor) c.in-Ok-stepped.made.progress c.in-Ok-stepped.made.sent.items c.in-Ok.ensures.ok
     c.in-Ok-stepped.ensures.ok
 

@@ -1,7 +1,7 @@
 use Rattle.std.proofs.Common.{arith, rules, ◌≡◌, true, false}
 use Rattle.sasl_c.specs.Passwords.{in_form}
 use Rattle.sasl_c.proofs.RecordLemmas.{bytes_in_form, zero_iterations}
-use Rattle.sasl_c.proofs.keys.made.Goals as goal
+use Rattle.sasl_c.proofs.keys.compute_keys.Goals as goal
 
 pub returns-then-iterations-eq0 : goal.returns-then-iterations-eq0
 returns-then-iterations-eq0 c = (

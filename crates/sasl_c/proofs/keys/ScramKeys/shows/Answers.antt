@@ -1,6 +1,6 @@
 use Rattle.std.proofs.lemmas.Bool.{le-leb, leb-true}
 use Rattle.sasl_c.proofs.LoginLemmas.{is_short, shows_keys}
-use Rattle.sasl_c.proofs.keys.ClientKeys.shows.Goals as goal
+use Rattle.sasl_c.proofs.keys.ScramKeys.shows.Goals as goal
 
 pub returns-in-Some : goal.returns-in-Some
 returns-in-Some c = (

@@ -1,7 +1,7 @@
 use Rattle.std.proofs.Common.{map, refl}
 use Rattle.sasl_c.specs.SaslServer.{all_in, value_state}
 use Rattle.sasl_c.proofs.SaslServerLemmas.{made, no_choice, no_offer, no_words}
-use Rattle.sasl_c.proofs.sasl_server.SaslHost.acceptor.Goals as goal
+use Rattle.sasl_c.proofs.sasl_server.SaslServerConfig.acceptor.Goals as goal
 
 pub returns-in-Err-clause-err : goal.returns-in-Err-clause-err
 returns-in-Err-clause-err c = λ _.

@@ -1,5 +1,5 @@
 use Rattle.sasl_c.proofs.ServerUserLemmas.{bytes_name, names_no_user}
-use Rattle.sasl_c.proofs.server_user.named.Goals as goal
+use Rattle.sasl_c.proofs.server_user.compute_claimed_user.Goals as goal
 
 pub returns-in-Ok-Some-body_user-clause-ok : goal.returns-in-Ok-Some-body_user-clause-ok
 returns-in-Ok-Some-body_user-clause-ok c =
