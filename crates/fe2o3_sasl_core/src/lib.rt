@@ -11,6 +11,7 @@ pub mod external_server;
 mod mechanism_names;
 pub mod restrict_mechanisms;
 pub mod any_mechanism;
+pub mod password_server;
 pub mod plain_server;
 pub mod sasl_acceptor;
 pub mod sasl_profile;
@@ -22,6 +23,7 @@ pub use crate::events::{ClientReply, Event, EventError, ServerReply};
 pub use crate::external_server::{ExternalServer, NoExternalIdentity};
 pub use crate::restrict_mechanisms::{OfferError, RestrictMechanisms};
 pub use crate::any_mechanism::{HasMechanism, AnyMechanism, Selected};
+pub use crate::password_server::{BuildError, PasswordServer, PasswordServerBuilder};
 pub use crate::plain_server::{MAX_PASSWORD_LEN, PlainServer};
 pub use crate::sasl_acceptor::{
     AuthenticatedUser, SaslAcceptor, SaslAcceptorExt, SaslAnonymousMechanism, SaslPlainMechanism,
