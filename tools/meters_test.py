@@ -76,11 +76,11 @@ class Meters(unittest.TestCase):
         self.refused(["compute_client_final_message: compute_client_final_message_metered x2"], CLIENT,
                      (PLAIN_OF_CLIENT, f"let mut meter = Meter::new();\n        let _ = {one};\n        {one}"))
 
-    def test_a_plain_record_that_stretches_twice(self):
-        self.refused(["from_password: salted_password", "from_password: Meter::new x2"],
+    def test_a_record_that_stretches_twice(self):
+        self.refused(["from_password: Meter::new", "from_password: salted_password x2"],
                      SCRAM + "credentials/scram_record.rt",
-                     first("ScramRecord::from_password_metered(\n", "let _ = scram_version.salted_password("
-                           "password.as_bytes(), salt, iterations, &mut Meter::new());\n        "))
+                     first("let stored_key = scram_version.stored_key(", "let _ = scram_version.salted_password("
+                           "text.as_bytes(), salt, iterations, &mut Meter::new());\n        "))
 
     def test_the_plain_machine_before_its_limit(self):
         work = "let _ = self.scram.answer_server_first(alloc, \"\", self.secret.lent(), server_first, b\"\"," \
@@ -97,7 +97,7 @@ class Meters(unittest.TestCase):
                      first("\nimpl fmt::Debug for ScramClient {", HELPER))
 
     def test_the_limited_form_before_its_limit(self):
-        work = "let _ = self.answer_server_first(alloc, client_nonce, ClientSecret::Password(password), server_first," \
+        work = "let _ = self.answer_server_first(alloc, client_nonce, ClientSecret::Password(Password::Typed(password)), server_first," \
                " client_first_message_bare, IterationLimits::none(), &mut Meter::new());\n        "
         self.refused(["compute_client_final_message_limited: Meter::new"], FINAL,
                      first("let answer = self.answer_server_first(", work))

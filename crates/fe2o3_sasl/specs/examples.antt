@@ -1,4 +1,4 @@
--- MockSettings has to believe these: they are worked examples of the definitions.
+-- A reader need not trust these: they are worked examples of the definitions.
 pub mod ClientExamples
 pub mod Examples
 pub mod MemoryExamples

@@ -1,4 +1,4 @@
--- What contracts of private functions cite. MockSettings has to believe it.
+-- What contracts of private functions cite. A reader need not trust it.
 pub mod Receipts
 pub mod ClientReceipts
 pub mod ServerReceipts

@@ -4,10 +4,10 @@ use Rattle.std.specs.List.{AllByRecursion, Contains}
 use Rattle.fe2o3_scram.specs.declared.hmac.ScramVersion.{ScramVersion}
 use Rattle.fe2o3_scram.specs.declared.hmac.ScramVersion.TheVariants.{Sha1, Sha256, Sha512}
 use Rattle.fe2o3_scram.specs.declared.client_secret.IterationLimits.{IterationLimits}
-use Rattle.fe2o3_scram.specs.ClientSecret.{Secret, Password, Keys, Both, up_to, no_limit}
+use Rattle.fe2o3_scram.specs.ClientSecret.{Secret, Password, Keys, Both}
 use Rattle.fe2o3_scram.specs.Hmac.{mechanism_name}
 use Rattle.fe2o3_scram.specs.Passwords.{password_bytes}
-use Rattle.fe2o3_scram.specs.ScramClient.{ClientSide, ClientInitial, with_limits}
+use Rattle.fe2o3_scram.specs.ScramClient.{fresh_client, with_limits}
 use Rattle.fe2o3_sasl_core.specs.Profiles.{Profile, ScramProfile, PlainProfile, AnonymousProfile, ExternalProfile}
 use Rattle.fe2o3_sasl_core.specs.declared.client_policy.ClientPolicy.{ClientPolicy}
 use Rattle.fe2o3_sasl_core.specs.declared.client_policy.Mechanism.{Mechanism}
@@ -54,16 +54,6 @@ secret_for version (Password password) = Some (Password password)
 secret_for version (Keys keys) = keys_for_version version keys.version (Some (Keys keys)) None
 secret_for version (Both password keys) =
     keys_for_version version keys.version (Some (Both password keys)) (Some (Password password))
-
--- a client of the user by such a secret, which has sent nothing and accepts every count
-abbrev pub fresh_client : List ℕ → ScramVersion → Secret → ClientSide
-fresh_client user version secret = record {
-  user = user;
-  secret = secret;
-  version = version;
-  limits = up_to no_limit;
-  state = ClientInitial;
-}
 
 -- the profile of the user by such a secret within these limits, if there is one
 abbrev pub scram_by : IterationLimits → List ℕ → ScramVersion → Option Secret → Option Profile

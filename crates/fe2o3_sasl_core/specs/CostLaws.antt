@@ -29,10 +29,12 @@ abbrev pub MeteredProfileSteps : Option (List ℕ) → Profile × ℕ → Given 
 MeteredProfileSteps hostname at event says next = ProfileSteps hostname at.0 event says next.0
     × ProfileStepCosts at.0 event (reply_of says) at.1 next.1
 
--- the HMAC values that a body costs a server at most (RFC 5802, section 3): two where it is a response
-abbrev pub server_most : Result SaslFrame Error → ℕ
-server_most (Ok (frames.Response text)) = 2
-server_most spelled = 0
+-- the HMAC values that a body costs a server at most (RFC 5802, section 3): those of a look-up where it is an init, and two
+-- where it is a response
+abbrev pub server_most : Provider → Result SaslFrame Error → ℕ
+server_most provider (Ok (frames.Init mechanism response hostname)) = provider.look_up_cost
+server_most provider (Ok (frames.Response text)) = 2
+server_most provider spelled = 0
 
 -- and a client with this limit: where it is a challenge, as many as the limit and four more
 abbrev pub client_most : ℕ → Result SaslFrame Error → ℕ
@@ -50,7 +52,7 @@ abbrev pub ServerRunsCost : Type 0
 ServerRunsCost = (provider : Provider) (state : ServerState) (events : List Given) (replies : List ServerSays)
     (before after sum : ℕ) (last : Acceptor)
     → Runs MeteredAcceptorSteps (ScramAcceptor provider state, before) events replies (last, after)
-    → SumsUp server_most events sum → (before ≤ after) × (after ≤ before + sum)
+    → SumsUp (server_most provider) events sum → (before ≤ after) × (after ≤ before + sum)
 
 -- likewise a run of a SCRAM profile
 abbrev pub ClientRunsCost : Type 0

@@ -1,10 +1,13 @@
 -- How many HMAC values the answers to frames take (RFC 5802, section 3), as a meter shows them before and after a call.
-use Rattle.std.specs.Prelude.{◌≡◌, ◌≤◌, ◌+◌, ℕ, Option, List, Result, Ok, Err}
+use Rattle.std.specs.Prelude.{◌≡◌, ◌⊎◌, ◌≤◌, ◌+◌, ℕ, Option, Some, List, Result, Ok, Err}
 use Rattle.std.specs.Str.{IsUtf8}
 use Rattle.fe2o3_sasl_wire.specs.declared.sasl_frames.error.Error.{Error}
 use Rattle.fe2o3_sasl_wire.specs.SaslFrames as frames
 use Rattle.fe2o3_sasl_wire.specs.SaslFrames.{SaslFrame}
 use Rattle.fe2o3_scram.specs.declared.scram_messages.error.ServerScramErrorKind.{ServerScramErrorKind}
+use Rattle.fe2o3_scram.specs.ClientFirst.{ClientFirst, ReadsClientFirst}
+use Rattle.fe2o3_scram.specs.Credentials.{Provider}
+use Rattle.fe2o3_scram.specs.Hmac.{mechanism_name}
 use Rattle.fe2o3_scram.specs.ScramClient.{AnswerCostsIn}
 use Rattle.fe2o3_scram.specs.ScramServer.{ServerState, ConcludesFrom, FinalCostsFrom}
 use Rattle.fe2o3_sasl_core.specs.Bodies.{SpellsBody}
@@ -14,12 +17,20 @@ use Rattle.fe2o3_sasl_core.specs.SaslAcceptor.{Acceptor, ScramAcceptor}
 
 -- ---- acceptors
 
--- how many an acceptor takes for its answer to a frame: SCRAM for a response those of its proof and its signature, two
--- where it is accepted and one where the proof alone is refused; for all else none
+-- the init names the mechanism, and its client-first message is read, so that its user is looked up
+abbrev pub ReachesLookUp : Provider → List ℕ → List ℕ → Type 0
+ReachesLookUp provider mechanism text = (mechanism ≡ mechanism_name provider.version)
+    × ((client : ClientFirst) × ReadsClientFirst provider.cbind_flag_y text (Ok client))
+
+-- how many an acceptor takes for its answer to a frame: SCRAM for an init those of the look-up, and for a response those
+-- of its proof and its signature, two where it is accepted and one where the proof alone is refused; for all else none
 abbrev pub acceptor_hmacs : Acceptor → SaslFrame → ℕ → Type 0
+acceptor_hmacs (ScramAcceptor provider state) (frames.Init mechanism (Some text) hostname) n =
+    (ReachesLookUp provider mechanism text × (n ≡ provider.look_up_cost))
+    ⊎ (¬ ReachesLookUp provider mechanism text × (n ≡ 0))
 acceptor_hmacs (ScramAcceptor provider state) (frames.Response text) n =
     (answer : Result (Option (List ℕ)) ServerScramErrorKind) × (after : ServerState)
-    × ConcludesFrom state provider text answer after × FinalCostsFrom state provider text answer 0 n
+    × ConcludesFrom state provider.version text answer after × FinalCostsFrom state provider.version text answer 0 n
 acceptor_hmacs acceptor frame n = n ≡ 0
 
 -- no more were made than an answer takes, also where memory ran out

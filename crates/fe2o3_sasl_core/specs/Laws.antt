@@ -10,7 +10,7 @@ use Rattle.fe2o3_scram.specs.ClientKeys.{ClientKeys}
 use Rattle.fe2o3_scram.specs.ClientSecret.{Password, Keys}
 use Rattle.fe2o3_scram.specs.Laws.{AreKeysOf}
 use Rattle.fe2o3_scram.specs.Passwords.{PasswordText, IsNormal, password_bytes}
-use Rattle.fe2o3_scram.specs.Credentials.{Provider, Record, record_at}
+use Rattle.fe2o3_scram.specs.Credentials.{Provider, Record}
 use Rattle.fe2o3_sasl_core.specs.Events.{Given, AreGiven, Login, IsLogin, IsRecord, IsSecret, ServerSays, Concluded, Failed, ClientSays, Refused}
 use Rattle.fe2o3_sasl_core.specs.Runs.{Runs, AcceptorSteps, ProfileReplies, ProfileSteps}
 use Rattle.fe2o3_sasl_core.specs.SaslAcceptor.{acceptor_machine, acceptor_user, Acceptor, ScramAcceptor}
@@ -243,7 +243,7 @@ RepeatedServerPositions = (sides : Sides) (k n o : ℕ) (accepted other : Accept
 
 -- each record of the provider is one that the code holds
 abbrev pub HoldsRecords : Provider → Type 0
-HoldsRecords provider = (name : List ℕ) (stored : Record) → record_at provider.records name ≡ Some stored
+HoldsRecords provider = (name : List ℕ) (stored : Record) → provider.records name ≡ Some stored
     → IsRecord stored
 
 -- in this finding both sides agree

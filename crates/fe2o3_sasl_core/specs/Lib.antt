@@ -16,7 +16,6 @@ pub mod Profiles
 pub mod SaslProfile
 pub mod ClientPolicy
 pub mod Costs
-pub mod HidingAcceptor
 pub mod Runs
 pub mod Hex
 pub mod TwoSides
@@ -28,7 +27,6 @@ pub mod AnyMechanismLaws
 pub mod AnyMechanismUsers
 pub mod StepLaws
 pub mod CostLaws
-pub mod HidingLaws
 pub mod UnknownUsers
 pub mod Headline
 pub mod private

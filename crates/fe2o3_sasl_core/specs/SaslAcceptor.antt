@@ -74,7 +74,7 @@ acceptor_machine (ScramAcceptor provider state) nonce (frames.Init mechanism (So
     × (reply ≡ server_frame (λ message. frames.Challenge message) answer) × (next ≡ ScramAcceptor provider after)))
 acceptor_machine (ScramAcceptor provider state) nonce (frames.Response text) reply next =
     (answer : Result (Option (List ℕ)) ServerScramErrorKind) × (after : ServerState)
-    × ConcludesFrom state provider text answer after
+    × ConcludesFrom state provider.version text answer after
     × (reply ≡ server_frame (λ message. frames.Outcome outcomes.Ok (Some message)) answer)
     × (next ≡ ScramAcceptor provider after)
 acceptor_machine (PlainAcceptor user password accepted) nonce (frames.Init mechanism (Some text) hostname) reply next =
@@ -92,12 +92,12 @@ acceptor_machine acceptor nonce (frames.Init mechanism None hostname) reply next
 acceptor_machine acceptor nonce frame reply next = ⊥
 
 -- where an acceptor comes to ask for memory before it has its reply to a frame (AMQP 1.0, part 5, section 5.3.2):
--- SCRAM at an init with its own name where it comes to an escaped user name or to a known user (RFC 5802, section 5.1),
+-- SCRAM at an init with its own name where it comes to an escaped user name or to a user with a record (RFC 5802, section 5.1),
 -- and at a response where it comes to a base64 text (RFC 5802, section 7); the others never
 abbrev pub acceptor_allocates : Acceptor → SaslFrame → Type 0
 acceptor_allocates (ScramAcceptor provider state) (frames.Init mechanism (Some text) hostname) =
     (mechanism ≡ mechanism_name provider.version) × ReachesChallenge provider text
-acceptor_allocates (ScramAcceptor provider state) (frames.Response text) = ReachesBase64In state provider text
+acceptor_allocates (ScramAcceptor provider state) (frames.Response text) = ReachesBase64In state text
 acceptor_allocates acceptor frame = ⊥
 
 -- the acceptor of PLAIN that a value is

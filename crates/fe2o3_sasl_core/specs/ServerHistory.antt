@@ -9,7 +9,7 @@ use Rattle.fe2o3_sasl_wire.specs.SaslFrames as frames
 use Rattle.fe2o3_scram.specs.Texts.{base64_text}
 use Rattle.fe2o3_scram.specs.ServerFirst.{server_first_of}
 use Rattle.fe2o3_scram.specs.ClientFirst.{ClientFirst, ReadsClientFirst}
-use Rattle.fe2o3_scram.specs.Credentials.{Record, Provider, record_at}
+use Rattle.fe2o3_scram.specs.Credentials.{Record, Provider}
 use Rattle.fe2o3_sasl_core.specs.Bodies.{SpellsBody, says_frame}
 use Rattle.fe2o3_sasl_core.specs.Events.{Given, ServerSays, Challenged, Concluded, Failed}
 use Rattle.fe2o3_scram.specs.Hmac.{mechanism_name}
@@ -48,7 +48,7 @@ server_at provider challenge = record {
 abbrev pub FitsAsInit : Provider → Given → SaslFrame → Challenging → Type 0
 FitsAsInit provider event (frames.Init mechanism (Some text) hostname) challenge =
     (mechanism ≡ mechanism_name provider.version) × ReadsClientFirst provider.cbind_flag_y text (Ok challenge.client)
-    × (record_at provider.records challenge.client.user ≡ Some challenge.stored)
+    × (provider.records challenge.client.user ≡ Some challenge.stored)
     × (challenge.nonce ≡ base64_text event.nonce)
 FitsAsInit provider event frame challenge = ⊥
 

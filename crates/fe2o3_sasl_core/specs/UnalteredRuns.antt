@@ -6,7 +6,7 @@ use Rattle.fe2o3_sasl_wire.specs.SaslFrames.{IsBytes, canonical}
 use Rattle.fe2o3_sasl_wire.specs.SaslFrames as frames
 use Rattle.fe2o3_scram.specs.Texts.{base64_text}
 use Rattle.fe2o3_sasl_core.specs.ClientHistory.{ClientHistory}
-use Rattle.fe2o3_scram.specs.Credentials.{Provider, record_at, record_of}
+use Rattle.fe2o3_scram.specs.Credentials.{Provider, record_of}
 use Rattle.fe2o3_sasl_core.specs.Events.{Given, Login, IsLogin, ServerSays, Challenged, Concluded, Failed, ClientSays, Started, Answered, Reported, Refused}
 use Rattle.fe2o3_scram.specs.Hmac.{mechanism_name}
 use Rattle.fe2o3_scram.specs.Exchanges.{OpensRecord}
@@ -60,7 +60,7 @@ pub record Suffices (sides : Sides) : Type 0 where
 -- count it accepts
 pub record HoldsLogin (sides : Sides) (password salt : List ℕ) (count : ℕ) : Type 0 where
   pub version : sides.provider.version ≡ sides.login.version
-  pub stored : record_at sides.provider.records sides.login.user
+  pub stored : sides.provider.records sides.login.user
       ≡ Some (record_of sides.login.version password salt count)
   pub bytes : IsBytes salt
   pub opens : OpensRecord sides.login.version sides.login.secret password salt count

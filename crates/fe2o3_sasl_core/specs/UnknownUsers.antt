@@ -1,37 +1,40 @@
 -- Unknown users of a server with mock authentication, as a law of pairs: what a stranger sees of a server that does not
 -- know a name is what it sees of one that has the mock record of that name (`mock_record`). RFC 5802 leaves open what
 -- a server answers to an unknown user. Each is the contract of a clause of `laws::unknown_users`.
-use Rattle.std.specs.Prelude.{◌≡◌, ◌↔◌, ℕ, List, Option, take}
+use Rattle.std.specs.Prelude.{◌≡◌, ◌↔◌, ◌++◌, ℕ, Bool, List, Option, Some, None, codes, take}
 use Rattle.fe2o3_sasl_wire.specs.SaslFrames.{SaslFrame}
 use Rattle.fe2o3_scram.specs.declared.hmac.ScramVersion.{ScramVersion}
 use Rattle.fe2o3_scram.specs.declared.hmac.ScramVersion.TheVariants.{Sha512}
-use Rattle.fe2o3_scram.specs.Credentials.{Provider, Records, records_with, records_without}
-use Rattle.fe2o3_scram.specs.Hmac.{hmac_of}
-use Rattle.fe2o3_scram.specs.MockSettings.{MockSettings, mock_record}
+use Rattle.fe2o3_scram.specs.ClientFinal.{recovered_key}
+use Rattle.fe2o3_scram.specs.Credentials.{Provider, Store, records_with, records_without, serving}
+use Rattle.fe2o3_scram.specs.Hmac.{digest, hmac_of}
+use Rattle.fe2o3_scram.specs.MockSettings.{MockSettings, mock_record, mocking}
 use Rattle.fe2o3_scram.specs.ScramServer.{ServerState}
-use Rattle.fe2o3_sasl_core.specs.Events.{Given, ServerSays}
-use Rattle.fe2o3_sasl_core.specs.HidingAcceptor.{hiding_hmacs, hiding_machine, hiding_names}
-use Rattle.fe2o3_sasl_core.specs.HidingLaws.{hiding}
 use Rattle.fe2o3_sasl_core.specs.AnyMechanism.{any_mechanism_machine}
 use Rattle.fe2o3_sasl_core.specs.AnyMechanismLaws.{Machine}
+use Rattle.fe2o3_sasl_core.specs.Costs.{acceptor_hmacs}
+use Rattle.fe2o3_sasl_core.specs.Events.{Given, ServerSays}
 use Rattle.fe2o3_sasl_core.specs.Runs.{Runs, AcceptorSteps}
+use Rattle.fe2o3_sasl_core.specs.SaslAcceptor.{Acceptor, ScramAcceptor, acceptor_machine, acceptor_names}
+use Rattle.fe2o3_sasl_core.specs.ServerHistory.{Accepted, AcceptsAt, server_at}
 use Rattle.fe2o3_sasl_core.specs.declared.any_mechanism.Selected.{Selected}
 
 -- a server in this state gives these replies to these events
 abbrev pub GivesReplies : {S : Type 0} → Machine S → S → List Given → List ServerSays → Type 0
 GivesReplies {S} machine state events replies = (last : S) × Runs (AcceptorSteps machine) state events replies last
 
--- the provider with these records in place of its own
-abbrev pub over : Provider → Records → Provider
-over provider records = record { version = provider.version; cbind_flag_y = provider.cbind_flag_y; records = records }
+-- the store without the records of a name
+abbrev pub without_user : Store → List ℕ → Store
+without_user store name = record { version = store.version; records = records_without store.records name }
 
--- the provider without the records of a name
-abbrev pub without_user : Provider → List ℕ → Provider
-without_user provider name = over provider (records_without provider.records name)
+-- the store with the mock record of a name in the place of the record that it has of that name
+abbrev pub with_mock : Store → MockSettings → List ℕ → Store
+with_mock store mock name =
+    record { version = store.version; records = records_with store.records name (mock_record mock name) }
 
--- the provider with the mock record of a name in the place of the record that it has of that name
-abbrev pub with_mock : Provider → MockSettings → List ℕ → Provider
-with_mock provider mock name = over provider (records_with provider.records name (mock_record mock name))
+-- a server with mock authentication over a store, in this state
+abbrev pub mock_server : Bool → MockSettings → Store → ServerState → Acceptor
+mock_server cbind_flag_y mock store state = ScramAcceptor (mocking (Some mock) (serving cbind_flag_y store)) state
 
 -- of each mock record the salt is an HMAC value (RFC 2104, section 2), cut to its length, of a text that no other
 -- mechanism and no other name has: so one secret serves several mechanisms
@@ -49,29 +52,38 @@ GivesAlike machine state other = (events : List Given) (replies : List ServerSay
 
 -- an unknown user is answered as a user whose record is the mock record of the name
 abbrev pub UnknownIsMock : Type 0
-UnknownIsMock = (provider : Provider) (mock : MockSettings) (name : List ℕ) (state : ServerState)
-    → GivesAlike hiding_machine (hiding (without_user provider name) mock state)
-    (hiding (with_mock provider mock name) mock state)
+UnknownIsMock = (cbind_flag_y : Bool) (mock : MockSettings) (store : Store) (name : List ℕ) (state : ServerState)
+    → GivesAlike acceptor_machine (mock_server cbind_flag_y mock (without_user store name) state)
+    (mock_server cbind_flag_y mock (with_mock store mock name) state)
 
 -- and its answer to a frame takes as many HMAC values (RFC 5802, section 3)
 abbrev pub UnknownCostsAsMock : Type 0
-UnknownCostsAsMock = (provider : Provider) (mock : MockSettings) (name : List ℕ) (state : ServerState) (frame : SaslFrame)
-    (n : ℕ) → hiding_hmacs (hiding (without_user provider name) mock state) frame n
-    ↔ hiding_hmacs (hiding (with_mock provider mock name) mock state) frame n
+UnknownCostsAsMock = (cbind_flag_y : Bool) (mock : MockSettings) (store : Store) (name : List ℕ) (state : ServerState)
+    (frame : SaslFrame) (n : ℕ) → acceptor_hmacs (mock_server cbind_flag_y mock (without_user store name) state) frame n
+    ↔ acceptor_hmacs (mock_server cbind_flag_y mock (with_mock store mock name) state) frame n
 
 -- likewise by a server of two mechanisms, each over its own store: one that has the name in neither store gives the
 -- replies of one that has its mock records
 abbrev pub UnknownIsMockInBoth : Type 0
-UnknownIsMockInBoth = (provider other : Provider) (mock other_mock : MockSettings) (name : List ℕ)
-    (state other_state : ServerState) (asked : Option Selected)
-    → GivesAlike (any_mechanism_machine hiding_names hiding_names hiding_machine hiding_machine)
+UnknownIsMockInBoth = (cbind_flag_y other_flag : Bool) (mock other_mock : MockSettings) (store other : Store)
+    (name : List ℕ) (state other_state : ServerState) (asked : Option Selected)
+    → GivesAlike (any_mechanism_machine acceptor_names acceptor_names acceptor_machine acceptor_machine)
     (record {
-      first = hiding (without_user provider name) mock state;
-      second = hiding (without_user other name) other_mock other_state;
+      first = mock_server cbind_flag_y mock (without_user store name) state;
+      second = mock_server other_flag other_mock (without_user other name) other_state;
       selected = asked;
     })
     (record {
-      first = hiding (with_mock provider mock name) mock state;
-      second = hiding (with_mock other other_mock name) other_mock other_state;
+      first = mock_server cbind_flag_y mock (with_mock store mock name) state;
+      second = mock_server other_flag other_mock (with_mock other other_mock name) other_state;
       selected = asked;
     })
+
+-- a user who is unknown is accepted only by a proof whose key has the mock StoredKey as its digest, the HMAC value of
+-- the name after a label
+abbrev pub MockRecordIsMet : Type 0
+MockRecordIsMet = (provider : Provider) (mock : MockSettings) (events : List Given) (replies : List ServerSays) (n : ℕ)
+    (accepted : Accepted) → let server = mocking (Some mock) provider in
+    AcceptsAt server events replies n accepted → provider.records accepted.challenge.client.user ≡ None
+    → digest server.version (recovered_key (server_at server accepted.challenge) accepted.final)
+    ≡ hmac_of mock.version mock.secret (codes "StoredKey:" ++ accepted.challenge.client.user)

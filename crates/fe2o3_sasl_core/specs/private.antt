@@ -1,2 +1,2 @@
--- What contracts of private functions cite. MockSettings has to believe it.
+-- What contracts of private functions cite. A reader need not trust it.
 pub mod Writing

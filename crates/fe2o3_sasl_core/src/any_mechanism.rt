@@ -15,7 +15,6 @@ use fe2o3_sasl_wire::{Array, SaslCode, SaslInit, SaslResponse, Symbol};
 use fe2o3_scram::credentials::ScramCredentialProvider;
 use fe2o3_scram::hmac::Meter;
 use fe2o3_scram::scram_server::ScramAuthenticator;
-use fe2o3_scram::scram_server::hiding::HidingAuthenticator;
 use std::alloc::{AllocError, Global};
 
 /// An acceptor that tells whether it has a mechanism, without a list of its names.
@@ -38,12 +37,6 @@ impl HasMechanism for SaslAnonymousMechanism {
 }
 
 impl<C: ScramCredentialProvider> HasMechanism for ScramAuthenticator<C> {
-    fn has_mechanism(&self, name: &str) -> bool {
-        self.credentials().scram_version().mechanism() == name
-    }
-}
-
-impl<C: ScramCredentialProvider> HasMechanism for HidingAuthenticator<C> {
     fn has_mechanism(&self, name: &str) -> bool {
         self.credentials().scram_version().mechanism() == name
     }

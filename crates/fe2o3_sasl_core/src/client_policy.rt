@@ -1,10 +1,9 @@
 //! Which mechanism a client takes of those that a server offers (AMQP 1.0, part 5, section 5.3.3.2).
 
-ghost use Rattle.std.specs.Prelude.{◌≡◌, ◌≢◌, ◌↔◌, true, false, Some, IfOk, IfErr, OnOk, MatchBool, MatchOption, List, ℕ, option_map, is_some, string_bytes};
+ghost use Rattle.std.specs.Prelude.{◌≡◌, ◌≢◌, ◌↔◌, true, false, Some, IfOk, IfErr, OnOk, MatchBool, MatchOption, List, ℕ, option_map, is_some};
 ghost use Rattle.std.specs.List.{AllByRecursion, Contains};
-ghost use Rattle.fe2o3_scram.specs.ClientSecret.{Both, secret_of, up_to, no_limit};
-ghost use Rattle.fe2o3_scram.specs.Passwords.{Typed, Prepared};
-ghost use Rattle.fe2o3_sasl_core.specs.ClientPolicy.{by_strength, policy_name, is_allowed, secret_for, fresh_client, scram_by, plain_by, profile_by, CanTake, IsFirstTaken};
+ghost use Rattle.fe2o3_scram.specs.ClientSecret.{IsOfVersion, secret_of, up_to, no_limit};
+ghost use Rattle.fe2o3_sasl_core.specs.ClientPolicy.{by_strength, policy_name, is_allowed, secret_for, scram_by, plain_by, profile_by, CanTake, IsFirstTaken};
 ghost use Rattle.fe2o3_sasl_core.specs.SaslProfile.{profile_of};
 ghost use Rattle.fe2o3_sasl_core.specs.declared.client_policy.ChoiceError.TheVariants.{OutOfMemory as OutOfMemoryError};
 
@@ -12,8 +11,7 @@ use crate::OutOfMemory;
 use crate::mechanism_names::{ANONYMOUS, EXTERNAL, PLAIN};
 use crate::sasl_profile::SaslProfile;
 use fe2o3_sasl_wire::SymbolsView;
-use fe2o3_scram::cached_keys::CachedKeys;
-use fe2o3_scram::client_secret::{ClientSecret, IterationLimits};
+use fe2o3_scram::client_secret::{ClientSecret, ClientSecretError, IterationLimits};
 use fe2o3_scram::hmac::ScramVersion;
 use fe2o3_scram::scram_client::ScramClient;
 use std::alloc::{AllocError, AllocFailed, Global};
@@ -179,16 +177,19 @@ impl<T: Drop> From<AllocFailed<T>> for ChoiceError {
     }
 }
 
-/// Whether the secret serves for SCRAM of this version.
-fn serves_scram(secret: &ClientSecret<'_>, version: ScramVersion) -> bool
-    ensures { result ≡ is_some (secret_for version (secret_of secret.now)) }
+/// Returns what the secret is for SCRAM of this version, if it serves for it.
+#[tactic(auto, using(crate::proofs::lemmas::machines::PolicyLemmas::keys))]
+fn secret_for<'a>(secret: &ClientSecret<'a>, version: ScramVersion) -> Option<ClientSecret<'a>>
+    ensures secret { option_map secret_of result ≡ secret_for version (secret_of secret.now) }
+    ensures version { MatchOption result (is_some (secret_for version (secret_of secret.now)) ≡ false)
+        (λ secret. IsOfVersion version (secret_of secret)) }
 {
     match secret {
-        ClientSecret::Password(_)
-        | ClientSecret::Prepared(_)
-        | ClientSecret::Both { .. }
-        | ClientSecret::PreparedAndKeys { .. } => true,
-        ClientSecret::Keys(keys) => keys.scram_version() == version,
+        ClientSecret::Keys(keys) if keys.scram_version() != version => None,
+        ClientSecret::PasswordAndKeys { password, keys } if keys.scram_version() != version => {
+            Some(ClientSecret::Password(*password))
+        }
+        secret => Some(*secret),
     }
 }
 
@@ -198,9 +199,9 @@ fn serves(secret: &ClientSecret<'_>, mechanism: Mechanism) -> bool
         → result ≡ is_some (profile_by limits user (secret_of secret.now) mechanism) }
 {
     match mechanism {
-        Mechanism::ScramSha512 => serves_scram(secret, ScramVersion::Sha512),
-        Mechanism::ScramSha256 => serves_scram(secret, ScramVersion::Sha256),
-        Mechanism::ScramSha1 => serves_scram(secret, ScramVersion::Sha1),
+        Mechanism::ScramSha512 => secret_for(secret, ScramVersion::Sha512).is_some(),
+        Mechanism::ScramSha256 => secret_for(secret, ScramVersion::Sha256).is_some(),
+        Mechanism::ScramSha1 => secret_for(secret, ScramVersion::Sha1).is_some(),
         Mechanism::Plain => !matches!(secret, ClientSecret::Keys(_)),
         Mechanism::External | Mechanism::Anonymous => true,
     }
@@ -239,85 +240,6 @@ fn first_taken(
     None
 }
 
-/// A client of the user by a password as it is typed, and by these keys where they are of this version.
-#[tactic(auto, using(crate::proofs::lemmas::machines::PolicyLemmas::keys))]
-fn client_with_keys(
-    alloc: Global,
-    username: String,
-    password: &str,
-    keys: &CachedKeys,
-    version: ScramVersion,
-) -> Result<ScramClient, OutOfMemory>
-    ensures { IfOk result (λ client. Some client ≡ option_map (fresh_client (string_bytes username) version)
-        (secret_for version (Both (Typed password.now) keys.now))) }
-{
-    let password = String::from_str(alloc, password)?;
-    if keys.scram_version() != version {
-        return Ok(ScramClient::new(username, password, version));
-    }
-    let keys = CachedKeys::clone(keys)?;
-    Ok(ScramClient::with_password_and_keys(username, password, keys))
-}
-
-/// The same by a prepared password.
-#[tactic(auto, using(crate::proofs::lemmas::machines::PolicyLemmas::keys))]
-fn prepared_client_with_keys(
-    alloc: Global,
-    username: String,
-    password: &str,
-    keys: &CachedKeys,
-    version: ScramVersion,
-) -> Result<ScramClient, OutOfMemory>
-    ensures { IfOk result (λ client. Some client ≡ option_map (fresh_client (string_bytes username) version)
-        (secret_for version (Both (Prepared password.now) keys.now))) }
-{
-    let password = String::from_str(alloc, password)?;
-    if keys.scram_version() != version {
-        return Ok(ScramClient::with_prepared_password(username, password, version));
-    }
-    let keys = CachedKeys::clone(keys)?;
-    Ok(ScramClient::with_prepared_password_and_keys(username, password, keys))
-}
-
-/// A client of the user by SCRAM of this version that accepts every count, if the secret serves for it.
-#[tactic(auto, using(crate::proofs::lemmas::machines::PolicyLemmas::keys))]
-fn scram_client(
-    alloc: Global,
-    username: &str,
-    secret: &ClientSecret<'_>,
-    version: ScramVersion,
-) -> Result<Option<ScramClient>, OutOfMemory>
-    ensures { IfOk result (λ client. client
-        ≡ option_map (fresh_client username.now version) (secret_for version (secret_of secret.now))) }
-{
-    let username = String::from_str(alloc, username)?;
-    match secret {
-        ClientSecret::Password(password) => {
-            let password = String::from_str(alloc, password)?;
-            Ok(Some(ScramClient::new(username, password, version)))
-        }
-        ClientSecret::Prepared(password) => {
-            let password = String::from_str(alloc, password)?;
-            Ok(Some(ScramClient::with_prepared_password(username, password, version)))
-        }
-        ClientSecret::Keys(keys) => {
-            if keys.scram_version() != version {
-                return Ok(None);
-            }
-            let keys = CachedKeys::clone(keys)?;
-            Ok(Some(ScramClient::with_keys(username, keys)))
-        }
-        ClientSecret::Both { password, keys } => {
-            let client = client_with_keys(alloc, username, password, keys, version)?;
-            Ok(Some(client))
-        }
-        ClientSecret::PreparedAndKeys { password, keys } => {
-            let client = prepared_client_with_keys(alloc, username, password, keys, version)?;
-            Ok(Some(client))
-        }
-    }
-}
-
 /// The profile of the user by SCRAM of this version, if the secret serves for it.
 fn scram_profile(
     alloc: Global,
@@ -329,13 +251,18 @@ fn scram_profile(
     ensures { IfOk result (λ profile. option_map profile_of profile
         ≡ scram_by limits username.now version (secret_for version (secret_of secret.now))) }
 {
-    match scram_client(alloc, username, secret, version)? {
-        Some(client) => {
+    let Some(secret) = secret_for(secret, version) else {
+        return Ok(None);
+    };
+    let username = String::from_str(alloc, username)?;
+    match ScramClient::with_secret(alloc, username, secret, version) {
+        Ok(client) => {
             let client = client.with_min_iterations(limits.min_iterations);
             let client = client.with_iteration_limit(limits.max_iterations);
             Ok(Some(SaslProfile::scram_of(client)))
         }
-        None => Ok(None),
+        Err(ClientSecretError::OutOfMemory) => Err(OutOfMemory),
+        Err(ClientSecretError::VersionMismatch) => unreachable!(),
     }
 }
 
@@ -348,9 +275,9 @@ fn plain_profile(
     ensures { IfOk result (λ profile. option_map profile_of profile ≡ plain_by username.now (secret_of secret.now)) }
 {
     let password = match secret {
-        ClientSecret::Password(password) | ClientSecret::Prepared(password) => password,
-        ClientSecret::Both { password, .. } | ClientSecret::PreparedAndKeys { password, .. } =>
-            password,
+        ClientSecret::Password(password) | ClientSecret::PasswordAndKeys { password, .. } => {
+            password.as_str()
+        }
         ClientSecret::Keys(_) => return Ok(None),
     };
     Ok(Some(SaslProfile::plain(

@@ -11,12 +11,13 @@ ghost use Rattle.fe2o3_sasl_core.specs.PlainServer.{AsksPlain, HasPassword, IsTa
 ghost use Rattle.fe2o3_sasl_core.specs.SaslAcceptor.{sent_frame};
 
 use crate::OutOfMemory;
-use crate::mechanism_names::PLAIN;
 use crate::any_mechanism::HasMechanism;
+use crate::mechanism_names::PLAIN;
 use crate::sasl_acceptor::{AuthenticatedUser, SaslAcceptor, SaslServerFrame, one_name, outcome};
 use fe2o3_sasl_wire::{Array, SaslCode, SaslInit, SaslResponse, Symbol};
 use fe2o3_scram::credentials::ScramCredentialProvider;
 use fe2o3_scram::hmac::Meter;
+use fe2o3_scram::passwords::Password;
 use fe2o3_scram::provider::StoredPassword;
 use std::alloc::{AllocError, Global};
 use std::fmt;
@@ -105,15 +106,14 @@ impl<C: ScramCredentialProvider> PlainServer<C> {
             (record_at (C.meaning self.now.credentials).records message.now.username.now)) meter.old meter.new }
     {
         let scram_version = *self.credentials.scram_version();
+        let password = Password::Typed(message.password);
         match self.credentials.get_stored_password(message.username) {
-            Some(stored_password) => {
-                stored_password.verify_password_metered(scram_version, message.password, meter)
-            }
-            None => mock(self.iterations).verify_password_metered(
+            Some(stored_password) => stored_password.verify_password(
                 scram_version,
-                message.password,
+                password,
                 meter,
             ),
+            None => mock(self.iterations).verify_password(scram_version, password, meter),
         }
     }
 }

@@ -8,11 +8,10 @@ ghost use Rattle.fe2o3_sasl_wire.specs.declared.amqp_types.SaslCode.TheVariants.
 ghost use Rattle.fe2o3_scram.specs.declared.scram_messages.error.ServerScramErrorKind.TheVariants.{OutOfMemory as ScramOutOfMemory};
 ghost use Rattle.std.proofs.Common.{ap};
 ghost use Rattle.fe2o3_scram.specs.Credentials.{serving};
+ghost use Rattle.fe2o3_scram.specs.MockSettings.{mocking};
 ghost use Rattle.fe2o3_scram.specs.ScramServer.{provider_in, served_by, state_in, logged_in};
 ghost use Rattle.fe2o3_sasl_core.specs.Costs.{acceptor_hmacs, CostsAtMost};
 ghost use Rattle.fe2o3_sasl_core.specs.SaslAcceptor.{Acceptor, ScramAcceptor, PlainAcceptor, AnonymousAcceptor, acceptor_names, acceptor_machine, acceptor_allocates, acceptor_user, offered, NamesPlain, ZeroPart, ends_with, server_frame, plain_acceptor, sent_frame};
-
-mod hiding;
 
 use crate::OutOfMemory;
 use crate::mechanism_names::{ANONYMOUS, PLAIN, symbol_of};
@@ -432,7 +431,7 @@ impl<C: ScramCredentialProvider> SaslAcceptor for ScramAuthenticator<C> {
 
     ghost clone_keeps = { λ acceptor copy same.
         let kept = C.clone_keeps (provider_in acceptor) (provider_in copy) same.0 in
-        λ i. ScramAcceptor (serving (same.1 i) (kept i)) (same.2 i) };
+        λ i. ScramAcceptor (mocking (same.3 i) (serving (same.1 i) (kept i))) (same.2 i) };
 
     fn mechanisms(&self, alloc: Global) -> Result<Array<Symbol>, OutOfMemory> {
         one_name(alloc, self.credentials().scram_version().mechanism())
@@ -460,15 +459,30 @@ impl<C: ScramCredentialProvider> SaslAcceptor for ScramAuthenticator<C> {
         alloc: Global,
         init: SaslInit,
         nonce: &[u8; 32],
-        _meter: &mut Meter,
-    ) -> Result<SaslServerFrame, OutOfMemory> {
+        meter: &mut Meter,
+    ) -> Result<SaslServerFrame, OutOfMemory>
+        requires { meter.old ≤ 2 ^ 63 }
+        ensures ok { IfOk result (λ reply. acceptor_machine
+            (ScramAcceptor (served_by C.meaning self.old) (state_in self.old)) nonce.now (init_frame init)
+            (sent_frame reply) (ScramAcceptor (served_by C.meaning self.new) (state_in self.new))) }
+        ensures memory { IfErr result (λ _. acceptor_allocates
+            (ScramAcceptor (served_by C.meaning self.old) (state_in self.old)) (init_frame init)) }
+        ensures err { OnErr result (◌≡◌ {A = Acceptor}
+            (ScramAcceptor (served_by C.meaning self.new) (state_in self.new))
+            (ScramAcceptor (served_by C.meaning self.old) (state_in self.old))) }
+        ensures cost { CostsAtMost acceptor_hmacs
+            (ScramAcceptor (served_by C.meaning self.old) (state_in self.old)) (init_frame init) meter.old meter.new }
+        ensures exactly { OnOk result ((n : ℕ) → acceptor_hmacs
+            (ScramAcceptor (served_by C.meaning self.old) (state_in self.old)) (init_frame init) n
+            → meter.new ≡ meter.old + n) }
+    {
         let Some(client_first) = &init.initial_response else {
             return Ok(outcome(SaslCode::Auth));
         };
         if init.mechanism.as_str() != self.credentials().scram_version().mechanism() {
             return Ok(outcome(SaslCode::Auth));
         }
-        match self.compute_server_first_message(alloc, &client_first.0, nonce) {
+        match self.compute_server_first_message_metered(alloc, &client_first.0, nonce, meter) {
             Ok(answer) => Ok(challenge(answer)),
             Err(kind) => refusal(kind),
         }

@@ -32,7 +32,7 @@ use fe2o3_scram::hmac::{Meter, ScramVersion};
 use fe2o3_scram::scram_client::ScramClient;
 use fe2o3_scram::scram_messages::ScramErrorKind;
 pub use scram::{SaslScram, SaslScramSha1, SaslScramSha256, SaslScramSha512};
-use scram_frames::{answer, verify, first_message, outcome_refusal_unread, refusal_unread};
+use scram_frames::{answer, first_message, outcome_refusal_unread, refusal_unread, verify};
 use std::alloc::{AllocError, Global};
 use std::fmt;
 use url::Url;
@@ -153,7 +153,7 @@ impl SaslProfile {
     }
 
     /// The nonce of the client-first message of SCRAM, where that is what the client sent last. A client
-    /// that is set down here is taken up by `initial_response` with it.
+    /// that is saved here is restored by `initial_response` with it.
     pub fn nonce(&self) -> Option<&[u8; 32]>
         ensures { MatchOption result
             ((nonce bare : List ℕ) → profile_state (profile_of self.now) ≢ ClientFirstSent nonce bare)
@@ -164,7 +164,7 @@ impl SaslProfile {
     }
 
     /// The signature that a client of SCRAM waits for, where it has sent its client-final message last. A
-    /// client that is set down here is taken up by `waiting_for`.
+    /// client that is saved here is restored by `restore_client_final_sent`.
     pub fn server_signature(&self) -> Option<&[u8]>
         ensures { MatchOption result ((signature : List ℕ) (keys : Option ClientKeys)
             → profile_state (profile_of self.now) ≢ ClientFinalSent signature keys)
@@ -175,7 +175,7 @@ impl SaslProfile {
     }
 
     /// The keys of the answer for which a client of SCRAM waits for a signature. They are for a client that
-    /// is set down: until the server is believed anybody may have named their salt, so do not keep them for
+    /// is saved: until the server is verified anybody may have named their salt, so do not keep them for
     /// another login.
     pub fn answer_keys(&self) -> Option<&CachedKeys>
         ensures { MatchOption result (answer_keys (profile_state (profile_of self.now)) ≡ None)
@@ -184,23 +184,33 @@ impl SaslProfile {
         self.scram_client()?.answer_keys()
     }
 
-    /// The same profile, where the client-final message of SCRAM is what it sent last, and it waits for
-    /// this signature. With the keys of that answer it hands them out once the server is believed. A
-    /// profile that is not of SCRAM stays as it is.
-    pub fn waiting_for(self, server_signature: Vec<u8>, keys: Option<CachedKeys>) -> Self
+    /// Returns this profile in the state after the client-final message of SCRAM, in which it waits for this
+    /// signature. With the keys of that answer it returns them by `keys` once the server is verified. A
+    /// profile that is not of SCRAM is returned unchanged.
+    pub fn restore_client_final_sent(
+        self,
+        server_signature: Vec<u8>,
+        keys: Option<CachedKeys>,
+    ) -> Self
         ensures { profile_of result ≡ in_state (profile_of self) (ClientFinalSent server_signature.items keys) }
     {
         match self {
             SaslProfile::ScramSha1(scram) => {
-                let client = scram.client.waiting_for(server_signature, keys);
+                let client = scram
+                    .client
+                    .restore_client_final_sent(server_signature, keys);
                 SaslProfile::ScramSha1(SaslScramSha1::of(client))
             }
             SaslProfile::ScramSha256(scram) => {
-                let client = scram.client.waiting_for(server_signature, keys);
+                let client = scram
+                    .client
+                    .restore_client_final_sent(server_signature, keys);
                 SaslProfile::ScramSha256(SaslScramSha256::of(client))
             }
             SaslProfile::ScramSha512(scram) => {
-                let client = scram.client.waiting_for(server_signature, keys);
+                let client = scram
+                    .client
+                    .restore_client_final_sent(server_signature, keys);
                 SaslProfile::ScramSha512(SaslScramSha512::of(client))
             }
             profile => profile,

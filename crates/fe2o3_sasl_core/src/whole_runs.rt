@@ -5,7 +5,6 @@ ghost use Rattle.std.specs.Prelude.{◌≡◌, ◌<◌, ◌≤◌, ◌+◌, ◌+
 ghost use Rattle.fe2o3_sasl_wire.specs.FrameView.{shown};
 ghost use Rattle.fe2o3_scram.specs.Credentials.{serving};
 ghost use Rattle.fe2o3_scram.specs.ClientSecret.{no_limit};
-ghost use Rattle.fe2o3_scram.specs.ScramServer.{Initial, served_by, state_in};
 ghost use Rattle.fe2o3_sasl_core.specs.ClientHistory.{ClientHistory};
 ghost use Rattle.fe2o3_sasl_core.specs.Events.{Login, IsLogin};
 ghost use Rattle.fe2o3_sasl_core.specs.ServerHistory.{ServerHistory};
@@ -112,24 +111,8 @@ pub fn scram_server_run_with_cbind_flag_y<C: ScramCredentialProvider>(
         (map given events.now) (map server_answer replies.items)) }
 {
     let provider = credentials.clone()?;
-    let mut authenticator = server_over(provider, accept_cbind_flag_y);
+    let mut authenticator = ScramAuthenticator::new(provider).accept_cbind_flag_y(accept_cbind_flag_y);
     run_acceptor(alloc, &mut authenticator, events)
-}
-
-/// A server over these credentials that has not been used.
-fn server_over<C: ScramCredentialProvider>(
-    credentials: C,
-    accept_cbind_flag_y: bool,
-) -> ScramAuthenticator<C>
-    ensures served { served_by C.meaning result ≡ serving accept_cbind_flag_y (C.meaning credentials) }
-    ensures state { state_in result ≡ Initial }
-{
-    let authenticator = ScramAuthenticator::new(credentials);
-    if accept_cbind_flag_y {
-        authenticator.accept_cbind_flag_y()
-    } else {
-        authenticator
-    }
 }
 
 /// What a SCRAM client answers to a list of bodies, from a fresh start and without a hostname: it

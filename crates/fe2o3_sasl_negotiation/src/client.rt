@@ -246,7 +246,7 @@ impl ClientNegotiation {
     }
 
     /// Restores the client's side that `snapshot` saved, over a profile in the state in which that side's was (the
-    /// profile's `waiting_for`), with its hostname.
+    /// profile's `restore_client_final_sent`), with its hostname.
     ///
     /// Errors, in this order: `InvalidSnapshot` where no client can have such values, and `OutOfMemory`.
     pub fn restore(

@@ -1,4 +1,4 @@
--- What only private contracts and the laws of impls cite. MockSettings has to believe these to believe a public contract.
+-- What only private contracts and the laws of impls cite. A reader need not trust these to trust a public contract.
 pub mod Fields
 pub mod Kinds
 pub mod Reading

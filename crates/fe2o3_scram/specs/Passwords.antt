@@ -1,11 +1,18 @@
--- A password as it is handed in (RFC 5802, section 2.2): as it is typed, or prepared by whoever hands it in.
+-- A password as its caller passes it (RFC 5802, section 2.2): as the user typed it, or prepared by the caller.
 use Rattle.std.specs.Prelude.{ℕ, List}
+use Rattle.fe2o3_scram.specs.declared.passwords.Password.{Password}
+use Rattle.fe2o3_scram.specs.declared.passwords.Password.TheVariants as code
 use Rattle.fe2o3_scram.specs.SaslprepAscii.{IsPrintable}
 
 -- the text of a password as it is typed, or the text that Normalize (RFC 5802, section 2.2) makes of it
 pub data PasswordText : Type 0 where
   Typed : (text : List ℕ) → PasswordText
   Prepared : (text : List ℕ) → PasswordText
+
+-- the password that the code's value is
+abbrev pub password_of : Password → PasswordText
+password_of (code.Typed text) = Typed text.now
+password_of (code.Prepared text) = Prepared text.now
 
 -- the bytes that keys are made of (RFC 5802, section 3)
 abbrev pub password_bytes : PasswordText → List ℕ

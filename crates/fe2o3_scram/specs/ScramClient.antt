@@ -9,7 +9,7 @@ use Rattle.fe2o3_scram.specs.declared.scram_messages.error.ScramErrorKind.TheVar
 use Rattle.fe2o3_scram.specs.Texts.{base64_text}
 use Rattle.fe2o3_scram.specs.ClientFinal.{Answer}
 use Rattle.fe2o3_scram.specs.ClientKeys.{ClientKeys}
-use Rattle.fe2o3_scram.specs.ClientSecret.{Secret}
+use Rattle.fe2o3_scram.specs.ClientSecret.{Secret, no_limit, up_to}
 use Rattle.fe2o3_scram.specs.ServerFirstAnswers.{AnswersServerFirst, AnswerCosts}
 use Rattle.fe2o3_scram.specs.ClientFirst.{client_first_bare}
 use Rattle.fe2o3_scram.specs.ServerFirst.{Client, client_of, ReachesSalt, ReadsServerFirst}
@@ -30,6 +30,16 @@ pub record ClientSide : Type 0 where
   pub version : ScramVersion
   pub limits : IterationLimits
   pub state : ClientState
+
+-- a client of the user by this secret, which has sent nothing and accepts every count
+abbrev pub fresh_client : List ℕ → ScramVersion → Secret → ClientSide
+fresh_client user version secret = record {
+  user = user;
+  secret = secret;
+  version = version;
+  limits = up_to no_limit;
+  state = ClientInitial;
+}
 
 -- the same client in another state
 abbrev pub with_state : ClientSide → ClientState → ClientSide

@@ -1,4 +1,4 @@
--- MockSettings has to believe these: they say what the code holds, and only private contracts cite them.
+-- A reader need not trust these: they say what the code holds, and only private contracts cite them.
 pub mod Answers
 pub mod ByName
 pub mod Hashers

@@ -1,44 +1,69 @@
 //! By what a client proves who it is (RFC 5802, section 3), and the iteration counts that it accepts.
 
-ghost use Rattle.std.specs.Prelude.{◌≡◌, IfOk};
-ghost use Rattle.std.specs.String.{string_bytes};
-ghost use Rattle.fe2o3_scram.specs.ClientSecret.{Password, Both, kept_password, kept_secret, no_limit, secret_of, up_to};
-ghost use Rattle.fe2o3_scram.specs.Passwords.{Typed, Prepared};
+ghost use Rattle.std.specs.Prelude.{◌≡◌, ◌↔◌, IfOk, IsTrue};
+ghost use Rattle.fe2o3_scram.specs.ClientSecret.{IsOfVersion, kept_password, kept_secret, no_limit, secret_of, up_to};
+ghost use Rattle.fe2o3_scram.specs.Passwords.{password_of};
+ghost use Rattle.fe2o3_scram.specs.declared.client_secret.ClientSecretError.TheVariants.{OutOfMemory as OutOfMemoryError};
 
+use crate::OutOfMemory;
+use crate::hmac::ScramVersion;
 use crate::keys::CachedKeys;
-use std::alloc::AllocError;
+use crate::passwords::Password;
+use std::alloc::{AllocError, Global};
+use thiserror::Error;
 
 /// By what a client proves who it is (RFC 5802, section 3).
 #[derive(Clone, Copy)]
 pub enum ClientSecret<'a> {
-    /// The password as it is typed, which has to be printable ASCII (RFC 4013, section 2).
-    Password(&'a str),
+    /// The password.
+    Password(Password<'a>),
 
-    /// The password as its caller has prepared it (RFC 4013, section 2), which is taken as it stands, whatever
-    /// it is.
-    Prepared(&'a str),
-
-    /// The keys that an earlier login handed out. They serve where the server names the salt and the
-    /// iteration count that they are of.
+    /// The keys of an earlier login. They serve where the server names the salt and the iteration count
+    /// that they are of.
     Keys(&'a CachedKeys),
 
-    /// Both: the keys where they serve, and else the password.
-    Both {
-        /// The password as it is typed.
-        password: &'a str,
+    /// Both: the keys where they serve, and otherwise the password.
+    PasswordAndKeys {
+        /// The password.
+        password: Password<'a>,
 
-        /// The keys that an earlier login handed out.
+        /// The keys of an earlier login.
         keys: &'a CachedKeys,
     },
+}
 
-    /// The same of a prepared password.
-    PreparedAndKeys {
-        /// The password as its caller has prepared it.
-        password: &'a str,
+/// Why no client is made of a secret.
+#[derive(Debug, Clone, Copy, PartialEq, Eq, Error)]
+pub enum ClientSecretError {
+    /// The keys are of another version than the client.
+    #[error("Version mismatch")]
+    VersionMismatch,
 
-        /// The keys that an earlier login handed out.
-        keys: &'a CachedKeys,
-    },
+    /// A request for memory was refused.
+    #[error("Out of memory")]
+    OutOfMemory,
+}
+
+impl From<AllocError> for ClientSecretError {
+    ghost from_gives = { λ _ error. error ≡ OutOfMemoryError };
+
+    fn from(_error: AllocError) -> Self {
+        ClientSecretError::OutOfMemory
+    }
+}
+
+impl ClientSecret<'_> {
+    /// Returns whether the keys, if there are any, are of this version.
+    pub(crate) fn is_of_version(self, version: ScramVersion) -> bool
+        ensures { IsTrue result ↔ IsOfVersion version (secret_of self.entry) }
+    {
+        match self {
+            ClientSecret::Password(_) => true,
+            ClientSecret::Keys(keys) | ClientSecret::PasswordAndKeys { keys, .. } => {
+                keys.scram_version() == version
+            }
+        }
+    }
 }
 
 /// The iteration counts that a client accepts, both ends among them. Without a limit they are 1 to
@@ -64,73 +89,48 @@ impl IterationLimits {
     pub fn up_to(max_iterations: u32) -> Self
         ensures { result ≡ up_to max_iterations }
     {
-        Self { min_iterations: 1, max_iterations }
+        Self {
+            min_iterations: 1,
+            max_iterations,
+        }
     }
-}
-
-/// How a password was handed in.
-#[derive(Clone, Copy)]
-pub(crate) enum PasswordForm {
-    Typed,
-    Prepared,
 }
 
 /// The password as a client keeps it.
 #[derive(Drop)]
-pub(crate) struct KeptPassword {
-    pub form: PasswordForm,
-    pub text: String,
+pub(crate) enum KeptPassword {
+    Typed(String),
+    Prepared(String),
 }
 
 impl KeptPassword {
-    /// A password as it is typed.
-    pub(crate) fn typed(text: String) -> Self
-        ensures { kept_password result ≡ Typed (string_bytes text) }
+    /// Copies a password.
+    fn of(alloc: Global, password: Password<'_>) -> Result<Self, OutOfMemory>
+        ensures { IfOk result (λ kept. kept_password kept ≡ password_of password.entry) }
     {
-        Self {
-            form: PasswordForm::Typed,
-            text,
+        Ok(match password {
+            Password::Typed(text) => KeptPassword::Typed(String::from_str(alloc, text)?),
+            Password::Prepared(text) => KeptPassword::Prepared(String::from_str(alloc, text)?),
+        })
+    }
+
+    /// Lends the password.
+    fn lent(&self) -> Password<'_>
+        ensures { password_of result ≡ kept_password self.now }
+    {
+        match self {
+            KeptPassword::Typed(text) => Password::Typed(text),
+            KeptPassword::Prepared(text) => Password::Prepared(text),
         }
     }
 
-    /// A prepared password.
-    pub(crate) fn prepared(text: String) -> Self
-        ensures { kept_password result ≡ Prepared (string_bytes text) }
-    {
-        Self {
-            form: PasswordForm::Prepared,
-            text,
-        }
-    }
-
-    /// The secret that it is.
-    fn lent(&self) -> ClientSecret<'_>
-        ensures { secret_of result ≡ Password (kept_password self.now) }
-    {
-        match self.form {
-            PasswordForm::Typed => ClientSecret::Password(&self.text),
-            PasswordForm::Prepared => ClientSecret::Prepared(&self.text),
-        }
-    }
-
-    /// The secret that it is with keys.
-    fn lent_with<'a>(&'a self, keys: &'a CachedKeys) -> ClientSecret<'a>
-        ensures { secret_of result ≡ Both (kept_password self.now) keys.now }
-    {
-        let password = &self.text;
-        match self.form {
-            PasswordForm::Typed => ClientSecret::Both { password, keys },
-            PasswordForm::Prepared => ClientSecret::PreparedAndKeys { password, keys },
-        }
-    }
-
-    /// The same password.
-    fn copy(&self) -> Result<KeptPassword, AllocError>
+    /// Copies the kept password.
+    fn copy(&self) -> Result<Self, AllocError>
         ensures { IfOk result (λ copy. kept_password copy ≡ kept_password self.now) }
     {
-        Ok(Self {
-            form: self.form,
-            text: self.text.clone()?,
+        Ok(match self {
+            KeptPassword::Typed(text) => KeptPassword::Typed(text.clone()?),
+            KeptPassword::Prepared(text) => KeptPassword::Prepared(text.clone()?),
         })
     }
 }
@@ -140,21 +140,40 @@ impl KeptPassword {
 pub(crate) enum KeptSecret {
     Password(KeptPassword),
     Keys(CachedKeys),
-    Both {
+    PasswordAndKeys {
         password: KeptPassword,
         keys: CachedKeys,
     },
 }
 
 impl KeptSecret {
-    /// The secret, lent.
+    /// Copies a secret.
+    pub(crate) fn of(alloc: Global, secret: ClientSecret<'_>) -> Result<Self, OutOfMemory>
+        ensures { IfOk result (λ kept. kept_secret kept ≡ secret_of secret.entry) }
+    {
+        Ok(match secret {
+            ClientSecret::Password(password) => {
+                KeptSecret::Password(KeptPassword::of(alloc, password)?)
+            }
+            ClientSecret::Keys(keys) => KeptSecret::Keys(keys.clone()?),
+            ClientSecret::PasswordAndKeys { password, keys } => KeptSecret::PasswordAndKeys {
+                password: KeptPassword::of(alloc, password)?,
+                keys: keys.clone()?,
+            },
+        })
+    }
+
+    /// Lends the secret.
     pub(crate) fn lent(&self) -> ClientSecret<'_>
         ensures { secret_of result ≡ kept_secret self.now }
     {
         match self {
-            KeptSecret::Password(password) => password.lent(),
+            KeptSecret::Password(password) => ClientSecret::Password(password.lent()),
             KeptSecret::Keys(keys) => ClientSecret::Keys(keys),
-            KeptSecret::Both { password, keys } => password.lent_with(keys),
+            KeptSecret::PasswordAndKeys { password, keys } => ClientSecret::PasswordAndKeys {
+                password: password.lent(),
+                keys,
+            },
         }
     }
 }
@@ -166,7 +185,7 @@ impl Clone for KeptSecret {
         Ok(match self {
             KeptSecret::Password(password) => KeptSecret::Password(password.copy()?),
             KeptSecret::Keys(keys) => KeptSecret::Keys(keys.clone()?),
-            KeptSecret::Both { password, keys } => KeptSecret::Both {
+            KeptSecret::PasswordAndKeys { password, keys } => KeptSecret::PasswordAndKeys {
                 password: password.copy()?,
                 keys: keys.clone()?,
             },

@@ -23,8 +23,9 @@ pub use crate::credentials::record_store::{AddRecordError, RecordStore};
 pub use crate::credentials::record_text::RecordTextError;
 pub use crate::credentials::scram_record::ScramRecord;
 pub use crate::credentials::user_record::UserRecord;
-use crate::hmac::ScramVersion;
+use crate::hmac::{Meter, ScramVersion};
 pub use crate::keys::RecordError;
+use crate::passwords::Password;
 pub use crate::provider::{ScramCredentialProvider, StoredPassword};
 use crate::scram_messages::error::ServerScramErrorKind;
 use std::alloc::{AllocError, Global};
@@ -75,9 +76,10 @@ impl SingleScramCredential {
         let kept = ScramRecord::from_password(
             alloc,
             scram_version,
-            password,
+            Password::Typed(password),
             &salt,
             DEFAULT_SCRAM_ITERATIONS,
+            &mut Meter::new(),
         );
         match kept {
             Ok(kept) => Ok(Self {

@@ -7,7 +7,7 @@
 //! [`ScramVersion::compute_server_final_message`], from the records of a
 //! [`ScramCredentialProvider`]. [`ScramClient`] and [`ScramAuthenticator`] keep the messages of
 //! one exchange between the calls; [`laws`] says what holds of a whole exchange. A client proves who it is
-//! by its password, by [`CachedKeys`] that an earlier login handed out, or by both ([`ClientSecret`]).
+//! by its [`Password`], by the [`CachedKeys`] of an earlier login, or by both ([`ClientSecret`]).
 //!
 //! [`ClientFirst`], [`ServerFirst`], [`ClientFinal`] and [`ServerFinal`] are what the four messages
 //! name, and each has a `parse`. The keys, the proof and the signature stand in [`keys`].
@@ -19,6 +19,7 @@ pub mod credentials;
 pub mod hmac;
 pub mod keys;
 pub mod laws;
+pub mod passwords;
 pub mod pbkdf2_hi;
 pub mod provider;
 mod same_bytes;
@@ -28,13 +29,14 @@ pub mod scram_messages;
 pub mod scram_server;
 mod texts;
 
-pub use crate::client_secret::{ClientSecret, IterationLimits};
+pub use crate::client_secret::{ClientSecret, ClientSecretError, IterationLimits};
 pub use crate::credentials::{
     AddRecordError, DEFAULT_SCRAM_ITERATIONS, MultiRecordStore, ReadLinesError, ReadLinesErrorKind,
     RecordStore, RecordTextError, ScramRecord, SingleScramCredential, UserRecord, WriteLinesError,
 };
 pub use crate::hmac::{DigestBytes, Meter, ScramVersion, UnknownMechanism, XorLengthMismatch};
 pub use crate::keys::{CachedKeys, RecordError, auth_message};
+pub use crate::passwords::Password;
 pub use crate::pbkdf2_hi::KeyError;
 pub use crate::provider::{ScramCredentialProvider, StoredPassword};
 pub use crate::saslprep_ascii::{NormalizeError, saslprep};

@@ -1,17 +1,19 @@
 //! The SCRAM client as a machine: one message after the other (RFC 5802, section 5).
 
-ghost use Rattle.std.specs.Prelude.{◌≡◌, ◌≢◌, ◌≤◌, ◌^◌, ℕ, List, Option, Some, IfOk, OnOk, OnErr, MatchOption};
+ghost use Rattle.std.specs.Prelude.{◌≡◌, ◌≢◌, ◌≤◌, ◌^◌, ◌↔◌, ℕ, List, Option, Some, IfOk, OnOk, OnErr, MatchOption};
 ghost use Rattle.std.specs.String.{string_bytes};
 ghost use Rattle.fe2o3_scram.specs.Texts.{base64_text};
 ghost use Rattle.fe2o3_scram.specs.ClientFirst.{client_first};
 ghost use Rattle.fe2o3_scram.specs.ClientKeys.{ClientKeys};
-ghost use Rattle.fe2o3_scram.specs.ClientSecret.{Password, Keys, Both, kept_password, kept_secret, no_limit, up_to};
-ghost use Rattle.fe2o3_scram.specs.Passwords.{Typed, Prepared};
-ghost use Rattle.fe2o3_scram.specs.ScramClient.{ClientInitial, ClientFirstSent, ClientFinalSent, AnswersIn, AnswerCostsIn, VerifiesIn, ReachesSaltIn, ReachesVerifierIn, started, client_state_of, answer_keys, is_complete, login_keys, with_state, with_limits};
+ghost use Rattle.fe2o3_scram.specs.ClientSecret.{Password as ByPassword, IsOfVersion, kept_secret, secret_of};
+ghost use Rattle.fe2o3_scram.specs.Passwords.{Typed};
+ghost use Rattle.fe2o3_scram.specs.ScramClient.{ClientFirstSent, ClientFinalSent, AnswersIn, AnswerCostsIn, VerifiesIn, ReachesSaltIn, ReachesVerifierIn, fresh_client, started, client_state_of, answer_keys, is_complete, login_keys, with_state, with_limits};
 ghost use Rattle.fe2o3_scram.specs.Readings.{Gives};
 
 use crate::OutOfMemory;
-use crate::client_secret::{IterationLimits, KeptPassword, KeptSecret};
+use crate::client_secret::{
+    ClientSecret, ClientSecretError, IterationLimits, KeptPassword, KeptSecret,
+};
 use crate::hmac::{Meter, ScramVersion};
 use crate::keys::CachedKeys;
 use crate::scram_messages::error::ScramErrorKind;
@@ -94,117 +96,51 @@ impl Model for ScramClient {
 
 impl ScramClient {
     /// A client that has sent nothing, and accepts every iteration count from 1 to 4294967295. The
-    /// user name is plain, and the password as it is typed: neither is prepared or tested here. A password
-    /// that is not printable ASCII is refused by `NormalizeError` where it is needed, and a user name is any
-    /// text, which a caller prepares as it prepares passwords.
+    /// user name is plain, and the password as the user typed it ([`Password::Typed`]): neither is prepared
+    /// or tested here. A password that is not printable ASCII is refused by `NormalizeError` where it is
+    /// needed, and a user name is any text, which a caller prepares like a password.
     pub fn new(username: String, password: String, scram_version: ScramVersion) -> Self
-        ensures { result ≡ record {
-          user = string_bytes username;
-          secret = Password (Typed (string_bytes password));
-          version =
-              scram_version;
-          limits = up_to no_limit;
-          state = ClientInitial;
-        } }
+        ensures { result ≡ fresh_client (string_bytes username) scram_version
+            (ByPassword (Typed (string_bytes password))) }
     {
-        let password = KeptPassword::typed(password);
-        ScramClient::by(username, KeptSecret::Password(password), scram_version)
+        let secret = KeptSecret::Password(KeptPassword::Typed(password));
+        ScramClient::by(username, secret, scram_version)
     }
 
-    /// The same by a prepared password (RFC 4013): any text, which is taken as it stands, and not tested or
-    /// prepared here. It logs in where the record was made of that very text. A caller prepares the user name
-    /// likewise.
-    pub fn with_prepared_password(
+    /// Returns a client that has sent nothing, accepts every iteration count from 1 to 4294967295, and
+    /// proves who it is by a copy of this secret. The user name is plain. Neither it nor the password is
+    /// prepared or tested here.
+    ///
+    /// - [`ClientSecret::Password`]: a typed password is rejected by `NormalizeError` where it is needed and
+    ///   is not printable ASCII. A prepared one logs in where the record was made of that very text.
+    /// - [`ClientSecret::Keys`]: the client answers where the server names the salt and the iteration count
+    ///   of the keys, by two HMAC values, and rejects any other challenge by `StaleKeys`.
+    /// - [`ClientSecret::PasswordAndKeys`]: the client answers by the keys where the server names their salt
+    ///   and iteration count, and by the password otherwise.
+    ///
+    /// The errors are, in this order: `VersionMismatch` where the secret has keys of another version than
+    /// this, and `OutOfMemory`.
+    pub fn with_secret(
+        alloc: Global,
         username: String,
-        password: String,
+        secret: ClientSecret<'_>,
         scram_version: ScramVersion,
-    ) -> Self
-        ensures { result ≡ record {
-          user = string_bytes username;
-          secret = Password (Prepared (string_bytes password));
-          version =
-              scram_version;
-          limits = up_to no_limit;
-          state = ClientInitial;
-        } }
+    ) -> Result<Self, ClientSecretError>
+        ensures ok { IfOk result (λ client. IsOfVersion scram_version (secret_of secret.entry)
+            × (client ≡ fresh_client (string_bytes username) scram_version (secret_of secret.entry))) }
+        ensures mismatch { (result ≡ Err ClientSecretError.VersionMismatch)
+            ↔ ¬ IsOfVersion scram_version (secret_of secret.entry) }
     {
-        let password = KeptPassword::prepared(password);
-        ScramClient::by(username, KeptSecret::Password(password), scram_version)
+        if !secret.is_of_version(scram_version) {
+            return Err(ClientSecretError::VersionMismatch);
+        }
+        let secret = KeptSecret::of(alloc, secret)?;
+        Ok(ScramClient::by(username, secret, scram_version))
     }
 
-    /// The same by the keys of an earlier login in place of the password (RFC 5802, section 3). Its
-    /// version is theirs. It answers where the server names the salt and the iteration count that they
-    /// are of, and refuses another message by `StaleKeys`.
-    pub fn with_keys(username: String, keys: CachedKeys) -> Self
-        ensures { result ≡ record {
-          user = string_bytes username;
-          secret = Keys keys;
-          version = keys.version;
-          limits = up_to no_limit;
-          state = ClientInitial;
-        } }
-    {
-        let scram_version = keys.scram_version();
-        ScramClient::by(username, KeptSecret::Keys(keys), scram_version)
-    }
-
-    /// The same by both: by the keys where the server names the salt and the iteration count that they
-    /// are of, and by the password where it names others.
-    pub fn with_password_and_keys(username: String, password: String, keys: CachedKeys) -> Self
-        ensures { result ≡ record {
-          user = string_bytes username;
-          secret = Both (Typed (string_bytes password)) keys;
-          version =
-              keys.version;
-          limits = up_to no_limit;
-          state = ClientInitial;
-        } }
-    {
-        ScramClient::by_both(username, KeptPassword::typed(password), keys)
-    }
-
-    /// The same by the keys and a prepared password, which is taken as it stands.
-    pub fn with_prepared_password_and_keys(
-        username: String,
-        password: String,
-        keys: CachedKeys,
-    ) -> Self
-        ensures { result ≡ record {
-          user = string_bytes username;
-          secret = Both (Prepared (string_bytes password)) keys;
-          version =
-              keys.version;
-          limits = up_to no_limit;
-          state = ClientInitial;
-        } }
-    {
-        ScramClient::by_both(username, KeptPassword::prepared(password), keys)
-    }
-
-    /// A client by this password and these keys.
-    fn by_both(username: String, password: KeptPassword, keys: CachedKeys) -> Self
-        ensures { result ≡ record {
-          user = string_bytes username;
-          secret = Both (kept_password password) keys;
-          version =
-              keys.version;
-          limits = up_to no_limit;
-          state = ClientInitial;
-        } }
-    {
-        let scram_version = keys.scram_version();
-        ScramClient::by(username, KeptSecret::Both { password, keys }, scram_version)
-    }
-
-    /// A client by this secret, which has sent nothing and accepts every count.
+    /// Returns a client by this secret, which has sent nothing and accepts every count.
     fn by(username: String, secret: KeptSecret, scram: ScramVersion) -> Self
-        ensures { result ≡ record {
-          user = string_bytes username;
-          secret = kept_secret secret;
-          version = scram;
-          limits = up_to no_limit;
-          state = ClientInitial;
-        } }
+        ensures { result ≡ fresh_client (string_bytes username) scram (kept_secret secret) }
     {
         Self {
             username,
@@ -399,7 +335,7 @@ impl ScramClient {
     }
 
     /// The nonce of the client-first message, where that is what the client sent last. A client that is
-    /// set down here is taken up by `compute_client_first_message` with it.
+    /// saved here is restored by `compute_client_first_message` with it.
     pub fn nonce(&self) -> Option<&[u8; 32]>
         ensures { MatchOption result ((nonce bare : List ℕ) → self.now.state ≢ ClientFirstSent nonce bare)
             (λ nonce. (bare : List ℕ) × (self.now.state ≡ ClientFirstSent (base64_text nonce.now) bare)) }
@@ -411,7 +347,7 @@ impl ScramClient {
     }
 
     /// The signature that the client waits for, where it has sent its client-final message last. A client
-    /// that is set down here is taken up by `waiting_for`.
+    /// that is saved here is restored by `restore_client_final_sent`.
     pub fn server_signature(&self) -> Option<&[u8]>
         ensures { MatchOption result
             ((signature : List ℕ) (keys : Option ClientKeys) → self.now.state ≢ ClientFinalSent signature keys)
@@ -427,7 +363,7 @@ impl ScramClient {
     }
 
     /// The keys of the answer for which the client waits for a signature. They are for a client that is
-    /// set down: until the server is believed anybody may have named their salt, so do not keep them for
+    /// saved: until the server is verified anybody may have named their salt, so do not keep them for
     /// another login.
     pub fn answer_keys(&self) -> Option<&CachedKeys>
         ensures { MatchOption result (answer_keys self.now.state ≡ None)
@@ -439,9 +375,13 @@ impl ScramClient {
         }
     }
 
-    /// The same client, where its client-final message is what it sent last, and it waits for this
-    /// signature. With the keys of that answer it hands them out once the server is believed.
-    pub fn waiting_for(self, server_signature: Vec<u8>, keys: Option<CachedKeys>) -> Self
+    /// Returns this client in the state after its client-final message, in which it waits for this
+    /// signature. With the keys of that answer it returns them by `keys` once the server is verified.
+    pub fn restore_client_final_sent(
+        self,
+        server_signature: Vec<u8>,
+        keys: Option<CachedKeys>,
+    ) -> Self
         ensures { result ≡ with_state self (ClientFinalSent server_signature.items keys) }
     {
         Self {

@@ -1,3 +1,3 @@
--- MockSettings has to believe these: they say what the code holds, and only private contracts cite them.
+-- A reader need not trust these: they say what the code holds, and only private contracts cite them.
 pub mod Audit
 pub mod Passwords

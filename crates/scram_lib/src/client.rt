@@ -5,7 +5,7 @@ ghost use Rattle.fe2o3_scram.specs.ScramClient.{is_complete};
 
 use crate::stop::Stop;
 use crate::{frames, input, keys, nonces, wire};
-use fe2o3_scram::{ScramClient, CachedKeys, ScramErrorKind, ScramVersion};
+use fe2o3_scram::{CachedKeys, ClientSecret, Password, ScramClient, ScramErrorKind, ScramVersion};
 use std::alloc::Global;
 use std::io::{BufRead, Write};
 use std::random::RandomSource;
@@ -81,8 +81,9 @@ impl Login<'_> {
         input: &mut I,
     ) -> Result<Box<ScramClient>, Stop> {
         let secret = self.secret(rt, input)?;
+        let secret = secret.lent().ok_or(Stop::NoPassword)?;
         let user = self.user.to_string(rt.alloc())?;
-        let client = secret.client(user, self.version).ok_or(Stop::NoPassword)?;
+        let client = ScramClient::with_secret(rt.alloc(), user, secret, self.version)?;
         let client = client
             .with_min_iterations(self.least)
             .with_iteration_limit(self.limit);
@@ -118,15 +119,15 @@ impl Login<'_> {
 }
 
 impl Secret {
-    /// The user's client, or none where there is neither a password nor a key.
-    fn client(self, user: String, version: ScramVersion) -> Option<ScramClient> {
-        let Secret { password, keys } = self;
-        match (password, keys) {
+    /// Lends the secret, or returns `None` where there is neither a password nor a key.
+    fn lent(&self) -> Option<ClientSecret<'_>> {
+        match (&self.password, &self.keys) {
             (Some(password), Some(keys)) => {
-                Some(ScramClient::with_password_and_keys(user, password, keys))
+                let password = Password::Typed(password);
+                Some(ClientSecret::PasswordAndKeys { password, keys })
             }
-            (Some(password), None) => Some(ScramClient::new(user, password, version)),
-            (None, Some(keys)) => Some(ScramClient::with_keys(user, keys)),
+            (Some(password), None) => Some(ClientSecret::Password(Password::Typed(password))),
+            (None, Some(keys)) => Some(ClientSecret::Keys(keys)),
             (None, None) => None,
         }
     }

@@ -2,7 +2,7 @@
 
 use crate::nonces;
 use crate::stop::Stop;
-use fe2o3_scram::{ScramRecord, ScramVersion};
+use fe2o3_scram::{Meter, Password, ScramRecord, ScramVersion};
 use std::alloc::Global;
 use std::io::Write;
 use std::random::RandomSource;
@@ -36,7 +36,8 @@ impl NewRecord<'_> {
         let alloc = rt.alloc();
         let salt = self.salt(rt)?;
         let (version, iterations) = (self.version, self.iterations);
-        Ok(ScramRecord::from_password(alloc, version, password, &salt, iterations)?)
+        let (password, meter) = (Password::Typed(password), &mut Meter::new());
+        Ok(ScramRecord::from_password(alloc, version, password, &salt, iterations, meter)?)
     }
 
     /// The salt: that of the words, or 32 random bytes.

@@ -6,7 +6,8 @@ ghost use Rattle.scram_lib.specs.Stop.{status_of};
 use fe2o3_sasl::AuditError;
 use fe2o3_sasl_negotiation::CloseReason;
 use fe2o3_scram::{
-    ReadLinesError, ReadLinesErrorKind, RecordError, ScramErrorKind, ServerScramErrorKind,
+    ClientSecretError, ReadLinesError, ReadLinesErrorKind, RecordError, ScramErrorKind,
+    ServerScramErrorKind,
 };
 use mock_secret::SecretError;
 use std::alloc::{AllocError, AllocFailed};
@@ -73,7 +74,7 @@ pub enum Stop {
     #[error("The secret of mock records, FILE.secret, cannot be used: {0}.")]
     Secret(SecretError),
 
-    /// MockSettings has the name.
+    /// No record has the name.
     #[error("The file has no such record.")]
     MockSettings,
 
@@ -250,6 +251,15 @@ impl From<RecordError> for Stop {
             // The words name a count from 1.
             RecordError::ZeroIterations => Stop::WrongSalt,
             RecordError::OutOfMemory => Stop::OutOfMemory,
+        }
+    }
+}
+
+impl From<ClientSecretError> for Stop {
+    fn from(fault: ClientSecretError) -> Stop {
+        match fault {
+            ClientSecretError::VersionMismatch => Stop::OtherMechanism,
+            ClientSecretError::OutOfMemory => Stop::OutOfMemory,
         }
     }
 }

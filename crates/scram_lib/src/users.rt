@@ -14,7 +14,7 @@ use crate::stop::Stop;
 use crate::store;
 use crate::users::changes::{Put, Taken};
 use crate::users::lines::UserLine;
-use fe2o3_scram::{MultiRecordStore, ScramCredentialProvider, ScramVersion};
+use fe2o3_scram::{Meter, MultiRecordStore, Password, ScramCredentialProvider, ScramVersion};
 use std::alloc::Global;
 use std::io::Write;
 use std::random::RandomSource;
@@ -129,7 +129,7 @@ fn answer(
         return None;
     }
     let kept = users.for_version(version).get_stored_password(named.name)?;
-    Some(kept.verify_password(version, password))
+    Some(kept.verify_password(version, Password::Typed(password), &mut Meter::new()))
 }
 
 /// Whether a version is asked for: the one that is named, or each.

@@ -3,16 +3,17 @@
 use crate::cuts::{bytes_of, text};
 use crate::units::*;
 use bytes::BytesMut;
+use fe2o3_sasl::any_mechanism::{AnyMechanism, HasMechanism, Selected};
 use fe2o3_sasl::credentials::{ScramRecord, UserRecord};
 use fe2o3_sasl::external_server::ExternalServer;
 use fe2o3_sasl::hmac::{Meter, ScramVersion};
-use fe2o3_sasl::restrict_mechanisms::RestrictMechanisms;
-use fe2o3_sasl::any_mechanism::{HasMechanism, AnyMechanism, Selected};
+use fe2o3_sasl::passwords::Password;
 use fe2o3_sasl::plain_server::PlainServer;
+use fe2o3_sasl::restrict_mechanisms::RestrictMechanisms;
 use fe2o3_sasl::sasl_acceptor::{AuthenticatedUser, SaslAnonymousMechanism, SaslPlainMechanism};
 use fe2o3_sasl::scram_server::ScramAuthenticator;
 use fe2o3_sasl::scram_server::hiding::HidingAuthenticator;
-use fe2o3_sasl_negotiation::{Piece, ServerNegotiation, Progress, RestoreError, server_connection};
+use fe2o3_sasl_negotiation::{Piece, Progress, RestoreError, ServerNegotiation, server_connection};
 use std::process::Abort;
 
 /// Returns the side of a server after these headers and frames.
@@ -44,9 +45,13 @@ fn is_restored<R: Abort + AllocGlobal, A: AuthenticatedUser + Drop>(
     let rejected = ServerNegotiation::restore(rt.alloc(), other, &saved);
     assert!(rt; matches!(rejected, Err(RestoreError::OtherUser)));
     let restored = ServerNegotiation::restore(rt.alloc(), restored, &saved).expect(rt, "a side");
-    assert!(rt; restored.authenticated_user() == user && restored.progress() == Progress::Authenticated);
+    assert!(rt;
+        restored.authenticated_user() == user && restored.progress() == Progress::Authenticated
+    );
     let again = restored.snapshot();
-    assert!(rt; again.expected == saved.expected && again.limit == saved.limit && again.held == saved.held);
+    assert!(rt;
+        again.expected == saved.expected && again.limit == saved.limit && again.held == saved.held
+    );
 }
 
 /// The login by SCRAM.
@@ -61,7 +66,8 @@ static EXTERNAL_LOGIN: [&str; 2] = [SASL, EXTERNAL_INIT];
 /// Returns the store of the user.
 fn stored<R: Abort + AllocGlobal>(rt: &R) -> UserRecord {
     let (alloc, version) = (rt.alloc(), ScramVersion::Sha256);
-    let record = ScramRecord::from_password(alloc, version, PASSWORD, &[3; 32], 1);
+    let (password, meter) = (Password::Typed(PASSWORD), &mut Meter::new());
+    let record = ScramRecord::from_password(alloc, version, password, &[3; 32], 1, meter);
     UserRecord::new(text(rt, USER), record.expect(rt, "a record"))
 }
 
@@ -183,7 +189,12 @@ fn anonymous_logins_are_restored_without_a_user(rt: HostRuntime) {
     let saved = side.snapshot();
     assert!(rt; saved.progress == Progress::Authenticated && saved.user.is_none());
     let restored = ServerNegotiation::restore(rt.alloc(), SaslAnonymousMechanism::new(), &saved);
-    assert!(rt; restored.expect(&rt, "a side").authenticated_user().is_none());
+    assert!(rt;
+        restored
+            .expect(&rt, "a side")
+            .authenticated_user()
+            .is_none()
+    );
     let other = external(&rt, USER).restore_authenticated();
     let rejected = ServerNegotiation::restore(rt.alloc(), other, &saved);
     assert!(rt; matches!(rejected, Err(RestoreError::OtherUser)));

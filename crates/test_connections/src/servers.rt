@@ -3,10 +3,11 @@
 use crate::cuts::{Call, End, Row, all_end, text};
 use crate::units::*;
 use fe2o3_sasl::credentials::{ScramRecord, UserRecord};
-use fe2o3_sasl::hmac::ScramVersion;
+use fe2o3_sasl::hmac::{Meter, ScramVersion};
+use fe2o3_sasl::passwords::Password;
 use fe2o3_sasl::sasl_acceptor::{AuthenticatedUser, SaslPlainMechanism};
 use fe2o3_sasl_negotiation::{
-    CloseReason, Negotiated, Piece, ServerNegotiation, Progress, scram_server_connection,
+    CloseReason, Negotiated, Piece, Progress, ServerNegotiation, scram_server_connection,
     server_connection,
 };
 use fe2o3_sasl_wire::SaslCode;
@@ -127,7 +128,8 @@ fn plain_servers_end(rt: HostRuntime) {
 #[test]
 fn scram_servers_end(rt: HostRuntime) {
     let (alloc, version) = (rt.alloc(), ScramVersion::Sha256);
-    let record = ScramRecord::from_password(alloc, version, PASSWORD, &[3; 32], 1);
+    let (password, meter) = (Password::Typed(PASSWORD), &mut Meter::new());
+    let record = ScramRecord::from_password(alloc, version, password, &[3; 32], 1, meter);
     let record = record.expect(&rt, "a record");
     let stored = UserRecord::new(text(&rt, USER), record);
     all_end(&rt, &Scram(stored), &SCRAM);

@@ -118,7 +118,7 @@ fn replies<R: Abort + AllocGlobal, A: SaslAcceptor + Drop>(rt: &R, acceptor: &A,
 }
 
 /// Sees to it that an acceptor answers the rows.
-fn answers<R: Abort + AllocGlobal, A: NamesUser + Drop>(rt: &R, mut acceptor: A, rows: &[Row]) {
+fn answers<R: Abort + AllocGlobal, A: AuthenticatedUser + Drop>(rt: &R, mut acceptor: A, rows: &[Row]) {
     for row in rows {
         replies(rt, &acceptor, row);
         let &(given, wanted, user, count) = row;
@@ -133,7 +133,7 @@ fn answers<R: Abort + AllocGlobal, A: NamesUser + Drop>(rt: &R, mut acceptor: A,
 }
 
 /// Sees to it that an acceptor offers this and answers the rows.
-fn plays<R: Abort + AllocGlobal, A: NamesUser + Drop>(
+fn plays<R: Abort + AllocGlobal, A: AuthenticatedUser + Drop>(
     rt: &R,
     acceptor: A,
     offer: &str,

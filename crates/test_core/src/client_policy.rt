@@ -5,9 +5,10 @@ use crate::values::{boxed, bytes_of};
 use fe2o3_sasl::client_policy::{ChoiceError, ClientPolicy, Mechanism, select_mechanism};
 use fe2o3_sasl::client_secret::ClientSecret;
 use fe2o3_sasl::hmac::ScramVersion;
+use fe2o3_sasl::passwords::Password;
 use fe2o3_sasl_wire::{FrameView, view_frame};
-use test_help_bodies::bodies::{FOUR_MECHANISMS, OTHER_MECHANISMS, PASSWORD, USER};
 use std::process::Abort;
+use test_help_bodies::bodies::{FOUR_MECHANISMS, OTHER_MECHANISMS, PASSWORD, USER};
 
 /// An offer, the lowest version of SCRAM that a client may take, what else it may, and the name of what it takes.
 type Row = (
@@ -87,8 +88,11 @@ fn takes<R: Abort + AllocGlobal>(
     let Ok((FrameView::Mechanisms(offer), _)) = view_frame(&body) else {
         panic!(rt; "mechanisms");
     };
-    let secret = ClientSecret::Password(PASSWORD);
-    let taken = boxed(rt, select_mechanism(rt.alloc(), &offer, USER, &secret, policy));
+    let secret = ClientSecret::Password(Password::Typed(PASSWORD));
+    let taken = boxed(
+        rt,
+        select_mechanism(rt.alloc(), &offer, USER, &secret, policy),
+    );
     match (&*taken, wanted) {
         (Ok(profile), Some(wanted)) => {
             profile.mechanism(rt.alloc()).expect(rt, "memory").as_str() == wanted

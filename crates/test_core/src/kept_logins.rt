@@ -2,14 +2,16 @@
 
 use crate::values::{boxed, bytes, bytes_of, event, text};
 use fe2o3_sasl::cached_keys::CachedKeys;
+use fe2o3_sasl::client_secret::ClientSecret;
 use fe2o3_sasl::hmac::Meter;
+use fe2o3_sasl::passwords::Password;
 use fe2o3_sasl::runs::{ClientReply, profile_step_metered};
 use fe2o3_sasl::sasl_profile::{ProfileError, SaslProfile, SaslScramSha256};
 use fe2o3_sasl::scram_messages::ScramErrorKind;
 use fe2o3_sasl::{ScramClient, ScramVersion};
 use fe2o3_sasl_wire::SaslCode;
-use test_help_bodies::bodies::*;
 use std::process::Abort;
+use test_help_bodies::bodies::*;
 
 /// The challenge of a server that has the salt of 32 bytes 04, the response to it, and its outcome, as
 /// computed with Python's `hashlib` and `hmac`.
@@ -132,10 +134,13 @@ fn by_password<R: Abort + AllocGlobal>(rt: &R) -> Box<SaslProfile> {
     boxed(rt, SaslProfile::from(client))
 }
 
-/// A profile with keys.
-fn by_keys<R: Abort + AllocGlobal>(rt: &R, scram: Option<SaslScramSha256>) -> Box<SaslProfile> {
-    let scram = scram.expect(rt, "keys of its version");
-    boxed(rt, SaslProfile::from(scram))
+/// A profile with a secret.
+fn by_secret<R: Abort + AllocGlobal>(rt: &R, secret: ClientSecret<'_>) -> Box<SaslProfile> {
+    let scram = SaslScramSha256::with_secret(rt.alloc(), text(rt, USER), secret);
+    boxed(
+        rt,
+        SaslProfile::from(scram.expect(rt, "keys of its version")),
+    )
 }
 
 /// A copy of keys that a profile shows.
@@ -147,8 +152,8 @@ fn copy_of<R: Abort + AllocGlobal>(rt: &R, keys: Option<&CachedKeys>) -> CachedK
 fn the_keys_of_a_login_serve_for_the_next(rt: HostRuntime) {
     let mut first = by_password(&rt);
     logs_in(&rt, &mut first, &LOGIN, &KEYS);
-    let (user, keys) = (text(&rt, USER), copy_of(&rt, first.keys()));
-    let mut next = by_keys(&rt, SaslScramSha256::with_keys(user, keys));
+    let keys = copy_of(&rt, first.keys());
+    let mut next = by_secret(&rt, ClientSecret::Keys(&keys));
     logs_in(&rt, &mut next, &LOGIN_BY_KEYS, &KEYS);
 }
 
@@ -157,16 +162,12 @@ fn the_keys_of_a_login_serve_for_the_next(rt: HostRuntime) {
 fn another_salt_wants_the_password(rt: HostRuntime) {
     let mut first = by_password(&rt);
     logs_in(&rt, &mut first, &LOGIN, &KEYS);
-    let (user, keys) = (text(&rt, USER), copy_of(&rt, first.keys()));
-    let mut keyed = by_keys(&rt, SaslScramSha256::with_keys(user, keys));
+    let keys = copy_of(&rt, first.keys());
+    let mut keyed = by_secret(&rt, ClientSecret::Keys(&keys));
     answers(&rt, &mut keyed, &LOGIN[0]);
     refuses(&rt, &mut keyed, OTHER_CHALLENGE, ProfileError::StaleKeys);
-    let (user, password) = (text(&rt, USER), text(&rt, PASSWORD));
-    let keys = copy_of(&rt, first.keys());
-    let mut both = by_keys(
-        &rt,
-        SaslScramSha256::with_password_and_keys(user, password, keys),
-    );
+    let (password, keys) = (Password::Typed(PASSWORD), &keys);
+    let mut both = by_secret(&rt, ClientSecret::PasswordAndKeys { password, keys });
     logs_in(&rt, &mut both, &OTHER_LOGIN, &OTHER_KEYS);
 }
 
@@ -219,7 +220,7 @@ fn taken_up<R: Abort + AllocGlobal>(
     keys: Option<CachedKeys>,
 ) -> Box<SaslProfile> {
     let scram = SaslScramSha256::new(text(rt, USER), text(rt, PASSWORD));
-    let profile = SaslProfile::from(scram).waiting_for(bytes(rt, signature), keys);
+    let profile = SaslProfile::from(scram).restore_client_final_sent(bytes(rt, signature), keys);
     boxed(rt, profile)
 }
 
@@ -256,6 +257,6 @@ fn a_profile_is_taken_up_before_the_challenge(rt: HostRuntime) {
 /// A profile that is not of SCRAM shows nothing, and waits for no signature.
 #[test]
 fn a_profile_without_scram_has_no_keys(rt: HostRuntime) {
-    let profile = SaslProfile::External.waiting_for(bytes_of(&rt, "00"), None);
+    let profile = SaslProfile::External.restore_client_final_sent(bytes_of(&rt, "00"), None);
     stands(&rt, &boxed(&rt, profile), NOTHING);
 }

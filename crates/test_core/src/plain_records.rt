@@ -26,7 +26,7 @@ static ROWS: [Row; 15] = [
     ("PLAIN", "user\0user\0pencil", Some("user"), true, 4098),
     ("PLAIN", "other\0user\0pencil", None, false, 0),
     ("PLAIN", "\0turned\0pencil", Some("turned"), false, 4098),
-    ("PLAIN", "\0nobody\0pencil", Some("mock"), false, 12),
+    ("PLAIN", "\0nobody\0pencil", Some("nobody"), false, 12),
     ("PLAIN", "\0nobody\0", None, false, 0),
     ("PLAIN", "\0user\0pencil\0", None, false, 0),
     ("PLAIN", "\0user\0\0pencil", None, false, 0),

@@ -5,7 +5,9 @@ use crate::values::{bytes, bytes_of, text};
 use fe2o3_sasl::audit::{AuditError, Finding, FindingKind, Parameters, Verdict};
 use fe2o3_sasl::cached_keys::CachedKeys;
 use fe2o3_sasl::client_policy::ChoiceError;
+use fe2o3_sasl::client_secret::ClientSecret;
 use fe2o3_sasl::hmac::{Meter, ScramVersion};
+use fe2o3_sasl::passwords::Password;
 use fe2o3_sasl::restrict_mechanisms::OfferError;
 use fe2o3_sasl::runs::{ClientReply, Event, EventError, ServerReply};
 use fe2o3_sasl::sasl_acceptor::{SaslAnonymousMechanism, SaslPlainMechanism};
@@ -86,7 +88,8 @@ fn hides_the_password_of_an_acceptor(rt: HostRuntime) {
 /// The keys of the password `pencil` with a salt of bytes 03 and count 1.
 fn keys<R: Abort + AllocGlobal>(rt: &R) -> CachedKeys {
     let (version, salt, mut meter) = (ScramVersion::Sha256, b"\x03\x03\x03\x03", Meter::new());
-    CachedKeys::from_password(rt.alloc(), version, "pencil", salt, 1, &mut meter).expect(
+    let password = Password::Typed("pencil");
+    CachedKeys::from_password(rt.alloc(), version, password, salt, 1, &mut meter).expect(
         rt, "memory",
     )
 }
@@ -94,8 +97,10 @@ fn keys<R: Abort + AllocGlobal>(rt: &R) -> CachedKeys {
 #[test]
 fn hides_keys_and_the_password_beside_them(rt: HostRuntime) {
     let wanted = "CachedKeys { scram_version: Sha256, iterations: 1, .. }";
-    shows(&rt, keys(&rt), wanted);
-    let scram = SaslScramSha256::with_keys(text(&rt, "user"), keys(&rt));
+    let keys = &keys(&rt);
+    shows(&rt, keys, wanted);
+    let secret = ClientSecret::Keys(keys);
+    let scram = SaslScramSha256::with_secret(rt.alloc(), text(&rt, "user"), secret);
     let scram = scram.expect(&rt, "keys of its version");
     let wanted =
         "ScramSha256(SaslScramSha256 { client: ScramClient { username: \"user\", scram: Sha256, \
@@ -105,8 +110,9 @@ fn hides_keys_and_the_password_beside_them(rt: HostRuntime) {
         SaslProfile::from(scram.with_iteration_limit(4096)),
         wanted,
     );
-    let (user, password) = (text(&rt, "user"), text(&rt, "pencil"));
-    let scram = SaslScramSha256::with_password_and_keys(user, password, keys(&rt));
+    let (password, user) = (Password::Typed("pencil"), text(&rt, "user"));
+    let secret = ClientSecret::PasswordAndKeys { password, keys };
+    let scram = SaslScramSha256::with_secret(rt.alloc(), user, secret);
     let wanted =
         "SaslScramSha256 { client: ScramClient { username: \"user\", scram: Sha256, iteration_limit: \
         4294967295, .. } }";

@@ -171,7 +171,7 @@ impl Call for Does {
         }
     }
 
-    /// MockSettings has logged in, and the challenge is open that was.
+    /// No user has logged in, and the challenge is open that was.
     fn stays(&self, _alloc: Global, row: &Row, acceptors: &mut Acceptors) -> Answer {
         let is_open = acceptors.scram.open_challenge().is_some();
         right(acceptors.plain.authenticated_user().is_none() && is_open != row.before.is_empty())

@@ -6,9 +6,10 @@ use crate::scram_values::*;
 use bytes::Bytes;
 use fe2o3_scram::OutOfMemory;
 use fe2o3_scram::cached_keys::CachedKeys;
-use fe2o3_scram::client_secret::{ClientSecret, IterationLimits};
+use fe2o3_scram::client_secret::{ClientSecret, ClientSecretError, IterationLimits};
 use fe2o3_scram::credentials::RecordError;
 use fe2o3_scram::hmac::{Meter, ScramVersion};
+use fe2o3_scram::passwords::Password;
 use fe2o3_scram::scram_client::ScramClient;
 use fe2o3_scram::scram_messages::ScramErrorKind;
 use std::alloc::Global;
@@ -53,6 +54,9 @@ enum Does {
     /// The answer to the server-first message without a client.
     Answer,
 
+    /// A client is made of its secret.
+    Make,
+
     /// The keys are made of the password.
     MakeKeys,
 
@@ -62,25 +66,30 @@ enum Does {
 
 /// The keys of the password.
 fn keys(alloc: Global) -> Result<CachedKeys, RecordError> {
-    CachedKeys::from_password(alloc, VERSION, PASSWORD, &SALT, 1, &mut Meter::new())
+    let (password, meter) = (Password::Typed(PASSWORD), &mut Meter::new());
+    CachedKeys::from_password(alloc, VERSION, password, &SALT, 1, meter)
+}
+
+/// The secret of a client.
+fn secret_of(by: Secret, keys: &CachedKeys) -> ClientSecret<'_> {
+    let password = Password::Typed(PASSWORD);
+    match by {
+        Secret::Password => ClientSecret::Password(password),
+        Secret::Keys => ClientSecret::Keys(keys),
+        Secret::Both => ClientSecret::PasswordAndKeys { password, keys },
+    }
 }
 
 /// A client that has sent nothing.
-fn client(alloc: Global, by: Secret) -> Result<ScramClient, Fail> {
+fn client(alloc: Global, by: Secret, keys: &CachedKeys) -> Result<ScramClient, ClientSecretError> {
     let username = USER.to_string(alloc)?;
-    let password = PASSWORD.to_string(alloc)?;
-    let keys = keys(alloc)?;
-    Ok(match by {
-        Secret::Password => ScramClient::new(username, password, VERSION),
-        Secret::Keys => ScramClient::with_keys(username, keys),
-        Secret::Both => ScramClient::with_password_and_keys(username, password, keys),
-    })
+    ScramClient::with_secret(alloc, username, secret_of(by, keys), VERSION)
 }
 
 /// How many of the three calls of a login the client has made before.
 fn calls_before(does: &Does) -> u8 {
     match does {
-        Does::Start | Does::Answer | Does::MakeKeys | Does::CloneKeys => 0,
+        Does::Start | Does::Answer | Does::Make | Does::MakeKeys | Does::CloneKeys => 0,
         Does::StartAfresh | Does::Respond | Does::RespondMetered | Does::RespondByCopy => 1,
         Does::Verify | Does::VerifyByCopy => 2,
         Does::CloneLast => 3,
@@ -159,14 +168,7 @@ fn verify(alloc: Global, client: &mut ScramClient) -> Answer {
 
 /// The answer by this secret without a client.
 fn answer_server_first(alloc: Global, by: Secret, keys: &CachedKeys) -> Answer {
-    let secret = match by {
-        Secret::Password => ClientSecret::Password(PASSWORD),
-        Secret::Keys => ClientSecret::Keys(keys),
-        Secret::Both => ClientSecret::Both {
-            password: PASSWORD,
-            keys,
-        },
-    };
+    let secret = secret_of(by, keys);
     let (bare, mut meter) = (CLIENT_FIRST_BARE.as_bytes(), Meter::new());
     let limits = IterationLimits::none();
     let answer = VERSION.answer_server_first(
@@ -210,7 +212,7 @@ impl Call for Does {
 
     fn subject(&self, alloc: Global, by: &Secret) -> Result<AtClient, Fail> {
         let keys = keys(alloc)?;
-        let mut client = Box::new(alloc, client(alloc, *by)?)?;
+        let mut client = Box::new(alloc, client(alloc, *by, &keys)?)?;
         log_in(alloc, &mut client, calls_before(self))?;
         Ok(AtClient { keys, client })
     }
@@ -237,6 +239,10 @@ impl Call for Does {
                 copy_goes_on(alloc, client, self, *by)
             }
             Does::Answer => answer_server_first(alloc, *by, &at.keys),
+            Does::Make => {
+                let made = client(alloc, *by, &at.keys);
+                told(made, ClientSecretError::OutOfMemory)
+            }
             Does::MakeKeys => told(keys(alloc), RecordError::OutOfMemory),
             Does::CloneKeys => told(at.keys.clone(), OutOfMemory),
         }
@@ -248,7 +254,7 @@ impl Call for Does {
 }
 
 /// What each client does.
-static DOES: [Does; 11] = [
+static DOES: [Does; 12] = [
     Does::Start,
     Does::StartAfresh,
     Does::Respond,
@@ -258,6 +264,7 @@ static DOES: [Does; 11] = [
     Does::VerifyByCopy,
     Does::CloneLast,
     Does::Answer,
+    Does::Make,
     Does::MakeKeys,
     Does::CloneKeys,
 ];

@@ -6,8 +6,7 @@ use crate::scram_values::*;
 use crate::users::{record, stored, two_names, two_of};
 use fe2o3_scram::cached_keys::CachedKeys;
 use fe2o3_scram::credentials::{
-    RecordError, RecordTextError, ScramCredentialProvider, RecordStore, ScramRecord,
-    UserRecord,
+    RecordError, RecordStore, RecordTextError, ScramCredentialProvider, ScramRecord, UserRecord,
 };
 use fe2o3_scram::hmac::{Meter, ScramVersion};
 use fe2o3_scram::scram_client::ScramClient;
@@ -15,7 +14,7 @@ use fe2o3_scram::scram_messages::{
     ClientFirst, ScramErrorKind, ServerScramErrorKind, UnescapeError,
 };
 use fe2o3_scram::scram_server::ScramAuthenticator;
-use fe2o3_scram::{KeyError, OutOfMemory, saslprep, unescape_username};
+use fe2o3_scram::{ClientSecretError, KeyError, OutOfMemory, saslprep, unescape_username};
 use std::alloc::Global;
 use std::test::Fail;
 
@@ -91,6 +90,7 @@ fn are_out_of_memory() -> bool {
         && ScramErrorKind::from(OutOfMemory) == ScramErrorKind::OutOfMemory
         && ServerScramErrorKind::from(OutOfMemory) == ServerScramErrorKind::OutOfMemory
         && RecordError::from(OutOfMemory) == RecordError::OutOfMemory
+        && ClientSecretError::from(OutOfMemory) == ClientSecretError::OutOfMemory
         && RecordTextError::from(OutOfMemory) == RecordTextError::OutOfMemory
 }
 
@@ -127,9 +127,7 @@ static FREE: [Free; 6] = [
 /// A call that makes something of what it is handed, or asks it.
 enum Making {
     Client,
-    ClientWithKeys,
-    ClientWithBoth,
-    ClientTakenUp,
+    RestoredClient,
     Record,
     Stored,
     Many,
@@ -154,21 +152,19 @@ fn keys(alloc: Global) -> Result<Vec<Vec<u8>>, Fail> {
     Ok(keys)
 }
 
-/// The client of the call. One that is taken up waits for the stored key, in place of a signature.
+/// The client of the call. One that is restored waits for the stored key, in place of a signature.
 fn client_of(making: &Making, parts: &mut Parts) -> Option<ScramClient> {
     let (user, password) = two_of(&mut parts.names)?;
     let salt = parts.keys.pop()?;
     let keys = CachedKeys::from_parts(VERSION, salt, 1, &CLIENT_KEY, &SERVER_KEY).ok()?;
     let signature = parts.keys.pop()?;
     Some(match making {
-        Making::ClientWithKeys => ScramClient::with_keys(user, keys).with_min_iterations(1),
-        Making::ClientWithBoth => ScramClient::with_password_and_keys(user, password, keys)
+        Making::RestoredClient => ScramClient::new(
+            user, password, VERSION,
+        ).restore_client_final_sent(signature, Some(keys)),
+        _ => ScramClient::new(user, password, VERSION)
             .with_min_iterations(1)
             .with_iteration_limit(1),
-        Making::ClientTakenUp => {
-            ScramClient::new(user, password, VERSION).waiting_for(signature, Some(keys))
-        }
-        _ => ScramClient::new(user, password, VERSION).with_iteration_limit(1),
     })
 }
 
@@ -184,7 +180,7 @@ fn is_fresh(alloc: Global, client: &mut ScramClient) -> bool {
 }
 
 /// Whether the client waits for the stored key, in place of a signature.
-fn is_taken_up(client: &ScramClient) -> bool {
+fn is_restored(client: &ScramClient) -> bool {
     client.server_signature() == Some(STORED_KEY.as_slice())
         && client.answer_keys().is_some()
         && client.nonce().is_none()
@@ -193,7 +189,7 @@ fn is_taken_up(client: &ScramClient) -> bool {
 
 fn client_is_made(alloc: Global, making: &Making, parts: &mut Parts) -> bool {
     match (client_of(making, parts), making) {
-        (Some(client), Making::ClientTakenUp) => is_taken_up(&client),
+        (Some(client), Making::RestoredClient) => is_restored(&client),
         (Some(mut client), _) => is_fresh(alloc, &mut client),
         (None, _) => false,
     }
@@ -260,11 +256,9 @@ impl Call for Making {
     }
 }
 
-static MAKINGS: [Making; 8] = [
+static MAKINGS: [Making; 6] = [
     Making::Client,
-    Making::ClientWithKeys,
-    Making::ClientWithBoth,
-    Making::ClientTakenUp,
+    Making::RestoredClient,
     Making::Record,
     Making::Stored,
     Making::Many,

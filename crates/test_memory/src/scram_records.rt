@@ -6,10 +6,11 @@ use crate::scram_values::*;
 use crate::users::{new_users, record, stored, two_names};
 use fe2o3_scram::OutOfMemory;
 use fe2o3_scram::credentials::{
-    AddRecordError, ReadLinesErrorKind, RecordError, RecordTextError, RecordStore,
-    ScramRecord, SingleScramCredential, UserRecord, WriteLinesError,
+    AddRecordError, ReadLinesErrorKind, RecordError, RecordStore, RecordTextError, ScramRecord,
+    SingleScramCredential, UserRecord, WriteLinesError,
 };
 use fe2o3_scram::hmac::{Meter, ScramVersion};
+use fe2o3_scram::passwords::Password;
 use fe2o3_scram::scram_messages::ServerScramErrorKind;
 use std::alloc::Global;
 use std::test::Fail;
@@ -19,7 +20,6 @@ const VERSION: ScramVersion = ScramVersion::Sha256;
 /// A call that makes, writes, reads or copies a record, or the credential of one user.
 enum OfRecord {
     FromPassword,
-    FromPasswordMetered,
     Parse,
     ToText,
     Clone,
@@ -48,13 +48,10 @@ impl Call for OfRecord {
     fn answer(&self, alloc: Global, _row: &(), kept: &mut Records) -> Answer {
         let mut meter = Meter::new();
         match self {
-            OfRecord::FromPassword => told(
-                ScramRecord::from_password(alloc, VERSION, PASSWORD, &SALT, 1),
-                RecordError::OutOfMemory,
-            ),
-            OfRecord::FromPasswordMetered => {
-                let made = ScramRecord::from_password_metered(
-                    alloc, VERSION, PASSWORD, &SALT, 1, &mut meter,
+            OfRecord::FromPassword => {
+                let password = Password::Typed(PASSWORD);
+                let made = ScramRecord::from_password(
+                    alloc, VERSION, password, &SALT, 1, &mut meter,
                 );
                 and(told(made, RecordError::OutOfMemory), meter.count() == 3)
             }
@@ -69,9 +66,8 @@ impl Call for OfRecord {
     }
 }
 
-static OF_RECORDS: [OfRecord; 6] = [
+static OF_RECORDS: [OfRecord; 5] = [
     OfRecord::FromPassword,
-    OfRecord::FromPasswordMetered,
     OfRecord::Parse,
     OfRecord::ToText,
     OfRecord::Clone,
@@ -154,11 +150,7 @@ impl Expected for RecordStore {
 }
 
 /// The answer of a call that puts in the user's record, or that of the other one in place of its own.
-fn put(
-    is_replaced: bool,
-    users: &mut RecordStore,
-    new: Option<(String, ScramRecord)>,
-) -> Answer {
+fn put(is_replaced: bool, users: &mut RecordStore, new: Option<(String, ScramRecord)>) -> Answer {
     let none = AddRecordError::OutOfMemory;
     match new {
         Some((_, record)) if is_replaced => told(users.replace(OTHER_USER, record), none),

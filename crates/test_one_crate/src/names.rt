@@ -4,6 +4,7 @@ use fe2o3_sasl::cached_keys::CachedKeys;
 use fe2o3_sasl::client_secret::{ClientSecret, IterationLimits};
 use fe2o3_sasl::credentials::{DEFAULT_SCRAM_ITERATIONS, SingleScramCredential};
 use fe2o3_sasl::hmac::{Meter, ScramVersion};
+use fe2o3_sasl::passwords::Password;
 use fe2o3_sasl::pbkdf2_hi::KeyError;
 use fe2o3_sasl::saslprep_ascii::{NormalizeError, saslprep};
 use fe2o3_sasl::scram_messages::{
@@ -83,7 +84,7 @@ fn answer<R: Abort + AllocGlobal>(
 /// Types are named by their modules.
 #[test]
 fn a_secret_has_one_type_by_both_names(rt: HostRuntime) {
-    let password = ClientSecret::Password("pencil");
+    let password = ClientSecret::Password(Password::Typed("pencil"));
     let by_password: ClientAnswer = answer(&rt, password, IterationLimits::none());
     let keys: &CachedKeys = &by_password.keys;
     answer(&rt, ClientSecret::Keys(keys), IterationLimits::up_to(1));

@@ -4,16 +4,17 @@
 /// The items by their modules.
 pub mod by_module {
     pub use fe2o3_sasl::cached_keys::CachedKeys;
-    pub use fe2o3_sasl::client_secret::{ClientSecret, IterationLimits};
+    pub use fe2o3_sasl::client_secret::{ClientSecret, ClientSecretError, IterationLimits};
     pub use fe2o3_sasl::credentials::{
         AddRecordError, DEFAULT_SCRAM_ITERATIONS, ReadLinesError, ReadLinesErrorKind, RecordError,
-        RecordTextError, ScramCredentialProvider, RecordStore, ScramRecord,
-        SingleScramCredential, StoredPassword, UserRecord, WriteLinesError,
+        RecordStore, RecordTextError, ScramCredentialProvider, ScramRecord, SingleScramCredential,
+        StoredPassword, UserRecord, WriteLinesError,
     };
     pub use fe2o3_sasl::hmac::{
         DigestBytes, Meter, SCRAM_SHA_1, SCRAM_SHA_256, SCRAM_SHA_512, ScramVersion,
         UnknownMechanism,
     };
+    pub use fe2o3_sasl::passwords::Password;
     pub use fe2o3_sasl::pbkdf2_hi::KeyError;
     pub use fe2o3_sasl::runs::{
         AuditError, ClientReply, Event, EventError, Finding, FindingKind, Parameters, ServerReply,
@@ -47,18 +48,18 @@ pub mod by_audit {
 /// The items at the root.
 pub mod at_root {
     pub use fe2o3_sasl::{
-        AddRecordError, AuditError, ClientAnswer, ClientFinal, ClientFirst, ClientReply,
-        ClientSecret, DEFAULT_SCRAM_ITERATIONS, DigestBytes, Event, EventError, Finding,
-        FindingKind, IterationLimits, KeyError, Meter, Negotiation, NormalizeError, OutOfMemory,
-        Parameters, ProfileError, ReadLinesError, ReadLinesErrorKind, RecordError, RecordTextError,
-        SaslAcceptor, SaslAcceptorExt, SaslAnonymousMechanism, SaslPlainMechanism, SaslProfile,
-        SaslScramSha1, SaslScramSha256, SaslScramSha512, SaslServerFrame, ScramAuthenticator,
-        ScramClient, CachedKeys, ScramCredentialProvider, RecordStore, ScramErrorKind,
-        ScramRecord, ScramVersion, ServerFinal, ServerFirst, ServerFirstMessage, ServerReply,
-        ServerScramErrorKind, SingleScramCredential, StoredPassword, UserRecord,
-        UnescapeError, UnknownMechanism, UrlError, Verdict, WriteLinesError, XorLengthMismatch,
-        acceptor_step, audit_limited, auth_message, escape_username, profile_step, run_acceptor,
-        run_profile, saslprep, scram_client_run, scram_client_run_limited, scram_server_run,
-        unescape_username,
+        AddRecordError, AuditError, CachedKeys, ClientAnswer, ClientFinal, ClientFirst,
+        ClientReply, ClientSecret, ClientSecretError, DEFAULT_SCRAM_ITERATIONS, DigestBytes, Event,
+        EventError, Finding, FindingKind, IterationLimits, KeyError, Meter, Negotiation,
+        NormalizeError, OutOfMemory, Parameters, Password, ProfileError, ReadLinesError,
+        ReadLinesErrorKind, RecordError, RecordStore, RecordTextError, SaslAcceptor,
+        SaslAcceptorExt, SaslAnonymousMechanism, SaslPlainMechanism, SaslProfile, SaslScramSha1,
+        SaslScramSha256, SaslScramSha512, SaslServerFrame, ScramAuthenticator, ScramClient,
+        ScramCredentialProvider, ScramErrorKind, ScramRecord, ScramVersion, ServerFinal,
+        ServerFirst, ServerFirstMessage, ServerReply, ServerScramErrorKind, SingleScramCredential,
+        StoredPassword, UnescapeError, UnknownMechanism, UrlError, UserRecord, Verdict,
+        WriteLinesError, XorLengthMismatch, acceptor_step, audit_limited, auth_message,
+        escape_username, profile_step, run_acceptor, run_profile, saslprep, scram_client_run,
+        scram_client_run_limited, scram_server_run, unescape_username,
     };
 }

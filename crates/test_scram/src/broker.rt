@@ -78,7 +78,7 @@ static LOGINS: [(&str, &str, Login); 6] = [
     ("a,b=c", "x", Login::Accepted),
     ("user", "Pencil", REFUSED),
     ("a,b=c", "pencil", REFUSED),
-    ("mock", "pencil", REFUSED),
+    ("nobody", "pencil", REFUSED),
     ("", "x", REFUSED),
 ];
 

@@ -6,7 +6,9 @@
 use crate::published::{CLIENT_KEY, SALT, SALTED_PASSWORD, SERVER_KEY, VERSION};
 use crate::values::{bytes_of, spells};
 use fe2o3_scram::cached_keys::CachedKeys;
+use fe2o3_scram::client_secret::ClientSecret;
 use fe2o3_scram::hmac::Meter;
+use fe2o3_scram::passwords::Password;
 use fe2o3_scram::scram_client::ScramClient;
 use fe2o3_scram::scram_messages::ScramErrorKind;
 use std::alloc::Global;
@@ -75,20 +77,14 @@ fn keys_are_made_of_a_password_and_of_a_salted_password(rt: HostRuntime) {
     let keys = CachedKeys::from_password(
         rt.alloc(),
         VERSION,
-        "pencil",
+        Password::Typed("pencil"),
         &salt,
         4096,
         &mut meter,
     );
     let keys = keys.expect(&rt, "keys");
     assert!(rt; PUBLISHED.are(rt.alloc(), &keys) && meter.count() == 4098);
-    let keys = CachedKeys::from_salted_password(
-        VERSION,
-        salt,
-        4096,
-        &salted_password,
-        &mut meter,
-    );
+    let keys = CachedKeys::from_salted_password(VERSION, salt, 4096, &salted_password, &mut meter);
     assert!(rt; PUBLISHED.are(rt.alloc(), &keys) && meter.count() == 4100);
 }
 
@@ -105,16 +101,19 @@ pub enum Secret {
 /// A client of `user` that has sent nothing.
 pub fn client<R: Abort + AllocGlobal>(rt: &R, secret: Secret) -> ScramClient {
     let name = "user".to_string(rt.alloc()).expect(rt, "memory");
-    let password = "pencil".to_string(rt.alloc()).expect(rt, "memory");
-    match secret {
-        Secret::Password => ScramClient::new(name, password, VERSION),
-        Secret::Keys => ScramClient::with_keys(name, keys(rt)),
-        Secret::PasswordAndKeys => { ScramClient::with_password_and_keys(name, password, keys(rt)) }
-        Secret::Prepared => ScramClient::with_prepared_password(name, password, VERSION),
-        Secret::PreparedAndKeys => {
-            ScramClient::with_prepared_password_and_keys(name, password, keys(rt))
+    let keys = &keys(rt);
+    let password = match secret {
+        Secret::Prepared | Secret::PreparedAndKeys => Password::Prepared("pencil"),
+        _ => Password::Typed("pencil"),
+    };
+    let secret = match secret {
+        Secret::Password | Secret::Prepared => ClientSecret::Password(password),
+        Secret::Keys => ClientSecret::Keys(keys),
+        Secret::PasswordAndKeys | Secret::PreparedAndKeys => {
+            ClientSecret::PasswordAndKeys { password, keys }
         }
-    }
+    };
+    ScramClient::with_secret(rt.alloc(), name, secret, VERSION).expect(rt, "keys of its version")
 }
 
 /// Whether the client shows a nonce, a signature, the keys of an answer and those of a login, and is done.
@@ -195,7 +194,7 @@ fn a_client_is_taken_up_behind_its_answer(rt: HostRuntime) {
     let signature = signature.to_vec(alloc).expect(&rt, "memory");
     let keys = first.answer_keys().expect(&rt, "keys");
     let keys = keys.clone().expect(&rt, "memory");
-    let mut second = client(&rt, Secret::Password).waiting_for(signature, Some(keys));
+    let mut second = client(&rt, Secret::Password).restore_client_final_sent(signature, Some(keys));
     assert!(rt; shown(&second) == [false, true, true, false, false]);
     let believed = second.validate_server_final(alloc, SERVER_FINAL);
     assert!(rt; believed == Ok(()));

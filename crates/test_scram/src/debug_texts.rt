@@ -3,10 +3,11 @@
 
 use crate::clients::{Secret, client, keys};
 use fe2o3_scram::credentials::{
-    MultiRecordStore, ScramCredentialProvider, RecordStore, ScramRecord,
-    SingleScramCredential, StoredPassword, UserRecord,
+    MultiRecordStore, RecordStore, ScramCredentialProvider, ScramRecord, SingleScramCredential,
+    StoredPassword, UserRecord,
 };
-use fe2o3_scram::hmac::ScramVersion;
+use fe2o3_scram::hmac::{Meter, ScramVersion};
+use fe2o3_scram::passwords::Password;
 use fe2o3_scram::scram_server::ScramAuthenticator;
 use std::alloc::Global;
 use std::fmt::Debug;
@@ -30,7 +31,9 @@ fn user<R: Abort + AllocGlobal>(rt: &R) -> String {
 
 /// A record of this version.
 fn record<R: Abort + AllocGlobal>(rt: &R, version: ScramVersion) -> ScramRecord {
-    ScramRecord::from_password(rt.alloc(), version, "pencil", &SECRET, 4096).expect(rt, "a record")
+    let (password, meter) = (Password::Typed("pencil"), &mut Meter::new());
+    let made = ScramRecord::from_password(rt.alloc(), version, password, &SECRET, 4096, meter);
+    made.expect(rt, "a record")
 }
 
 #[test]

@@ -38,7 +38,7 @@ fn serves_the_users_of_its_file(rt: HostRuntime) -> Result<(), Fail> {
         ("user", "x", refused),
         ("a,b=c", "pencil", refused),
         ("a=2Cb=3Dc", "x", Login::Unknown),
-        ("mock", "pencil", Login::Unknown),
+        ("nobody", "pencil", Login::Unknown),
     ] {
         let login = log_in(rt.alloc(), &store, name, password);
         assert!(rt; login == Ok(wanted), "{name}");

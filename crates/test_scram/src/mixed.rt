@@ -5,7 +5,8 @@ use crate::lines_broker::log_in;
 use crate::logins::Login;
 use fe2o3_scram::OutOfMemory;
 use fe2o3_scram::credentials::{MultiRecordStore, ScramRecord};
-use fe2o3_scram::hmac::ScramVersion;
+use fe2o3_scram::hmac::{Meter, ScramVersion};
+use fe2o3_scram::passwords::Password;
 use fe2o3_scram::scram_messages::ServerScramErrorKind;
 use std::alloc::Global;
 use std::process::Abort;
@@ -90,9 +91,11 @@ static RECORDS: [(ScramVersion, u32); 5] = [
 #[test]
 fn finds_each_record_of_a_name(rt: HostRuntime) {
     let mut store = store(&rt);
-    assert!(rt; has(&store, "user", &RECORDS) && has(&store, "mock", &[]));
+    assert!(rt; has(&store, "user", &RECORDS) && has(&store, "nobody", &[]));
     assert!(rt; has(&store, "a,b=c", &[(ScramVersion::Sha1, 2)]));
-    let record = ScramRecord::from_password(rt.alloc(), ScramVersion::Sha512, "pencil", b"salt", 1);
+    let (version, password) = (ScramVersion::Sha512, Password::Typed("pencil"));
+    let meter = &mut Meter::new();
+    let record = ScramRecord::from_password(rt.alloc(), version, password, b"salt", 1, meter);
     let name = "a,b=c".to_string(rt.alloc()).expect(&rt, "memory");
     let added = store.add(name, record.expect(&rt, "a record"));
     let wanted = [(ScramVersion::Sha1, 2), (ScramVersion::Sha512, 1)];

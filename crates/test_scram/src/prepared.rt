@@ -5,6 +5,7 @@ use crate::clients::Kept;
 use fe2o3_scram::cached_keys::CachedKeys;
 use fe2o3_scram::credentials::ScramRecord;
 use fe2o3_scram::hmac::{Meter, ScramVersion};
+use fe2o3_scram::passwords::Password;
 
 /// A password of two letters with marks, each letter one code point.
 const PASSWORD: &str = "p\u{e4}ssw\u{f6}rd";
@@ -26,24 +27,25 @@ const KEPT: Kept = Kept {
 #[test]
 fn a_prepared_password_is_taken_as_it_stands(rt: HostRuntime) {
     let version = ScramVersion::Sha256;
-    let made = ScramRecord::from_prepared_password(rt.alloc(), version, PASSWORD, &[3; 32], 4096);
+    let (password, meter) = (Password::Prepared(PASSWORD), &mut Meter::new());
+    let made = ScramRecord::from_password(rt.alloc(), version, password, &[3; 32], 4096, meter);
     let record = made.expect(&rt, "a record");
     let text = record.to_text(rt.alloc()).expect(&rt, "memory");
     assert!(rt; text.as_str() == RECORD);
     let kept = record.as_stored_password();
-    assert!(rt; kept.verify_prepared_password(version, PASSWORD));
-    assert!(rt; !kept.verify_prepared_password(version, DECOMPOSED));
-    assert!(rt; !kept.verify_password(version, PASSWORD));
+    assert!(rt; kept.verify_password(version, password, meter));
+    assert!(rt; !kept.verify_password(version, Password::Prepared(DECOMPOSED), meter));
+    assert!(rt; !kept.verify_password(version, Password::Typed(PASSWORD), meter));
 }
 
 #[test]
 fn a_prepared_password_has_its_keys(rt: HostRuntime) {
     let mut meter = Meter::new();
     let version = ScramVersion::Sha256;
-    let made = CachedKeys::from_prepared_password(
+    let made = CachedKeys::from_password(
         rt.alloc(),
         version,
-        PASSWORD,
+        Password::Prepared(PASSWORD),
         &[3; 32],
         4096,
         &mut meter,

@@ -78,7 +78,7 @@ fn writes_what_it_reads_and_finds_its_users(rt: HostRuntime) {
         ("a b  c", Some(1)),
         ("a b c", None),
         ("Зина", Some(1)),
-        ("mock", None),
+        ("nobody", None),
     ] {
         assert!(rt; count(&store, name) == wanted, "{name}");
     }

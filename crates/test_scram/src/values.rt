@@ -5,6 +5,7 @@ use crate::published::*;
 use base64::engine::general_purpose::STANDARD;
 use fe2o3_scram::credentials::ScramRecord;
 use fe2o3_scram::hmac::Meter;
+use fe2o3_scram::passwords::Password;
 use std::alloc::Global;
 use std::process::Abort;
 
@@ -73,17 +74,11 @@ fn keys_give_the_proof_and_the_signature(rt: HostRuntime) {
 fn a_record_of_a_password_has_the_keys(rt: HostRuntime) {
     let salt = bytes_of(&rt, SALT);
     let mut meter = Meter::new();
-    let made = ScramRecord::from_password_metered(
-        rt.alloc(),
-        VERSION,
-        "pencil",
-        &salt,
-        4096,
-        &mut meter,
-    );
+    let password = Password::Typed("pencil");
+    let made = ScramRecord::from_password(rt.alloc(), VERSION, password, &salt, 4096, &mut meter);
     let record = made.expect(&rt, "a record");
     let kept = record.as_stored_password();
     assert!(rt; spells(rt.alloc(), STORED_KEY, kept.stored_key) && meter.count() == 4098);
     assert!(rt; spells(rt.alloc(), SERVER_KEY, kept.server_key));
-    assert!(rt; kept.verify_password(VERSION, "pencil"));
+    assert!(rt; kept.verify_password(VERSION, password, &mut meter));
 }

@@ -2,9 +2,10 @@
 
 use crate::rows::{Answers, Row};
 use fe2o3_scram::credentials::{
-    ScramCredentialProvider, RecordStore, ScramRecord, SingleScramCredential,
+    RecordStore, ScramCredentialProvider, ScramRecord, SingleScramCredential,
 };
 use fe2o3_scram::hmac::{Meter, ScramVersion};
+use fe2o3_scram::passwords::Password;
 use fe2o3_scram::scram_client::ScramClient;
 use fe2o3_scram::scram_messages::ServerScramErrorKind;
 use fe2o3_scram::scram_server::ScramAuthenticator;
@@ -115,7 +116,8 @@ pub fn credentials(alloc: Global) -> io::Result<RecordStore> {
         ("user", "pen", [4; 32], 2),
     ] {
         let name = name.to_string(alloc)?;
-        let record = ScramRecord::from_password(alloc, version, password, &salt, count);
+        let (password, meter) = (Password::Typed(password), &mut Meter::new());
+        let record = ScramRecord::from_password(alloc, version, password, &salt, count, meter);
         let record = record.ok().ok_or(io::ErrorKind::Other)?;
         users.add(name, record).ok().ok_or(io::ErrorKind::Other)?;
     }

@@ -5,6 +5,7 @@ use fe2o3_scram::cached_keys::CachedKeys;
 use fe2o3_scram::client_secret::{ClientSecret, IterationLimits};
 use fe2o3_scram::credentials::{RecordStore, StoredPassword};
 use fe2o3_scram::hmac::Meter;
+use fe2o3_scram::passwords::Password;
 
 /// What a server says that keeps these lines of users: `VERSION LINES SERVER-NONCE MESSAGE`.
 pub fn client_first(row: &mut Row<'_>) {
@@ -71,7 +72,13 @@ pub fn client_secret(row: &mut Row<'_>) {
     let Some(secret) = secret_of(kind, &password, &keys) else {
         return row.refuse("no secret");
     };
-    let (bare, limits) = (bare(row, nonce), IterationLimits { min_iterations, max_iterations });
+    let (bare, limits) = (
+        bare(row, nonce),
+        IterationLimits {
+            min_iterations,
+            max_iterations,
+        },
+    );
     let (bare, mut meter) = (bare.as_bytes(), Meter::new());
     let answer = version.answer_server_first(
         alloc, nonce, secret, message, bare, limits, &mut meter,
@@ -96,12 +103,14 @@ fn secret_of<'a>(
     password: &'a str,
     keys: &'a Option<CachedKeys>,
 ) -> Option<ClientSecret<'a>> {
+    let password = match kind {
+        "prepared" | "prepared-both" => Password::Prepared(password),
+        _ => Password::Typed(password),
+    };
     Some(match (kind, keys) {
-        ("password", None) => ClientSecret::Password(password),
-        ("prepared", None) => ClientSecret::Prepared(password),
+        ("password" | "prepared", None) => ClientSecret::Password(password),
         ("keys", Some(keys)) => ClientSecret::Keys(keys),
-        ("both", Some(keys)) => ClientSecret::Both { password, keys },
-        ("prepared-both", Some(keys)) => ClientSecret::PreparedAndKeys { password, keys },
+        ("both" | "prepared-both", Some(keys)) => ClientSecret::PasswordAndKeys { password, keys },
         _ => return None,
     })
 }

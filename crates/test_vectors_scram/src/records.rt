@@ -3,6 +3,7 @@
 use crate::rows::Row;
 use fe2o3_scram::credentials::{RecordError, RecordStore, ScramRecord};
 use fe2o3_scram::hmac::{Meter, ScramVersion};
+use fe2o3_scram::passwords::Password;
 use saslprep::{Unassigned, saslprep};
 
 /// The text of a record that was made, or the name of what was refused.
@@ -24,13 +25,15 @@ pub fn record(row: &mut Row<'_>) {
     let written = row.made(record.to_text(alloc), String::new(alloc));
     row.compare_text(&written, text, "written and");
     let (kept, version) = (record.as_stored_password(), *record.scram_version());
-    let made = ScramRecord::from_password(alloc, version, &password, kept.salt, kept.iterations);
+    let (password, meter) = (Password::Typed(&password), &mut Meter::new());
+    let (salt, count) = (kept.salt, kept.iterations);
+    let made = ScramRecord::from_password(alloc, version, password, salt, count, meter);
     let made = text_of(row, &made);
     row.compare_text(&made, text, "made again");
 }
 
-/// What a typed password is prepared to, whether that meets the record and makes it again, and what the
-/// call for a typed password makes of it: `RECORD TYPED`.
+/// What a typed password is prepared to, whether that meets the record and makes it again, and which record
+/// the typed password has: `RECORD TYPED`.
 pub fn prepared_record(row: &mut Row<'_>) {
     let (alloc, text, typed) = (row.alloc, row.word(), row.text());
     let read = ScramRecord::parse(alloc, text);
@@ -41,16 +44,18 @@ pub fn prepared_record(row: &mut Row<'_>) {
     let (kept, version) = (record.as_stored_password(), *record.scram_version());
     let prepared = prepared.as_str();
     row.say(prepared);
-    if !kept.verify_prepared_password(version, prepared) {
+    let (prepared, meter) = (Password::Prepared(prepared), &mut Meter::new());
+    if !kept.verify_password(version, prepared, meter) {
         row.say("not met");
     }
     let (salt, count) = (kept.salt, kept.iterations);
-    let made = ScramRecord::from_prepared_password(alloc, version, prepared, salt, count);
+    let made = ScramRecord::from_password(alloc, version, prepared, salt, count, meter);
     let made = text_of(row, &made);
     row.compare_text(&made, text, "made again and met,");
-    let plain = ScramRecord::from_password(alloc, version, &typed, salt, count);
-    let plain = text_of(row, &plain);
-    row.say(plain);
+    let typed = Password::Typed(&typed);
+    let typed = ScramRecord::from_password(alloc, version, typed, salt, count, meter);
+    let typed = text_of(row, &typed);
+    row.say(typed);
     row.say("by the plain call");
 }
 
@@ -86,9 +91,7 @@ pub fn made_up(row: &mut Row<'_>) {
     let (alloc, version, secret, name) = (row.alloc, row.version(), row.bytes(), row.text());
     let (len, count) = (row.number() as usize, row.number());
     let mut meter = Meter::new();
-    let made = ScramRecord::mock_metered(
-        alloc, version, &secret, &name, len, count, &mut meter,
-    );
+    let made = ScramRecord::mock_metered(alloc, version, &secret, &name, len, count, &mut meter);
     let text = made.and_then(|record| record.to_text(alloc));
     let text = row.made(text, String::new(alloc));
     row.say(text);

@@ -1,4 +1,5 @@
 pub mod ClientMachineLemmas
+pub mod InitCostLemmas
 pub mod MemoryLemmas
 pub mod OneReplyLemmas
 pub mod ServerMachineLemmas
@@ -12,7 +13,6 @@ pub mod NameLemmas
 pub mod PolicyLemmas
 pub mod AnyMechanismLemmas
 pub mod AnyMechanismUserLemmas
-pub mod AlikeRunLemmas
 pub mod UnknownUserLemmas
 pub mod RestrictMechanismsLemmas
 pub mod ScramInAnyMechanismLemmas

@@ -1,6 +1,5 @@
 pub mod AcceptorReplyLemmas
 pub mod HexEventLemmas
-pub mod HidingReplyLemmas
 pub mod HexTextLemmas
 pub mod LongerRunLemmas
 pub mod ProfileReplyLemmas

@@ -21,7 +21,7 @@ pub enum ProfileError {
     Scram(ScramErrorKind),
 
     /// The server names another salt or another iteration count than the kept keys are of, and the client
-    /// has no password, which is needed. MockSettings signs that message, so whoever is on the way can bring
+    /// has no password, which is needed. Nothing signs that message, so whoever is on the way can bring
     /// this about: keep the keys until a login by the password was believed.
     #[error("The keys are of another salt or iteration count")]
     StaleKeys,

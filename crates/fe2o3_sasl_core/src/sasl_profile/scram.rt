@@ -1,20 +1,20 @@
 //! The SCRAM profiles: one type over the versions (RFC 5802, section 5), and a name for each of the three.
 
-ghost use Rattle.std.specs.Prelude.{◌≡◌, ◌≢◌, MatchOption, Some, None, string_bytes};
+ghost use Rattle.std.specs.Prelude.{◌≡◌, ◌↔◌, IfOk, MatchOption, Some, None, string_bytes};
 ghost use Rattle.fe2o3_scram.specs.declared.hmac.ScramVersion.{ScramVersion};
 ghost use Rattle.fe2o3_scram.specs.declared.hmac.ScramVersion.TheVariants.{Sha1, Sha256, Sha512};
-ghost use Rattle.fe2o3_scram.specs.ClientSecret.{Password, Keys, Both, no_limit, up_to};
-ghost use Rattle.fe2o3_scram.specs.Passwords.{Typed, Prepared};
-ghost use Rattle.fe2o3_scram.specs.ScramClient.{ClientInitial, login_keys, with_limits};
+ghost use Rattle.fe2o3_scram.specs.ClientSecret.{IsOfVersion, no_limit, secret_of};
+ghost use Rattle.fe2o3_scram.specs.ScramClient.{fresh_client, login_keys, with_limits};
 ghost use Rattle.fe2o3_sasl_core.specs.Profiles.{ScramProfile, scram_profile};
 ghost use Rattle.fe2o3_sasl_core.specs.Runs.{login_of};
 ghost use Rattle.fe2o3_sasl_core.specs.SaslProfile.{profile_of, variant_version};
 
 use super::SaslProfile;
 use fe2o3_scram::cached_keys::CachedKeys;
+use fe2o3_scram::client_secret::{ClientSecret, ClientSecretError};
 use fe2o3_scram::hmac::ScramVersion;
 use fe2o3_scram::scram_client::ScramClient;
-use std::alloc::AllocError;
+use std::alloc::{AllocError, Global};
 use std::fmt;
 use std::marker::{Model, PhantomData};
 
@@ -99,17 +99,6 @@ impl<V: OfVersion> SaslScram<V> {
         }
     }
 
-    /// The profile of a client of this version.
-    fn of_version(client: ScramClient) -> Option<Self>
-        ensures { MatchOption result (client.version ≢ V.version)
-            (λ scram. (client.version ≡ V.version) × (scram ≡ client)) }
-    {
-        if client.version() != V::version() {
-            return None;
-        }
-        Some(Self::of(client))
-    }
-
     /// A client of this user with this password, which accepts every iteration count from 1 on.
     pub fn new(username: String, password: String) -> Self
         ensures { ScramProfile result ≡ scram_profile (login_of V.version (string_bytes username)
@@ -118,85 +107,26 @@ impl<V: OfVersion> SaslScram<V> {
         Self::of(ScramClient::new(username, password, V::version()))
     }
 
-    /// A client of this user with this prepared password (RFC 4013), which accepts every iteration count from
-    /// 1 on. The password is any text, taken as it stands, and not tested or prepared here; a caller prepares
-    /// the user name likewise.
-    pub fn with_prepared_password(username: String, password: String) -> Self
-        ensures { result ≡ record {
-          user = string_bytes username;
-          secret = Password (Prepared (string_bytes password));
-          version =
-              V.version;
-          limits = up_to no_limit;
-          state = ClientInitial;
-        } }
-    {
-        Self::of(ScramClient::with_prepared_password(username, password, V::version()))
-    }
-
-    /// A client of this user that keeps these keys in place of the password (RFC 5802, section 3), and
-    /// accepts every iteration count from 1 on. `None` where the keys are of another version.
+    /// Returns a client of this user that proves who it is by a copy of this secret (RFC 5802, section 3), and
+    /// accepts every iteration count from 1 on. [`ScramClient::with_secret`] says how each kind of secret
+    /// answers a challenge.
     ///
-    /// It answers a challenge as the client with the password does whose keys they are, by two HMAC
-    /// values in place of those of the iteration count. `StaleKeys` refuses a challenge that names another
-    /// salt or another count than theirs, and then the password is needed.
-    pub fn with_keys(username: String, keys: CachedKeys) -> Option<Self>
-        ensures { MatchOption result (keys.version ≢ V.version)
-            (λ scram. (keys.version ≡ V.version)
-            × (scram ≡ record {
-              user = string_bytes username;
-              secret = Keys keys;
-              version = V.version;
-              limits = up_to no_limit;
-              state =
-                  ClientInitial;
-            })) }
-    {
-        Self::of_version(ScramClient::with_keys(username, keys))
-    }
-
-    /// A client of this user with this password and these keys (RFC 5802, section 3), which accepts every
-    /// iteration count from 1 on. `None` where the keys are of another version.
-    ///
-    /// It answers by the keys a challenge that names the salt and the count that they are of, and any
-    /// other by the password. So it never answers `StaleKeys`.
-    pub fn with_password_and_keys(
+    /// The errors are, in this order: `VersionMismatch` where the secret has keys of another version than
+    /// `V`, and `OutOfMemory`.
+    pub fn with_secret(
+        alloc: Global,
         username: String,
-        password: String,
-        keys: CachedKeys,
-    ) -> Option<Self>
-        ensures { MatchOption result (keys.version ≢ V.version)
-            (λ scram. (keys.version ≡ V.version)
-            × (scram ≡ record {
-              user = string_bytes username;
-              secret = Both (Typed (string_bytes password)) keys;
-              version = V.version;
-              limits = up_to no_limit;
-              state =
-                  ClientInitial;
-            })) }
+        secret: ClientSecret<'_>,
+    ) -> Result<Self, ClientSecretError>
+        ensures ok { IfOk result (λ scram. IsOfVersion V.version (secret_of secret.entry)
+            × (scram ≡ fresh_client (string_bytes username) V.version (secret_of secret.entry))) }
+        ensures mismatch { (result ≡ Err ClientSecretError.VersionMismatch)
+            ↔ ¬ IsOfVersion V.version (secret_of secret.entry) }
     {
-        Self::of_version(ScramClient::with_password_and_keys(username, password, keys))
-    }
-
-    /// As `with_password_and_keys`, with a prepared password, which is taken as it stands.
-    pub fn with_prepared_password_and_keys(
-        username: String,
-        password: String,
-        keys: CachedKeys,
-    ) -> Option<Self>
-        ensures { MatchOption result (keys.version ≢ V.version)
-            (λ scram. (keys.version ≡ V.version)
-            × (scram ≡ record {
-              user = string_bytes username;
-              secret = Both (Prepared (string_bytes password)) keys;
-              version = V.version;
-              limits = up_to no_limit;
-              state =
-                  ClientInitial;
-            })) }
-    {
-        Self::of_version(ScramClient::with_prepared_password_and_keys(username, password, keys))
+        match ScramClient::with_secret(alloc, username, secret, V::version()) {
+            Ok(client) => Ok(Self::of(client)),
+            Err(error) => Err(error),
+        }
     }
 
     /// The same client, which refuses an iteration count above the limit. The limit is one for each

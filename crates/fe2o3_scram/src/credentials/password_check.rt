@@ -2,71 +2,41 @@
 
 ghost use Rattle.std.specs.Prelude.{◌≡◌, ◌≤◌, ◌+◌, ◌^◌, ◌↔◌, IsTrue};
 ghost use Rattle.fe2o3_scram.specs.Credentials.{CheckingCosts, MeetsRecord, kept, record_of};
-ghost use Rattle.fe2o3_scram.specs.Passwords.{Typed, Prepared};
+ghost use Rattle.fe2o3_scram.specs.Passwords.{password_of};
 
 use crate::hmac::{Meter, ScramVersion};
+use crate::passwords::Password;
 use crate::provider::StoredPassword;
 use crate::same_bytes::same_bytes;
-use crate::saslprep_ascii::saslprep;
 
 impl StoredPassword<'_> {
-    /// Whether the password is that of which this was kept, for the version of its provider: what a
-    /// server asks that is told the password itself, as by PLAIN (RFC 4616). A password that is not
-    /// printable ASCII is not, nor is any where the iteration count is 0 or a key is not as long as a
-    /// digest. It takes no memory.
+    /// Returns whether this was kept of the password, for the version of its provider: what a server asks
+    /// that receives the password itself, as by PLAIN (RFC 4616). The answer is `false` for a typed password
+    /// that is not printable ASCII, and for every password where the iteration count is 0 or a key is not as
+    /// long as a digest. It takes no memory.
+    ///
+    /// The meter, of at most 2^63, counts the HMAC values: two more than the iterations, and none for a typed
+    /// password that is not printable ASCII or where the count is 0.
     ///
     /// That keys are compared over the whole length, whatever the bytes are, is read in the code and
     /// not proved; no claim is made about time.
-    pub fn verify_password(&self, scram_version: ScramVersion, password: &str) -> bool
-        ensures { IsTrue result ↔ MeetsRecord scram_version (Typed password.now) (kept self.now) }
-    {
-        self.verify_password_metered(scram_version, password, &mut Meter::new())
-    }
-
-    /// As `verify_password`. The meter, of at most 2^63, counts the HMAC values: two more than the
-    /// iterations, and none where the password is not printable ASCII or the count is 0.
-    pub fn verify_password_metered(
+    pub fn verify_password(
         &self,
         scram_version: ScramVersion,
-        password: &str,
+        password: Password<'_>,
         meter: &mut Meter,
     ) -> bool
         requires { meter.old ≤ 2 ^ 63 }
-        ensures verdict { IsTrue result ↔ MeetsRecord scram_version (Typed password.now) (kept self.now) }
-        ensures cost { CheckingCosts (Typed password.now) self.now.iterations meter.old meter.new }
+        ensures verdict { IsTrue result ↔ MeetsRecord scram_version (password_of password.entry) (kept self.now) }
+        ensures cost { CheckingCosts (password_of password.entry) self.now.iterations meter.old meter.new }
     {
-        if saslprep(password).is_err() || self.iterations == 0 {
+        let Ok(text) = password.normalized() else {
             return false;
-        }
-        self.has_keys_of(scram_version, password, meter)
-    }
-
-    /// Whether the prepared password (RFC 4013) is that of which this was kept: any text, which is taken as it
-    /// stands. It is not where the iteration count is 0 or a key is not as long as a digest. It takes no memory.
-    ///
-    /// Keys are compared as `verify_password` does.
-    pub fn verify_prepared_password(&self, scram_version: ScramVersion, password: &str) -> bool
-        ensures { IsTrue result ↔ MeetsRecord scram_version (Prepared password.now) (kept self.now) }
-    {
-        self.verify_prepared_password_metered(scram_version, password, &mut Meter::new())
-    }
-
-    /// As `verify_prepared_password`. The meter, of at most 2^63, counts the HMAC values: two more than the
-    /// iterations, and none where the count is 0.
-    pub fn verify_prepared_password_metered(
-        &self,
-        scram_version: ScramVersion,
-        password: &str,
-        meter: &mut Meter,
-    ) -> bool
-        requires { meter.old ≤ 2 ^ 63 }
-        ensures verdict { IsTrue result ↔ MeetsRecord scram_version (Prepared password.now) (kept self.now) }
-        ensures cost { CheckingCosts (Prepared password.now) self.now.iterations meter.old meter.new }
-    {
+        };
         if self.iterations == 0 {
             return false;
         }
-        self.has_keys_of(scram_version, password, meter)
+        self.has_keys_of(scram_version, text, meter)
     }
 
     /// Whether the keys are those of the password with this salt and this count, of at least 1.

@@ -2,13 +2,13 @@
 
 ghost use Rattle.std.specs.Prelude.{◌≡◌, ◌≤◌, ◌^◌};
 ghost use Rattle.fe2o3_scram.specs.Credentials.{MakesRecord, MakingCosts, VersionedRecord, kept, making_tests};
-ghost use Rattle.fe2o3_scram.specs.Passwords.{Typed, Prepared};
+ghost use Rattle.fe2o3_scram.specs.Passwords.{password_of};
 ghost use Rattle.fe2o3_scram.specs.Readings.{Gives, NoneHolds};
 
 use crate::hmac::{Meter, ScramVersion};
 pub use crate::keys::RecordError;
+use crate::passwords::Password;
 use crate::provider::StoredPassword;
-use crate::saslprep_ascii::saslprep;
 use std::alloc::{AllocError, Global};
 use std::fmt;
 use std::marker::Model;
@@ -42,109 +42,37 @@ impl Model for ScramRecord {
 }
 
 impl ScramRecord {
-    /// The record of a password (RFC 5802, section 3). The salt is any bytes, and is to be fresh for
-    /// each record; of the password the keys alone are kept.
+    /// Returns the record of a password (RFC 5802, section 3). The salt is any bytes, and has to be fresh for
+    /// each record. Of the password only the keys are kept. Of printable ASCII a typed and a prepared password
+    /// have one record; with another prepared password a client logs in by that very text only.
     ///
-    /// Refused are, in this order: `NormalizeError` where the password is not printable ASCII (RFC
+    /// The errors are, in this order: `NormalizeError` for a typed password that is not printable ASCII (RFC
     /// 4013, section 2), `ZeroIterations` where the count is 0, and `OutOfMemory`.
+    ///
+    /// The meter, of at most 2^63, counts the HMAC values: two more than the iterations, none where the
+    /// password or the count is rejected, and at most that many where memory runs out.
     pub fn from_password(
         alloc: Global,
         scram_version: ScramVersion,
-        password: &str,
-        salt: &[u8],
-        iterations: u32,
-    ) -> Result<Self, RecordError>
-        ensures { Gives RecordError.OutOfMemory (NoneHolds (making_tests (Typed password.now) iterations))
-            (λ (made : VersionedRecord). made) result
-            (MakesRecord scram_version (Typed password.now) salt.now iterations) }
-    {
-        ScramRecord::from_password_metered(
-            alloc,
-            scram_version,
-            password,
-            salt,
-            iterations,
-            &mut Meter::new(),
-        )
-    }
-
-    /// As `from_password`. The meter, of at most 2^63, counts the HMAC values: two more than the
-    /// iterations, none where the password or the count is refused, and at most so many where
-    /// memory is.
-    pub fn from_password_metered(
-        alloc: Global,
-        scram_version: ScramVersion,
-        password: &str,
+        password: Password<'_>,
         salt: &[u8],
         iterations: u32,
         meter: &mut Meter,
     ) -> Result<Self, RecordError>
         requires { meter.old ≤ 2 ^ 63 }
-        ensures record { Gives RecordError.OutOfMemory (NoneHolds (making_tests (Typed password.now) iterations))
+        ensures record { Gives RecordError.OutOfMemory (NoneHolds (making_tests (password_of password.entry) iterations))
             (λ (made : VersionedRecord). made) result
-            (MakesRecord scram_version (Typed password.now) salt.now iterations) }
+            (MakesRecord scram_version (password_of password.entry) salt.now iterations) }
         ensures cost { MakingCosts iterations result meter.old meter.new }
     {
-        if saslprep(password).is_err() {
+        let Ok(text) = password.normalized() else {
             return Err(RecordError::NormalizeError);
-        }
-        ScramRecord::from_prepared_password_metered(
-            alloc,
-            scram_version,
-            password,
-            salt,
-            iterations,
-            meter,
-        )
-    }
-
-    /// The record of a prepared password (RFC 4013; RFC 5802, section 2.2): any text, which is taken as it
-    /// stands, and not tested or prepared here. A client logs in by that very text alone. The salt is that of
-    /// `from_password`, and of a printable ASCII password both make one record.
-    ///
-    /// Refused are, in this order: `ZeroIterations` where the count is 0, and `OutOfMemory`.
-    pub fn from_prepared_password(
-        alloc: Global,
-        scram_version: ScramVersion,
-        password: &str,
-        salt: &[u8],
-        iterations: u32,
-    ) -> Result<Self, RecordError>
-        ensures { Gives RecordError.OutOfMemory (NoneHolds (making_tests (Prepared password.now) iterations))
-            (λ (made : VersionedRecord). made) result
-            (MakesRecord scram_version (Prepared password.now) salt.now iterations) }
-    {
-        ScramRecord::from_prepared_password_metered(
-            alloc,
-            scram_version,
-            password,
-            salt,
-            iterations,
-            &mut Meter::new(),
-        )
-    }
-
-    /// As `from_prepared_password`. The meter, of at most 2^63, counts the HMAC values: two more than the
-    /// iterations, none where the count is refused, and at most so many where memory is.
-    pub fn from_prepared_password_metered(
-        alloc: Global,
-        scram_version: ScramVersion,
-        password: &str,
-        salt: &[u8],
-        iterations: u32,
-        meter: &mut Meter,
-    ) -> Result<Self, RecordError>
-        requires { meter.old ≤ 2 ^ 63 }
-        ensures record { Gives RecordError.OutOfMemory (NoneHolds (making_tests (Prepared password.now) iterations))
-            (λ (made : VersionedRecord). made) result
-            (MakesRecord scram_version (Prepared password.now) salt.now iterations) }
-        ensures cost { MakingCosts iterations result meter.old meter.new }
-    {
+        };
         if iterations == 0 {
             return Err(RecordError::ZeroIterations);
         }
         let salted_password = scram_version.salted_password(
-            password.as_bytes(),
+            text.as_bytes(),
             salt,
             iterations,
             meter,

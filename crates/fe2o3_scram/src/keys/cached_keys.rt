@@ -6,14 +6,14 @@ ghost use Rattle.fe2o3_scram.specs.ClientKeys.{AreSized, ClientKeys, MakesKeys, 
 ghost use Rattle.fe2o3_scram.specs.Credentials.{MakingCosts, making_tests};
 ghost use Rattle.fe2o3_scram.specs.Hmac.{digest_bytes};
 ghost use Rattle.fe2o3_scram.specs.Keys.{client_key, client_proof, server_key};
-ghost use Rattle.fe2o3_scram.specs.Passwords.{Typed, Prepared};
+ghost use Rattle.fe2o3_scram.specs.Passwords.{password_of};
 ghost use Rattle.fe2o3_scram.specs.Readings.{Gives, NoneHolds};
 ghost use Rattle.fe2o3_scram.specs.private.Pieces.{whole};
 
 use crate::hmac::keyed::HmacKey;
 use crate::hmac::{DigestBytes, Meter, ScramVersion, XorLengthMismatch};
 use crate::keys::RecordError;
-use crate::saslprep_ascii::saslprep;
+use crate::passwords::Password;
 use std::alloc::{AllocError, Global};
 use std::fmt;
 use std::marker::Model;
@@ -41,65 +41,37 @@ impl Model for CachedKeys {
 }
 
 impl CachedKeys {
-    /// The keys of a password with this salt and this iteration count (RFC 5802, section 3).
+    /// Returns the keys of a password with this salt and this iteration count (RFC 5802, section 3). Of
+    /// printable ASCII a typed and a prepared password have the same keys.
     ///
-    /// Refused are, in this order: `NormalizeError` where the password is not printable ASCII (RFC
-    /// 4013, section 2), `ZeroIterations` where the count is 0, and `OutOfMemory`. The meter, of at most
-    /// 2^63, counts the HMAC values: two more than the iterations, none where the password or the count
-    /// is refused, and at most so many where memory is.
+    /// The errors are, in this order: `NormalizeError` for a typed password that is not printable ASCII (RFC
+    /// 4013, section 2), `ZeroIterations` where the count is 0, and `OutOfMemory`.
+    ///
+    /// The meter, of at most 2^63, counts the HMAC values: two more than the iterations, none where the
+    /// password or the count is rejected, and at most that many where memory runs out.
     pub fn from_password(
         alloc: Global,
         scram_version: ScramVersion,
-        password: &str,
+        password: Password<'_>,
         salt: &[u8],
         iterations: u32,
         meter: &mut Meter,
     ) -> Result<Self, RecordError>
         requires { meter.old ≤ 2 ^ 63 }
-        ensures keys { Gives RecordError.OutOfMemory (NoneHolds (making_tests (Typed password.now) iterations))
+        ensures keys { Gives RecordError.OutOfMemory (NoneHolds (making_tests (password_of password.entry) iterations))
             (λ (made : ClientKeys). made) result
-            (MakesKeys scram_version (Typed password.now) salt.now iterations) }
+            (MakesKeys scram_version (password_of password.entry) salt.now iterations) }
         ensures cost { MakingCosts iterations result meter.old meter.new }
     {
-        if saslprep(password).is_err() {
+        let Ok(text) = password.normalized() else {
             return Err(RecordError::NormalizeError);
-        }
-        CachedKeys::from_prepared_password(
-            alloc,
-            scram_version,
-            password,
-            salt,
-            iterations,
-            meter,
-        )
-    }
-
-    /// The keys of a prepared password (RFC 4013; RFC 5802, section 2.2): any text, which is taken as it stands,
-    /// and not tested or prepared here. Of a printable ASCII password they are those of `from_password`.
-    ///
-    /// Refused are, in this order: `ZeroIterations` where the count is 0, and `OutOfMemory`. The meter, of at most
-    /// 2^63, counts the HMAC values: two more than the iterations, none where the count is refused, and at most so
-    /// many where memory is.
-    pub fn from_prepared_password(
-        alloc: Global,
-        scram_version: ScramVersion,
-        password: &str,
-        salt: &[u8],
-        iterations: u32,
-        meter: &mut Meter,
-    ) -> Result<Self, RecordError>
-        requires { meter.old ≤ 2 ^ 63 }
-        ensures keys { Gives RecordError.OutOfMemory (NoneHolds (making_tests (Prepared password.now) iterations))
-            (λ (made : ClientKeys). made) result
-            (MakesKeys scram_version (Prepared password.now) salt.now iterations) }
-        ensures cost { MakingCosts iterations result meter.old meter.new }
-    {
+        };
         if iterations == 0 {
             return Err(RecordError::ZeroIterations);
         }
         let owned_salt = salt.to_vec(alloc)?;
         let salted_password = scram_version.salted_password(
-            password.as_bytes(),
+            text.as_bytes(),
             salt,
             iterations,
             meter,

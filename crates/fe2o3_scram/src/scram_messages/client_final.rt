@@ -3,9 +3,9 @@
 ghost use Rattle.std.specs.Prelude.{◌≡◌, ◌≤◌, ◌<◌, ◌+◌, ◌^◌, IfOk, IfErr, OnOk, OnErr, string_bytes};
 ghost use Rattle.fe2o3_scram.specs.ClientFinal.{answer_by, answer_values, client_final_of, keys_for, without_proof};
 ghost use Rattle.fe2o3_scram.specs.ClientKeys.{keys_of};
-ghost use Rattle.fe2o3_scram.specs.ClientSecret.{Password, no_limit, secret_of, up_to};
+ghost use Rattle.fe2o3_scram.specs.ClientSecret.{Password as ByPassword, no_limit, secret_of, up_to};
 ghost use Rattle.fe2o3_scram.specs.Keys.{auth_message};
-ghost use Rattle.fe2o3_scram.specs.Passwords.{Typed};
+ghost use Rattle.fe2o3_scram.specs.Passwords.{Typed, password_bytes, password_of};
 ghost use Rattle.fe2o3_scram.specs.Readings.{Gives};
 ghost use Rattle.fe2o3_scram.specs.ServerFirst.{ReachesSalt, client_of, server_first_values};
 ghost use Rattle.fe2o3_scram.specs.ServerFirstAnswers.{AnswerCosts, AnswersServerFirst, SendsServerFirst, hmac_count, pair_values};
@@ -15,6 +15,7 @@ use crate::OutOfMemory;
 use crate::client_secret::{ClientSecret, IterationLimits};
 use crate::hmac::{Meter, ScramVersion};
 use crate::keys::{CachedKeys, auth_message, auth_pieces};
+use crate::passwords::Password;
 use crate::scram_messages::attributes::{CHANNEL_BINDING_KEY, GS2_HEADER, NONCE_KEY, PROOF_KEY};
 use crate::scram_messages::error::ScramErrorKind;
 use crate::scram_messages::server_first_reading::ServerFirst;
@@ -59,7 +60,7 @@ impl ScramVersion {
         client_first_message_bare: &[u8],
     ) -> Result<(Vec<u8>, Vec<u8>), ScramErrorKind>
         ensures { Gives ScramErrorKind.OutOfMemory (ReachesSalt client_nonce.now server_first.now) pair_values result
-            (SendsServerFirst self.now (client_of client_nonce.now (Password (Typed password.now)) (up_to no_limit))
+            (SendsServerFirst self.now (client_of client_nonce.now (ByPassword (Typed password.now)) (up_to no_limit))
             client_first_message_bare.now server_first.now) }
     {
         self.compute_client_final_message_metered(
@@ -86,9 +87,9 @@ impl ScramVersion {
         requires { meter.old ≤ 2 ^ 63 }
         ensures answer { Gives ScramErrorKind.OutOfMemory (ReachesSalt client_nonce.now server_first.now)
             pair_values result
-            (SendsServerFirst self.now (client_of client_nonce.now (Password (Typed password.now)) (up_to no_limit))
+            (SendsServerFirst self.now (client_of client_nonce.now (ByPassword (Typed password.now)) (up_to no_limit))
             client_first_message_bare.now server_first.now) }
-        ensures cost { AnswerCosts (client_of client_nonce.now (Password (Typed password.now)) (up_to no_limit))
+        ensures cost { AnswerCosts (client_of client_nonce.now (ByPassword (Typed password.now)) (up_to no_limit))
             server_first.now result meter.old meter.new }
     {
         self.compute_client_final_message_limited(
@@ -117,15 +118,15 @@ impl ScramVersion {
         requires { meter.old ≤ 2 ^ 63 }
         ensures answer { Gives ScramErrorKind.OutOfMemory (ReachesSalt client_nonce.now server_first.now)
             pair_values result
-            (SendsServerFirst self.now (client_of client_nonce.now (Password (Typed password.now)) (up_to limit))
+            (SendsServerFirst self.now (client_of client_nonce.now (ByPassword (Typed password.now)) (up_to limit))
             client_first_message_bare.now server_first.now) }
-        ensures cost { AnswerCosts (client_of client_nonce.now (Password (Typed password.now)) (up_to limit))
+        ensures cost { AnswerCosts (client_of client_nonce.now (ByPassword (Typed password.now)) (up_to limit))
             server_first.now result meter.old meter.new }
     {
         let answer = self.answer_server_first(
             alloc,
             client_nonce,
-            ClientSecret::Password(password),
+            ClientSecret::Password(Password::Typed(password)),
             server_first,
             client_first_message_bare,
             IterationLimits::up_to(limit),
@@ -140,7 +141,7 @@ impl ScramVersion {
     ///
     /// Refused are, in this order: what `ServerFirst::parse` refuses up to `IterationCountParseError`;
     /// `IterationCountTooSmall` and `IterationCountTooLarge`; and of the secret `NormalizeError`, where a
-    /// password as it is typed is needed and is not printable ASCII, or `StaleKeys`, where there are keys alone
+    /// typed password is needed and is not printable ASCII, or `StaleKeys`, where there are keys alone
     /// and the message names another salt or another count than they are of. `OutOfMemory` is answered only
     /// where none of those before `Base64DecodeError` holds.
     ///
@@ -192,12 +193,9 @@ impl ScramVersion {
             (server_first_values first.entry) }
     {
         match secret {
-            ClientSecret::Password(password) | ClientSecret::Prepared(password) => {
-                self.keys_of(password, first, meter)
-            }
+            ClientSecret::Password(password) => self.keys_of(password, first, meter),
             ClientSecret::Keys(keys) => keys.with_salt(first.salt),
-            ClientSecret::Both { password, keys }
-            | ClientSecret::PreparedAndKeys { password, keys } => {
+            ClientSecret::PasswordAndKeys { password, keys } => {
                 if keys.are_of(&first.salt, first.iterations) {
                     keys.with_salt(first.salt)
                 } else {
@@ -208,14 +206,19 @@ impl ScramVersion {
     }
 
     /// The keys of a password with the salt and the count that a message names.
-    fn keys_of(&self, password: &str, first: ServerFirst<'_>, meter: &mut Meter) -> CachedKeys
+    fn keys_of(
+        &self,
+        password: Password<'_>,
+        first: ServerFirst<'_>,
+        meter: &mut Meter,
+    ) -> CachedKeys
         requires some { 1 ≤ first.iterations }
         requires meter { meter.old ≤ 2 ^ 63 }
-        ensures keys { result ≡ keys_of self.now password.now first.entry.salt.items first.entry.iterations }
+        ensures keys { result ≡ keys_of self.now (password_bytes (password_of password.entry)) first.entry.salt.items first.entry.iterations }
         ensures counted { meter.new ≡ meter.old + (first.entry.iterations + 2) }
     {
         let salted_password = self.salted_password(
-            password.as_bytes(),
+            password.as_str().as_bytes(),
             &first.salt,
             first.iterations,
             meter,

@@ -4,14 +4,13 @@ ghost use Rattle.std.specs.Prelude.{◌≡◌, ◌≢◌, ◌≤◌, ◌++◌, �
 ghost use Rattle.fe2o3_scram.specs.private.Tests.{salt_tests, count_tests};
 ghost use Rattle.fe2o3_scram.specs.Readings.{Gives, IsFirst, NoneHolds};
 ghost use Rattle.fe2o3_scram.specs.ServerFirst.{ReachesSalt, ReadsServerFirst, server_first_values, HasCount, nonce_tests};
-ghost use Rattle.fe2o3_scram.specs.ClientSecret.{Password, secret_of, up_to};
-ghost use Rattle.fe2o3_scram.specs.Passwords.{Typed};
-ghost use Rattle.fe2o3_scram.specs.SaslprepAscii.{IsPrintable};
+ghost use Rattle.fe2o3_scram.specs.ClientSecret.{Password as ByPassword, secret_of, up_to};
+ghost use Rattle.fe2o3_scram.specs.Passwords.{IsNormal, Typed, password_of};
 ghost use Rattle.fe2o3_scram.specs.Texts.{Part, HasBase64};
 ghost use Rattle.fe2o3_scram.specs.private.Serving.{Serves, ServesNot};
 
 use crate::client_secret::{ClientSecret, IterationLimits};
-use crate::saslprep_ascii::saslprep;
+use crate::passwords::Password;
 use crate::scram_messages::attributes::{ITERATION_COUNT_KEY, NONCE_KEY, RESERVED_MEXT, SALT_KEY};
 use crate::scram_messages::error::ScramErrorKind;
 use crate::texts::{after, attribute, bytes_of, count_of, part};
@@ -49,14 +48,14 @@ impl<'a> ServerFirst<'a> {
     ) -> Result<Self, ScramErrorKind>
         ensures reads { Gives ScramErrorKind.OutOfMemory (ReachesSalt client_nonce.now text.now)
             server_first_values result
-            (ReadsServerFirst client_nonce.now (Password (Typed password.now)) (up_to limit) text.now) }
+            (ReadsServerFirst client_nonce.now (ByPassword (Typed password.now)) (up_to limit) text.now) }
         ensures count { IfOk result (λ first. (1 ≤ first.iterations) × (first.iterations ≤ limit)) }
     {
         let limits = IterationLimits::up_to(limit);
         let first = ServerFirst::read(
             alloc,
             client_nonce,
-            ClientSecret::Password(password),
+            ClientSecret::Password(Password::Typed(password)),
             limits,
             text,
         )?;
@@ -68,7 +67,7 @@ impl<'a> ServerFirst<'a> {
     ///
     /// Refused are, in this order: what `parse` refuses up to `IterationCountParseError`;
     /// `IterationCountTooSmall` and `IterationCountTooLarge`; and of the secret `NormalizeError` where a
-    /// password as it is typed is needed and is not printable ASCII, or `StaleKeys` where there are keys alone
+    /// typed password is needed and is not printable ASCII, or `StaleKeys` where there are keys alone
     /// and the message names another salt or another count than they are of.
     pub(super) fn read(
         alloc: Global,
@@ -167,7 +166,6 @@ fn test_secret(secret: ClientSecret<'_>, first: &ServerFirst<'_>) -> Result<(), 
 {
     match secret {
         ClientSecret::Password(password) => test_password(password),
-        ClientSecret::Prepared(_) | ClientSecret::PreparedAndKeys { .. } => Ok(()),
         ClientSecret::Keys(keys) => {
             if keys.are_of(&first.salt, first.iterations) {
                 Ok(())
@@ -175,7 +173,7 @@ fn test_secret(secret: ClientSecret<'_>, first: &ServerFirst<'_>) -> Result<(), 
                 Err(ScramErrorKind::StaleKeys)
             }
         }
-        ClientSecret::Both { password, keys } => {
+        ClientSecret::PasswordAndKeys { password, keys } => {
             if keys.are_of(&first.salt, first.iterations) {
                 Ok(())
             } else {
@@ -186,12 +184,12 @@ fn test_secret(secret: ClientSecret<'_>, first: &ServerFirst<'_>) -> Result<(), 
 }
 
 /// Tests a password that is needed (RFC 4013, section 2).
-fn test_password(password: &str) -> Result<(), ScramErrorKind>
-    ensures { MatchResult result (λ _. IsPrintable password.now)
-        (λ kind. ¬ IsPrintable password.now × (kind ≡ ScramErrorKind.NormalizeError)) }
+fn test_password(password: Password<'_>) -> Result<(), ScramErrorKind>
+    ensures { MatchResult result (λ _. IsNormal (password_of password.entry))
+        (λ kind. ¬ IsNormal (password_of password.entry) × (kind ≡ ScramErrorKind.NormalizeError)) }
 {
-    if saslprep(password).is_err() {
-        return Err(ScramErrorKind::NormalizeError);
+    match password.normalized() {
+        Ok(_) => Ok(()),
+        Err(_) => Err(ScramErrorKind::NormalizeError),
     }
-    Ok(())
 }

@@ -5,11 +5,12 @@ use crate::runs::profiles::profile_of;
 use bytes::BytesMut;
 use fe2o3_sasl::credentials::{ScramRecord, UserRecord};
 use fe2o3_sasl::hmac::{Meter, ScramVersion};
+use fe2o3_sasl::passwords::Password;
 use fe2o3_sasl::sasl_acceptor::{AuthenticatedUser, SaslAnonymousMechanism, SaslPlainMechanism};
 use fe2o3_sasl::sasl_profile::ProfileError;
 use fe2o3_sasl::scram_server::ScramAuthenticator;
 use fe2o3_sasl_negotiation::{
-    ClientNegotiation, CloseReason, Received, ServerNegotiation, Progress,
+    ClientNegotiation, CloseReason, Progress, Received, ServerNegotiation,
 };
 use std::alloc::{AllocError, Global};
 use std::rc::Rc;
@@ -105,7 +106,11 @@ pub fn play_side<'a, P: Play>(row: &mut Row<'a>, side: &'a str, play: &mut P) {
 }
 
 /// Plays with a server of an acceptor.
-fn play_acceptor<A: AuthenticatedUser + Drop, P: Play>(row: &mut Row<'_>, acceptor: A, play: &mut P) {
+fn play_acceptor<A: AuthenticatedUser + Drop, P: Play>(
+    row: &mut Row<'_>,
+    acceptor: A,
+    play: &mut P,
+) {
     let mut server = ServerNegotiation::new(row.alloc, acceptor);
     play.play(row, &mut server);
 }
@@ -130,10 +135,9 @@ fn play_server<P: Play>(row: &mut Row<'_>, play: &mut P) {
 pub fn stored(row: &mut Row<'_>, version: &str) -> Option<UserRecord> {
     let version = ScramVersion::from_mechanism(version)?;
     let (user, password, salt, count) = (row.text(), row.text(), row.bytes(), row.number());
-    let record = ScramRecord::from_password(row.alloc, version, &password, &salt, count);
-    record
-        .ok()
-        .map(|record| UserRecord::new(user, record))
+    let (password, meter) = (Password::Typed(&password), &mut Meter::new());
+    let record = ScramRecord::from_password(row.alloc, version, password, &salt, count, meter);
+    record.ok().map(|record| UserRecord::new(user, record))
 }
 
 /// Plays with a client: `MECHANISM USER PASSWORD LIMIT HOSTNAME`.

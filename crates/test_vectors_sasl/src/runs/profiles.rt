@@ -4,7 +4,9 @@ use crate::replies::{Reply, agree_all, say_negotiation};
 use crate::rows::Row;
 use crate::runs::{Part, Run, Side, check_side};
 use fe2o3_sasl::cached_keys::CachedKeys;
+use fe2o3_sasl::client_secret::ClientSecret;
 use fe2o3_sasl::hmac::{Meter, ScramVersion};
+use fe2o3_sasl::passwords::Password;
 use fe2o3_sasl::runs::{Event, profile_step, run_profile};
 use fe2o3_sasl::sasl_profile::{SaslProfile, SaslScramSha256};
 use fe2o3_sasl::scram_client::ScramClient;
@@ -94,15 +96,15 @@ pub fn profile_of(row: &mut Row<'_>, kind: &str) -> Option<SaslProfile> {
         "EXTERNAL" => Some(SaslProfile::External),
         "PLAIN" => Some(SaslProfile::plain(user, password)),
         "SCRAM-SHA-256" => {
-            let scram = scram_of(kind, user, password, keys)?;
-            let scram = scram
-                .with_min_iterations(least)
-                .with_iteration_limit(limit);
+            let secret = secret_of(kind, &password, &keys)?;
+            let scram = SaslScramSha256::with_secret(row.alloc, user, secret).ok()?;
+            let scram = scram.with_min_iterations(least).with_iteration_limit(limit);
             Some(SaslProfile::from(scram))
         }
         name => {
             let version = ScramVersion::from_mechanism(name)?;
-            let client = client_of(version, kind, user, password, keys)?;
+            let secret = secret_of(kind, &password, &keys)?;
+            let client = ScramClient::with_secret(row.alloc, user, secret, version).ok()?;
             let client = client
                 .with_min_iterations(least)
                 .with_iteration_limit(limit);
@@ -115,49 +117,29 @@ pub fn profile_of(row: &mut Row<'_>, kind: &str) -> Option<SaslProfile> {
 fn keys_of(row: &mut Row<'_>, mechanism: &str, kind: &str) -> Option<CachedKeys> {
     let (alloc, version) = (row.alloc, ScramVersion::from_mechanism(mechanism)?);
     let (password, salt, count) = (row.text(), row.bytes(), row.number());
-    let meter = &mut Meter::new();
-    let keys = if kind == "prepared-both" {
-        CachedKeys::from_prepared_password(alloc, version, &password, &salt, count, meter)
-    } else {
-        CachedKeys::from_password(alloc, version, &password, &salt, count, meter)
+    let password = match kind {
+        "prepared-both" => Password::Prepared(&password),
+        _ => Password::Typed(&password),
     };
+    let keys = CachedKeys::from_password(alloc, version, password, &salt, count, &mut Meter::new());
     keys.ok()
 }
 
-/// A profile of SCRAM-SHA-256.
-fn scram_of(
+/// The secret of a kind.
+fn secret_of<'a>(
     kind: &str,
-    user: String,
-    password: String,
-    keys: Option<CachedKeys>,
-) -> Option<SaslScramSha256> {
+    password: &'a str,
+    keys: &'a Option<CachedKeys>,
+) -> Option<ClientSecret<'a>> {
+    let password = match kind {
+        "prepared" | "prepared-both" => Password::Prepared(password),
+        _ => Password::Typed(password),
+    };
     match (kind, keys) {
-        ("profile", None) => Some(SaslScramSha256::new(user, password)),
-        ("prepared", None) => Some(SaslScramSha256::with_prepared_password(user, password)),
-        ("keyed", Some(keys)) => SaslScramSha256::with_keys(user, keys),
-        ("both", Some(keys)) => SaslScramSha256::with_password_and_keys(user, password, keys),
-        ("prepared-both", Some(keys)) => {
-            SaslScramSha256::with_prepared_password_and_keys(user, password, keys)
-        }
-        _ => None,
-    }
-}
-
-/// A client of SCRAM of another version, for a profile.
-fn client_of(
-    version: ScramVersion,
-    kind: &str,
-    user: String,
-    password: String,
-    keys: Option<CachedKeys>,
-) -> Option<ScramClient> {
-    match (kind, keys) {
-        ("profile", None) => Some(ScramClient::new(user, password, version)),
-        ("prepared", None) => Some(ScramClient::with_prepared_password(user, password, version)),
-        ("keyed", Some(keys)) => Some(ScramClient::with_keys(user, keys)),
-        ("both", Some(keys)) => Some(ScramClient::with_password_and_keys(user, password, keys)),
-        ("prepared-both", Some(keys)) => {
-            Some(ScramClient::with_prepared_password_and_keys(user, password, keys))
+        ("profile" | "prepared", None) => Some(ClientSecret::Password(password)),
+        ("keyed", Some(keys)) => Some(ClientSecret::Keys(keys)),
+        ("both" | "prepared-both", Some(keys)) => {
+            Some(ClientSecret::PasswordAndKeys { password, keys })
         }
         _ => None,
     }

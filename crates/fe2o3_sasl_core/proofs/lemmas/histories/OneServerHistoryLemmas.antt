@@ -7,7 +7,7 @@ use Rattle.fe2o3_sasl_wire.specs.declared.sasl_frames.error.Error.TheVariants as
 use Rattle.fe2o3_sasl_wire.specs.SaslFrames as frames
 use Rattle.fe2o3_sasl_wire.specs.SaslFrames.{SaslFrame}
 use Rattle.fe2o3_scram.specs.ClientFirst.{ClientFirst}
-use Rattle.fe2o3_scram.specs.Credentials.{Record, Provider, record_at}
+use Rattle.fe2o3_scram.specs.Credentials.{Record, Provider}
 use Rattle.fe2o3_sasl_core.specs.Events.{Given, ServerSays, Failed}
 use Rattle.fe2o3_sasl_core.specs.Laws.{OneServerHistory}
 use Rattle.fe2o3_scram.specs.ClientFinal.{ClientFinal, ReadsClientFinal}
@@ -32,7 +32,7 @@ one_fits provider event (frames.Init mechanism None hostname) challenge other h 
 one_fits provider event (frames.Init mechanism (Some text) hostname) challenge other h k =
     let client = one_client_first_value provider.cbind_flag_y text challenge.client other.client h.1 k.1 in
     let stored = same_Some challenge.stored other.stored
-    (sym h.2 ∙ (ap (λ (first : ClientFirst). record_at provider.records first.user) client ∙ k.2)) in
+    (sym h.2 ∙ (ap (λ (first : ClientFirst). provider.records first.user) client ∙ k.2)) in
     let nonce : challenge.nonce ≡ other.nonce = h.3 ∙ sym k.3 in
     λ i. challenging (client i) (nonce i) (stored i)
 

@@ -3,12 +3,13 @@ use Rattle.std.proofs.Common.{◌≡◌, ℕ, Option, Some, None, List, sym, ap,
 use Rattle.fe2o3_sasl_wire.specs.declared.amqp_types.SaslCode.TheVariants as outcomes
 use Rattle.fe2o3_sasl_wire.specs.SaslFrames as frames
 use Rattle.fe2o3_sasl_wire.specs.SaslFrames.{SaslFrame}
+use Rattle.std.proofs.lemmas.Option.{same_Some}
+use Rattle.fe2o3_scram.specs.declared.hmac.ScramVersion.{ScramVersion}
 use Rattle.fe2o3_scram.specs.declared.scram_messages.error.ScramErrorKind.{ScramErrorKind}
 use Rattle.fe2o3_scram.specs.declared.scram_messages.error.ServerScramErrorKind.{ServerScramErrorKind}
-use Rattle.fe2o3_scram.specs.declared.scram_messages.error.ServerScramErrorKind.TheVariants.{AuthenticationFailed}
 use Rattle.fe2o3_scram.specs.ClientFinal.{Server, ClientFinal, ReadsClientFinal, Answer, answer_of}
 use Rattle.fe2o3_scram.specs.ClientFirst.{ClientFirst, ReadsClientFirst}
-use Rattle.fe2o3_scram.specs.Credentials.{Record, Provider, record_at}
+use Rattle.fe2o3_scram.specs.Credentials.{Record, Provider}
 use Rattle.fe2o3_scram.specs.ClientKeys.{ClientKeys}
 use Rattle.fe2o3_scram.specs.ScramClient as client_states
 use Rattle.fe2o3_scram.specs.ScramClient.{ClientState, ClientSide, AnswersIn, VerifiesIn, with_state, holding}
@@ -46,11 +47,11 @@ abbrev challenged : ServerState → ClientFirst → List ℕ → Option Record �
 challenged state client nonce None = (Ok None, state)
 challenged state client nonce (Some stored) =
     let challenge = challenge_of client (base64_text nonce) stored in
-    (Ok (Some challenge.first), server_states.ServerFirstSent challenge)
+    (Ok (Some challenge.first), server_states.ServerFirstSent challenge stored)
 
 -- the turn to a client-first message that was read
 abbrev first_turn : ServerState → Provider → List ℕ → Result ClientFirst ServerScramErrorKind → ServerTurn
-first_turn state provider nonce (Ok client) = challenged state client nonce (record_at provider.records client.user)
+first_turn state provider nonce (Ok client) = challenged state client nonce (provider.records client.user)
 first_turn state provider nonce (Err fault) = (Err fault, state)
 
 challenge_made : (state : ServerState) (provider : Provider) (nonce text : List ℕ)
@@ -60,7 +61,9 @@ challenge_made : (state : ServerState) (provider : Provider) (nonce text : List 
 challenge_made state provider nonce text (Ok (Some message)) next is =
     let made = is.1.4 in
     let first = is.2 ∙ ap (λ (x : ServerChallenge). x.first) made in
-    let after = is.3 ∙ ap (λ (x : ServerChallenge). server_states.ServerFirstSent x) made in
+    let stored = same_Some is.3.0 is.1.1 (sym is.3.1 ∙ (ap (λ (x : ServerChallenge). provider.records x.user) made ∙ is.1.3))
+    in
+    let after = is.3.2 ∙ (λ i. server_states.ServerFirstSent (made i) (stored i)) in
     let turn : ◌≡◌ {A = ServerTurn} (Ok (Some message), next) (challenged state is.1.0 nonce (Some is.1.1)) =
     λ i. (Ok (Some (first i)), after i) in
     (Ok is.1.0, is.1.2, turn ∙ ap (challenged state is.1.0 nonce) (sym is.1.3))
@@ -69,61 +72,41 @@ challenge_made state provider nonce text (Ok None) next is =
     (Ok is.0.0, is.0.1, turn ∙ ap (challenged state is.0.0 nonce) (sym is.0.2))
 challenge_made state provider nonce text (Err fault) next is = (Err fault, is.0, λ i. (Err fault, is.1 i))
 
--- the turn to a client-final message that was read against this record
-abbrev final_turn : ServerChallenge → Server → Result ClientFinal ServerScramErrorKind → ServerTurn
-final_turn challenge server (Ok final) =
+-- the turn to a client-final message that was read against the record of the open challenge
+abbrev final_turn : ServerChallenge → Record → Server → Result ClientFinal ServerScramErrorKind → ServerTurn
+final_turn challenge stored server (Ok final) =
     (Ok (Some (server_final_of server final)), server_states.ServerFinalSent challenge.user)
-final_turn challenge server (Err fault) = (Err fault, server_states.ServerFirstSent challenge)
+final_turn challenge stored server (Err fault) = (Err fault, server_states.ServerFirstSent challenge stored)
 
--- the turn to a client-final message where the challenge is open: the record is there, or is not
-abbrev ConcludesWith : ServerChallenge → Provider → List ℕ → Option Record → ServerTurn → Type 0
-ConcludesWith challenge provider text (Some stored) turn =
-    let server = server_against provider challenge stored in
-    MadeOf (ReadsClientFinal server text) (final_turn challenge server) turn
-ConcludesWith challenge provider text None turn =
-    turn ≡ (Err AuthenticationFailed, server_states.ServerFirstSent challenge)
-
-one_concluded : (challenge : ServerChallenge) (provider : Provider) (text : List ℕ) (stored : Option Record)
-    (turn other : ServerTurn) → ConcludesWith challenge provider text stored turn
-    → ConcludesWith challenge provider text stored other → turn ≡ other
-one_concluded challenge provider text (Some stored) turn other is too =
-    let server = server_against provider challenge stored in
-    one_made (ReadsClientFinal server text) (final_turn challenge server) turn other (one_client_final server text)
-    is too
-one_concluded challenge provider text None turn other is too = is ∙ sym too
-
-conclusion_made : (challenge : ServerChallenge) (provider : Provider) (text : List ℕ)
+conclusion_made : (challenge : ServerChallenge) (stored : Record) (version : ScramVersion) (text : List ℕ)
     (answer : Result (Option (List ℕ)) ServerScramErrorKind) (next : ServerState)
-    → ConcludesFrom (server_states.ServerFirstSent challenge) provider text answer next
-    → ConcludesWith challenge provider text (record_at provider.records challenge.user) (answer, next)
-conclusion_made challenge provider text (Ok None) next is = absurd is
-conclusion_made challenge provider text (Ok (Some message)) next is =
-    let said = is.2.2 in
-    let after = is.3 in
-    subst (λ (stored : Option Record). ConcludesWith challenge provider text stored (Ok (Some message), next))
-    (sym is.1) (Ok is.2.0, is.2.1, λ i. (Ok (Some (said i)), after i))
-conclusion_made challenge provider text (Err fault) next (inl refused, after) =
-    subst (λ (stored : Option Record). ConcludesWith challenge provider text stored (Err fault, next))
-    (sym refused.1) (Err fault, refused.2, λ i. (Err fault, after i))
-conclusion_made challenge provider text (Err fault) next (inr unknown, after) =
-    let kind = unknown.1 in
-    subst (λ (stored : Option Record). ConcludesWith challenge provider text stored (Err fault, next))
-    (sym unknown.0) (λ i. (Err (kind i), after i))
+    → ConcludesFrom (server_states.ServerFirstSent challenge stored) version text answer next
+    → let server = server_against version challenge stored in
+    MadeOf (ReadsClientFinal server text) (final_turn challenge stored server) (answer, next)
+conclusion_made challenge stored version text (Ok None) next is = absurd is
+conclusion_made challenge stored version text (Ok (Some message)) next is =
+    let said = is.0.2 in
+    let after = is.1 in
+    (Ok is.0.0, is.0.1, λ i. (Ok (Some (said i)), after i))
+conclusion_made challenge stored version text (Err fault) next is =
+    let after = is.1 in (Err fault, is.0, λ i. (Err fault, after i))
 
-pub one_conclusion : (state : ServerState) (provider : Provider) (text : List ℕ)
+pub one_conclusion : (state : ServerState) (version : ScramVersion) (text : List ℕ)
     (answer other : Result (Option (List ℕ)) ServerScramErrorKind) (next last : ServerState)
-    → ConcludesFrom state provider text answer next → ConcludesFrom state provider text other last
+    → ConcludesFrom state version text answer next → ConcludesFrom state version text other last
     → ◌≡◌ {A = ServerTurn} (answer, next) (other, last)
-one_conclusion (server_states.ServerFirstSent challenge) provider text answer other next last is too =
-    one_concluded challenge provider text (record_at provider.records challenge.user) (answer, next) (other, last)
-    (conclusion_made challenge provider text answer next is) (conclusion_made challenge provider text other last too)
-one_conclusion server_states.Initial provider text (Ok message) other next last is too = absurd is
-one_conclusion server_states.Initial provider text (Err fault) (Ok message) next last is too = absurd too
-one_conclusion server_states.Initial provider text (Err fault) (Err kind) next last is too =
+one_conclusion (server_states.ServerFirstSent challenge stored) version text answer other next last is too =
+    let server = server_against version challenge stored in
+    one_made (ReadsClientFinal server text) (final_turn challenge stored server) (answer, next) (other, last)
+    (one_client_final server text) (conclusion_made challenge stored version text answer next is)
+    (conclusion_made challenge stored version text other last too)
+one_conclusion server_states.Initial version text (Ok message) other next last is too = absurd is
+one_conclusion server_states.Initial version text (Err fault) (Ok message) next last is too = absurd too
+one_conclusion server_states.Initial version text (Err fault) (Err kind) next last is too =
     λ i. (Err ((is.0 ∙ sym too.0) i), (is.1 ∙ sym too.1) i)
-one_conclusion (server_states.ServerFinalSent user) provider text (Ok message) other next last is too = absurd is
-one_conclusion (server_states.ServerFinalSent user) provider text (Err fault) (Ok message) next last is too = absurd too
-one_conclusion (server_states.ServerFinalSent user) provider text (Err fault) (Err kind) next last is too =
+one_conclusion (server_states.ServerFinalSent user) version text (Ok message) other next last is too = absurd is
+one_conclusion (server_states.ServerFinalSent user) version text (Err fault) (Ok message) next last is too = absurd too
+one_conclusion (server_states.ServerFinalSent user) version text (Err fault) (Err kind) next last is too =
     λ i. (Err ((is.0 ∙ sym too.0) i), (is.1 ∙ sym too.1) i)
 
 -- ---- an acceptor
@@ -164,7 +147,7 @@ one_acceptor_reply (ScramAcceptor provider state) nonce (frames.Response text) r
     let turn : ServerTurn = (is.0, is.1) in
     let again : ServerTurn = (too.0, too.1) in
     turn_taken provider (λ message. frames.Outcome outcomes.Ok (Some message)) turn again reply other next last
-    (one_conclusion state provider text is.0 too.0 is.1 too.1 is.2 too.2) is.3 is.4 too.3 too.4
+    (one_conclusion state provider.version text is.0 too.0 is.1 too.1 is.2 too.2) is.3 is.4 too.3 too.4
 one_acceptor_reply (PlainAcceptor user password accepted) nonce (frames.Init mechanism (Some text) hostname) reply other
     next last (inl is) (inl too) = (is.1 ∙ sym too.1, is.2 ∙ sym too.2)
 one_acceptor_reply (PlainAcceptor user password accepted) nonce (frames.Init mechanism (Some text) hostname) reply other

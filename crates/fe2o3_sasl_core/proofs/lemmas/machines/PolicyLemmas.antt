@@ -1,15 +1,12 @@
 -- Which mechanism a policy has a client take.
-use Rattle.std.proofs.Common.{◌≡◌, ◌≢◌, ◌<◌, ◌+◌, ℕ, zero, suc, true, false, Option, Some, None, List, [], ◌∷◌, length, take, get_or, refl, sym, ◌∙◌, ap, subst, arith}
+use Rattle.std.proofs.Common.{◌≡◌, ◌≢◌, ◌<◌, ◌+◌, ℕ, zero, suc, true, false, Option, Some, None, List, [], ◌∷◌, length, take, get_or, refl, sym, subst, arith}
 use Rattle.std.proofs.lemmas.List.{take_more}
 use Rattle.std.specs.List.{AllByRecursion}
-use Rattle.std.specs.Prelude.{is_some, option_map, slice_get}
+use Rattle.std.specs.Prelude.{is_some, slice_get}
 use Rattle.fe2o3_scram.specs.declared.hmac.ScramVersion.{ScramVersion}
 use Rattle.fe2o3_scram.specs.declared.hmac.ScramVersion.TheVariants.{Sha1, Sha256, Sha512}
 use Rattle.fe2o3_scram.specs.ClientSecret.{Secret}
-use Rattle.fe2o3_scram.specs.declared.client_secret.IterationLimits.{IterationLimits}
-use Rattle.fe2o3_scram.specs.ScramClient.{ClientSide, with_limits}
-use Rattle.fe2o3_sasl_core.specs.ClientPolicy.{CanTake, IsFirstTaken, fresh_client, keys_for_version, scram_by}
-use Rattle.fe2o3_sasl_core.specs.Profiles.{ScramProfile}
+use Rattle.fe2o3_sasl_core.specs.ClientPolicy.{CanTake, IsFirstTaken, keys_for_version}
 use Rattle.fe2o3_sasl_core.specs.declared.client_policy.ClientPolicy.{ClientPolicy}
 use Rattle.fe2o3_sasl_core.specs.declared.client_policy.Mechanism.{Mechanism}
 use Rattle.fe2o3_sasl_core.proofs.lemmas.lists.EachLemmas.{each_append}
@@ -76,21 +73,3 @@ pub some_taken : (policy : ClientPolicy) (user : List ℕ) (secret : Secret) (na
     → ¬ AllByRecursion (λ other. ¬ CanTake policy user secret names other) mechanisms
 some_taken policy user secret names mechanisms mechanism first all =
     each_at (λ other. ¬ CanTake policy user secret names other) mechanisms first.0 mechanism all first.1 first.2
-
--- ---- the client of a profile
-
-pub limited : (client one two : ClientSide) (limits : IterationLimits)
-    → one ≡ with_limits client (record { min_iterations = limits.min_iterations; max_iterations = client.limits.max_iterations })
-    → two ≡ with_limits one (record { min_iterations = one.limits.min_iterations; max_iterations = limits.max_iterations })
-    → two ≡ with_limits client limits
-limited client one two limits is then =
-    then ∙ ap (λ (side : ClientSide). with_limits side (record { min_iterations = side.limits.min_iterations; max_iterations = limits.max_iterations })) is
-
-pub scram_by_client : (limits : IterationLimits) (user : List ℕ) (version : ScramVersion) (secret : Option Secret)
-    (client : ClientSide) → Some client ≡ option_map (fresh_client user version) secret
-    → Some (ScramProfile (with_limits client limits)) ≡ scram_by limits user version secret
-scram_by_client limits user version (Some secret) client is =
-    ap
-    (λ (found : Option ClientSide). option_map (λ (side : ClientSide). ScramProfile (with_limits side limits)) found)
-    is
-scram_by_client limits user version None client is = grind (arith, is)

@@ -1,11 +1,12 @@
 -- What the answer of a SCRAM acceptor to a response costs.
 use Rattle.std.proofs.Common.{◌≡◌, ◌≢◌, ℕ, ◌+◌, ◌≤◌, Option, Some, None, List, refl, sym, ap, subst, inl, inr, Result, Ok, Err, arith}
-use Rattle.std.specs.Prelude.{MatchOption, IfOk, OnOk}
+use Rattle.std.specs.Prelude.{IfOk, OnOk}
 use Rattle.fe2o3_sasl_wire.specs.SaslFrames as frames
 use Rattle.fe2o3_scram.specs.declared.scram_messages.error.ServerScramErrorKind.{ServerScramErrorKind}
 use Rattle.fe2o3_scram.specs.declared.scram_messages.error.ServerScramErrorKind.TheVariants.{AuthenticationFailed, OutOfMemory}
-use Rattle.fe2o3_scram.specs.ClientFinal.{Server, ReadsClientFinal}
-use Rattle.fe2o3_scram.specs.Credentials.{Record, Provider, record_at}
+use Rattle.fe2o3_scram.specs.declared.hmac.ScramVersion.{ScramVersion}
+use Rattle.fe2o3_scram.specs.ClientFinal.{Server}
+use Rattle.fe2o3_scram.specs.Credentials.{Record, Provider}
 use Rattle.fe2o3_scram.specs.Readings.{Gives}
 use Rattle.fe2o3_scram.specs.ScramServer as server_states
 use Rattle.fe2o3_scram.specs.ScramServer.{ServerState, ConcludesFrom, FinalCostsFrom, server_against}
@@ -15,11 +16,6 @@ use Rattle.fe2o3_sasl_core.specs.Costs.{acceptor_hmacs, CostsAtMost}
 use Rattle.fe2o3_sasl_core.specs.SaslAcceptor.{ScramAcceptor}
 use Rattle.fe2o3_sasl_core.proofs.lemmas.machines.OneReplyLemmas.{ServerTurn, one_conclusion}
 
--- the server that a challenge makes of this record
-abbrev with_record : ServerChallenge → Provider → Record → Server
-with_record challenge provider stored =
-    server_against provider challenge stored
-
 -- a meter never falls
 rises : {A : Type 0} (server : Server) (text : List ℕ) (result : Result A ServerScramErrorKind) (before after : ℕ)
     → FinalCosts server text result before after → before ≤ after
@@ -27,19 +23,6 @@ rises server text (Ok message) before after costs = omega (arith, costs)
 rises server text (Err AuthenticationFailed) before after costs = omega (arith, costs)
 rises server text (Err OutOfMemory) before after costs = costs.0
 rises server text (Err fault) before after costs = let same : after ≡ before = costs in omega (arith, same)
-
-rises_from : {A : Type 0} (state : ServerState) (provider : Provider) (text : List ℕ)
-    (result : Result A ServerScramErrorKind) (before after : ℕ)
-    → FinalCostsFrom state provider text result before after → before ≤ after
-rises_from (server_states.ServerFirstSent challenge) provider text result before after costs =
-    go (record_at provider.records challenge.user) costs
-  where
-    go : (stored : Option Record) → MatchOption stored (after ≡ before)
-        (λ stored. FinalCosts (with_record challenge provider stored) text result before after) → before ≤ after
-    go None costs = omega (arith, costs)
-    go (Some stored) costs = rises (with_record challenge provider stored) text result before after costs
-rises_from server_states.Initial provider text result before after costs = omega (arith, costs)
-rises_from (server_states.ServerFinalSent user) provider text result before after costs = omega (arith, costs)
 
 -- two answers of one turn take as many
 takes_of : (server : Server) (text : List ℕ) (answer other : Result (Option (List ℕ)) ServerScramErrorKind)
@@ -49,72 +32,48 @@ takes_of server text answer other next last n turn takes =
     subst (λ (a : Result (Option (List ℕ)) ServerScramErrorKind). FinalCosts server text a 0 n)
     (sym (ap (λ (t : ServerTurn). t.0) turn)) takes
 
--- a refusal was read against the record that stands there
-refuses : (challenge : ServerChallenge) (provider : Provider) (text : List ℕ) (stored : Record)
-    (fault : ServerScramErrorKind) (last : ServerState) → record_at provider.records challenge.user ≡ Some stored
-    → ConcludesFrom (server_states.ServerFirstSent challenge) provider text (Err fault) last
-    → ReadsClientFinal (with_record challenge provider stored) text (Err fault)
-refuses challenge provider text stored fault last is (inl read, after) =
-    let same : read.0 ≡ stored = cc in
-    subst (λ (r : Record). ReadsClientFinal (with_record challenge provider r) text (Err fault)) same read.2
-refuses challenge provider text stored fault last is (inr unknown, after) =
-    let none = unknown.0 in absurd (cc)
-
--- no more than an answer against this record takes
-against : {V : Type 0} (Allocates : Type 0) (view : V → Option (List ℕ)) (challenge : ServerChallenge) (provider : Provider)
-    (text : List ℕ) (stored : Record) (result : Result V ServerScramErrorKind)
+-- no more than an answer against the record of the open challenge takes
+against : {V : Type 0} (Allocates : Type 0) (view : V → Option (List ℕ)) (challenge : ServerChallenge) (stored : Record)
+    (version : ScramVersion) (text : List ℕ) (result : Result V ServerScramErrorKind)
     (answer : Result (Option (List ℕ)) ServerScramErrorKind) (next last : ServerState) (before after n : ℕ)
-    → record_at provider.records challenge.user ≡ Some stored
     → Gives OutOfMemory Allocates view result
-    (λ answer. ConcludesFrom (server_states.ServerFirstSent challenge) provider text answer next)
-    → ConcludesFrom (server_states.ServerFirstSent challenge) provider text answer last
-    → FinalCosts (with_record challenge provider stored) text result before after
-    → FinalCosts (with_record challenge provider stored) text answer 0 n → after ≤ before + n
-against Allocates view challenge provider text stored (Ok value) answer next last before after n is gives concludes
-    costs takes =
-    let turn = one_conclusion (server_states.ServerFirstSent challenge) provider text (Ok (view value)) answer next last
-    gives concludes in
-    let two : n ≡ 2 = takes_of (with_record challenge provider stored) text (Ok (view value)) answer next last n turn
+    (λ answer. ConcludesFrom (server_states.ServerFirstSent challenge stored) version text answer next)
+    → ConcludesFrom (server_states.ServerFirstSent challenge stored) version text answer last
+    → FinalCosts (server_against version challenge stored) text result before after
+    → FinalCosts (server_against version challenge stored) text answer 0 n → after ≤ before + n
+against Allocates view challenge stored version text (Ok value) answer next last before after n gives concludes costs
+    takes =
+    let turn = one_conclusion (server_states.ServerFirstSent challenge stored) version text (Ok (view value)) answer next
+    last gives concludes in
+    let two : n ≡ 2 = takes_of (server_against version challenge stored) text (Ok (view value)) answer next last n turn
     takes in
     omega (arith, costs, two)
-against Allocates view challenge provider text stored (Err AuthenticationFailed) answer next last before after n is
-    gives concludes costs takes =
-    let turn = one_conclusion (server_states.ServerFirstSent challenge) provider text (Err AuthenticationFailed) answer
-    next last (gives.1 (λ e. absurd (cc))) concludes in
-    let one : n ≡ 1 = takes_of (with_record challenge provider stored) text (Err AuthenticationFailed) answer next last
+against Allocates view challenge stored version text (Err AuthenticationFailed) answer next last before after n gives
+    concludes costs takes =
+    let turn = one_conclusion (server_states.ServerFirstSent challenge stored) version text (Err AuthenticationFailed)
+    answer next last (gives.1 (λ e. absurd (cc))) concludes in
+    let one : n ≡ 1 = takes_of (server_against version challenge stored) text (Err AuthenticationFailed) answer next last
     n turn takes in
     omega (arith, costs, one)
-against Allocates view challenge provider text stored (Err OutOfMemory) (Ok message) next last before after n is gives
+against Allocates view challenge stored version text (Err OutOfMemory) (Ok message) next last before after n gives
     concludes costs takes = let most = costs.1 in omega (arith, most, takes)
-against Allocates view challenge provider text stored (Err OutOfMemory) (Err fault) next last before after n is gives
-    concludes costs takes =
-    let same = costs.2 fault (refuses challenge provider text stored fault last is concludes) in omega (arith, same)
-against Allocates view challenge provider text stored (Err fault) answer next last before after n is gives concludes
-    costs takes = let same : after ≡ before = costs in omega (arith, same)
+against Allocates view challenge stored version text (Err OutOfMemory) (Err fault) next last before after n gives
+    concludes costs takes = let same = costs.2 fault concludes.0 in omega (arith, same)
+against Allocates view challenge stored version text (Err fault) answer next last before after n gives concludes costs
+    takes = let same : after ≡ before = costs in omega (arith, same)
 
 -- no more than the acceptor's answer takes
 pub response_costs : {V : Type 0} (Allocates : Type 0) (view : V → Option (List ℕ)) (provider : Provider)
     (state next : ServerState) (text : List ℕ) (result : Result V ServerScramErrorKind) (before after : ℕ)
-    → Gives OutOfMemory Allocates view result (λ answer. ConcludesFrom state provider text answer next)
-    → FinalCostsFrom state provider text result before after
+    → Gives OutOfMemory Allocates view result (λ answer. ConcludesFrom state provider.version text answer next)
+    → FinalCostsFrom state provider.version text result before after
     → CostsAtMost acceptor_hmacs (ScramAcceptor provider state) (frames.Response text) before after
-response_costs Allocates view provider (server_states.ServerFirstSent challenge) next text result before after gives
+response_costs Allocates view provider (server_states.ServerFirstSent challenge stored) next text result before after gives
     costs = (
-      rises_from (server_states.ServerFirstSent challenge) provider text result before after costs,
-      λ n takes. go (record_at provider.records challenge.user) refl n takes.0 takes.1 takes.2 costs takes.3,
+      rises (server_against provider.version challenge stored) text result before after costs,
+      λ n takes. against Allocates view challenge stored provider.version text result takes.0 next takes.1 before after n
+          gives takes.2 costs takes.3,
     )
-  where
-    go : (stored : Option Record) → record_at provider.records challenge.user ≡ stored → (n : ℕ)
-        (answer : Result (Option (List ℕ)) ServerScramErrorKind) (last : ServerState)
-        → ConcludesFrom (server_states.ServerFirstSent challenge) provider text answer last
-        → MatchOption stored (after ≡ before)
-        (λ stored. FinalCosts (with_record challenge provider stored) text result before after)
-        → MatchOption stored (n ≡ 0) (λ stored. FinalCosts (with_record challenge provider stored) text answer 0 n)
-        → after ≤ before + n
-    go None is n answer last concludes costs takes = omega (arith, costs)
-    go (Some stored) is n answer last concludes costs takes =
-        against Allocates view challenge provider text stored result answer next last before after n is gives concludes
-        costs takes
 response_costs Allocates view provider server_states.Initial next text result before after gives costs =
     (omega (arith, costs), λ n takes. omega (arith, costs))
 response_costs Allocates view provider (server_states.ServerFinalSent user) next text result before after gives costs =
@@ -122,37 +81,37 @@ response_costs Allocates view provider (server_states.ServerFinalSent user) next
 
 -- ---- where memory is not wanting
 
--- as many as an answer against this record takes
+-- as many as an answer against the record of the open challenge takes
 exactly_against : {V : Type 0} (Allocates : Type 0) (view : V → Option (List ℕ)) (challenge : ServerChallenge)
-    (provider : Provider) (text : List ℕ) (stored : Record) (result : Result V ServerScramErrorKind)
+    (stored : Record) (version : ScramVersion) (text : List ℕ) (result : Result V ServerScramErrorKind)
     (answer : Result (Option (List ℕ)) ServerScramErrorKind) (next last : ServerState) (before after n : ℕ)
     → result ≢ Err OutOfMemory
     → Gives OutOfMemory Allocates view result
-    (λ answer. ConcludesFrom (server_states.ServerFirstSent challenge) provider text answer next)
-    → ConcludesFrom (server_states.ServerFirstSent challenge) provider text answer last
-    → FinalCosts (with_record challenge provider stored) text result before after
-    → FinalCosts (with_record challenge provider stored) text answer 0 n → after ≡ before + n
-exactly_against Allocates view challenge provider text stored (Ok value) answer next last before after n told gives
+    (λ answer. ConcludesFrom (server_states.ServerFirstSent challenge stored) version text answer next)
+    → ConcludesFrom (server_states.ServerFirstSent challenge stored) version text answer last
+    → FinalCosts (server_against version challenge stored) text result before after
+    → FinalCosts (server_against version challenge stored) text answer 0 n → after ≡ before + n
+exactly_against Allocates view challenge stored version text (Ok value) answer next last before after n told gives
     concludes costs takes =
-    let turn = one_conclusion (server_states.ServerFirstSent challenge) provider text (Ok (view value)) answer next last
-    gives concludes in
-    let two : n ≡ 2 = takes_of (with_record challenge provider stored) text (Ok (view value)) answer next last n turn
+    let turn = one_conclusion (server_states.ServerFirstSent challenge stored) version text (Ok (view value)) answer next
+    last gives concludes in
+    let two : n ≡ 2 = takes_of (server_against version challenge stored) text (Ok (view value)) answer next last n turn
     takes in
     omega (arith, costs, two)
-exactly_against Allocates view challenge provider text stored (Err AuthenticationFailed) answer next last before after n
+exactly_against Allocates view challenge stored version text (Err AuthenticationFailed) answer next last before after n
     told gives concludes costs takes =
-    let turn = one_conclusion (server_states.ServerFirstSent challenge) provider text (Err AuthenticationFailed) answer
-    next last (gives.1 (λ e. absurd (cc))) concludes in
-    let one : n ≡ 1 = takes_of (with_record challenge provider stored) text (Err AuthenticationFailed) answer next last
+    let turn = one_conclusion (server_states.ServerFirstSent challenge stored) version text (Err AuthenticationFailed)
+    answer next last (gives.1 (λ e. absurd (cc))) concludes in
+    let one : n ≡ 1 = takes_of (server_against version challenge stored) text (Err AuthenticationFailed) answer next last
     n turn takes in
     omega (arith, costs, one)
-exactly_against Allocates view challenge provider text stored (Err OutOfMemory) answer next last before after n told
-    gives concludes costs takes = absurd (told refl)
-exactly_against Allocates view challenge provider text stored (Err fault) answer next last before after n told gives
+exactly_against Allocates view challenge stored version text (Err OutOfMemory) answer next last before after n told gives
+    concludes costs takes = absurd (told refl)
+exactly_against Allocates view challenge stored version text (Err fault) answer next last before after n told gives
     concludes costs takes =
-    let turn = one_conclusion (server_states.ServerFirstSent challenge) provider text (Err fault) answer next last
+    let turn = one_conclusion (server_states.ServerFirstSent challenge stored) version text (Err fault) answer next last
     (gives.1 (λ e. absurd (cc))) concludes in
-    let none : n ≡ 0 = takes_of (with_record challenge provider stored) text (Err fault) answer next last n turn takes
+    let none : n ≡ 0 = takes_of (server_against version challenge stored) text (Err fault) answer next last n turn takes
     in
     let same : after ≡ before = costs in
     omega (arith, same, none)
@@ -161,22 +120,13 @@ exactly_against Allocates view challenge provider text stored (Err fault) answer
 exactly_from : {V : Type 0} (Allocates : Type 0) (view : V → Option (List ℕ)) (provider : Provider)
     (state next : ServerState) (text : List ℕ) (result : Result V ServerScramErrorKind) (before after n : ℕ)
     → result ≢ Err OutOfMemory
-    → Gives OutOfMemory Allocates view result (λ answer. ConcludesFrom state provider text answer next)
-    → FinalCostsFrom state provider text result before after
+    → Gives OutOfMemory Allocates view result (λ answer. ConcludesFrom state provider.version text answer next)
+    → FinalCostsFrom state provider.version text result before after
     → acceptor_hmacs (ScramAcceptor provider state) (frames.Response text) n → after ≡ before + n
-exactly_from Allocates view provider (server_states.ServerFirstSent challenge) next text result before after n told
-    gives costs takes = go (record_at provider.records challenge.user) takes.0 takes.1 takes.2 costs takes.3
-  where
-    go : (stored : Option Record) (answer : Result (Option (List ℕ)) ServerScramErrorKind) (last : ServerState)
-        → ConcludesFrom (server_states.ServerFirstSent challenge) provider text answer last
-        → MatchOption stored (after ≡ before)
-        (λ stored. FinalCosts (with_record challenge provider stored) text result before after)
-        → MatchOption stored (n ≡ 0) (λ stored. FinalCosts (with_record challenge provider stored) text answer 0 n)
-        → after ≡ before + n
-    go None answer last concludes costs takes = omega (arith, costs, takes)
-    go (Some stored) answer last concludes costs takes =
-        exactly_against Allocates view challenge provider text stored result answer next last before after n told gives
-        concludes costs takes
+exactly_from Allocates view provider (server_states.ServerFirstSent challenge stored) next text result before after n told
+    gives costs takes =
+    exactly_against Allocates view challenge stored provider.version text result takes.0 next takes.1 before after n told
+    gives takes.2 costs takes.3
 exactly_from Allocates view provider server_states.Initial next text result before after n told gives costs takes =
     let none = takes.3 in omega (arith, costs, none)
 exactly_from Allocates view provider (server_states.ServerFinalSent user) next text result before after n told gives
@@ -185,8 +135,8 @@ exactly_from Allocates view provider (server_states.ServerFinalSent user) next t
 -- of a frame that was sent
 pub answer_costs : {V X E : Type 0} (Allocates : Type 0) (view : V → Option (List ℕ)) (provider : Provider)
     (state next : ServerState) (text : List ℕ) (value : V) (sent : Result X E) (before after : ℕ)
-    → ConcludesFrom state provider text (Ok (view value)) next
-    → FinalCostsFrom state provider text (Ok value) before after
+    → ConcludesFrom state provider.version text (Ok (view value)) next
+    → FinalCostsFrom state provider.version text (Ok value) before after
     → OnOk sent ((n : ℕ) → acceptor_hmacs (ScramAcceptor provider state) (frames.Response text) n → after ≡ before + n)
 answer_costs Allocates view provider state next text value (Ok frame) before after concludes costs = λ n takes.
     exactly_from Allocates view provider state next text (Ok value) before after n (λ e. absurd (cc)) concludes costs
@@ -196,8 +146,8 @@ answer_costs Allocates view provider state next text value (Err fault) before af
 pub refusal_costs : {V X E : Type 0} (Allocates : Type 0) (sends : X → Type 0) (view : V → Option (List ℕ))
     (provider : Provider) (state next : ServerState) (text : List ℕ) (kind : ServerScramErrorKind)
     (sent : Result X E) (before after : ℕ)
-    → Gives OutOfMemory Allocates view (Err kind) (λ answer. ConcludesFrom state provider text answer next)
-    → FinalCostsFrom {A = V} state provider text (Err kind) before after
+    → Gives OutOfMemory Allocates view (Err kind) (λ answer. ConcludesFrom state provider.version text answer next)
+    → FinalCostsFrom {A = V} state provider.version text (Err kind) before after
     → IfOk sent (λ frame. (kind ≢ OutOfMemory) × sends frame)
     → OnOk sent ((n : ℕ) → acceptor_hmacs (ScramAcceptor provider state) (frames.Response text) n → after ≡ before + n)
 refusal_costs {V = V} Allocates sends view provider state next text kind (Ok frame) before after gives costs is =

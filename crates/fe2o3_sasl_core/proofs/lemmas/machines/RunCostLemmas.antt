@@ -1,6 +1,6 @@
 -- What runs cost: the sum over their bodies bounds it.
 use Rattle.std.proofs.Common.{◌≡◌, ℕ, ◌+◌, ◌≤◌, Option, Some, None, List, [], ◌∷◌, refl, sym, ap, ◌∙◌, subst, inl, inr, Result, Ok, Err, arith}
-use Rattle.std.specs.Prelude.{MatchOption, IsUtf8}
+use Rattle.std.specs.Prelude.{IsUtf8}
 use Rattle.fe2o3_sasl_wire.specs.declared.amqp_types.SaslCode.TheVariants as outcomes
 use Rattle.fe2o3_sasl_wire.specs.declared.sasl_frames.error.Error.{Error}
 use Rattle.fe2o3_sasl_wire.specs.SaslFrames as frames
@@ -9,17 +9,22 @@ use Rattle.fe2o3_scram.specs.declared.scram_messages.error.ServerScramErrorKind.
 use Rattle.fe2o3_scram.specs.declared.scram_messages.error.ServerScramErrorKind.TheVariants.{AuthenticationFailed, OutOfMemory as NoMemory}
 use Rattle.fe2o3_scram.specs.declared.scram_messages.error.ScramErrorKind.{ScramErrorKind}
 use Rattle.fe2o3_scram.specs.declared.client_secret.IterationLimits.{IterationLimits}
+use Rattle.fe2o3_scram.specs.declared.hmac.ScramVersion.{ScramVersion}
 use Rattle.fe2o3_scram.specs.ClientFinal.{Server}
-use Rattle.fe2o3_scram.specs.Credentials.{Record, Provider, record_at}
+use Rattle.fe2o3_scram.specs.ClientFirst.{ClientFirst, ReadsClientFirst}
+use Rattle.fe2o3_scram.specs.Hmac.{mechanism_name}
+use Rattle.fe2o3_scram.specs.Credentials.{Provider}
 use Rattle.fe2o3_scram.specs.ScramClient as client_states
 use Rattle.fe2o3_scram.specs.ScramClient.{ClientSide, ClientState, AnswerCostsIn, AnswersIn, VerifiesIn, started}
 use Rattle.fe2o3_scram.specs.ScramServer as server_states
 use Rattle.fe2o3_scram.specs.ScramServer.{ServerState, FinalCostsFrom, server_against}
 use Rattle.fe2o3_scram.specs.ServerFinal.{FinalCosts}
-use Rattle.fe2o3_scram.proofs.lemmas.texts.DecisionLemmas.{Decided, utf8_or}
+use Rattle.fe2o3_scram.proofs.lemmas.texts.DecisionLemmas.{Decided, same_or, utf8_or}
+use Rattle.fe2o3_scram.proofs.lemmas.messages.ClientFirstLemmas.{one_client_first}
+use Rattle.fe2o3_scram.proofs.lemmas.messages.SomeReadingLemmas.{some_client_first}
 use Rattle.fe2o3_sasl_core.specs.Bodies.{carried}
 use Rattle.fe2o3_sasl_core.specs.CostLaws.{MeteredAcceptorSteps, MeteredProfileSteps, server_most, client_most, SumsUp, ServerRunsCost, ClientRunsCost, reply_of}
-use Rattle.fe2o3_sasl_core.specs.Costs.{acceptor_hmacs, AcceptorCostsOf, ProfileCostsOf}
+use Rattle.fe2o3_sasl_core.specs.Costs.{ReachesLookUp, acceptor_hmacs, AcceptorCostsOf, ProfileCostsOf}
 use Rattle.fe2o3_sasl_core.specs.Events.{Given, ClientSays}
 use Rattle.fe2o3_sasl_core.specs.Profiles.{Profile, ScramProfile, profile_machine}
 use Rattle.fe2o3_sasl_core.specs.Runs.{Runs, ProfileGives, Replies}
@@ -39,33 +44,48 @@ some_final server text (Err AuthenticationFailed) = (1, omega (arith), refl)
 some_final server text (Err NoMemory) = (0, omega (arith), (omega (arith), omega (arith), λ fault reads. refl))
 some_final server text (Err fault) = (0, omega (arith), refl)
 
-some_takes : (state : ServerState) (provider : Provider) (text : List ℕ)
+some_takes : (state : ServerState) (version : ScramVersion) (text : List ℕ)
     (answer : Result (Option (List ℕ)) ServerScramErrorKind)
-    → (n : ℕ) × (n ≤ 2) × FinalCostsFrom state provider text answer 0 n
-some_takes (server_states.ServerFirstSent challenge) provider text answer =
-    go (record_at provider.records challenge.user)
+    → (n : ℕ) × (n ≤ 2) × FinalCostsFrom state version text answer 0 n
+some_takes (server_states.ServerFirstSent challenge stored) version text answer =
+    some_final (server_against version challenge stored) text answer
+some_takes server_states.Initial version text answer = (0, omega (arith), refl)
+some_takes (server_states.ServerFinalSent user) version text answer = (0, omega (arith), refl)
+
+-- an init takes those of a look-up at most
+init_costs : (provider : Provider) (state : ServerState) (mechanism text : List ℕ) (hostname : Option (List ℕ))
+    (before after : ℕ)
+    → AcceptorCostsOf acceptor_hmacs (ScramAcceptor provider state) (Ok (frames.Init mechanism (Some text) hostname)) before
+    after
+    → after ≤ before + provider.look_up_cost
+init_costs provider state mechanism text hostname before after costs =
+    go (same_or mechanism (mechanism_name provider.version)) (some_client_first provider.cbind_flag_y text)
   where
-    go : (stored : Option Record) → (n : ℕ) × (n ≤ 2) × MatchOption stored (n ≡ 0)
-        (λ stored. FinalCosts (server_against provider challenge stored) text
-        answer 0 n)
-    go None = (0, omega (arith), refl)
-    go (Some stored) = some_final (server_against provider challenge stored)
-        text answer
-some_takes server_states.Initial provider text answer = (0, omega (arith), refl)
-some_takes (server_states.ServerFinalSent user) provider text answer = (0, omega (arith), refl)
+    none : ¬ ReachesLookUp provider mechanism text → after ≤ before + provider.look_up_cost
+    none other = let same = costs.1 0 (inr (other, refl)) in omega (arith, same)
+
+    go : Decided (mechanism ≡ mechanism_name provider.version)
+        → (answer : Result ClientFirst ServerScramErrorKind) × ReadsClientFirst provider.cbind_flag_y text answer
+        → after ≤ before + provider.look_up_cost
+    go (inl is) (Ok client, reads) = costs.1 provider.look_up_cost (inl ((is, (client, reads)), refl))
+    go (inl is) (Err fault, refuses) = none (λ reaches.
+        let both = one_client_first provider.cbind_flag_y text (Err fault) (Ok reaches.1.0) refuses reaches.1.1 in absurd (cc))
+    go (inr other) read = none (λ reaches. other reaches.0)
 
 -- a body costs a server no more than its bound
 server_costs : (provider : Provider) (state : ServerState) (spelled : Result SaslFrame Error) (before after : ℕ)
     → AcceptorCostsOf acceptor_hmacs (ScramAcceptor provider state) spelled before after
-    → (before ≤ after) × (after ≤ before + server_most spelled)
+    → (before ≤ after) × (after ≤ before + server_most provider spelled)
 server_costs provider state (Ok (frames.Response text)) before after costs =
-    let answer = some_conclusion state provider text in
-    let takes = some_takes state provider text answer.0 in
+    let answer = some_conclusion state provider.version text in
+    let takes = some_takes state provider.version text answer.0 in
     let most = costs.1 takes.0 (answer.0, answer.1, answer.2, takes.2) in
     let two = takes.1 in
     (costs.0, omega (arith, most, two))
-server_costs provider state (Ok (frames.Init mechanism response hostname)) before after costs =
-    (costs.0, costs.1 0 refl)
+server_costs provider state (Ok (frames.Init mechanism (Some text) hostname)) before after costs =
+    (costs.0, init_costs provider state mechanism text hostname before after costs)
+server_costs provider state (Ok (frames.Init mechanism None hostname)) before after costs =
+    let none = costs.1 0 refl in (costs.0, omega (arith, none))
 server_costs provider state (Ok (frames.Mechanisms names)) before after costs = (costs.0, costs.1 0 refl)
 server_costs provider state (Ok (frames.Challenge text)) before after costs = (costs.0, costs.1 0 refl)
 server_costs provider state (Ok (frames.Outcome code more)) before after costs = (costs.0, costs.1 0 refl)
@@ -94,8 +114,8 @@ server_runs_cost provider state (event ∷ events) replies before after sum last
     let begin : ◌≡◌ {A = Acceptor × ℕ} next (ScramAcceptor provider kept.0, next.1) = λ i. (kept.1 i, next.1) in
     let others = server_runs_cost provider kept.0 events runs.2 next.1 after sums.1 last
     (subst (λ (p : Acceptor × ℕ). Runs MeteredAcceptorSteps p events runs.2 (last, after)) begin runs.5) sums.3 in
-    added before next.1 after (server_most costs.0) sums.1 sum first others
-    (sums.4 ∙ ap (λ (s : Result SaslFrame Error). server_most s + sums.1) (sym same))
+    added before next.1 after (server_most provider costs.0) sums.1 sum first others
+    (sums.4 ∙ ap (λ (s : Result SaslFrame Error). server_most provider s + sums.1) (sym same))
 
 -- ---- a client
 

@@ -10,17 +10,16 @@ use Rattle.fe2o3_sasl_wire.specs.declared.sasl_frames.error.Error.TheVariants as
 use Rattle.fe2o3_sasl_wire.specs.SaslFrames.{canonical, SaslFrame}
 use Rattle.fe2o3_sasl_wire.specs.SaslFrames as frames
 use Rattle.fe2o3_scram.specs.declared.scram_messages.error.ServerScramErrorKind.{ServerScramErrorKind}
-use Rattle.fe2o3_scram.specs.declared.scram_messages.error.ServerScramErrorKind.TheVariants.{AuthenticationFailed}
 use Rattle.fe2o3_scram.specs.Texts.{base64_text}
 use Rattle.fe2o3_scram.specs.ServerFirst.{ServerChallenge, challenge_of}
 use Rattle.fe2o3_scram.specs.ClientFirst.{ClientFirst}
-use Rattle.fe2o3_scram.specs.Credentials.{Record, Provider, record_at}
+use Rattle.fe2o3_scram.specs.Credentials.{Record, Provider}
 use Rattle.fe2o3_sasl_core.specs.Events.{Given, ServerSays, Challenged, Concluded, Failed}
 use Rattle.fe2o3_sasl_core.specs.Laws.{AcceptorRunsAreHistories, AcceptorRunsNameUsers}
 use Rattle.fe2o3_scram.specs.Hmac.{mechanism_name}
 use Rattle.fe2o3_sasl_core.specs.Runs.{AcceptorGives, AcceptorSteps, SendsCanonical, Runs}
 use Rattle.fe2o3_sasl_core.specs.SaslAcceptor.{acceptor_machine, acceptor_user, Acceptor, ScramAcceptor, ends_with, server_frame}
-use Rattle.fe2o3_scram.specs.ClientFinal.{ReadsClientFinal, server_of}
+use Rattle.fe2o3_scram.specs.ClientFinal.{ReadsClientFinal}
 use Rattle.fe2o3_sasl_core.specs.Bodies.{SpellsBody, carried, server_says, says_frame}
 use Rattle.fe2o3_sasl_core.specs.ServerHistory.{Challenging, Accepted, FitsAsInit, FitsAsResponse, FitsAt, AcceptsUser, Open, ServerAnswers, ServerAllocates, ServerHistory, is_challenge, is_ok, first_message, full_nonce, final_message, server_at}
 use Rattle.fe2o3_scram.specs.ScramServer.{ServerState, Initial, ServerFirstSent, ServerFinalSent, logged_in, ChallengesFrom, ConcludesFrom}
@@ -37,12 +36,8 @@ use Rattle.fe2o3_sasl_core.proofs.lemmas.histories.LongerServerHistoryLemmas.{fi
 
 -- the state has the challenge that is open, or it has none
 abbrev Shown : Option Challenging → ServerState → Type 0
-Shown (Some c) state = state ≡ ServerFirstSent (challenge_of c.client c.nonce c.stored)
-Shown None state = (challenge : ServerChallenge) → state ≢ ServerFirstSent challenge
-
--- the record of an open challenge is the provider's
-abbrev Known : Provider → Option Challenging → Type 0
-Known provider held = (c : Challenging) → held ≡ Some c → record_at provider.records c.client.user ≡ Some c.stored
+Shown (Some c) state = state ≡ ServerFirstSent (challenge_of c.client c.nonce c.stored) c.stored
+Shown None state = (challenge : ServerChallenge) (stored : Record) → state ≢ ServerFirstSent challenge stored
 
 -- the frame is a response that is accepted, and this is the user of the challenge that is open
 abbrev Logs : Provider → Option Challenging → Result SaslFrame Error → List ℕ → Type 0
@@ -127,7 +122,7 @@ auth_response provider held event text says state moved next reply shown unfit r
 challenge_step : (provider : Provider) (held : Option Challenging) (event : Given) (frame : SaslFrame) (c : Challenging)
     (body : Option (List ℕ)) (says : ServerSays) (state moved next : ServerState) → Shown held state
     → FitsAsInit provider event frame c
-    → moved ≡ ServerFirstSent (challenge_of c.client c.nonce c.stored)
+    → moved ≡ ServerFirstSent (challenge_of c.client c.nonce c.stored) c.stored
     → SendsCanonical (Failed faults.TooLarge) (λ b. Challenged b) body state moved says next
     → ServerAnswers provider (λ c. held ≡ Some c) event (Ok frame) says
     → Stepped provider held event (Ok frame) says state next
@@ -159,7 +154,7 @@ ok_step provider held event frame p (Some body) says state moved next shown fits
       answers = inr answers;
       turns = inr (inl (ap is_challenge h.0, ap is_ok h.0, refl));
       shown =
-          λ challenge e. let x = sym m ∙ (sym h.1 ∙ e) in absurd (cc);
+          λ challenge stored e. let x = sym m ∙ (sym h.1 ∙ e) in absurd (cc);
     }
 
 -- ---- the two rows with a machine behind them
@@ -179,6 +174,8 @@ init_step provider held event mechanism text hostname says state moved next repl
     let fits : FitsAsInit provider event (frames.Init mechanism (Some text) hostname) c =
     (name, from.1.2, from.1.3, refl) in
     let made : challenge ≡ challenge_of c.client c.nonce c.stored = from.1.4 in
+    let stored = same_Some from.3.0 c.stored (sym from.3.1 ∙ (ap (λ (x : ServerChallenge). provider.records x.user) made
+    ∙ from.1.3)) in
     let first : message ≡ first_message c = from.2 ∙ ap (λ (x : ServerChallenge). x.first) made in
     let frame : reply ≡ frames.Challenge (first_message c) = r ∙ ap (λ (t : List ℕ). frames.Challenge t) first in
     let g = subst (λ (f : SaslFrame). SendsCanonical (Failed faults.TooLarge) (server_says f)
@@ -187,11 +184,11 @@ init_step provider held event mechanism text hostname says state moved next repl
     (canonical (frames.Challenge (first_message c))) state moved says next g).0 in
     challenge_step provider held event (frames.Init mechanism (Some text) hostname) c
     (canonical (frames.Challenge (first_message c))) says state moved next shown fits
-    (from.3 ∙ ap (λ (x : ServerChallenge). ServerFirstSent x) made) g (inl (c, fits, e))
+    (from.3.2 ∙ (λ i. ServerFirstSent (made i) (stored i))) g (inl (c, fits, e))
 init_step provider held event mechanism text hostname says state moved next reply (Ok None) shown name from r h =
     auth_init provider held event mechanism (Some text) hostname says state moved next reply shown
     (λ c fits. none-some c.stored
-    (sym from.0.2 ∙ (ap (λ (first : ClientFirst). record_at provider.records first.user)
+    (sym from.0.2 ∙ (ap (λ (first : ClientFirst). provider.records first.user)
     (one_client_first_value provider.cbind_flag_y text from.0.0 c.client from.0.1 fits.1) ∙ fits.2)))
     r from.1 h
 init_step provider held event mechanism text hostname says state moved next reply (Err fault) shown name from r h =
@@ -199,75 +196,50 @@ init_step provider held event mechanism text hostname says state moved next repl
     one_client_first provider.cbind_flag_y text (Err fault) (Ok c.client) from.0 fits.1 in absurd (cc)) r from.1 h
 
 -- the server reads a response against the challenge that is open
-same_server : (provider : Provider) (c : Challenging) (stored : Record)
-    → record_at provider.records c.client.user ≡ Some c.stored → record_at provider.records c.client.user ≡ Some stored
-    → stored ≡ c.stored
-same_server provider c stored h k = same_Some stored c.stored (sym k ∙ h)
-
 response_step : (provider : Provider) (c : Challenging) (event : Given) (text : List ℕ) (says : ServerSays)
     (moved next : ServerState) (reply : SaslFrame) (answer : Result (Option (List ℕ)) ServerScramErrorKind)
-    → record_at provider.records c.client.user ≡ Some c.stored
-    → ConcludesFrom (ServerFirstSent (challenge_of c.client c.nonce c.stored)) provider text answer moved
+    → ConcludesFrom (ServerFirstSent (challenge_of c.client c.nonce c.stored) c.stored) provider.version text answer moved
     → reply ≡ server_frame (λ message. frames.Outcome outcomes.Ok (Some message)) answer
     → SendsCanonical (Failed faults.TooLarge) (server_says reply) (canonical reply)
-    (ServerFirstSent (challenge_of c.client c.nonce c.stored)) moved says next
+    (ServerFirstSent (challenge_of c.client c.nonce c.stored) c.stored) moved says next
     → Stepped provider (Some c) event (Ok (frames.Response text)) says
-    (ServerFirstSent (challenge_of c.client c.nonce c.stored)) next
-response_step provider c event text says moved next reply (Ok (Some message)) known from r h =
-    let stored = same_server provider c from.0 known from.1 in
-    let final = from.2.0 in
-    let p : Accepted = record { challenge = c; final = final } in
-    let reads : ReadsClientFinal (server_at provider c) text (Ok final) =
-    subst (λ (x : Record). ReadsClientFinal (server_of provider.version c.client.header c.client.bare (first_message c)
-    (full_nonce c) x)
-    text (Ok final)) stored from.2.1 in
-    let said : message ≡ final_message provider p = from.2.2 ∙ ap
-    (λ (x : Record). Rattle.fe2o3_scram.specs.ServerFinal.server_final_of
-    (server_of provider.version c.client.header c.client.bare (first_message c) (full_nonce c) x) final) stored in
+    (ServerFirstSent (challenge_of c.client c.nonce c.stored) c.stored) next
+response_step provider c event text says moved next reply (Ok (Some message)) from r h =
+    let p : Accepted = record { challenge = c; final = from.0.0 } in
+    let reads : ReadsClientFinal (server_at provider c) text (Ok from.0.0) = from.0.1 in
     let frame : reply ≡ frames.Outcome outcomes.Ok (Some (final_message provider p)) =
-    r ∙ ap (λ (t : List ℕ). frames.Outcome outcomes.Ok (Some t)) said in
+    r ∙ ap (λ (t : List ℕ). frames.Outcome outcomes.Ok (Some t)) from.0.2 in
     let g = subst (λ (f : SaslFrame). SendsCanonical (Failed faults.TooLarge) (server_says f) (canonical f)
-    (ServerFirstSent (challenge_of c.client c.nonce c.stored)) moved says next) frame h in
+    (ServerFirstSent (challenge_of c.client c.nonce c.stored) c.stored) moved says next) frame h in
     let e = (sent (Failed faults.TooLarge) (λ b. Concluded outcomes.Ok b)
     (canonical (frames.Outcome outcomes.Ok (Some (final_message provider p))))
-    (ServerFirstSent (challenge_of c.client c.nonce c.stored)) moved says next g).0 in
+    (ServerFirstSent (challenge_of c.client c.nonce c.stored) c.stored) moved says next g).0 in
     ok_step provider (Some c) event (frames.Response text) p
     (canonical (frames.Outcome outcomes.Ok (Some (final_message provider p))))
-    says (ServerFirstSent (challenge_of c.client c.nonce c.stored)) moved next refl (refl, reads) from.3 g
+    says (ServerFirstSent (challenge_of c.client c.nonce c.stored) c.stored) moved next refl (refl, reads) from.1 g
     (inl (p, (refl, reads), e))
-response_step provider c event text says moved next reply (Ok None) known from r h = absurd from
-response_step provider c event text says moved next reply (Err fault) known from r h =
-    auth_response provider (Some c) event text says (ServerFirstSent (challenge_of c.client c.nonce c.stored)) moved
-    next reply
-    refl (λ p fits. unfit p fits from.0) r from.1 h
+response_step provider c event text says moved next reply (Ok None) from r h = absurd from
+response_step provider c event text says moved next reply (Err fault) from r h =
+    auth_response provider (Some c) event text says (ServerFirstSent (challenge_of c.client c.nonce c.stored) c.stored)
+    moved next reply refl unfit r from.1 h
   where
-    unfit : (p : Accepted) → FitsAsResponse provider (λ d. Some c ≡ Some d) (frames.Response text) p
-        → ((stored : Record) × (record_at provider.records c.client.user ≡ Some stored)
-        × ReadsClientFinal (server_of provider.version c.client.header c.client.bare (first_message c)
-        (full_nonce c) stored) text
-        (Err fault))
-        ⊎ ((record_at provider.records c.client.user ≡ None) × (fault ≡ AuthenticationFailed)) → ⊥
-    unfit p fits (inl x) =
-        let stored = same_server provider c x.0 known x.1 in
+    unfit : (p : Accepted) → FitsAsResponse provider (λ d. Some c ≡ Some d) (frames.Response text) p → ⊥
+    unfit p fits =
         let same : c ≡ p.challenge = same_Some c p.challenge fits.0 in
         let refused : ReadsClientFinal (server_at provider p.challenge) text (Err fault) =
-        subst (λ (d : Challenging). ReadsClientFinal (server_at provider d) text (Err fault)) same
-        (subst (λ (r : Record). ReadsClientFinal (server_of provider.version c.client.header c.client.bare
-        (first_message c)
-        (full_nonce c) r) text (Err fault)) stored x.2) in
+        subst (λ (d : Challenging). ReadsClientFinal (server_at provider d) text (Err fault)) same from.0 in
         let e = one_client_final (server_at provider p.challenge) text (Err fault) (Ok p.final) refused fits.1 in
         cc
-    unfit p fits (inr x) = none-some c.stored (sym x.0 ∙ known)
 
 -- without an open challenge
 closed_step : (provider : Provider) (event : Given) (text : List ℕ) (says : ServerSays) (state moved next : ServerState)
     (reply : SaslFrame) (answer : Result (Option (List ℕ)) ServerScramErrorKind)
-    → Shown None state → ConcludesFrom state provider text answer moved
+    → Shown None state → ConcludesFrom state provider.version text answer moved
     → reply ≡ server_frame (λ message. frames.Outcome outcomes.Ok (Some message)) answer
     → SendsCanonical (Failed faults.TooLarge) (server_says reply) (canonical reply) state moved says next
     → Stepped provider None event (Ok (frames.Response text)) says state next
-closed_step provider event text says (ServerFirstSent challenge) moved next reply answer shown from r h =
-    absurd (shown challenge refl)
+closed_step provider event text says (ServerFirstSent challenge stored) moved next reply answer shown from r h =
+    absurd (shown challenge stored refl)
 closed_step provider event text says Initial moved next reply (Ok message) shown from r h = absurd from
 closed_step provider event text says Initial moved next reply (Err fault) shown from r h =
     auth_response provider None event text says Initial moved next reply shown
@@ -289,7 +261,7 @@ machine provider state nonce (frames.Init mechanism (Some text) hostname) reply 
 machine provider state nonce (frames.Init mechanism None hostname) reply next =
     (reply ≡ ends_with outcomes.Auth) × (next ≡ state)
 machine provider state nonce (frames.Response text) reply next =
-    (answer : Result (Option (List ℕ)) ServerScramErrorKind) × ConcludesFrom state provider text answer next
+    (answer : Result (Option (List ℕ)) ServerScramErrorKind) × ConcludesFrom state provider.version text answer next
     × (reply ≡ server_frame (λ message. frames.Outcome outcomes.Ok (Some message)) answer)
 machine provider state nonce frame reply next = ⊥
 
@@ -308,63 +280,49 @@ gives_init provider held event mechanism (Some text) hostname says state moved n
     init_step provider held event mechanism text hostname says state moved next reply m.1.0 shown m.0 m.1.1 m.1.2 h
 
 gives_response : (provider : Provider) (held : Option Challenging) (event : Given) (text : List ℕ) (says : ServerSays)
-    (state moved next : ServerState) (reply : SaslFrame) → Shown held state → Known provider held
+    (state moved next : ServerState) (reply : SaslFrame) → Shown held state
     → machine provider state event.nonce (frames.Response text) reply moved
     → SendsCanonical (Failed faults.TooLarge) (server_says reply) (canonical reply) state moved says next
     → Stepped provider held event (Ok (frames.Response text)) says state next
-gives_response provider None event text says state moved next reply shown known m h =
+gives_response provider None event text says state moved next reply shown m h =
     closed_step provider event text says state moved next reply m.0 shown m.1 m.2 h
-gives_response provider (Some c) event text says state moved next reply shown known m h =
+gives_response provider (Some c) event text says state moved next reply shown m h =
     subst (λ (s : ServerState). Stepped provider (Some c) event (Ok (frames.Response text)) says s next) (sym shown)
-    (response_step provider c event text says moved next reply m.0 (known c refl)
-    (subst (λ (s : ServerState). ConcludesFrom s provider text m.0 moved) shown m.1) m.2
+    (response_step provider c event text says moved next reply m.0
+    (subst (λ (s : ServerState). ConcludesFrom s provider.version text m.0 moved) shown m.1) m.2
     (subst (λ (s : ServerState). SendsCanonical (Failed faults.TooLarge) (server_says reply)
     (canonical reply) s moved says next) shown h))
 
 -- what the machine gives is what the table gives
 stepped : (provider : Provider) (held : Option Challenging) (event : Given) (spelled : Result SaslFrame Error)
-    (says : ServerSays) (state next : ServerState) → Shown held state → Known provider held
+    (says : ServerSays) (state next : ServerState) → Shown held state
     → AcceptorGives (machine provider) state event spelled says next
     → Stepped provider held event spelled says state next
-stepped provider held event (Err fault) says state next shown known h =
+stepped provider held event (Err fault) says state next shown h =
     idle provider held event (Err fault) says state next (ap is_challenge h.0) (ap is_ok h.0) h.1 shown (inr h.0)
-stepped provider held event (Ok (frames.Mechanisms names)) says state next shown known h =
+stepped provider held event (Ok (frames.Mechanisms names)) says state next shown h =
     idle provider held event (Ok (frames.Mechanisms names)) says state next (ap is_challenge h.0)
     (ap is_ok h.0) h.1 shown
     (inr h.0)
-stepped provider held event (Ok (frames.Challenge text)) says state next shown known h =
+stepped provider held event (Ok (frames.Challenge text)) says state next shown h =
     idle provider held event (Ok (frames.Challenge text)) says state next (ap is_challenge h.0) (ap is_ok h.0) h.1 shown
     (inr h.0)
-stepped provider held event (Ok (frames.Outcome code more)) says state next shown known h =
+stepped provider held event (Ok (frames.Outcome code more)) says state next shown h =
     idle provider held event (Ok (frames.Outcome code more)) says state next (ap is_challenge h.0)
     (ap is_ok h.0) h.1 shown
     (inr h.0)
-stepped provider held event (Ok (frames.Init mechanism response hostname)) says state next shown known (inl h) =
+stepped provider held event (Ok (frames.Init mechanism response hostname)) says state next shown (inl h) =
     idle provider held event (Ok (frames.Init mechanism response hostname)) says state next (ap is_challenge h.0)
     (ap is_ok h.0) h.1 shown (inl (tt, h.0))
-stepped provider held event (Ok (frames.Init mechanism response hostname)) says state next shown known (inr h) =
+stepped provider held event (Ok (frames.Init mechanism response hostname)) says state next shown (inr h) =
     gives_init provider held event mechanism response hostname says state h.1 next h.0 shown h.2 h.3
-stepped provider held event (Ok (frames.Response text)) says state next shown known (inl h) =
+stepped provider held event (Ok (frames.Response text)) says state next shown (inl h) =
     idle provider held event (Ok (frames.Response text)) says state next (ap is_challenge h.0) (ap is_ok h.0) h.1 shown
     (inl (tt, h.0))
-stepped provider held event (Ok (frames.Response text)) says state next shown known (inr h) =
-    gives_response provider held event text says state h.1 next h.0 shown known h.2 h.3
+stepped provider held event (Ok (frames.Response text)) says state next shown (inr h) =
+    gives_response provider held event text says state h.1 next h.0 shown h.2 h.3
 
 -- ---- the run
-
--- the record of what is open is the provider's
-known : (provider : Provider) (events : List Given) (replies : List ServerSays) (held : Option Challenging)
-    → Holds is_challenge is_ok (FitsAt provider events) replies held → Known provider held
-known provider events replies held holds c e = let o = holds.found c e in stored o.2.0 o.2.1 o.2.4
-  where
-    stored : (event : Given) (frame : SaslFrame) → FitsAsInit provider event frame c
-        → record_at provider.records c.client.user ≡ Some c.stored
-    stored event (frames.Mechanisms names) h = absurd h
-    stored event (frames.Challenge text) h = absurd h
-    stored event (frames.Response text) h = absurd h
-    stored event (frames.Outcome code more) h = absurd h
-    stored event (frames.Init mechanism None hostname) h = absurd h
-    stored event (frames.Init mechanism (Some text) hostname) h = h.2
 
 -- one user is accepted at a position at most
 one_user : (provider : Provider) (events : List Given) (replies : List ServerSays) (n : ℕ)
@@ -391,8 +349,7 @@ runs_on provider events [] replies others held state last h holds shown run =
 runs_on provider events (e ∷ more) replies others held state last h holds shown run =
     let says = run.0 in
     let spelled = run.3.0 in
-    let step = stepped provider held e spelled says state run.1 shown
-    (known provider events replies held holds) run.3.2 in
+    let step = stepped provider held e spelled says state run.1 shown run.3.2 in
     let told : Says provider (Open provider events replies (length replies)) e says =
     says_moves provider (λ c. held ≡ Some c) (Open provider events replies (length replies))
     (holds.found, holds.only) e says
@@ -551,7 +508,7 @@ left provider events replies last run =
         },
         holds_nothing is_ok is_challenge (AcceptsUser provider [] []),
       )
-          (holds_nothing is_challenge is_ok (FitsAt provider [])) (λ challenge e. absurd (cc)) back.2,
+          (holds_nothing is_challenge is_ok (FitsAt provider [])) (λ challenge stored e. absurd (cc)) back.2,
     )
 
 pub acceptor_runs_are_histories : AcceptorRunsAreHistories

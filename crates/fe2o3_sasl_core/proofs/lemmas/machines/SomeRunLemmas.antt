@@ -12,7 +12,8 @@ use Rattle.fe2o3_sasl_wire.specs.declared.sasl_frames.error.Error.TheVariants as
 use Rattle.fe2o3_sasl_wire.proofs.lemmas.frames.LawLemmas.{bodies_have_one_answer}
 use Rattle.fe2o3_scram.specs.ClientFinal.{ClientFinal, ReadsClientFinal, answer_of}
 use Rattle.fe2o3_scram.specs.ClientFirst.{ClientFirst, ReadsClientFirst}
-use Rattle.fe2o3_scram.specs.Credentials.{Record, Provider, record_at}
+use Rattle.fe2o3_scram.specs.Credentials.{Record, Provider}
+use Rattle.fe2o3_scram.specs.declared.hmac.ScramVersion.{ScramVersion}
 use Rattle.fe2o3_scram.specs.Hmac.{mechanism_name}
 use Rattle.fe2o3_scram.specs.ScramClient as client_states
 use Rattle.fe2o3_scram.specs.ScramClient.{ClientSide, ClientState, AnswersIn, VerifiesIn, started, with_state, holding}
@@ -23,7 +24,7 @@ use Rattle.fe2o3_scram.specs.Texts.{base64_text}
 use Rattle.fe2o3_scram.specs.declared.scram_messages.error.ScramErrorKind.{ScramErrorKind}
 use Rattle.fe2o3_scram.specs.declared.scram_messages.error.ScramErrorKind.TheVariants.{Utf8Error, ServerSignatureMismatch, IllegalClientState}
 use Rattle.fe2o3_scram.specs.declared.scram_messages.error.ServerScramErrorKind.{ServerScramErrorKind}
-use Rattle.fe2o3_scram.specs.declared.scram_messages.error.ServerScramErrorKind.TheVariants.{AuthenticationFailed, IllegalAuthenticatorState}
+use Rattle.fe2o3_scram.specs.declared.scram_messages.error.ServerScramErrorKind.TheVariants.{IllegalAuthenticatorState}
 use Rattle.fe2o3_scram.proofs.lemmas.messages.SomeReadingLemmas.{some_client_first, some_server_first, some_client_final, some_server_final}
 use Rattle.fe2o3_scram.proofs.lemmas.texts.DecisionLemmas.{Decided, same_or, utf8_or}
 use Rattle.fe2o3_sasl_core.specs.Events.{Given, ServerSays, Failed, ClientSays, Started, Answered, Reported, Refused}
@@ -64,52 +65,46 @@ some_challenge : (state : ServerState) (provider : Provider) (nonce text : List 
 some_challenge state provider nonce text = let read = some_client_first provider.cbind_flag_y text in go read.0 read.1
   where
     known : (client : ClientFirst) → ReadsClientFirst provider.cbind_flag_y text (Ok client) → (found : Option Record)
-        → record_at provider.records client.user ≡ found
+        → provider.records client.user ≡ found
         → (answer : Result (Option (List ℕ)) ServerScramErrorKind) × (after : ServerState)
         × ChallengesFrom state provider nonce text answer after
     known client reads None is = (Ok None, state, ((client, reads, is), refl))
     known client reads (Some stored) is =
         let challenge = challenge_of client (base64_text nonce) stored in (
           Ok (Some challenge.first),
-          ServerFirstSent challenge,
-          (challenge, (client, stored, reads, is, refl), refl, refl),
+          ServerFirstSent challenge stored,
+          (challenge, (client, stored, reads, is, refl), refl, (stored, is, refl)),
         )
 
     go : (read : Result ClientFirst ServerScramErrorKind) → ReadsClientFirst provider.cbind_flag_y text read
         → (answer : Result (Option (List ℕ)) ServerScramErrorKind) × (after : ServerState)
         × ChallengesFrom state provider nonce text answer after
-    go (Ok client) reads = known client reads (record_at provider.records client.user) refl
+    go (Ok client) reads = known client reads (provider.records client.user) refl
     go (Err fault) reads = (Err fault, state, (reads, refl))
 
 -- an answer to a client-final message
-pub some_conclusion : (state : ServerState) (provider : Provider) (text : List ℕ)
+pub some_conclusion : (state : ServerState) (version : ScramVersion) (text : List ℕ)
     → (answer : Result (Option (List ℕ)) ServerScramErrorKind) × (after : ServerState)
-    × ConcludesFrom state provider text answer after
-some_conclusion Initial provider text = (Err IllegalAuthenticatorState, Initial, (refl, refl))
-some_conclusion (ServerFinalSent user) provider text =
+    × ConcludesFrom state version text answer after
+some_conclusion Initial version text = (Err IllegalAuthenticatorState, Initial, (refl, refl))
+some_conclusion (ServerFinalSent user) version text =
     (Err IllegalAuthenticatorState, ServerFinalSent user, (refl, refl))
-some_conclusion (ServerFirstSent challenge) provider text = known (record_at provider.records challenge.user) refl
+some_conclusion (ServerFirstSent challenge stored) version text = read answer.0 answer.1
   where
-    read : (stored : Record) → record_at provider.records challenge.user ≡ Some stored
-        → (read : Result ClientFinal ServerScramErrorKind) → ReadsClientFinal
-        (server_against provider challenge stored) text read
-        → (answer : Result (Option (List ℕ)) ServerScramErrorKind) × (after : ServerState)
-        × ConcludesFrom (ServerFirstSent challenge) provider text answer after
-    read stored is (Ok final) reads = (
-      Ok (Some (server_final_of (server_against provider challenge stored)
-          final)),
-      ServerFinalSent challenge.user,
-      (stored, is, (final, reads, refl), refl),
-    )
-    read stored is (Err fault) reads = (Err fault, ServerFirstSent challenge, (inl (stored, is, reads), refl))
+    answer : (read : Result ClientFinal ServerScramErrorKind)
+        × ReadsClientFinal (server_against version challenge stored) text read
+    answer = some_client_final (server_against version challenge stored) text
 
-    known : (found : Option Record) → record_at provider.records challenge.user ≡ found
+    read : (read : Result ClientFinal ServerScramErrorKind)
+        → ReadsClientFinal (server_against version challenge stored) text read
         → (answer : Result (Option (List ℕ)) ServerScramErrorKind) × (after : ServerState)
-        × ConcludesFrom (ServerFirstSent challenge) provider text answer after
-    known None is = (Err AuthenticationFailed, ServerFirstSent challenge, (inr (is, refl), refl))
-    known (Some stored) is = let answer = some_client_final
-        (server_against provider challenge stored) text in
-        read stored is answer.0 answer.1
+        × ConcludesFrom (ServerFirstSent challenge stored) version text answer after
+    read (Ok final) reads = (
+      Ok (Some (server_final_of (server_against version challenge stored) final)),
+      ServerFinalSent challenge.user,
+      ((final, reads, refl), refl),
+    )
+    read (Err fault) reads = (Err fault, ServerFirstSent challenge stored, (reads, refl))
 
 -- what the machine does with an init
 pub some_start : (provider : Provider) (state : ServerState) (nonce mechanism : List ℕ)
@@ -168,7 +163,7 @@ some_given provider state event (Ok (frames.Init mechanism response hostname)) r
     let reply = some_sent provider state answer.1 answer.0 (canonical answer.0) in
     (reply.0, reply.1, inr (answer.0, ScramAcceptor provider answer.1, answer.2, reply.2), reply.3)
 some_given provider state event (Ok (frames.Response text)) readable =
-    let answer = some_conclusion state provider text in
+    let answer = some_conclusion state provider.version text in
     let frame = server_frame (λ message. frames.Outcome outcomes.Ok (Some message)) answer.0 in
     let reply = some_sent provider state answer.1 frame (canonical frame) in (
       reply.0,

@@ -5,7 +5,7 @@ use Rattle.fe2o3_sasl_wire.specs.SaslFrames.{SaslFrame}
 use Rattle.fe2o3_scram.specs.Texts.{base64_text, NoComma}
 use Rattle.fe2o3_scram.specs.ClientFirst.{NamesClientFirst}
 use Rattle.fe2o3_sasl_core.specs.ClientHistory.{Answering, AnswersAt}
-use Rattle.fe2o3_scram.specs.Credentials.{Provider, record_at}
+use Rattle.fe2o3_scram.specs.Credentials.{Provider}
 use Rattle.fe2o3_sasl_core.specs.Events.{Given, Login, IsRecord, ServerSays, ClientSays}
 use Rattle.fe2o3_scram.specs.ServerFirst.{NamesServerFirst, client_of}
 use Rattle.fe2o3_sasl_core.specs.ServerHistory.{Challenging, Accepted, FitsAsInit, FitsAsResponse, Open, AcceptsAt, server_at}
@@ -31,7 +31,7 @@ is_answering login events replies k answer is =
 pub record IsChallenging (provider : Provider) (event : Given) (challenge : Challenging) : Type 0 where
   pub text : List ℕ
   pub names : NamesClientFirst provider.cbind_flag_y text challenge.client
-  pub known : record_at provider.records challenge.client.user ≡ Some challenge.stored
+  pub known : provider.records challenge.client.user ≡ Some challenge.stored
   pub nonce : challenge.nonce ≡ base64_text event.nonce
 
 pub is_challenging : (provider : Provider) (event : Given) (frame : SaslFrame) (challenge : Challenging)

@@ -1,5 +1,7 @@
-use Rattle.std.proofs.Common.{◌∙◌, ap, map}
+use Rattle.std.proofs.Common.{◌≡◌, ◌∙◌, ap, map}
 use Rattle.fe2o3_scram.specs.Credentials.{serving}
+use Rattle.fe2o3_scram.specs.MockSettings.{mocking}
+use Rattle.fe2o3_scram.specs.ScramServer.{served_by}
 use Rattle.fe2o3_sasl_core.specs.Runs.{given, server_answer}
 use Rattle.fe2o3_sasl_core.specs.SaslAcceptor.{ScramAcceptor}
 use Rattle.fe2o3_sasl_core.proofs.lemmas.steps.LongerRunLemmas.{if_ok_map, server_run_is_history}
@@ -12,8 +14,12 @@ returns-clause-history g c =
     let m = g.C.ScramCredentialProvider in
     let kept = g.met.C.ScramCredentialProvider.clone_keeps c.args.credentials.now c.in_ok-provider.provider
     c.in_ok-provider.ensures.cases in
-    let made = c.server_over-authenticator.ensures.served ∙ ap (serving c.args.accept_cbind_flag_y) kept in
-    let begun = c.server_over-authenticator.ensures.state in
+    let made : served_by m.meaning c.accept_cbind_flag_y-authenticator.result
+    ≡ serving c.args.accept_cbind_flag_y (m.meaning c.args.credentials.now) =
+    λ i. mocking ((c.accept_cbind_flag_y-authenticator.ensures.mock ∙ c.new.ensures.mock) i)
+    (serving (c.accept_cbind_flag_y-authenticator.ensures.cbind_flag_y i)
+    ((ap m.meaning (c.accept_cbind_flag_y-authenticator.ensures.provider ∙ c.new.ensures.provider) ∙ kept) i)) in
+    let begun = c.accept_cbind_flag_y-authenticator.ensures.state ∙ c.new.ensures.state in
     if_ok_map _ _ c.run_acceptor.result (λ replies run. server_run_is_history
     (serving c.args.accept_cbind_flag_y (m.meaning c.args.credentials.now)) _ _
     (map given c.args.events.now) (map server_answer replies.items) (λ i. ScramAcceptor (made i) (begun i)) run)

@@ -426,7 +426,7 @@ verified_texts_agree side provider own text last its init response verifier veri
     let client : ClientKnows side own text = record { first = answer.0; reads = answer.1 } in
     let opened = accepted.challenges.1 in
     let final = concluded provider accepted.waiting accepted.done accepted.challenges.0 opened.0 (base64_text its)
-    response verifier opened.1 accepted.challenges.3 accepted.challenges.5 accepted.challenges.4 opened.4 opened.3
+    response verifier opened.1 accepted.challenges.3.0 accepted.challenges.3.2 accepted.challenges.3.1 opened.4 opened.3
     accepted.accepts in
     let server : ServerKnows provider its init response = record {
       client = opened.0;

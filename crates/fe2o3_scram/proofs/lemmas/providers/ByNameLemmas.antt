@@ -15,7 +15,7 @@ use Rattle.fe2o3_scram.specs.Credentials.{Record, Records, VersionedRecord, reco
 use Rattle.fe2o3_scram.specs.private.ByName.{IsByName}
 
 -- two names are one, or the test tells them apart
-apart : (user name : List ℕ) → (user ≡ name) ⊎ (pointwise nat_eq user name ≡ false)
+pub apart : (user name : List ℕ) → (user ≡ name) ⊎ (pointwise nat_eq user name ≡ false)
 apart user name = go (pointwise nat_eq user name) refl
   where
     go : (test : Bool) → pointwise nat_eq user name ≡ test → (user ≡ name) ⊎ (pointwise nat_eq user name ≡ false)
@@ -126,7 +126,7 @@ module _ {X Y : Type 0} (record_of : X → VersionedRecord) (version : ScramVers
 -- ---- a name less
 
 -- the name itself
-without-own : (records : Records) (user : List ℕ) → record_at (records_without records user) user ≡ None
+pub without-own : (records : Records) (user : List ℕ) → record_at (records_without records user) user ≡ None
 without-own [] user = refl
 without-own (entry ∷ records) user = go (pointwise nat_eq entry.0 user) refl (without-own records user)
   where
@@ -140,7 +140,7 @@ without-own (entry ∷ records) user = go (pointwise nat_eq entry.0 user) refl (
         ∙ behind
 
 -- another name
-without-other : (records : Records) (user name : List ℕ) → pointwise nat_eq user name ≡ false
+pub without-other : (records : Records) (user name : List ℕ) → pointwise nat_eq user name ≡ false
     → record_at (records_without records user) name ≡ record_at records name
 without-other [] user name other = refl
 without-other (entry ∷ records) user name other =
@@ -195,7 +195,7 @@ module _ {X Y : Type 0} (record_of : X → VersionedRecord) (version : ScramVers
 -- ---- another record
 
 -- the name itself
-with-own : (records : Records) (user : List ℕ) (stored : Record) → is_some (record_at records user) ≡ true
+pub with-own : (records : Records) (user : List ℕ) (stored : Record) → is_some (record_at records user) ≡ true
     → record_at (records_with records user stored) user ≡ Some stored
 with-own [] user stored has = absurd (cc)
 with-own (entry ∷ records) user stored has =
@@ -213,7 +213,7 @@ with-own (entry ∷ records) user stored has =
         ∙ behind has
 
 -- another name
-with-other : (records : Records) (user name : List ℕ) (stored : Record) → pointwise nat_eq user name ≡ false
+pub with-other : (records : Records) (user name : List ℕ) (stored : Record) → pointwise nat_eq user name ≡ false
     → record_at (records_with records user stored) name ≡ record_at records name
 with-other [] user name stored other = refl
 with-other (entry ∷ records) user name stored other =

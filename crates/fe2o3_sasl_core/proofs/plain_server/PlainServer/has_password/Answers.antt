@@ -6,6 +6,6 @@ use Rattle.fe2o3_sasl_core.proofs.plain_server.PlainServer.has_password.Goals as
 
 pub returns-in-None-clause-verdict : goal.returns-in-None-clause-verdict
 returns-in-None-clause-verdict g c = unknown (g.C.ScramCredentialProvider.meaning c.args.self.now.credentials)
-    (parts_of c.args.message.now) (kept c.mock.result) c.verify_password_metered-in-None.result
+    (parts_of c.args.message.now) (kept c.mock.result) c.verify_password-in-None.result
     (sym (rw c.in-None.is at c.get_stored_password.ensures)) c.mock.ensures.keyless
-    (rw (← c.scram_version-scram_version.ensures) c.verify_password_metered-in-None.ensures.verdict)
+    (rw (← c.scram_version-scram_version.ensures) c.verify_password-in-None.ensures.verdict)

@@ -2,6 +2,7 @@ use Rattle.std.proofs.Common.{◌≡◌, Ok, Err, ℕ}
 use Rattle.std.specs.Prelude.{⊤, option_map, Vec}
 use Rattle.std.specs.declared.alloc.Global.{Global}
 use Rattle.fe2o3_scram.specs.Credentials.{serving}
+use Rattle.fe2o3_scram.specs.MockSettings.{mocking}
 use Rattle.fe2o3_scram.specs.ScramServer.{served_by, state_in, ReachesBase64In}
 use Rattle.fe2o3_sasl_wire.specs.declared.amqp_types.SaslCode.TheVariants.{Auth}
 use Rattle.fe2o3_sasl_core.specs.SaslAcceptor.{sent_frame, ends_with}
@@ -17,8 +18,9 @@ returns-in-Ok-clause-ok g c =
     (served_by m.meaning c.compute_server_final_message_metered.new.self) (state_in c.args.self.now)
     (state_in c.compute_server_final_message_metered.new.self) nonce _
     (Ok (option_map (λ message. message.items) c.in-Ok.answer)) (sent_frame c.conclusion.result)
-    (λ i. serving (c.compute_server_final_message_metered.ensures.cbind_flag_y i)
-    (m.meaning (c.compute_server_final_message_metered.ensures.provider i))) answers c.conclusion.ensures
+    (λ i. mocking (c.compute_server_final_message_metered.ensures.mock i)
+    (serving (c.compute_server_final_message_metered.ensures.cbind_flag_y i)
+    (m.meaning (c.compute_server_final_message_metered.ensures.provider i)))) answers c.conclusion.ensures
 
 pub returns-clause-ok : goal.returns-clause-ok
 returns-clause-ok g c =
@@ -28,8 +30,9 @@ returns-clause-ok g c =
     (served_by m.meaning c.args.self.now) (served_by m.meaning c.compute_server_final_message_metered.new.self)
     (state_in c.args.self.now) (state_in c.compute_server_final_message_metered.new.self) _ c.in-Err.kind
     c.refusal.result
-    (λ i. serving (c.compute_server_final_message_metered.ensures.cbind_flag_y i)
-    (m.meaning (c.compute_server_final_message_metered.ensures.provider i))) answers c.refusal.ensures.auth
+    (λ i. mocking (c.compute_server_final_message_metered.ensures.mock i)
+    (serving (c.compute_server_final_message_metered.ensures.cbind_flag_y i)
+    (m.meaning (c.compute_server_final_message_metered.ensures.provider i)))) answers c.refusal.ensures.auth
 
 pub returns-clause-memory : goal.returns-clause-memory
 returns-clause-memory g c =
@@ -43,8 +46,7 @@ returns-clause-memory g c =
 pub returns-in-Ok-clause-cost : goal.returns-in-Ok-clause-cost
 returns-in-Ok-clause-cost g c =
     let m = g.C.ScramCredentialProvider in
-    response_costs (ReachesBase64In (state_in c.args.self.now) (served_by m.meaning c.args.self.now)
-    c.args.response.response.0.items)
+    response_costs (ReachesBase64In (state_in c.args.self.now) c.args.response.response.0.items)
     (option_map (λ (message : Vec ℕ Global). message.items)) (served_by m.meaning c.args.self.now)
     (state_in c.args.self.now) (state_in c.compute_server_final_message_metered.new.self)
     c.args.response.response.0.items (Ok c.in-Ok.answer)
@@ -54,8 +56,7 @@ returns-in-Ok-clause-cost g c =
 pub returns-clause-cost : goal.returns-clause-cost
 returns-clause-cost g c =
     let m = g.C.ScramCredentialProvider in
-    response_costs (ReachesBase64In (state_in c.args.self.now) (served_by m.meaning c.args.self.now)
-    c.args.response.response.0.items)
+    response_costs (ReachesBase64In (state_in c.args.self.now) c.args.response.response.0.items)
     (option_map (λ (message : Vec ℕ Global). message.items)) (served_by m.meaning c.args.self.now)
     (state_in c.args.self.now) (state_in c.compute_server_final_message_metered.new.self)
     c.args.response.response.0.items (Err c.in-Err.kind)
@@ -65,8 +66,7 @@ returns-clause-cost g c =
 pub returns-in-Ok-clause-exactly : goal.returns-in-Ok-clause-exactly
 returns-in-Ok-clause-exactly g c =
     let m = g.C.ScramCredentialProvider in
-    λ n takes. answer_costs {E = ⊤} (ReachesBase64In (state_in c.args.self.now) (served_by m.meaning c.args.self.now)
-    c.args.response.response.0.items)
+    λ n takes. answer_costs {E = ⊤} (ReachesBase64In (state_in c.args.self.now) c.args.response.response.0.items)
     (option_map (λ (message : Vec ℕ Global). message.items)) (served_by m.meaning c.args.self.now)
     (state_in c.args.self.now) (state_in c.compute_server_final_message_metered.new.self)
     c.args.response.response.0.items c.in-Ok.answer (Ok c.conclusion.result) c.args.meter.now
@@ -76,8 +76,7 @@ returns-in-Ok-clause-exactly g c =
 pub returns-clause-exactly : goal.returns-clause-exactly
 returns-clause-exactly g c =
     let m = g.C.ScramCredentialProvider in
-    refusal_costs (ReachesBase64In (state_in c.args.self.now) (served_by m.meaning c.args.self.now)
-    c.args.response.response.0.items) (λ frame. sent_frame frame ≡ ends_with Auth)
+    refusal_costs (ReachesBase64In (state_in c.args.self.now) c.args.response.response.0.items) (λ frame. sent_frame frame ≡ ends_with Auth)
     (option_map (λ (message : Vec ℕ Global). message.items)) (served_by m.meaning c.args.self.now)
     (state_in c.args.self.now) (state_in c.compute_server_final_message_metered.new.self)
     c.args.response.response.0.items c.in-Err.kind c.refusal.result c.args.meter.now

@@ -7,7 +7,7 @@ use crate::published::VERSION;
 use fe2o3_scram::hmac::Meter;
 use fe2o3_scram::provider::{ScramCredentialProvider, StoredPassword};
 use fe2o3_scram::scram_messages::{
-    ClientFinal, ClientFirst, ChannelBindingFlag, ServerFirstMessage, ServerScramErrorKind,
+    ChannelBindingFlag, ClientFinal, ClientFirst, ServerFirstMessage, ServerScramErrorKind,
 };
 use fe2o3_scram::{HidingAuthenticator, ScramAuthenticator, SingleScramCredential};
 use std::alloc::Global;
@@ -53,7 +53,8 @@ fn is(answer: &Result<Option<Vec<u8>>, ServerScramErrorKind>, text: &[u8]) -> bo
 fn opens<C: ScramCredentialProvider>(alloc: Global, server: &mut ScramAuthenticator<C>) -> bool {
     let answer = server.compute_server_first_message(alloc, CLIENT_FIRST, &[2; 32]);
     match server.open_challenge() {
-        Some(open) => is(&answer, SERVER_FIRST) && open.header == ChannelBindingFlag::ClientSupports,
+        Some(open) => is(&answer, SERVER_FIRST)
+            && open.header == ChannelBindingFlag::ClientSupports,
         None => false,
     }
 }
