@@ -1,5 +1,5 @@
 #!/usr/bin/env python3
-"""Prints the runs of `crates/test_vectors_sasl/data/cbind_flag_y-runs.txt`: servers that take a client whose GS2 header is
+"""Prints the runs of `crates/test_vectors_sasl/data/cbind-flag-y-runs.txt`: servers that take a client whose GS2 header is
 `y,,` (RFC 5802, section 6), and one that does not. Nothing of this repository is used: proofs and signatures are of
 Python's `hashlib` and `hmac`, and the frames are written here (AMQP 1.0, part 5, section 5.3.3)."""
 

@@ -20,7 +20,7 @@ for a meter or a hash (`as`, `type`); on what is exported by another name; on a 
 on a Meter that is a constant or can be copied.
 
 Functions are found by name: `.name(` is every method of that name, `Type::name`, called or not, those of the
-type, or every one where it is a trait or one letter, and `name` the free function of its file, of the file's
+type and, of a `pub type`, of the type that it names, or every one where it is a trait or one letter, and `name` the free function of its file, of the file's
 imports or of the path before it. So it refuses more than it has to. It does not see the arguments of a call, nor
 in what order or on which branch it is made (an allowed call that is made where it was spared before is not
 seen), code that a macro makes, a hash that is written out by hand, nor, outside UNCOUNTED, a loop around a
@@ -176,18 +176,20 @@ def read(file, text):
         code = re.sub(rf"\b{alias}\b", name, code)
     functions = [*functions_of(file, crate, f"{crate}::{path.removesuffix('.rt').replace('/', '::')}", code)]
     faults += [f"{file}: a Meter can be copied: {found[0].strip()}" for found in COPIED.finditer(text)]
-    return functions, {*re.findall(r"\b(?:trait|type) (\w+)", code)}, faults
+    aliases = dict(re.findall(r"^pub type (\w+)(?:<\w+>)? = (\w+)", code, re.M))
+    return functions, {*re.findall(r"\b(?:trait|type) (\w+)", code)} - {*aliases}, aliases, faults
 
 
 class Sources:
     """The functions of the libraries by their texts, and which of them work where they take no meter."""
 
     def __init__(self, texts):
-        self.functions, self.faults, self.traits = [], [], set()
+        self.functions, self.faults, self.traits, self.aliases = [], [], set(), {}
         for file, text in texts.items():
-            functions, traits, faults = read(file, text)
+            functions, traits, aliases, faults = read(file, text)
             self.functions += functions
             self.traits |= traits
+            self.aliases |= aliases
             self.faults += faults
         self.by_name, self.callers = defaultdict(list), defaultdict(list)
         for function in self.functions:
@@ -221,7 +223,7 @@ class Sources:
         if call.method:
             return callee.of_self
         any_type = len(call.type) == 1 or call.type in self.traits
-        return bool(call.type) and (any_type or call.type == callee.owner)
+        return bool(call.type) and (any_type or callee.owner in (call.type, self.aliases.get(call.type)))
 
     def uses(self):
         """Each use that has to stand in the list: its function, its name, and its file and line."""

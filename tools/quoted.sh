@@ -1,5 +1,5 @@
 #!/bin/sh
-# Checks that README.md and each CALLING.md quote the sources word for word. A block names its file in
+# Checks that README.md and the README.md of each crate quote the sources word for word. A block names its file in
 # its first line, as `// crates/example_quick_start/src/client.rt` or `# crates.txt`; what follows has to stand
 # there, line after line, whatever the indentation. A line of the comment's mark and two dots leaves
 # lines out. Every block of Rust and of antt has to name its file.
@@ -134,4 +134,4 @@ END {
         exit 1
     }
     printf "quoted: %d blocks stand in their files\n", blocks
-}' README.md crates/*/CALLING.md
+}' README.md crates/*/README.md

@@ -1,7 +1,7 @@
 #!/usr/bin/env python3
-"""Starts the built `broker` and `scram server` again and again, and compares what known and unknown users get.
+"""Starts the built `example_broker` and `scram server` again and again, and compares what known and unknown users get.
 
-    tools/restarts.py       the programs crates/example_broker/out/broker and crates/scram/out/scram, which `make test` builds
+    tools/restarts.py       the programs crates/example_broker/out/example_broker and crates/scram/out/scram, which `make test` builds
 
 An unknown user has to get the salt that the secret beside the records gives, at each start and from processes that
 start at once; challenge and refusal have to be those of a known user but for the salt. It prints nothing where all
@@ -20,7 +20,7 @@ from importlib.util import module_from_spec, spec_from_loader
 from pathlib import Path
 
 TOP = Path(__file__).resolve().parent.parent
-BROKER, SCRAM = (TOP / f"crates/{name}/out/{name}" for name in ("broker", "scram"))
+BROKER, SCRAM = (TOP / f"crates/{name}/out/{name}" for name in ("example_broker", "scram"))
 KNOWN, UNKNOWN = b"user", b"usor"
 NONCE, PROOF = base64.b64encode(b"\1" * 32), {"SCRAM-SHA-256": 32, "SCRAM-SHA-512": 64}
 SECONDS = 20

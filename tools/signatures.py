@@ -253,7 +253,7 @@ class Library:
             f"# Signatures of `{self.crate}`",
             "",
             "Every public item by module, with the first sentence of its comment. Contracts stand in the sources, and the",
-            "main ones in [CALLING.md](CALLING.md). `python3 tools/signatures.py` writes this page.",
+            "main ones in [README.md](README.md). `python3 tools/signatures.py` writes this page.",
         ]
         for module in self.modules.values():
             if module.public:
@@ -301,7 +301,9 @@ class Library:
             return out + signature(item.lines)
         if item.kind == "trait":
             return out + self.trait(item)
-        if item.kind in ("const", "static", "type"):
+        if item.kind == "type":
+            return out + [" ".join(line.strip() for line in item.lines)] + self.methods(item)
+        if item.kind in ("const", "static"):
             return out + [re.sub(r"\s*=.*", ";", " ".join(line.strip() for line in item.lines))
                           if item.kind == "static" else " ".join(line.strip() for line in item.lines)]
         return out + fields(item.lines) + self.traits(item) + self.methods(item)

@@ -1,5 +1,4 @@
 pub mod ServerLemmas
-pub mod NameLemmas
 pub mod OneFrameLemmas
 pub mod ActsAsLemmas
 pub mod StayLemmas

@@ -1,15 +1,12 @@
 -- What holds of the connections of each kind of server (AMQP 1.0, part 5, section 5.3). Each law is the contract of a
 -- clause of a function of `servers`.
 use Rattle.std.specs.Prelude.{◌≡◌, ◌≢◌, ℕ, Bool, Option, Some, None, List, [], ◌∷◌, Ok}
-use Rattle.std.specs.List.{AllByRecursion}
 use Rattle.fe2o3_sasl_wire.specs.SaslFrames as frames
 use Rattle.fe2o3_sasl_wire.specs.SaslFrames.{SaslFrame}
 use Rattle.fe2o3_scram.specs.Credentials.{Provider, Store}
-use Rattle.fe2o3_scram.specs.MockSettings.{MockSettings, with_mock}
 use Rattle.fe2o3_sasl_core.specs.Bodies.{SpellsBody}
 use Rattle.fe2o3_sasl_core.specs.Events.{Given, ServerSays}
 use Rattle.fe2o3_sasl_core.specs.ExternalServer.{External, IsInitOf, external_machine, external_user}
-use Rattle.fe2o3_sasl_core.specs.HidingLaws.{HoldsName}
 use Rattle.fe2o3_sasl_core.specs.RestrictMechanisms.{Offering, offering_machine}
 use Rattle.fe2o3_sasl_core.specs.AnyMechanism.{BothStates, both_names, any_mechanism_machine, part_names}
 use Rattle.fe2o3_sasl_core.specs.AnyMechanismLaws.{Machine, Splits, PassesOn}
@@ -32,22 +29,6 @@ pub record ServerBy {S : Type 0} (machine : Machine S) (state : S) : Type 0 wher
   pub last : Side S
   pub connection : ServerNegotiated machine limit state pieces taken sent last
 
--- ---- mock authentication
-
--- every server of this machine that nobody has used: over its provider with the mock records of all names that hold those
--- of its inits after its own, it serves as a SCRAM server
-abbrev pub MockServersServe : {S : Type 0} → Machine S → (Provider → MockSettings → S) → (S → Option (List ℕ)) → Type 0
-MockServersServe {S} machine start named = (provider : Provider) (mock : MockSettings) (names : List (List ℕ))
-    (server : ServerBy machine (start provider mock))
-    → AllByRecursion (HoldsName provider.cbind_flag_y names) server.connection.events
-    → ScramServes (with_mock provider mock names) server.connection.events server.connection.replies
-    (named server.last.state)
-
--- there are such names: each negotiation of a server has a list with the names of its inits
-abbrev pub NegotiationsHaveNames : {S : Type 0} → Machine S → Type 0
-NegotiationsHaveNames {S} machine = (cbind_flag_y : Bool) (state : S) (server : ServerBy machine state)
-    → (names : List (List ℕ)) × AllByRecursion (HoldsName cbind_flag_y names) server.connection.events
-
 -- ---- several mechanisms
 
 -- a server of two acceptors: each event went where `part_for` sends it in the state before it, and what went to one
@@ -65,15 +46,6 @@ abbrev pub ScramRunsServe : {S : Type 0} → Machine S → (Provider → S) → 
 ScramRunsServe {S} machine start named = (provider : Provider) (events : List Given) (replies : List ServerSays)
     (last : S) → Runs (AcceptorSteps machine) (start provider) events replies last
     → ScramServes provider events replies (named last)
-
--- and of a machine with mock authentication, over its provider with the mock records of all names that hold those of its
--- inits after its own
-abbrev pub MockRunsServe : {S : Type 0} → Machine S → (Provider → MockSettings → S) → (S → Option (List ℕ)) → Type 0
-MockRunsServe {S} machine start named = (provider : Provider) (mock : MockSettings) (names : List (List ℕ))
-    (events : List Given) (replies : List ServerSays) (last : S)
-    → AllByRecursion (HoldsName provider.cbind_flag_y names) events
-    → Runs (AcceptorSteps machine) (start provider mock) events replies last
-    → ScramServes (with_mock provider mock names) events replies (named last)
 
 -- ---- only some of the names
 

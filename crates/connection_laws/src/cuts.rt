@@ -1,7 +1,6 @@
 //! What two divisions of one stream of bytes into calls have in common.
 
 ghost use Rattle.fe2o3_sasl_core.specs.ExternalServer.{external_machine};
-ghost use Rattle.fe2o3_sasl_core.specs.HidingAcceptor.{hiding_names, hiding_machine};
 ghost use Rattle.fe2o3_sasl_core.specs.PlainServer.{plain_machine};
 ghost use Rattle.fe2o3_sasl_core.specs.SaslAcceptor.{acceptor_names, acceptor_machine};
 ghost use Rattle.connection_laws.specs.Cuts.{IsFunction};
@@ -24,7 +23,6 @@ use fe2o3_sasl_core::any_mechanism::HasMechanism;
 pub fn one_result<A: HasMechanism>()
     ensures functions { FunctionCallsEndEqually A.names A.machine }
     ensures acceptors { ServerCallsEndEqually acceptor_names acceptor_machine }
-    ensures mock { ServerCallsEndEqually hiding_names hiding_machine }
     ensures clients { ClientCallsEndEqually }
 {}
 
@@ -50,7 +48,6 @@ pub fn one_negotiation<A: HasMechanism>()
 /// is built of these gives one result for every division of a stream.
 pub fn functions<A: HasMechanism, B: HasMechanism>()
     ensures acceptors { IsFunction acceptor_machine }
-    ensures mock { IsFunction hiding_machine }
     ensures external { IsFunction external_machine }
     ensures plain { IsFunction plain_machine }
     ensures any_mechanism { AnyMechanismIsFunction A.names B.names A.machine B.machine }

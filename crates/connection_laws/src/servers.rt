@@ -1,41 +1,22 @@
 //! What the bytes of a connection say of each kind of server.
 
-ghost use Rattle.fe2o3_scram.specs.HidingServer.{HidingServer};
-ghost use Rattle.fe2o3_scram.specs.ScramServer.{Initial, logged_in as named_in};
+ghost use Rattle.fe2o3_scram.specs.ScramServer.{Initial};
 ghost use Rattle.fe2o3_sasl_core.specs.ExternalServer.{external_machine};
-ghost use Rattle.fe2o3_sasl_core.specs.HidingAcceptor.{hiding_machine};
-ghost use Rattle.fe2o3_sasl_core.specs.HidingLaws.{hiding};
 ghost use Rattle.fe2o3_sasl_core.specs.PlainServer.{plain_machine};
 ghost use Rattle.fe2o3_sasl_core.specs.SaslAcceptor.{ScramAcceptor, acceptor_machine, acceptor_user};
-ghost use Rattle.fe2o3_sasl_negotiation.specs.Connections.{ServerConnectionsLogIn};
-ghost use Rattle.connection_laws.specs.Servers.{MockServersServe, NegotiationsHaveNames, AnyMechanismServersSplit, ScramRunsServe, MockRunsServe, AnyMechanismServersActAsPart, OfferingServersPassOn, OfferingServersActAsInner, OfferingServersNameUsers, ServersStay, ExternalServersLogIn, PlainServersLogIn};
+ghost use Rattle.connection_laws.specs.Servers.{AnyMechanismServersSplit, ScramRunsServe, AnyMechanismServersActAsPart, OfferingServersPassOn, OfferingServersActAsInner, OfferingServersNameUsers, ServersStay, ExternalServersLogIn, PlainServersLogIn};
 
 use fe2o3_sasl_core::any_mechanism::HasMechanism;
-
-/// Mock authentication over the bytes of a connection. Each negotiation of a server with mock authentication is a history
-/// of a SCRAM server over its provider with mock records after its own, for any list with the names of its inits; there
-/// is such a list. The server answers Ok exactly to a response that fits its open challenge and whose proof meets the
-/// stored key, and names exactly the user of the challenge that this Ok closed. It has logged a client in exactly where
-/// its last reply is an Ok that was sent.
-pub fn mock()
-    ensures serves { MockServersServe hiding_machine (λ provider mock. hiding provider mock Initial)
-        (λ (server : HidingServer). named_in server.state) }
-    ensures names { NegotiationsHaveNames hiding_machine }
-    ensures logged_in { ServerConnectionsLogIn hiding_machine }
-{}
 
 /// A server of several mechanisms over the bytes of a connection. Each event of a negotiation went where `part_for` sends
 /// it in the state before it: to one of two acceptors, or to neither, and then it was rejected. What went to one acceptor
 /// is a run of that acceptor by itself. Every run of a SCRAM acceptor answers Ok exactly as the headline theorem says, and
-/// names exactly who has logged in, so that this holds of what went to a SCRAM acceptor, first or second. With mock
-/// authentication it does so over its provider with mock records after its own, for any list with the names of the inits
-/// that went to it. A server that has logged a client in is, byte for byte, a server of the acceptor asked last, so that
-/// all laws of that acceptor hold of it.
+/// names exactly who has logged in, so that this holds of what went to a SCRAM acceptor, first or second, with mock
+/// authentication too. A server that has logged a client in is, byte for byte, a server of the acceptor asked last, so
+/// that all laws of that acceptor hold of it.
 pub fn any_mechanism<A: HasMechanism, B: HasMechanism>()
     ensures split { AnyMechanismServersSplit A.names B.names A.machine B.machine }
     ensures scram { ScramRunsServe acceptor_machine (λ provider. ScramAcceptor provider Initial) acceptor_user }
-    ensures mock { MockRunsServe hiding_machine (λ provider mock. hiding provider mock Initial)
-        (λ (server : HidingServer). named_in server.state) }
     ensures logged_in { AnyMechanismServersActAsPart A.names B.names A.machine B.machine }
 {}
 

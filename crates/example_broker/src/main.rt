@@ -1,4 +1,4 @@
-//! The program `broker RECORDS [tls]`: `example_broker_lib` over standard input and output. It keeps the secret of mock
+//! The program `example_broker RECORDS [tls]`: `example_broker_lib` over standard input and output. It keeps the secret of mock
 //! records in `RECORDS.secret`.
 #![tactic(auto)]
 
@@ -9,7 +9,7 @@ use std::{env, io};
 
 fn main(rt: HostRuntime) -> Result<()> {
     let mut words = env::args(&rt)?.skip(1);
-    let path = words.next().context("usage: broker RECORDS [tls]")?;
+    let path = words.next().context("usage: example_broker RECORDS [tls]")?;
     let tls = words.next().as_deref() == Some("tls");
     let mut input = BufReader::new(rt.alloc(), rt.reader())?;
     let (user, wrong) = log_in(&rt, &path, tls, &mut input, &mut io::writer(&rt))?;

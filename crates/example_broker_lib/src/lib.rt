@@ -3,12 +3,11 @@
 
 use anyhow::{Context, Result, bail, ensure};
 use bytes::BytesMut;
-use fe2o3_sasl::{
-    HasMechanism, HidingAuthenticator, Meter, MultiRecordStore, AuthenticatedUser, RestrictMechanisms, AnyMechanism,
-    PlainServer, RecordStore, ScramVersion,
+use fe2o3_sasl_negotiation::{
+    AnyMechanism, AuthenticatedUser, CloseReason, HasMechanism, HidingAuthenticator, Meter,
+    MultiRecordStore, PlainServer, Progress, RecordStore, RestrictMechanisms, SaslCode,
+    ScramVersion, ServerNegotiation,
 };
-use fe2o3_sasl_negotiation::{CloseReason, ServerNegotiation, Progress};
-use fe2o3_sasl_wire::SaslCode;
 use mock_secret::{file_of, secret_of};
 use std::fs;
 use std::io::{BufRead, Write};
@@ -27,7 +26,7 @@ struct Broker<'a, R, I, O> {
     tls: bool,
 }
 
-/// Serves connections by a file of records until somebody has logged in: who, and how many logins were wrong before.
+/// Serves connections by a file of records until a user has logged in: who, and how many logins were wrong before.
 /// The third wrong login, and a connection that ends otherwise, are errors. The secret of mock records is that of the
 /// file beside the records, so every process and every start answers an unknown user by the same salt.
 pub fn log_in<'a, R: Files + RandomSource + AllocGlobal, I: BufRead, O: Write>(
@@ -63,7 +62,7 @@ impl<R: RandomSource + AllocGlobal, I: BufRead, O: Write> Broker<'_, R, I, O> {
         Ok(HidingAuthenticator::new(records, self.secret.clone()?, 16, 4096)?)
     }
 
-    /// Serves one connection by both, and by PLAIN: who has logged in, or nobody if that was refused.
+    /// Serves one connection by both, and by PLAIN: who has logged in, or `None` if that was refused.
     fn serve<A: HasMechanism + Drop>(&mut self, strong: A, weak: A) -> Result<Option<String>> {
         let records = self.records.for_version(ScramVersion::Sha256).clone()?;
         let plain = PlainServer::new(records, 4096);

@@ -1,12 +1,13 @@
 //! A client over frame bodies.
 
 use anyhow::{Result, bail};
-use fe2o3_sasl::{ClientReply, Event, SaslProfile, SaslScramSha256, profile_step};
-use fe2o3_sasl_wire::SaslCode;
+use fe2o3_sasl_negotiation::{
+    ClientReply, Event, SaslCode, SaslProfile, SaslScramSha256, profile_step,
+};
 use std::alloc::Global;
 
 /// A client that logs in as `user`. The server names the iteration count, of which both bounds are the
-/// client's: 4096 is the least that RFC 7677 asks for.
+/// client's: 4096 is the minimum of RFC 7677.
 pub fn new_client(alloc: Global) -> Result<SaslProfile> {
     let username = "user".to_string(alloc)?;
     let password = "pencil".to_string(alloc)?;
@@ -16,7 +17,7 @@ pub fn new_client(alloc: Global) -> Result<SaslProfile> {
     Ok(SaslProfile::from(scram))
 }
 
-/// The body to send back, or `None` once the client is logged in: it believes the server only on
+/// The body to send back, or `None` once the client is logged in: it authenticates the server only by
 /// the signature of this very exchange.
 pub fn answer(alloc: Global, client: &mut SaslProfile, event: &Event) -> Result<Option<Vec<u8>>> {
     match profile_step(alloc, client, event, None)? {

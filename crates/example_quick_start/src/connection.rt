@@ -4,8 +4,9 @@ use crate::client::new_client;
 use crate::server::{self, Server};
 use anyhow::Result;
 use bytes::BytesMut;
-use fe2o3_sasl::Meter;
-use fe2o3_sasl_negotiation::{ClientNegotiation, ServerNegotiation, Progress};
+use fe2o3_sasl_negotiation::{
+    ClientNegotiation, ConnectionSide, Endpoint, Meter, Progress, Role, ServerNegotiation,
+};
 use std::alloc::Global;
 use std::random::RandomSource;
 
@@ -18,42 +19,22 @@ pub fn new_server(
     Ok(ServerNegotiation::new(alloc, server::new_server(alloc, salt, secret)?))
 }
 
-/// Hands a server what has come from its client, and appends what is to be sent. Answers how many bytes
-/// it took: those that are left behind a login are AMQP's. Where `server.progress()` is `LoggedIn`,
-/// `server.authenticated_user()` says who; where it is `Closed`, send the output and close.
-pub fn serve<R: RandomSource>(
-    rt: &R,
+/// Passes received bytes to a side, a server or a client, and appends what is to be sent. Returns how many bytes it took:
+/// those that are left after a login are AMQP's. Once `side.progress()` is `Authenticated`, a server's
+/// `authenticated_user()` returns the user. Once it is `Failed`, send the output and close.
+pub fn pass<T: RandomSource, E: Endpoint<R>, R: Role>(
+    rt: &T,
     alloc: Global,
-    server: &mut ServerNegotiation<Server>,
+    side: &mut ConnectionSide<E, R>,
     input: &[u8],
     output: &mut BytesMut,
 ) -> Result<usize> {
     let mut taken = 0;
-    while taken < input.len() && matches!(server.progress(), Progress::InProgress) {
+    while taken < input.len() && matches!(side.progress(), Progress::InProgress) {
         let mut nonce = [0; 32];
         rt.fill_bytes(&mut nonce)?;
         let left = &input[taken..];
-        taken += server
-            .receive(alloc, left, &nonce, &mut Meter::new(), output)?
-            .taken;
-    }
-    Ok(taken)
-}
-
-/// Hands a client what has come from its server, in the same way.
-pub fn log_in<R: RandomSource>(
-    rt: &R,
-    alloc: Global,
-    client: &mut ClientNegotiation,
-    input: &[u8],
-    output: &mut BytesMut,
-) -> Result<usize> {
-    let mut taken = 0;
-    while taken < input.len() && matches!(client.progress(), Progress::InProgress) {
-        let mut nonce = [0; 32];
-        rt.fill_bytes(&mut nonce)?;
-        let left = &input[taken..];
-        taken += client
+        taken += side
             .receive(alloc, left, &nonce, &mut Meter::new(), output)?
             .taken;
     }
@@ -72,9 +53,15 @@ pub fn meet<R: RandomSource>(
     let client = ClientNegotiation::new(alloc, new_client(alloc)?, None);
     let mut client = Box::new(alloc, client)?;
     for _ in 0..3 {
-        serve(rt, alloc, server, to_server.as_slice(), &mut to_client)?;
+        pass(rt, alloc, server, to_server.as_slice(), &mut to_client)?;
         to_server.clear();
-        log_in(rt, alloc, &mut client, to_client.as_slice(), &mut to_server)?;
+        pass(
+            rt,
+            alloc,
+            &mut *client,
+            to_client.as_slice(),
+            &mut to_server,
+        )?;
         to_client.clear();
     }
     Ok(())

@@ -3,8 +3,7 @@
 use crate::{client, server};
 use anyhow::{Context, Result, bail};
 use bytes::BytesMut;
-use fe2o3_sasl::{Event, SaslAcceptorExt, SaslProfile};
-use fe2o3_sasl_wire::{Frame, FrameCodec};
+use fe2o3_sasl_negotiation::{Event, Frame, FrameCodec, SaslAcceptorExt, SaslProfile};
 use std::alloc::Global;
 use std::random::RandomSource;
 
@@ -74,7 +73,7 @@ fn carry<R: RandomSource>(
 
 /// Keeps the name that the server logged in: that of the init whose challenge was answered.
 fn name_user(alloc: Global, server: &server::Server, given: &mut Transcript) -> Result<()> {
-    let user = server.authenticated_user().context("nobody has logged in")?;
+    let user = server.authenticated_user().context("no user")?;
     given.user = user.to_string(alloc)?;
     Ok(())
 }

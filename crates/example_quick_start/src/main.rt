@@ -1,12 +1,12 @@
-//! Logins with SCRAM-SHA-256, each of a client and a server in one program: over frame bodies, with
-//! what stands around them, what whole lists of them say, over the bytes of a connection, and over
-//! SCRAM's texts alone.
+//! Logins with SCRAM-SHA-256, each of a client and a server in one program: over the bytes of a
+//! connection, over frame bodies, with what stands around them, and over SCRAM's texts; by whole lists of
+//! bodies, and from a store of the caller's own.
 #![tactic(auto)]
 
-mod audit;
 mod client;
 mod connection;
 mod login;
+mod own_store;
 mod runs;
 mod scram_client;
 mod scram_server;
@@ -121,7 +121,7 @@ fn over_connection<R: RandomSource, W: Write>(rt: &R, alloc: Global, output: &mu
     let server = connection::new_server(alloc, fresh(rt)?, fresh(rt)?)?;
     let mut server = Box::new(alloc, server)?;
     connection::meet(rt, alloc, &mut server)?;
-    let user = server.authenticated_user().context("nobody has logged in")?;
+    let user = server.authenticated_user().context("no user")?;
     writeln!(output, "{user} logged in over a connection")?;
     Ok(())
 }
@@ -136,15 +136,6 @@ fn over_lists<W: Write>(alloc: Global, given: &Transcript, output: &mut W) -> Re
     Ok(())
 }
 
-/// What they have in common.
-fn over_both<W: Write>(alloc: Global, given: &Transcript, output: &mut W) -> Result<()> {
-    let user = server::new_user(alloc, given.salt)?;
-    for finding in &audit::findings(alloc, given, &user)? {
-        audit::print(finding, output)?;
-    }
-    Ok(())
-}
-
 fn main(rt: HostRuntime) -> Result<()> {
     let mut output = io::writer(&rt);
     over_texts(&rt, rt.alloc(), &mut output)?;
@@ -152,5 +143,5 @@ fn main(rt: HostRuntime) -> Result<()> {
     over_connection(&rt, rt.alloc(), &mut output)?;
     let given = over_frames(&rt, rt.alloc(), &mut output)?;
     over_lists(rt.alloc(), &given, &mut output)?;
-    over_both(rt.alloc(), &given, &mut output)
+    own_store::report_all(&rt, rt.alloc(), &mut output)
 }

@@ -1,11 +1,10 @@
 //! What each side answers to a whole list of bodies, from a fresh start: for tests, replays, logs.
 
 use anyhow::Result;
-use fe2o3_sasl::{
-    ClientReply, Event, ScramCredentialProvider, ScramVersion, ServerReply,
+use fe2o3_sasl_negotiation::{
+    ClientReply, Event, SaslCode, ScramCredentialProvider, ScramVersion, ServerReply,
     scram_client_run_limited, scram_server_run,
 };
-use fe2o3_sasl_wire::SaslCode;
 use std::alloc::Global;
 
 /// At which of these bodies a server of these credentials lets a client in.

@@ -1,7 +1,7 @@
 //! A client that logs in.
 
 use anyhow::Result;
-use fe2o3_sasl::{ScramClient, ScramVersion};
+use fe2o3_scram::{ScramClient, ScramVersion};
 use std::alloc::Global;
 
 /// The way to the server, which tells a client's first message from its second, as the frames of
@@ -14,9 +14,9 @@ pub trait Connection {
     fn respond(&mut self, client_final: &[u8]) -> Result<Vec<u8>>;
 }
 
-/// Logs in as `user`, and believes the server only on the signature of this very exchange. The nonce is
-/// random bytes, fresh for each login. The server names the iteration count, of which both bounds are
-/// the client's: 4096 is the least that RFC 7677 asks for.
+/// Logs in as `user`, and authenticates the server only by the signature of this very exchange. The nonce
+/// is random bytes, fresh for each login. The server names the iteration count, of which both bounds are
+/// the client's: 4096 is the minimum of RFC 7677.
 pub fn log_in<C: Connection>(alloc: Global, connection: &mut C, nonce: &[u8; 32]) -> Result<()> {
     let username = "user".to_string(alloc)?;
     let password = "pencil".to_string(alloc)?;

@@ -1,7 +1,7 @@
 //! A server of one user, which does not tell which users it knows.
 
 use anyhow::{Context, Result};
-use fe2o3_sasl::{
+use fe2o3_scram::{
     DEFAULT_SCRAM_ITERATIONS, HidingAuthenticator, ScramVersion, SingleScramCredential,
 };
 use std::alloc::Global;
@@ -15,7 +15,7 @@ pub struct Server {
 
 impl Server {
     /// A server that knows `user`. The salt is random bytes, fresh for each record. The secret is random
-    /// bytes, one for all connections, which are told to nobody and kept for as long as the records are.
+    /// bytes, one for all connections. Keep it secret, and for as long as the records are kept.
     pub fn new(alloc: Global, salt: [u8; 32], secret: [u8; 32]) -> Result<Server> {
         let username = "user".to_string(alloc)?;
         let secret = secret.to_vec(alloc)?;

@@ -4,14 +4,13 @@ ghost use Rattle.std.specs.Prelude.{◌≡◌, ℕ, List, Some, IfOk};
 ghost use Rattle.fe2o3_sasl_wire.specs.declared.amqp_types.SaslCode.TheVariants.{Ok as OkCode};
 ghost use Rattle.fe2o3_scram.specs.HidingServer.{hiding_server};
 ghost use Rattle.fe2o3_scram.specs.ScramServer.{logged_in};
-ghost use Rattle.fe2o3_sasl.specs.HidingLaws.{HiddenBodyLogsIn};
+ghost use Rattle.fe2o3_sasl_core.specs.HidingLaws.{HiddenBodyLogsIn};
 
 use anyhow::Result;
-use fe2o3_sasl::{
-    DEFAULT_SCRAM_ITERATIONS, Event, HidingAuthenticator, ScramVersion, ServerReply,
+use fe2o3_sasl_negotiation::{
+    DEFAULT_SCRAM_ITERATIONS, Event, HidingAuthenticator, SaslCode, ScramVersion, ServerReply,
     SingleScramCredential, acceptor_step,
 };
-use fe2o3_sasl_wire::SaslCode;
 use std::alloc::Global;
 
 /// The server of one connection.
@@ -24,8 +23,8 @@ pub fn new_user(alloc: Global, salt: [u8; 32]) -> Result<SingleScramCredential> 
     Ok(SingleScramCredential::new(alloc, username, "pencil", version, salt)?)
 }
 
-/// A server that knows `user`. Its secret is random bytes, one for all connections, which are told to
-/// nobody and kept for as long as the records are.
+/// A server that knows `user`. Its secret is random bytes, one for all connections. Keep it secret, and
+/// for as long as the records are kept.
 pub fn new_server(alloc: Global, salt: [u8; 32], secret: [u8; 32]) -> Result<Server> {
     let secret = secret.to_vec(alloc)?;
     let user = new_user(alloc, salt)?;

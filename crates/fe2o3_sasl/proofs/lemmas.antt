@@ -3,5 +3,4 @@ pub mod examples
 pub mod histories
 pub mod lists
 pub mod machines
-pub mod steps
 pub mod two_sides

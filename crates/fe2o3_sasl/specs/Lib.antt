@@ -18,7 +18,6 @@ pub use Rattle.fe2o3_sasl_core.specs.Profiles
 pub use Rattle.fe2o3_sasl_core.specs.SaslProfile
 pub use Rattle.fe2o3_sasl_core.specs.ClientPolicy
 pub use Rattle.fe2o3_sasl_core.specs.Costs
-pub use Rattle.fe2o3_sasl_core.specs.HidingAcceptor
 pub use Rattle.fe2o3_sasl_core.specs.Runs
 pub use Rattle.fe2o3_sasl_core.specs.Hex
 pub use Rattle.fe2o3_sasl_core.specs.TwoSides
@@ -30,7 +29,6 @@ pub use Rattle.fe2o3_sasl_core.specs.AnyMechanismLaws
 pub use Rattle.fe2o3_sasl_core.specs.AnyMechanismUsers
 pub use Rattle.fe2o3_sasl_core.specs.StepLaws
 pub use Rattle.fe2o3_sasl_core.specs.CostLaws
-pub use Rattle.fe2o3_sasl_core.specs.HidingLaws
 pub use Rattle.fe2o3_sasl_core.specs.UnknownUsers
 pub use Rattle.fe2o3_sasl_core.specs.Headline
 pub use Rattle.fe2o3_scram.specs.Texts
@@ -56,6 +54,5 @@ pub use Rattle.fe2o3_scram.specs.ClientKeys
 pub use Rattle.fe2o3_scram.specs.ClientSecret
 pub use Rattle.fe2o3_scram.specs.ScramClient
 pub use Rattle.fe2o3_scram.specs.ScramServer
-pub use Rattle.fe2o3_scram.specs.HidingServer
 pub use Rattle.fe2o3_scram.specs.Exchanges
 pub use Rattle.fe2o3_scram.specs.Logins

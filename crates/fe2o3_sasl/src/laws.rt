@@ -3,16 +3,15 @@
 
 ghost use Rattle.fe2o3_sasl_core.specs.Hex.{OneBytesOfHex, HexIsReadAgain};
 ghost use Rattle.fe2o3_sasl_core.specs.MechanismLaws.{OneAcceptorReply, OneProfileReply, SomeAcceptorReply, SomeProfileReply, PlainRunsNameUsers, OffersAgree, PlainLetsIn, PlainRefuses, AnonymousLetsIn, SomethingIsOffered, NamesDiffer};
-ghost use Rattle.fe2o3_sasl.specs.examples.ClientExamples.{FloorsRefuse, HostnamesAreSent, KeysLogIn, StaleKeysLogInLater};
-ghost use Rattle.fe2o3_sasl.specs.examples.Examples.{PremisesCanBeMet, RefusalsAreUnaltered, ShiftedTextsPass};
+ghost use Rattle.fe2o3_sasl.specs.examples.ClientExamples.{KeysLogIn, StaleKeysLogInLater};
+ghost use Rattle.fe2o3_sasl.specs.examples.Examples.{PremisesCanBeMet, ShiftedTextsPass};
 ghost use Rattle.fe2o3_sasl.specs.examples.MemoryExamples.{AcceptorsAskForNone, AskForNone, OwnedAskForNone, ServersWantNone, ClientsWantNone};
 ghost use Rattle.fe2o3_sasl_core.specs.Profiles.{StepAllocates, ViewAllocates};
 ghost use Rattle.fe2o3_sasl_core.specs.Headline.{AnswersOkExactly, ReportsOkExactly, TakenVerifiersAgree};
 ghost use Rattle.fe2o3_sasl_core.specs.CostLaws.{ServerRunsCost, ClientRunsCost};
 ghost use Rattle.fe2o3_sasl_core.specs.AnyMechanismLaws.{AnyMechanismRunsAreSplit, ScramFirstAnswersOkExactly, ScramSecondAnswersOkExactly, OfferingRunsPassOn};
 ghost use Rattle.fe2o3_sasl_core.specs.AnyMechanismUsers.{AnyMechanismNamesUsers, OfferedNamesUsers};
-ghost use Rattle.fe2o3_sasl_core.specs.HidingLaws.{HiddenRunsAreRuns, HiddenRunsAreHistories, MockRecordIsMet, HiddenOksLogIn};
-ghost use Rattle.fe2o3_sasl_core.specs.UnknownUsers.{SaltTextsDiffer, UnknownCostsAsMock, UnknownIsMock, UnknownIsMockInBoth};
+ghost use Rattle.fe2o3_sasl_core.specs.UnknownUsers.{MockRecordIsMet, SaltTextsDiffer, UnknownCostsAsMock, UnknownIsMock, UnknownIsMockInBoth};
 ghost use Rattle.fe2o3_sasl_core.specs.StepLaws.{OksLogIn, PlainOksLogIn, ReportedOksAreSigned};
 ghost use Rattle.fe2o3_sasl_core.specs.Laws.{EveryServer, EveryClient, OneServerHistory, OneClientHistory, SomeServerHistory, SomeClientHistory, AcceptorRunsAreHistories, AcceptorRunsNameUsers, AgreedUsersAreNamed, ProfileRunsAreHistories, KeyedRunsAreRuns, KeyedRunsAreHistories, OksWithinChallenges, RepeatedResponsesAreRefused, OneResponseOneNonce, RefusalsLeaveOpen, PositionsAreUsedOnce, EqualMessagesAgree, NoShortExtensions, TakenVerifiersAreJudged, ShownProofsAreJudged, OneVerdictEach, OneAuditEach, RepeatedClientPositions, RepeatedServerPositions, RepeatedClientFindings, RepeatedServerFindings, ClientsLogIn, ServersLogIn, ServersWantMemory, ClientsWantMemory, ProfilesWantMemory};
 
@@ -54,7 +53,7 @@ pub fn runs_are_histories()
 /// PLAIN over records only where the body is an init with the password of its user's record; and a SCRAM
 /// profile reports Ok only on the signature of the answer that it waits on. A caller's own proof cites them as
 /// `oks_log_in`, `plain_oks_log_in` and `reported_oks_are_signed` of
-/// `proofs/lemmas/steps/StepLawLemmas.antt`.
+/// `proofs/lemmas/steps/StepLawLemmas.antt` of `fe2o3_sasl_core`.
 pub fn steps()
     ensures server { OksLogIn }
     ensures plain { PlainOksLogIn }
@@ -108,30 +107,22 @@ pub fn any_mechanism_users<A: HasMechanism, B: HasMechanism>()
     ensures offered { OfferedNamesUsers A.names B.names A.machine B.machine }
 {}
 
-/// Mock authentication. A run of an acceptor with mock authentication, over any list of bodies, is a run of a SCRAM
-/// acceptor over its provider with the mock records of the bodies' names after its own. It is thus a server
-/// history, and `headline` says what it answers Ok to. In such a history an unknown user is accepted only by a
-/// proof whose key has the mock StoredKey as its digest. A step answers Ok only to a response that logs a user in
-/// over that provider, and over the provider only where it has the user; the acceptor then names that user. A
-/// proof of your own cites this as `hidden_oks_log_in` of `proofs/lemmas/steps/StepLawLemmas.antt`.
-pub fn hidden_users()
-    ensures runs { HiddenRunsAreRuns }
-    ensures histories { HiddenRunsAreHistories }
-    ensures met { MockRecordIsMet }
-    ensures steps { HiddenOksLogIn }
-{}
-
 /// Unknown users as a law of pairs. A server with mock authentication that has no record of a name gives the same
 /// replies to the same events as one that has the mock record of that name, in every state, with as many HMAC
 /// values for each. A server of two mechanisms, each over its own store, gives the same replies too. What a
 /// stranger can tell of a name is thus no more than whether its record is the mock record: a salt and two keys
 /// that are HMAC values under the server's secret, and the mock count. The salts of two mechanisms, or of two
 /// names, are HMAC values of two different texts.
+///
+/// A server with mock authentication is a SCRAM server like any other: its provider has a record for each name,
+/// and every law of SCRAM servers holds of it. Such a server accepts an unknown user only by a proof whose key has
+/// the mock StoredKey as its digest.
 pub fn unknown_users()
     ensures one { UnknownIsMock }
     ensures cost { UnknownCostsAsMock }
     ensures both { UnknownIsMockInBoth }
     ensures salts { SaltTextsDiffer }
+    ensures met { MockRecordIsMet }
 {}
 
 /// A client that keeps the keys of a password runs as the client with the password, as long as servers
@@ -206,24 +197,19 @@ pub fn unaltered_runs()
     ensures server { ServersLogIn }
 {}
 
-/// Three worked examples of the definitions: a login that nobody alters, one that the server rejects, and one with a
-/// text that is shifted between two messages. The first meets each premise of the law of unaltered runs. The
-/// second is an unaltered run too: no premise says that a reply sends a body. In the third both sides agree
-/// although they mean two nonces. There they cannot agree on more than user name and client nonce.
+/// Two worked examples of the definitions: an unaltered login, and one with a text that is shifted between two
+/// messages. The first meets each premise of the law of unaltered runs. In the second both sides agree although
+/// they mean two nonces. There they cannot agree on more than user name and client nonce.
 pub fn worked_examples()
     ensures premises_can_be_met { PremisesCanBeMet }
-    ensures refusals_are_unaltered { RefusalsAreUnaltered }
     ensures shifted_texts_pass { ShiftedTextsPass }
 {}
 
-/// Worked examples of clients, each in the first of those logins: one with a hostname, which its init
-/// carries; one with the keys of its password; one with these keys that rejects a challenge with another salt and
-/// logs in by the next one; and one that rejects a count below its minimum.
+/// Worked examples of clients, each in the first of those logins: one with the keys of its password, and one with
+/// these keys that rejects a challenge with another salt and logs in by the next one.
 pub fn worked_clients()
-    ensures hostname { HostnamesAreSent }
     ensures keys { KeysLogIn }
     ensures stale_keys { StaleKeysLogInLater }
-    ensures floor { FloorsRefuse }
 {}
 
 /// What holds of every mechanism: each acceptor and each profile has at most one reply to a frame; a

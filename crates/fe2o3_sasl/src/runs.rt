@@ -1,12 +1,13 @@
 //! Events, steps, whole runs, and the audit of two of them, under one name.
 
 pub use crate::audit::{
-    AuditError, Finding, FindingKind, Parameters, Verdict, audit, audit_limited, audit_with_cbind_flag_y,
+    AuditError, Finding, FindingKind, Parameters, Verdict, audit, audit_limited,
+    audit_with_cbind_flag_y,
 };
 pub use fe2o3_sasl_core::events::{ClientReply, Event, EventError, ServerReply};
 pub use fe2o3_sasl_core::steps::{
-    acceptor_body_step, acceptor_step, acceptor_step_metered, profile_body_step, profile_step,
-    profile_step_metered,
+    acceptor_body_step, acceptor_frame_step, acceptor_step, profile_body_step, profile_frame_step,
+    profile_step,
 };
 pub use fe2o3_sasl_core::whole_runs::{
     run_acceptor, run_profile, scram_client_run, scram_client_run_limited, scram_server_run,

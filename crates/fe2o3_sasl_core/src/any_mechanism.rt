@@ -9,7 +9,8 @@ ghost use Rattle.fe2o3_sasl_wire.specs.declared.amqp_types.SaslCode.TheVariants.
 use crate::OutOfMemory;
 use crate::mechanism_names::{ANONYMOUS, PLAIN};
 use crate::sasl_acceptor::{
-    AuthenticatedUser, SaslAcceptor, SaslAnonymousMechanism, SaslPlainMechanism, SaslServerFrame, outcome,
+    AuthenticatedUser, SaslAcceptor, SaslAnonymousMechanism, SaslPlainMechanism, SaslServerFrame,
+    outcome,
 };
 use fe2o3_sasl_wire::{Array, SaslCode, SaslInit, SaslResponse, Symbol};
 use fe2o3_scram::credentials::ScramCredentialProvider;

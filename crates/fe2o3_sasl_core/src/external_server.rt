@@ -6,8 +6,8 @@ ghost use Rattle.fe2o3_sasl_wire.specs.AmqpTypes.{binary_bytes, init_frame, resp
 ghost use Rattle.fe2o3_sasl_core.specs.SaslAcceptor.{sent_frame};
 
 use crate::OutOfMemory;
-use crate::mechanism_names::EXTERNAL;
 use crate::any_mechanism::HasMechanism;
+use crate::mechanism_names::EXTERNAL;
 use crate::sasl_acceptor::{AuthenticatedUser, SaslAcceptor, SaslServerFrame, one_name, outcome};
 use fe2o3_sasl_wire::{Array, Binary, SaslCode, SaslInit, SaslResponse, Symbol};
 use std::alloc::{AllocError, Global};

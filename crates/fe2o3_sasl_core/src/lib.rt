@@ -5,26 +5,26 @@
 //! [`whole_runs`] a list of them; the contracts of these state the headline theorem.
 #![tactic(auto)]
 
+pub mod any_mechanism;
 pub mod client_policy;
 pub mod events;
 pub mod external_server;
 mod mechanism_names;
-pub mod restrict_mechanisms;
-pub mod any_mechanism;
 pub mod password_server;
 pub mod plain_server;
+pub mod restrict_mechanisms;
 pub mod sasl_acceptor;
 pub mod sasl_profile;
 pub mod steps;
 pub mod whole_runs;
 
+pub use crate::any_mechanism::{AnyMechanism, HasMechanism, Selected};
 pub use crate::client_policy::{ChoiceError, ClientPolicy, Mechanism, select_mechanism};
 pub use crate::events::{ClientReply, Event, EventError, ServerReply};
 pub use crate::external_server::{ExternalServer, NoExternalIdentity};
-pub use crate::restrict_mechanisms::{OfferError, RestrictMechanisms};
-pub use crate::any_mechanism::{HasMechanism, AnyMechanism, Selected};
 pub use crate::password_server::{BuildError, PasswordServer, PasswordServerBuilder};
 pub use crate::plain_server::{MAX_PASSWORD_LEN, PlainServer};
+pub use crate::restrict_mechanisms::{OfferError, RestrictMechanisms};
 pub use crate::sasl_acceptor::{
     AuthenticatedUser, SaslAcceptor, SaslAcceptorExt, SaslAnonymousMechanism, SaslPlainMechanism,
     SaslServerFrame,
@@ -34,8 +34,8 @@ pub use crate::sasl_profile::{
     UrlError,
 };
 pub use crate::steps::{
-    acceptor_body_step, acceptor_step, acceptor_step_metered, profile_body_step, profile_step,
-    profile_step_metered,
+    acceptor_body_step, acceptor_frame_step, acceptor_step, profile_body_step, profile_frame_step,
+    profile_step,
 };
 pub use crate::whole_runs::{
     run_acceptor, run_profile, scram_client_run, scram_client_run_limited, scram_server_run,

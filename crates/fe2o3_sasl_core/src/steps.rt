@@ -1,8 +1,7 @@
-//! Steps over bodies of frames. Each reads the body where it stands, works on a copy of the state,
-//! writes the answer, and keeps the new state last.
+//! Steps over bodies of frames. Each works on a copy of the state, writes the answer, and keeps the new state last.
 
-ghost use Rattle.std.specs.Prelude.{◌≡◌, ◌↔◌, ◌≤◌, ◌^◌, true, ℕ, List, Option, Some, IfOk, IfErr, OnErr};
-ghost use Rattle.fe2o3_sasl_core.specs.Bodies.{server_says};
+ghost use Rattle.std.specs.Prelude.{◌≡◌, ◌↔◌, ◌≤◌, ◌^◌, true, ℕ, List, Option, Some, Ok, IfOk, IfErr, OnErr};
+ghost use Rattle.fe2o3_sasl_core.specs.Bodies.{SpellsBody, server_says};
 ghost use Rattle.std.specs.List.{Contains};
 ghost use Rattle.fe2o3_sasl_wire.specs.FrameView.{shown, viewed_frame};
 ghost use Rattle.fe2o3_sasl_wire.specs.Owned.{owned_frame};
@@ -58,10 +57,11 @@ fn is_request(view: &FrameView<'_>) -> bool
     }
 }
 
-/// One step of an acceptor over a body, whose bytes after the frame are left alone: the fault of a
-/// body that is not read; NotImplemented for a frame that is no init and no response; else the
-/// acceptor's reply, or TooLarge where that has no body. After a refusal the acceptor is as before.
-/// Only an init and a response take memory.
+/// Answers a body by an acceptor. Bytes after the frame are ignored.
+///
+/// Errors: the fault of a body that is not read; `NotImplemented` for a frame that is no init and no response;
+/// `OutOfMemory`, only for an init or a response; and `TooLarge` where the reply has no body. An error leaves the
+/// acceptor as it was.
 pub fn acceptor_step<A: SaslAcceptor>(
     alloc: Global,
     acceptor: &mut A,
@@ -70,28 +70,18 @@ pub fn acceptor_step<A: SaslAcceptor>(
     ensures { AcceptorSteps A.machine (A.state acceptor.old) (given event.now) (server_answer result)
         (A.state acceptor.new) }
 {
-    acceptor_step_metered(alloc, acceptor, event, &mut Meter::new())
+    acceptor_body_step(
+        alloc,
+        acceptor,
+        &event.body,
+        &event.nonce,
+        &mut Meter::new(),
+    )
 }
 
-/// As `acceptor_step`. The meter, of at most 2^63, counts the HMAC values, also of a refusal: no more than
-/// the acceptor says of the frame (SCRAM of a response two where it is accepted, one where its proof alone
-/// is refused, and none otherwise), and none for a body that is not read. A frame that is no init and no
-/// response is not shown to it.
-pub fn acceptor_step_metered<A: SaslAcceptor>(
-    alloc: Global,
-    acceptor: &mut A,
-    event: &Event,
-    meter: &mut Meter,
-) -> Result<ServerReply, Error>
-    requires { meter.old ≤ 2 ^ 63 }
-    ensures step { AcceptorSteps A.machine (A.state acceptor.old) (given event.now) (server_answer result)
-        (A.state acceptor.new) }
-    ensures cost { AcceptorStepCosts A.hmacs (A.state acceptor.old) (given event.now) meter.old meter.new }
-{
-    acceptor_body_step(alloc, acceptor, &event.body, &event.nonce, meter)
-}
-
-/// As `acceptor_step_metered`, over a body where it stands: no event is made of it.
+/// Like [`acceptor_step`], of a body and a nonce that are no event. The meter, of at most 2^63, counts the HMAC
+/// values, also of a refusal: no more than the acceptor says of the frame, and none for a body that is not read. SCRAM
+/// makes two for a response that it accepts, one where only the proof is refused, and none otherwise.
 pub fn acceptor_body_step<A: SaslAcceptor>(
     alloc: Global,
     acceptor: &mut A,
@@ -105,10 +95,25 @@ pub fn acceptor_body_step<A: SaslAcceptor>(
     ensures cost { AcceptorStepCosts A.hmacs (A.state acceptor.old) (record { body = body.now; nonce = nonce.now })
         meter.old meter.new }
 {
-    let (view, _) = match view_frame(body) {
-        Ok(read) => read,
-        Err(fault) => return Err(fault),
-    };
+    match view_frame(body) {
+        Ok((view, _)) => acceptor_frame_step(alloc, acceptor, view, nonce, meter),
+        Err(fault) => Err(fault),
+    }
+}
+
+/// Like [`acceptor_body_step`], of a frame that `view_frame` has read from a body.
+pub fn acceptor_frame_step<A: SaslAcceptor>(
+    alloc: Global,
+    acceptor: &mut A,
+    view: FrameView<'_>,
+    nonce: &[u8; 32],
+    meter: &mut Meter,
+) -> Result<ServerReply, Error>
+    requires { meter.old ≤ 2 ^ 63 }
+    ensures step { (body : List ℕ) → SpellsBody body (Ok (viewed_frame view.entry)) → AcceptorSteps A.machine
+        (A.state acceptor.old) (record { body = body; nonce = nonce.now }) (server_answer result) (A.state acceptor.new) }
+    ensures cost { CostsAtMost A.hmacs (A.state acceptor.old) (viewed_frame view.entry) meter.old meter.new }
+{
     if !is_request(&view) {
         return Err(Error::NotImplemented);
     }
@@ -165,11 +170,12 @@ fn ask<A: SaslAcceptor>(
     }
 }
 
-/// One step of a profile over a body, whose bytes after the frame are left alone: `Frame` with the
-/// fault of a body that is not read; NotImplemented for mechanisms without the profile's name, for a
-/// challenge to a profile other than SCRAM, and for an init or a response; `Scram` with what SCRAM
-/// refuses; else the answer, or `Frame` with TooLarge where that has no body. After a refusal the
-/// profile is as before. A body that is not read and one that is not implemented take no memory.
+/// Answers a body by a profile, with the hostname that its init names. Bytes after the frame are ignored.
+///
+/// Errors: `Frame` with the fault of a body that is not read; `NotImplemented` for a list of mechanisms without the
+/// profile's name, for a challenge to a profile other than SCRAM, and for an init or a response; `Scram` with what SCRAM
+/// refuses; `StaleKeys`; `OutOfMemory`; and `Frame` with `TooLarge` where the answer has no body. An error leaves the
+/// profile as it was. A body that is not read, and one that is not implemented, asks for no memory.
 pub fn profile_step(
     alloc: Global,
     profile: &mut SaslProfile,
@@ -179,28 +185,20 @@ pub fn profile_step(
     ensures { ProfileSteps (shown hostname.entry) (profile_of profile.old) (given event.now) (client_answer result)
         (profile_of profile.new) }
 {
-    profile_step_metered(alloc, profile, event, hostname, &mut Meter::new())
+    let mut meter = Meter::new();
+    profile_body_step(
+        alloc,
+        profile,
+        &event.body,
+        &event.nonce,
+        hostname,
+        &mut meter,
+    )
 }
 
-/// As `profile_step`. The meter, of at most 2^63, counts the HMAC values: of SCRAM's answer to a challenge
-/// two by keys, by the password four and those of the iteration count, no more where the answer is not
-/// sent, and none for a challenge that is refused; none for any other body.
-pub fn profile_step_metered(
-    alloc: Global,
-    profile: &mut SaslProfile,
-    event: &Event,
-    hostname: Option<&str>,
-    meter: &mut Meter,
-) -> Result<ClientReply, ProfileError>
-    requires { meter.old ≤ 2 ^ 63 }
-    ensures step { ProfileSteps (shown hostname.entry) (profile_of profile.old) (given event.now)
-        (client_answer result) (profile_of profile.new) }
-    ensures cost { ProfileStepCosts (profile_of profile.old) (given event.now) result meter.old meter.new }
-{
-    profile_body_step(alloc, profile, &event.body, &event.nonce, hostname, meter)
-}
-
-/// As `profile_step_metered`, over a body where it stands: no event is made of it.
+/// Like [`profile_step`], of a body and a nonce that are no event. The meter, of at most 2^63, counts the HMAC values:
+/// of SCRAM's answer to a challenge two by keys, by the password four and those of the iteration count, no more where
+/// the answer is not sent, and none for a challenge that is refused; none for any other body.
 pub fn profile_body_step(
     alloc: Global,
     profile: &mut SaslProfile,
@@ -219,16 +217,16 @@ pub fn profile_body_step(
         Ok(read) => read,
         Err(fault) => return Err(ProfileError::Frame(fault)),
     };
-    answer_view(alloc, profile, view, hostname, nonce, meter)
+    profile_frame_step(alloc, profile, view, nonce, hostname, meter)
 }
 
-/// The answer to a frame, in its body.
-fn answer_view(
+/// Like [`profile_body_step`], of a frame that `view_frame` has read from a body.
+pub fn profile_frame_step(
     alloc: Global,
     profile: &mut SaslProfile,
     view: FrameView<'_>,
-    hostname: Option<&str>,
     nonce: &[u8; 32],
+    hostname: Option<&str>,
     meter: &mut Meter,
 ) -> Result<ClientReply, ProfileError>
     requires { meter.old ≤ 2 ^ 63 }

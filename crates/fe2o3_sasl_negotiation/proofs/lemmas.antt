@@ -18,7 +18,6 @@ pub mod ServerCostLemmas
 pub mod ClientCostLemmas
 pub mod BoundLemmas
 pub mod CompletedLemmas
-pub mod MemoryLemmas
 pub mod KeptLemmas
 pub mod ClientKeptLemmas
 pub mod RetryLemmas

@@ -27,7 +27,7 @@ ClientOpens header answer =
     ⊎ ((header ≡ sasl_header) × (answer ≡ record { sent = []; progress = InProgress; expected = Frame turns.Mechanisms }))
 
 -- what it sends of what its profile says: an init to a list of mechanisms, a response to a challenge, and nothing
--- behind an outcome or a refusal, which end the negotiation
+-- after an outcome or a refusal, which end the negotiation
 abbrev pub ClientOutputs : ClientSays → FrameKind → SideOutput → Type 0
 ClientOutputs (Started body) turns.Mechanisms answer = Sends body InProgress (Frame turns.Challenge) answer
 ClientOutputs (Started body) turn answer = answer ≡ closes UnexpectedFrame (Frame turn)
@@ -54,7 +54,7 @@ ClientSideAnswers hostname Header profile nonce unit answer next = ClientOpens u
 ClientSideAnswers hostname (Frame turn) profile nonce unit answer next =
     ClientReplies hostname turn profile (record { body = drop 4 unit; nonce = nonce }) answer next
 
--- what a call makes of the bytes that it is handed
+-- what a call makes of the bytes that it is passed
 abbrev pub ClientReceives : Option (List ℕ) → Receiving Profile
 ClientReceives hostname = Receives (ClientSideAnswers hostname)
 
@@ -63,12 +63,6 @@ abbrev pub ClientReplyCosts : FrameKind → Profile → Given → ℕ → ℕ �
 ClientReplyCosts turn profile event before after = (after ≡ before)
     ⊎ ((frame : SaslFrame) × (reply : Result ClientReply ProfileError) × SpellsBody event.body (Ok frame)
     × IsInTurn turn frame × ProfileStepCosts profile event reply before after)
-
--- of an answer to a unit: a header takes none
-abbrev pub ClientUnitCosts : Expected → Profile → List ℕ → List ℕ → ℕ → ℕ → Type 0
-ClientUnitCosts Header profile nonce unit before after = after ≡ before
-ClientUnitCosts (Frame turn) profile nonce unit before after =
-    ClientReplyCosts turn profile (record { body = drop 4 unit; nonce = nonce }) before after
 
 -- and of a call: none, or those of the answer to a body that it completes
 abbrev pub ClientCosts : Side Profile → List ℕ → List ℕ → ℕ → ℕ → Type 0

@@ -1,4 +1,4 @@
--- What a connection costs, sends and holds, whatever its bytes are and however they are handed in. Each is the contract
+-- What a connection costs, sends and holds, whatever its bytes are and however they are passed. Each is the contract
 -- of a clause of `laws::costs` or of `laws::bounds`.
 use Rattle.std.specs.Prelude.{◌≡◌, ◌⊎◌, ◌<◌, ◌≤◌, ◌+◌, ◌*◌, ℕ, Option, List, [], ◌∷◌, length, take, drop}
 use Rattle.fe2o3_scram.specs.Credentials.{Provider}
@@ -15,7 +15,7 @@ use Rattle.fe2o3_sasl_negotiation.specs.Negotiations.{Side, SideOutput, Receives
 use Rattle.fe2o3_sasl_negotiation.specs.ServerNegotiation.{ServerSideAnswers, ServerReceives, ServerCosts}
 
 -- calls over a stream, each handed any number of the bytes that the calls before it left, with what one meter shows
--- before and behind them
+-- before and after them
 abbrev pub MeteredCalls : {S : Type 0} → (Expected → S → List ℕ → List ℕ → SideOutput → S → Type 0)
     → (Side S → List ℕ → List ℕ → ℕ → ℕ → Type 0) → Side S → List Call → List ℕ → ℕ → ℕ → Type 0
 MeteredCalls Answers Costs side [] stream before after = after ≡ before
@@ -25,12 +25,12 @@ MeteredCalls {S} Answers Costs side (call ∷ calls) stream before after =
     × Costs side (take call.handed stream) call.nonce before between
     × MeteredCalls Answers Costs next calls (drop taken stream) between after
 
--- a connection of a SCRAM server takes two HMAC values at most (RFC 5802, section 3)
+-- a connection of a SCRAM server takes the HMAC values of one look-up and two more at most (RFC 5802, section 3)
 abbrev pub ServersCost : Type 0
 ServersCost = (provider : Provider) (state : ServerState) (limit : ℕ) (calls : List Call) (stream : List ℕ)
     (before after : ℕ) → MeteredCalls (ServerSideAnswers acceptor_names acceptor_machine) (ServerCosts acceptor_hmacs)
     (fresh limit (ScramAcceptor provider state)) calls stream before after
-    → (before ≤ after) × (after ≤ before + 2)
+    → (before ≤ after) × (after ≤ before + (provider.look_up_cost + 2))
 
 -- and one of a SCRAM client as many as its limit of iterations and four more
 abbrev pub ClientsCost : Type 0
@@ -51,7 +51,7 @@ ServersAreBounded = (acceptor : Acceptor) (limit : ℕ) (calls : List Call) (str
     → Calls (ServerReceives acceptor_names acceptor_machine) (fresh limit acceptor) calls stream sent last rest
     → Bounded (8 + 3 * 512) limit sent last
 
--- and a client, behind its header, one init and one response
+-- and a client, after its header, one init and one response
 abbrev pub ClientsAreBounded : Type 0
 ClientsAreBounded = (hostname : Option (List ℕ)) (profile : Profile) (limit : ℕ) (calls : List Call)
     (stream sent rest : List ℕ) (last : Side Profile)

@@ -1,5 +1,5 @@
 -- Headers and frames as bytes of a connection (AMQP 1.0, part 2, sections 2.2 and 2.3.1; part 5, section 5.3.1).
-use Rattle.std.specs.Prelude.{ℕ, ◌+◌, ◌<◌, ◌≤◌, List, ◌++◌, length, take}
+use Rattle.std.specs.Prelude.{ℕ, ◌+◌, ◌<◌, ◌≤◌, max, List, ◌++◌, length, take}
 use Rattle.std.specs.Coded.{le_prop}
 use Rattle.std.specs.Int.{w32, to_be_bytes, from_be_bytes}
 use Rattle.fe2o3_sasl_wire.specs.ProtocolHeader.{header_bytes, first_version}
@@ -28,6 +28,10 @@ Fits limit size = (8 ≤ size) × (size ≤ limit)
 abbrev pub unit_size : Expected → List ℕ → ℕ
 unit_size Header come = 8
 unit_size (Frame turn) come = size_of come
+
+-- the longest unit: a header has eight bytes, and a frame no more than the limit
+abbrev pub longest_unit : ℕ → ℕ
+longest_unit limit = max limit 8
 
 -- less of it has come than the whole, and nothing that is refused
 abbrev pub IsPart : Expected → ℕ → List ℕ → Type 0

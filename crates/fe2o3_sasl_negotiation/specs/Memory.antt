@@ -1,25 +1,18 @@
 -- Where a call may run out of memory: only where it asks for some.
-use Rattle.std.specs.Prelude.{◌≡◌, ◌⊎◌, ◌<◌, ◌≤◌, ℕ, max, List, ◌++◌, Ok, vec_capacity}
+use Rattle.std.specs.Prelude.{◌≡◌, ◌⊎◌, ◌<◌, ◌≤◌, ℕ, List, ◌++◌, Ok, vec_capacity}
 use Rattle.fe2o3_sasl_wire.specs.SaslFrames.{SaslFrame}
 use Rattle.fe2o3_sasl_core.specs.Bodies.{SpellsBody}
-use Rattle.fe2o3_sasl_negotiation.specs.declared.client.ClientNegotiation.{ClientNegotiation}
-use Rattle.fe2o3_sasl_negotiation.specs.declared.server.ServerNegotiation.{ServerNegotiation}
+use Rattle.fe2o3_sasl_negotiation.specs.declared.side.ConnectionSide.{ConnectionSide}
+use Rattle.fe2o3_sasl_negotiation.specs.declared.side.Role.{Ghosts}
 use Rattle.fe2o3_sasl_negotiation.specs.declared.progress.Expected.TheVariants.{Header}
 use Rattle.fe2o3_sasl_negotiation.specs.declared.progress.FrameKind.{FrameKind}
 use Rattle.fe2o3_sasl_negotiation.specs.declared.progress.Progress.TheVariants.{InProgress}
-use Rattle.fe2o3_sasl_negotiation.specs.Framing.{IsWhole}
+use Rattle.fe2o3_sasl_negotiation.specs.Framing.{IsWhole, longest_unit}
 use Rattle.fe2o3_sasl_negotiation.specs.Negotiations.{Side, Completes, IsInTurn}
 
 -- how many bytes a side can hold before it asks for memory again
-abbrev pub server_room : {A : Type 0} → ServerNegotiation A → ℕ
-server_room server = vec_capacity server.held
-
-abbrev pub client_room : ClientNegotiation → ℕ
-client_room client = vec_capacity client.held
-
--- the longest unit: a header has eight bytes, and a frame no more than the limit
-abbrev pub longest_unit : ℕ → ℕ
-longest_unit limit = max limit 8
+abbrev pub room_in : {E R : Type 0} {role : Ghosts R} → ConnectionSide E R role → ℕ
+room_in side = vec_capacity side.held
 
 -- there is room for the longest unit
 abbrev pub HasRoom : {S : Type 0} → ℕ → Side S → Type 0

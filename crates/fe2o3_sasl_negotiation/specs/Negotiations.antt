@@ -13,7 +13,7 @@ use Rattle.fe2o3_sasl_negotiation.specs.declared.progress.Progress.{Progress}
 use Rattle.fe2o3_sasl_negotiation.specs.declared.progress.Progress.TheVariants.{InProgress, Authenticated, Failed}
 use Rattle.fe2o3_sasl_negotiation.specs.Framing.{framed, size_of, unit_size, IsPart, IsRefused, IsWhole}
 
--- a side of a connection: how it stands, which unit is expected, the most bytes of a frame, what has come of that unit, and
+-- a side of a connection: its progress, which unit is expected, the most bytes of a frame, what has come of that unit, and
 -- the state of its machine
 pub record Side (S : Type 0) : Type 0 where
   pub progress : Progress
@@ -27,7 +27,7 @@ pub record Side (S : Type 0) : Type 0 where
 abbrev pub Receiving : Type 0 → Type 1
 Receiving S = Side S → List ℕ → List ℕ → ℕ → List ℕ → Side S → Type 0
 
--- what it answers to a unit: the bytes that it sends, how it stands then, and what is expected then
+-- what it answers to a unit: the bytes that it sends, its progress then, and what is expected then
 pub record SideOutput : Type 0 where
   pub sent : List ℕ
   pub progress : Progress
@@ -66,7 +66,7 @@ abbrev pub Waits : {S : Type 0} → Side S → List ℕ → ℕ → List ℕ →
 Waits side bytes taken sent next =
     (taken ≡ length bytes) × (sent ≡ []) × (next ≡ record side { held = side.held ++ bytes })
 
--- a call takes what is missing of a unit of n bytes, and leaves the bytes behind it
+-- a call takes what is missing of a unit of n bytes, and leaves the bytes after it
 abbrev pub Ends : {S : Type 0} → Side S → ℕ → SideOutput → S → ℕ → List ℕ → Side S → Type 0
 Ends side n answer state taken sent next =
     (taken ≡ n - length side.held) × (sent ≡ answer.sent)
@@ -76,7 +76,7 @@ Ends side n answer state taken sent next =
 abbrev pub Rests : {S : Type 0} → Side S → ℕ → List ℕ → Side S → Type 0
 Rests side taken sent next = (taken ≡ 0) × (sent ≡ []) × (next ≡ side)
 
--- what a call makes of the bytes that it is handed, by how the side stands: they count as one with those that have
+-- what a call makes of the bytes that it is passed, by the side's progress: they count as one with those that have
 -- come of the unit
 abbrev pub ReceivesAt : {S : Type 0} → Progress → (Expected → S → List ℕ → List ℕ → SideOutput → S → Type 0) → Side S → List ℕ
     → List ℕ → ℕ → List ℕ → Side S → Type 0

@@ -26,12 +26,13 @@ RetriedCalls {S} Answers Costs side (call ∷ calls) stream failed before after 
     × Receives Answers side (take call.handed stream) call.nonce taken sent next
     × RetriedCalls Answers Costs next calls (drop taken stream) failed between after))
 
--- a connection of a SCRAM server takes two HMAC values at most, and two for each call that ran out of memory
+-- a connection of a SCRAM server takes the HMAC values of one look-up and two more at most, and as many for each call that
+-- ran out of memory
 abbrev pub ServersRetry : Type 0
 ServersRetry = (provider : Provider) (state : ServerState) (limit : ℕ) (calls : List Call) (stream : List ℕ)
     (failed before after : ℕ) → RetriedCalls (ServerSideAnswers acceptor_names acceptor_machine)
     (ServerCosts acceptor_hmacs) (fresh limit (ScramAcceptor provider state)) calls stream failed before after
-    → (before ≤ after) × (after ≤ before + (failed * 2 + 2))
+    → (before ≤ after) × (after ≤ before + (failed * (provider.look_up_cost + 2) + (provider.look_up_cost + 2)))
 
 -- and one of a SCRAM client as many as its limit of iterations and four more, and that for each such call
 abbrev pub ClientsRetry : Type 0

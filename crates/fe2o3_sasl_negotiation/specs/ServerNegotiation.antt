@@ -66,7 +66,7 @@ ServerSideAnswers names machine Header state nonce unit answer next = ServerOpen
 ServerSideAnswers names machine (Frame turn) state nonce unit answer next =
     ServerReplies machine turn state (record { body = drop 4 unit; nonce = nonce }) answer next
 
--- what a call makes of the bytes that it is handed
+-- what a call makes of the bytes that it is passed
 abbrev pub ServerReceives : {S : Type 0} → (S → List (List ℕ)) → (S → List ℕ → SaslFrame → SaslFrame → S → Type 0)
     → Receiving S
 ServerReceives names machine = Receives (ServerSideAnswers names machine)
@@ -76,12 +76,6 @@ abbrev pub ServerReplyCosts : {S : Type 0} → (S → SaslFrame → ℕ → Type
 ServerReplyCosts hmacs turn state event before after = (after ≡ before)
     ⊎ ((frame : SaslFrame) × SpellsBody event.body (Ok frame) × IsInTurn turn frame
     × AcceptorStepCosts hmacs state event before after)
-
--- of an answer to a unit: a header takes none
-abbrev pub ServerUnitCosts : {S : Type 0} → (S → SaslFrame → ℕ → Type 0) → Expected → S → List ℕ → List ℕ → ℕ → ℕ → Type 0
-ServerUnitCosts hmacs Header state nonce unit before after = after ≡ before
-ServerUnitCosts hmacs (Frame turn) state nonce unit before after =
-    ServerReplyCosts hmacs turn state (record { body = drop 4 unit; nonce = nonce }) before after
 
 -- and of a call: none, or those of the answer to a body that it completes
 abbrev pub ServerCosts : {S : Type 0} → (S → SaslFrame → ℕ → Type 0) → Side S → List ℕ → List ℕ → ℕ → ℕ → Type 0

@@ -1,5 +1,4 @@
-//! Headers and frames as they come, in whatever pieces, and as they are sent (AMQP 1.0, part 2, sections 2.2
-//! and 2.3.1).
+//! Headers and frames, read from any pieces, and written (AMQP 1.0, part 2, sections 2.2 and 2.3.1).
 
 ghost use Rattle.std.specs.Prelude.{◌≡◌, ◌↔◌, ◌+◌, ◌-◌, ◌<◌, ◌≤◌, ◌++◌, ◌⊎◌, true, ℕ, [], length, take, drop, IfOk, OnOk, OnErr, MatchOption, vec_len, vec_capacity, max};
 ghost use Rattle.fe2o3_sasl_wire.specs.FrameView.{viewed_frame};
@@ -9,18 +8,18 @@ ghost use Rattle.fe2o3_sasl_negotiation.specs.private.Units.{TakesUnit, Appends,
 ghost use Rattle.fe2o3_sasl_negotiation.specs.declared.progress.Expected.TheVariants.{Header, Frame};
 ghost use Rattle.fe2o3_sasl_negotiation.specs.declared.progress.Progress.TheVariants.{Failed};
 
-use crate::progress::{CloseReason, Expected, Progress, FrameKind};
+use crate::progress::{CloseReason, Expected, FrameKind, Progress};
 use bytes::BytesMut;
 use fe2o3_sasl_core::OutOfMemory;
 use fe2o3_sasl_wire::{FrameView, ProtocolHeader, view_frame};
 
-/// The most bytes of a SASL frame (AMQP 1.0, part 5, section 5.3.1).
+/// The maximum size of a SASL frame (AMQP 1.0, part 5, section 5.3.1).
 pub const MAX_FRAME: usize = 512;
 
-/// What has come of the unit that is expected.
+/// How much of the header or frame that is expected has arrived.
 #[derive(Clone, Copy)]
 pub enum Arrived {
-    /// Less than the whole: more bytes are wanted.
+    /// Less than the whole.
     Part,
 
     /// A size that no frame may have.
@@ -30,18 +29,18 @@ pub enum Arrived {
     Whole,
 }
 
-/// How a side stands behind a unit, and what is expected then.
+/// The progress of a side after the answer to a header or a frame, and what it expects then.
 #[derive(Clone, Copy)]
 pub struct Step {
-    /// How it stands.
+    /// The progress.
     pub progress: Progress,
 
-    /// What is expected.
+    /// What it expects.
     pub expected: Expected,
 }
 
 impl Step {
-    /// The side closes.
+    /// Fails for this reason.
     pub fn closed(why: CloseReason, expected: Expected) -> Step
         ensures { result ≡ record { progress = Failed why; expected = expected } }
     {
@@ -52,7 +51,7 @@ impl Step {
     }
 }
 
-/// Keeps bytes from the front, until `n` are held.
+/// Keeps bytes from the front until `n` are held.
 fn keep(held: &mut Vec<u8>, bytes: &[u8], n: usize) -> Result<(), OutOfMemory>
     requires { vec_len held.old ≤ n }
     ensures ok { OnOk result (held.new.items ≡ take n (held.old.items ++ bytes.now)) }
@@ -64,7 +63,7 @@ fn keep(held: &mut Vec<u8>, bytes: &[u8], n: usize) -> Result<(), OutOfMemory>
     held.extend_from_slice(&bytes[..missing])
 }
 
-/// The size that the bytes begin with, if it has come.
+/// Returns the size that the bytes begin with, if all of it has arrived.
 pub(crate) fn size(bytes: &[u8]) -> Option<usize>
     ensures { MatchOption result (length bytes.now < 4)
         (λ size. (4 ≤ length bytes.now) × (size ≡ size_of bytes.now)) }
@@ -92,7 +91,7 @@ fn take_header(held: &mut Vec<u8>, bytes: &[u8]) -> Result<Arrived, OutOfMemory>
     }
 }
 
-/// Takes what is missing of the size of a frame, and answers how many bytes that were.
+/// Takes what is missing of the size of a frame, and returns how many bytes that were.
 fn take_size(held: &mut Vec<u8>, bytes: &[u8]) -> Result<usize, OutOfMemory>
     ensures within { IfOk result (λ taken. taken ≤ length bytes.now) }
     ensures len { IfOk result (λ taken. length held.new.items ≡ length held.old.items + taken) }
@@ -111,7 +110,7 @@ fn take_size(held: &mut Vec<u8>, bytes: &[u8]) -> Result<usize, OutOfMemory>
     Ok(held.len() - had)
 }
 
-/// Takes what is missing of a frame: first of its size, and then, where a frame may have that, of its body.
+/// Takes what is missing of a frame: first of its size, and then, if a frame may have this size, of its body.
 fn take_frame(
     held: &mut Vec<u8>,
     turn: FrameKind,
@@ -144,7 +143,7 @@ fn take_frame(
     }
 }
 
-/// Takes what is missing of the unit that is expected, and nothing behind it. Room for the longest unit is asked for
+/// Takes what is missing of the unit that is expected, and nothing after it. Room for the longest unit is asked for
 /// once, so that a connection makes one request for what it holds.
 pub fn take_unit(
     held: &mut Vec<u8>,
@@ -166,7 +165,7 @@ pub fn take_unit(
     }
 }
 
-/// Gives up a unit that is over, and answers how many of its bytes were not held before.
+/// Drops a unit that has ended, and returns how many of its bytes were not held before.
 pub fn end_unit(held: &mut Vec<u8>, had: usize) -> usize
     ensures taken { result ≡ length held.old.items - had }
     ensures empty { held.new.items ≡ [] }
@@ -177,14 +176,14 @@ pub fn end_unit(held: &mut Vec<u8>, had: usize) -> usize
     taken
 }
 
-/// Whether the bytes are the header of SASL 1.0.0 (AMQP 1.0, part 5, section 5.3.2).
+/// Tells whether the bytes are the header of SASL 1.0.0 (AMQP 1.0, part 5, section 5.3.2).
 pub fn is_sasl(header: &[u8]) -> bool
     ensures { result ≡ true ↔ (header.now ≡ sasl_header) }
 {
     header == <[u8; 8]>::from(ProtocolHeader::sasl()).as_slice()
 }
 
-/// Whether the frame is the one that is expected.
+/// Tells whether the frame is the one that is expected.
 fn is_in_turn(turn: FrameKind, view: &FrameView<'_>) -> bool
     ensures { result ≡ true ↔ IsInTurn turn (viewed_frame view.now) }
 {
@@ -199,18 +198,18 @@ fn is_in_turn(turn: FrameKind, view: &FrameView<'_>) -> bool
     }
 }
 
-/// Why a body closes the negotiation before the machine is asked, or `None`.
-pub fn screen(turn: FrameKind, body: &[u8]) -> Option<CloseReason>
+/// Reads a body. A frame that is not expected closes the negotiation, and so does a body that is not read.
+pub fn screen(turn: FrameKind, body: &[u8]) -> Result<FrameView<'_>, CloseReason>
     ensures { Screens turn body.now result }
 {
     match view_frame(body) {
-        Ok((view, _)) if is_in_turn(turn, &view) => None,
-        Ok(_) => Some(CloseReason::UnexpectedFrame),
-        Err(fault) => Some(CloseReason::MalformedFrame(fault)),
+        Ok((view, _)) if is_in_turn(turn, &view) => Ok(view),
+        Ok(_) => Err(CloseReason::UnexpectedFrame),
+        Err(fault) => Err(CloseReason::MalformedFrame(fault)),
     }
 }
 
-/// Appends a body as a frame, for which there is room, or closes where it is too long for one.
+/// Appends a body as a frame, for which there is room, or fails where it is too long for one.
 pub fn send(out: &mut BytesMut, body: &[u8], progress: Progress, expected: Expected) -> Step
     requires { 512 ≤ out.old.spare }
     ensures { Appends (Sends body.now progress expected) out.old.items out.new.items result }

@@ -13,7 +13,7 @@ ghost use Rattle.fe2o3_sasl_negotiation.specs.NamedUsers.{AnyMechanismServersLog
 ghost use Rattle.fe2o3_sasl_negotiation.specs.ScramConnections.{ScramServersServe, ScramClientsReport};
 ghost use Rattle.fe2o3_sasl_negotiation.specs.ServerNegotiation.{ServerSideAnswers, ServerReceives};
 
-use fe2o3_sasl_core::{HasMechanism, AuthenticatedUser};
+use fe2o3_sasl_core::{AuthenticatedUser, HasMechanism};
 
 /// However a stream of bytes is cut into calls, what they take of it is answered as it would be as a whole, unit by unit,
 /// each with the nonce of a call, in order. Which call that is for a frame, [`server_connections`] and
@@ -31,7 +31,7 @@ pub fn cuts<A: AuthenticatedUser>()
 /// stored key, and names exactly the user of that challenge.
 ///
 /// The last argument of `connects` is what one call does, by the contract of
-/// [`ServerNegotiation::receive`](crate::ServerNegotiation::receive). The arguments of `scram` are the machine of a SCRAM
+/// [`ConnectionSide::receive`](crate::ConnectionSide::receive). The arguments of `scram` are the machine of a SCRAM
 /// server, its state before its first frame, and the user that a state names.
 pub fn server_connections<A: AuthenticatedUser>()
     ensures connects { ServersConnect A.names A.machine (ServerReceives A.names A.machine) }
@@ -47,7 +47,7 @@ pub fn server_connections<A: AuthenticatedUser>()
 /// their own AuthMessages share one HMAC value.
 ///
 /// The last argument of `connects` is what one call does, by the contract of
-/// [`ClientNegotiation::receive`](crate::ClientNegotiation::receive). `ProfileSteps` is what a profile answers to a frame.
+/// [`ConnectionSide::receive`](crate::ConnectionSide::receive). `ProfileSteps` is what a profile answers to a frame.
 /// The last argument of `scram` is the profile that a login starts with, by the contracts of its constructors.
 pub fn client_connections()
     ensures connects { ClientsConnect ProfileSteps ClientReceives }
@@ -62,16 +62,17 @@ pub fn users_of_any_mechanism<A: HasMechanism, B: HasMechanism>()
     ensures steps { AnyMechanismStepsLogIn A.names B.names A.machine B.machine }
 {}
 
-/// What a connection costs, whatever its bytes are and in whatever calls they are handed in: a SCRAM server makes
-/// two HMAC values at most, and a SCRAM client as many as its limit of iterations and four more. The sum is over
-/// the calls that are answered; what one costs that wants memory stands in its own contract.
+/// Bounds what a connection costs, whatever its bytes are and in whatever calls they are passed. A SCRAM server makes
+/// at most two HMAC values, and with mock authentication five. A SCRAM client makes at most as many as its limit of
+/// iterations and four more. The sum is over the calls that are answered. The contract of a call says what it costs
+/// where it runs out of memory.
 pub fn costs()
     ensures server { ServersCost }
     ensures client { ClientsCost }
 {}
 
-/// What a connection sends and holds, whatever its bytes are and in whatever calls they are handed in: a server sends
-/// its header and three frames of at most 512 bytes at most, a client two such frames behind its header; and either
+/// Bounds what a connection sends and holds, whatever its bytes are and in whatever calls they are passed. A server
+/// sends its header and at most three frames of at most 512 bytes, a client two such frames after its header. Either
 /// holds less than eight bytes, or less than its limit of a frame.
 pub fn bounds()
     ensures server { ServersAreBounded }

@@ -16,8 +16,8 @@ ghost use Rattle.fe2o3_sasl_negotiation.specs.Sides.{client_side, hostname_in, s
 ghost use Rattle.fe2o3_sasl_negotiation.specs.private.Pieces.{Continues};
 
 use crate::client::ClientNegotiation;
-use crate::server::ServerNegotiation;
 use crate::progress::Progress;
+use crate::server::ServerNegotiation;
 use bytes::BytesMut;
 use fe2o3_sasl_core::{AuthenticatedUser, OutOfMemory, SaslProfile};
 use fe2o3_scram::Meter;
@@ -38,7 +38,7 @@ pub struct Piece<'a> {
 /// A side of a connection after the pieces that it was passed.
 #[derive(Drop)]
 pub struct Negotiated<S> {
-    /// The side, which says how the negotiation stands.
+    /// The side, with its progress.
     pub side: S,
 
     /// What it has sent.

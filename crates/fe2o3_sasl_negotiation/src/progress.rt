@@ -1,9 +1,9 @@
-//! How a negotiation stands.
+//! The progress of a negotiation, and what it expects.
 
 use fe2o3_sasl_core::ProfileError;
 use fe2o3_sasl_wire::{Error, SaslCode};
 
-/// Why a negotiation is closed.
+/// Says why a negotiation has failed.
 #[derive(Clone, Copy, Debug, PartialEq, Eq, thiserror::Error)]
 pub enum CloseReason {
     /// The other side's header is not that of SASL 1.0.0 (AMQP 1.0, part 5, section 5.3.2).
@@ -11,57 +11,58 @@ pub enum CloseReason {
     ProtocolHeaderMismatch,
 
     /// The size of a frame is below 8 or above the limit (AMQP 1.0, part 2, section 2.3.1; part 5, section
-    /// 5.3.1). Nothing behind it was kept.
+    /// 5.3.1). No byte after the size was taken.
     #[error("A frame of this size is refused")]
     FrameSize,
 
-    /// The body is not read, or the answer is not written.
+    /// The body of a frame is malformed or not supported, or the answer has no body.
     #[error("The frame is not read")]
     MalformedFrame(Error),
 
-    /// The frame is not the one that is expected (AMQP 1.0, part 5, section 5.3.2): a second init, a second
-    /// challenge, a second list of mechanisms. Of a server also where its acceptor would challenge twice.
+    /// The frame is not the one that is expected (AMQP 1.0, part 5, section 5.3.2), such as a second init, a second
+    /// challenge or a second list of mechanisms. A server also closes so where its acceptor would send a second
+    /// challenge.
     #[error("The frame is out of turn")]
     UnexpectedFrame,
 
-    /// The answer fits in no frame of 512 bytes.
+    /// The answer does not fit in a frame of 512 bytes.
     #[error("The answer is too large")]
     ReplyTooLarge,
 
-    /// The login is refused, by an outcome with this code: a server has sent it, a client was told it.
+    /// The login is refused, by an outcome with this code, which a server has sent or a client has received.
     #[error("The login is refused")]
     Refused(SaslCode),
 
-    /// The client's profile refuses what the server sent.
+    /// The client's mechanism rejects what the server sent.
     #[error("The server is refused")]
     Mechanism(ProfileError),
 }
 
-/// How a negotiation stands.
+/// Says how far a negotiation is.
 #[derive(Clone, Copy, Debug, PartialEq, Eq)]
 pub enum Progress {
-    /// It goes on: more bytes are wanted, or those that are left.
+    /// The negotiation goes on: it needs more bytes, or those that a call has not taken.
     InProgress,
 
-    /// The client is logged in. What comes next on the connection is AMQP's.
+    /// The client is authenticated. The bytes that follow on the connection are AMQP's.
     Authenticated,
 
-    /// The connection is to be closed, once what was appended is sent.
+    /// The negotiation has failed. Send what was appended, and close the connection.
     Failed(CloseReason),
 }
 
-/// What a call made of the bytes that it was handed.
+/// What a call of `receive` has taken, and the progress after it.
 #[derive(Clone, Copy, Debug, PartialEq, Eq)]
 pub struct Received {
-    /// How many of them it took, from the front. Where it stands at `InProgress` and bytes are left, they are
-    /// to be handed in again, with a fresh nonce. Bytes behind the last frame are AMQP's.
+    /// How many bytes the call took, from the front. While the progress is `InProgress`, pass the bytes that are left
+    /// again, with a fresh nonce. Bytes after the last frame are AMQP's.
     pub taken: usize,
 
-    /// How the negotiation stands now.
+    /// The progress after the call.
     pub progress: Progress,
 }
 
-/// Which frame is expected.
+/// Says which frame is expected.
 #[derive(Clone, Copy, Debug, PartialEq, Eq)]
 pub enum FrameKind {
     /// The server's list of mechanisms.
@@ -70,7 +71,7 @@ pub enum FrameKind {
     /// The client's init.
     Init,
 
-    /// The server's challenge, or at once its outcome.
+    /// The server's challenge, or its outcome in place of one.
     Challenge,
 
     /// The client's response.
@@ -80,12 +81,12 @@ pub enum FrameKind {
     Outcome,
 }
 
-/// What is expected next.
+/// Says what is expected next.
 #[derive(Clone, Copy, Debug, PartialEq, Eq)]
 pub enum Expected {
     /// The other side's header.
     Header,
 
-    /// A frame.
+    /// A frame of this kind.
     Frame(FrameKind),
 }

@@ -1,45 +1,43 @@
 //! The server's side of a connection (AMQP 1.0, part 5, section 5.3.2).
 
-ghost use Rattle.std.specs.Prelude.{◌≡◌, ◌≢◌, ◌<◌, ◌≤◌, ◌^◌, ◌++◌, ℕ, List, Option, Some, None, [], IsTrue, IfOk, IfErr, OnOk, OnErr, option_map, length, drop, min};
-ghost use Rattle.fe2o3_sasl_core.specs.Runs.{AcceptorSteps, server_reply, server_answer};
+ghost use Rattle.std.specs.Prelude.{◌≡◌, ◌≢◌, ◌≤◌, ◌^◌, ◌++◌, ℕ, List, [], IfOk, IfErr, OnErr, option_map, length, drop, min, refl};
+ghost use Rattle.std.proofs.Common.{inl};
+ghost use Rattle.fe2o3_sasl_core.specs.Runs.{server_reply};
 ghost use Rattle.fe2o3_sasl_core.specs.Events.{Failed};
-ghost use Rattle.fe2o3_sasl_core.specs.Costs.{AcceptorStepCosts};
-ghost use Rattle.fe2o3_sasl_negotiation.specs.Framing.{IsPart, IsPart-prop};
-ghost use Rattle.fe2o3_sasl_negotiation.specs.Negotiations.{Completes, SideOutput, Receives};
-ghost use Rattle.fe2o3_sasl_negotiation.specs.ServerNegotiation.{offer_body as offer_of, ServerOpens, ServerOutputs, ServerReplies, ServerReplyCosts, ServerUnitCosts, ServerSideAnswers, ServerReceives, ServerCosts};
+ghost use Rattle.fe2o3_sasl_negotiation.specs.Connections.{SpellsTurn};
+ghost use Rattle.fe2o3_sasl_negotiation.specs.Memory.{ServerAsks};
+ghost use Rattle.fe2o3_sasl_negotiation.specs.ServerNegotiation.{offer_body as offer_of, ServerOpens, ServerOutputs, ServerReplies, ServerReplyCosts, ServerSideAnswers, ServerCosts};
 ghost use Rattle.fe2o3_sasl_negotiation.specs.Snapshot.{IsServerKept, NamesKeptUser, server_fits, side_of};
-ghost use Rattle.fe2o3_sasl_negotiation.specs.private.Units.{Appends, Screens, ServerUnitAsks};
+ghost use Rattle.fe2o3_sasl_negotiation.specs.private.Units.{Appends};
 ghost use Rattle.fe2o3_sasl_wire.specs.FrameView.{shown};
 ghost use Rattle.fe2o3_sasl_wire.specs.declared.sasl_frames.error.Error.TheVariants.{OutOfMemory as WireOutOfMemory};
-ghost use Rattle.fe2o3_sasl_negotiation.specs.declared.progress.Expected.TheVariants.{Header, Frame as FrameDue};
+ghost use Rattle.fe2o3_sasl_negotiation.specs.declared.progress.Expected.TheVariants.{Header};
 ghost use Rattle.fe2o3_sasl_negotiation.specs.declared.progress.Progress.TheVariants.{InProgress, Authenticated};
 
-use crate::framing::{Arrived, MAX_FRAME, Step, end_unit, is_sasl, screen, send, take_unit};
-use crate::snapshot::{Snapshot, RestoreError, is_user};
-use crate::progress::{CloseReason, Expected, Received, Progress, FrameKind};
+use crate::framing::{MAX_FRAME, Step, is_sasl, screen, send};
+use crate::progress::{CloseReason, Expected, FrameKind, Progress};
+use crate::side::{ConnectionSide, Endpoint, Role};
+use crate::snapshot::{RestoreError, Snapshot, is_user};
 use bytes::BytesMut;
 use fe2o3_sasl_core::{
-    AuthenticatedUser, OutOfMemory, SaslAcceptor, SaslAcceptorExt, ServerReply, acceptor_body_step,
+    AuthenticatedUser, OutOfMemory, SaslAcceptor, SaslAcceptorExt, ServerReply, acceptor_frame_step,
 };
 use fe2o3_sasl_wire::{Error, Frame, FrameCodec, ProtocolHeader, SaslCode};
 use fe2o3_scram::Meter;
 use std::alloc::Global;
 
-/// The server's side of one connection, which logs in by the acceptor.
+/// The role of a server.
 #[derive(Drop)]
-pub struct ServerNegotiation<A> {
-    acceptor: A,
-    progress: Progress,
-    expected: Expected,
-    limit: usize,
-    held: Vec<u8>,
-    ghost part: { IsPart expected limit held.items } by { IsPart-prop expected limit held.items },
-    ghost most: { limit ≤ 512 },
-    ghost at: { IsTrue (server_fits progress expected) },
-    ghost empty: { progress ≢ InProgress → held.items ≡ [] },
+pub struct ServerRole {}
+
+impl Role for ServerRole {
+    ghost fits = { server_fits };
 }
 
-/// The body of the list of mechanisms, or `None` where it has none.
+/// The server's side of one connection, which logs its client in by an acceptor.
+pub type ServerNegotiation<A> = ConnectionSide<A, ServerRole>;
+
+/// Returns the body of the list of mechanisms, or `None` where it has none.
 fn offer_body<A: SaslAcceptor>(alloc: Global, acceptor: &A) -> Result<Option<BytesMut>, OutOfMemory>
     ensures { IfOk result (λ body. option_map (λ b. b.items) body ≡ offer_of (A.names (A.state acceptor.now))) }
 {
@@ -52,7 +50,7 @@ fn offer_body<A: SaslAcceptor>(alloc: Global, acceptor: &A) -> Result<Option<Byt
     }
 }
 
-/// Sends the header of SASL, and behind it the mechanisms to whoever has sent that header.
+/// Sends the header of SASL, followed by the mechanisms where the client has sent that header.
 fn open<A: SaslAcceptor>(
     alloc: Global,
     acceptor: &A,
@@ -90,7 +88,12 @@ fn send_reply(out: &mut BytesMut, turn: FrameKind, reply: ServerReply) -> Step
     let expected = Expected::Frame(turn);
     match reply {
         ServerReply::Challenge { body } => match turn {
-            FrameKind::Init => send(out, &body, Progress::InProgress, Expected::Frame(FrameKind::Response)),
+            FrameKind::Init => send(
+                out,
+                &body,
+                Progress::InProgress,
+                Expected::Frame(FrameKind::Response),
+            ),
             _ => Step::closed(CloseReason::UnexpectedFrame, expected),
         },
         ServerReply::Outcome {
@@ -108,7 +111,7 @@ fn send_reply(out: &mut BytesMut, turn: FrameKind, reply: ServerReply) -> Step
     }
 }
 
-/// A fault of the acceptor's step closes, but for want of memory.
+/// Closes at a fault of the acceptor's step other than `OutOfMemory`.
 fn refuse(turn: FrameKind, fault: Error) -> Result<Step, OutOfMemory>
     ensures ok { IfOk result (λ step. (out : List ℕ) → Appends (ServerOutputs (Failed fault) turn) out out step) }
     ensures err { OnErr result (fault ≡ WireOutOfMemory) }
@@ -121,7 +124,7 @@ fn refuse(turn: FrameKind, fault: Error) -> Result<Step, OutOfMemory>
     }
 }
 
-/// What a server answers to a frame, which begins with its size.
+/// Answers a frame, which begins with its size.
 fn reply<A: SaslAcceptor>(
     alloc: Global,
     acceptor: &mut A,
@@ -138,51 +141,62 @@ fn reply<A: SaslAcceptor>(
         out.old.items out.new.items step) }
     ensures unsent { OnErr result (out.new.items ≡ out.old.items) }
     ensures unchanged { OnErr result (A.state acceptor.new ≡ A.state acceptor.old) }
-    ensures memory { OnErr result (Screens turn (drop 4 unit.now) None) }
+    ensures memory { OnErr result (SpellsTurn turn (drop 4 unit.now)) }
     ensures cost { ServerReplyCosts A.hmacs turn (A.state acceptor.old) (record { body = drop 4 unit.now; nonce = nonce.now })
         meter.old meter.new }
 {
-    let body = &unit[4..];
-    if let Some(why) = screen(turn, body) {
-        return Ok(Step::closed(why, Expected::Frame(turn)));
-    }
+    let view = match screen(turn, &unit[4..]) {
+        Ok(view) => view,
+        Err(why) => return Ok(Step::closed(why, Expected::Frame(turn))),
+    };
     out.reserve(MAX_FRAME)?;
-    match acceptor_body_step(alloc, acceptor, body, nonce, meter) {
+    match acceptor_frame_step(alloc, acceptor, view, nonce, meter) {
         Ok(reply) => Ok(send_reply(out, turn, reply)),
         Err(fault) => refuse(turn, fault),
     }
 }
 
-/// What a server answers to a unit.
-fn answer<A: SaslAcceptor>(
-    alloc: Global,
-    acceptor: &mut A,
-    expected: Expected,
-    unit: &[u8],
-    nonce: &[u8; 32],
-    meter: &mut Meter,
-    out: &mut BytesMut,
-) -> Result<Step, OutOfMemory>
-    requires four { 4 ≤ length unit.now }
-    requires meter { meter.old ≤ 2 ^ 63 }
-    ensures ok { IfOk result (λ step. Appends (λ answer. ServerSideAnswers A.names A.machine expected (A.state acceptor.old)
-        nonce.now unit.now answer (A.state acceptor.new)) out.old.items out.new.items step) }
-    ensures unsent { OnErr result (out.new.items ≡ out.old.items) }
-    ensures unchanged { OnErr result (A.state acceptor.new ≡ A.state acceptor.old) }
-    ensures memory { OnErr result (ServerUnitAsks expected unit.now) }
-    ensures cost { ServerUnitCosts A.hmacs expected (A.state acceptor.old) nonce.now unit.now meter.old meter.new }
-{
-    match expected {
-        Expected::Header => open(alloc, acceptor, unit, out),
-        Expected::Frame(turn) => reply(alloc, acceptor, turn, unit, nonce, meter, out),
+impl<A: AuthenticatedUser> Endpoint<ServerRole> for A {
+    ghost State = { A.State };
+
+    ghost Config = { Unit {0} };
+
+    ghost state = { A.state };
+
+    ghost config = { λ acceptor. tt };
+
+    ghost answers = { λ config. ServerSideAnswers A.names A.machine };
+
+    ghost asks = { ServerAsks };
+
+    ghost costs = { ServerCosts A.hmacs };
+
+    ghost costs_none = { λ side bytes nonce count. inl refl };
+
+    ghost asks_room = { λ room side bytes going few. (going, inl few) };
+
+    ghost size_fits = { λ kind fits. fits };
+
+    fn answer(
+        &mut self,
+        alloc: Global,
+        expected: Expected,
+        unit: &[u8],
+        nonce: &[u8; 32],
+        meter: &mut Meter,
+        out: &mut BytesMut,
+    ) -> Result<Step, OutOfMemory> {
+        match expected {
+            Expected::Header => open(alloc, self, unit, out),
+            Expected::Frame(turn) => reply(alloc, self, turn, unit, nonce, meter, out),
+        }
     }
 }
 
 impl<A: AuthenticatedUser> ServerNegotiation<A> {
-    ghost use Rattle.fe2o3_sasl_negotiation.specs.Memory.{server_room, HasRoom, ServerAsks};
     ghost use Rattle.fe2o3_sasl_negotiation.specs.Sides.{acceptor_in, server_side};
 
-    /// The server's side of a new connection, by an acceptor that no connection has used. It waits for the
+    /// Makes the server's side of a new connection, by an acceptor that no connection has used. It waits for the
     /// client's header.
     pub fn new(alloc: Global, acceptor: A) -> Self
         ensures { server_side A.state result
@@ -191,7 +205,7 @@ impl<A: AuthenticatedUser> ServerNegotiation<A> {
         Self::with_frame_limit(alloc, acceptor, MAX_FRAME)
     }
 
-    /// The same, which refuses a frame of more bytes than the limit, if that is below 512.
+    /// Like `new`, of a side that refuses a frame of more bytes than the limit, if that is below 512.
     pub fn with_frame_limit(alloc: Global, acceptor: A, limit: usize) -> Self
         ensures { server_side A.state result ≡ record {
           progress = InProgress;
@@ -201,44 +215,30 @@ impl<A: AuthenticatedUser> ServerNegotiation<A> {
           state = A.state acceptor;
         } }
     {
-        Self {
-            acceptor,
-            progress: Progress::InProgress,
-            expected: Expected::Header,
-            limit: limit.min(MAX_FRAME),
-            held: Vec::new(alloc),
-        }
+        ConnectionSide::begin(alloc, acceptor, limit)
     }
 
-    /// The acceptor.
+    /// Returns the acceptor.
     pub fn acceptor(&self) -> &A
         ensures { result.now ≡ acceptor_in self.now }
     {
-        &self.acceptor
+        &self.endpoint
     }
 
-    /// How the negotiation stands.
-    pub fn progress(&self) -> Progress
-        ensures { result ≡ (server_side A.state self.now).progress }
-    {
-        self.progress
-    }
-
-    /// The name of the user who has logged in, and `None` while nobody has and where the mechanism names
-    /// nobody.
+    /// Returns the name of the user who has logged in. It is `None` before that, and for a mechanism that names no user.
     pub fn authenticated_user(&self) -> Option<&str>
         ensures logged_in { (server_side A.state self.now).progress ≡ Authenticated
             → option_map (λ user. user.now) result ≡ A.named (acceptor_in self.now) }
         ensures before { (server_side A.state self.now).progress ≢ Authenticated → result ≡ None }
     {
         match self.progress {
-            Progress::Authenticated => self.acceptor.authenticated_user(),
+            Progress::Authenticated => self.endpoint.authenticated_user(),
             Progress::InProgress | Progress::Failed(_) => None,
         }
     }
 
     /// Saves what the side has beside its acceptor, for `restore`. It holds no password, key or record. The user is
-    /// the one of `user`.
+    /// that of `authenticated_user`.
     pub fn snapshot(&self) -> Snapshot<'_>
         ensures side { side_of result (A.state (acceptor_in self.now)) ≡ server_side A.state self.now }
         ensures kept { IsServerKept result }
@@ -272,119 +272,11 @@ impl<A: AuthenticatedUser> ServerNegotiation<A> {
         if !kept.is_server() {
             return Err(RestoreError::InvalidSnapshot);
         }
-        if matches!(kept.progress, Progress::Authenticated) && !is_user(acceptor.authenticated_user(), kept.user) {
+        if matches!(kept.progress, Progress::Authenticated)
+            && !is_user(acceptor.authenticated_user(), kept.user)
+        {
             return Err(RestoreError::OtherUser);
         }
-        let held = kept.held.to_vec(alloc)?;
-        Ok(Self {
-            acceptor,
-            progress: kept.progress,
-            expected: kept.expected,
-            limit: kept.limit,
-            held,
-        })
-    }
-
-    /// Takes the received bytes up to the end of the header or frame that is expected, and appends what is to be sent to
-    /// `out`. While more bytes are wanted, a call takes one at least. The nonce belongs to the frame that these bytes
-    /// complete: pass fresh random bytes with each call. The meter, of at most 2^63, counts the HMAC values.
-    ///
-    /// Once the client is logged in or the negotiation is closed, nothing is taken, sent or changed, and no memory is
-    /// asked for. Otherwise a call asks for room for the longest unit, once for a connection, and for its answer to a
-    /// header or to a frame in turn.
-    /// `OutOfMemory` changes nothing but the meter: the same bytes can be passed again.
-    pub fn receive(
-        &mut self,
-        alloc: Global,
-        bytes: &[u8],
-        nonce: &[u8; 32],
-        meter: &mut Meter,
-        out: &mut BytesMut,
-    ) -> Result<Received, OutOfMemory>
-        requires { meter.old ≤ 2 ^ 63 }
-        ensures ok { IfOk result (λ received. (sent : List ℕ) × (out.new.items ≡ out.old.items ++ sent)
-            × ServerReceives A.names A.machine (server_side A.state self.old) bytes.now nonce.now received.taken sent
-            (server_side A.state self.new)) }
-        ensures within { IfOk result (λ received. received.taken ≤ length bytes.now) }
-        ensures moves { IfOk result (λ received. (server_side A.state self.old).progress ≡ InProgress
-            → 0 < length bytes.now → 0 < received.taken) }
-        ensures progress { IfOk result (λ received. received.progress ≡ (server_side A.state self.new).progress) }
-        ensures unsent { OnErr result (out.new.items ≡ out.old.items) }
-        ensures unchanged { OnErr result (server_side A.state self.new ≡ server_side A.state self.old) }
-        ensures memory { OnErr result (ServerAsks (server_room self.old) (server_side A.state self.old) bytes.now) }
-        ensures room { OnOk result ((server_side A.state self.old).progress ≡ InProgress
-            → HasRoom (server_room self.new) (server_side A.state self.old)) }
-        ensures room_stays { server_room self.old ≤ server_room self.new }
-        ensures cost { ServerCosts A.hmacs (server_side A.state self.old) bytes.now nonce.now meter.old meter.new }
-    {
-        self.take_bytes(alloc, bytes, nonce, meter, out)
-    }
-
-    /// Does what `receive` promises.
-    fn take_bytes(
-        &mut self,
-        alloc: Global,
-        bytes: &[u8],
-        nonce: &[u8; 32],
-        meter: &mut Meter,
-        out: &mut BytesMut,
-    ) -> Result<Received, OutOfMemory>
-        requires { meter.old ≤ 2 ^ 63 }
-        ensures ok { IfOk result (λ received. (sent : List ℕ) × (out.new.items ≡ out.old.items ++ sent)
-            × ServerReceives A.names A.machine (server_side A.state self.old) bytes.now nonce.now received.taken sent
-            (server_side A.state self.new)) }
-        ensures progress { IfOk result (λ received. received.progress ≡ (server_side A.state self.new).progress) }
-        ensures unsent { OnErr result (out.new.items ≡ out.old.items) }
-        ensures unchanged { OnErr result (server_side A.state self.new ≡ server_side A.state self.old) }
-        ensures memory { OnErr result (ServerAsks (server_room self.old) (server_side A.state self.old) bytes.now) }
-        ensures room { OnOk result ((server_side A.state self.old).progress ≡ InProgress
-            → HasRoom (server_room self.new) (server_side A.state self.old)) }
-        ensures room_stays { server_room self.old ≤ server_room self.new }
-        ensures cost { ServerCosts A.hmacs (server_side A.state self.old) bytes.now nonce.now meter.old meter.new }
-    {
-        let Progress::InProgress = self.progress else {
-            return Ok(Received {
-                taken: 0,
-                progress: self.progress,
-            });
-        };
-        let had = self.held.len();
-        match take_unit(&mut self.held, self.expected, self.limit, bytes)? {
-            Arrived::Part => Ok(Received {
-                taken: bytes.len(),
-                progress: Progress::InProgress,
-            }),
-            Arrived::Refused => {
-                let taken = end_unit(&mut self.held, had);
-                self.progress = Progress::Failed(CloseReason::FrameSize);
-                Ok(Received {
-                    taken,
-                    progress: self.progress,
-                })
-            }
-            Arrived::Whole => match answer(
-                alloc,
-                &mut self.acceptor,
-                self.expected,
-                &self.held,
-                nonce,
-                meter,
-                out,
-            ) {
-                Ok(step) => {
-                    let taken = end_unit(&mut self.held, had);
-                    self.progress = step.progress;
-                    self.expected = step.expected;
-                    Ok(Received {
-                        taken,
-                        progress: step.progress,
-                    })
-                }
-                Err(fault) => {
-                    self.held.truncate(had);
-                    Err(fault)
-                }
-            },
-        }
+        ConnectionSide::restored(alloc, acceptor, kept)
     }
 }

@@ -11,7 +11,7 @@ ghost use Rattle.fe2o3_sasl_negotiation.specs.declared.progress.FrameKind.{Frame
 ghost use Rattle.fe2o3_sasl_negotiation.specs.declared.snapshot.RestoreError.TheVariants.{OutOfMemory as RestoreOutOfMemory};
 
 use crate::framing::{Arrived, MAX_FRAME, size, take_unit};
-use crate::progress::{CloseReason, Expected, Progress, FrameKind};
+use crate::progress::{CloseReason, Expected, FrameKind, Progress};
 use fe2o3_sasl_core::ProfileError;
 use fe2o3_sasl_wire::{Error as FrameError, SaslCode};
 use std::alloc::{AllocError, Global};
@@ -66,13 +66,13 @@ impl From<AllocError> for RestoreError {
 
 impl Snapshot<'_> {
     /// Returns the body of the frame that these bytes complete, without the four bytes of its size, or `None` where
-    /// they complete none. A server reads from it which user a frame names, before it restores the side, which stays
-    /// saved.
+    /// they complete none. From it you can read which user a frame claims, before you restore a server. Nothing is
+    /// taken: pass the same bytes to `receive` after that.
     ///
     /// Errors, in this order: `InvalidSnapshot` where no side has such values, and `OutOfMemory`, only of a side that waits for
     /// a frame. The user is not read.
     #[tactic(auto, using(crate::proofs::lemmas::CompletedLemmas::completed))]
-    pub fn completed(&self, alloc: Global, bytes: &[u8]) -> Result<Option<Vec<u8>>, RestoreError>
+    pub fn peek_frame(&self, alloc: Global, bytes: &[u8]) -> Result<Option<Vec<u8>>, RestoreError>
         ensures kept { IfOk result (λ _. IsKept self.now) }
         ensures body { IfOk result (λ body. MatchOption body
             ((turn : TurnKind) (body : List ℕ) → ¬ Completes (side_kept self.now) bytes.now turn body)
@@ -158,12 +158,18 @@ pub(crate) fn is_user(named: Option<&str>, kept: Option<&str>) -> bool
 fn is_server_at(progress: Progress, expected: Expected) -> bool
     ensures { result ≡ server_fits progress expected }
 {
-    let is_frame = matches!(expected, Expected::Frame(FrameKind::Init | FrameKind::Response));
+    let is_frame = matches!(
+        expected,
+        Expected::Frame(FrameKind::Init | FrameKind::Response)
+    );
     match progress {
         Progress::InProgress | Progress::Failed(CloseReason::ReplyTooLarge) => {
             matches!(expected, Expected::Header) || is_frame
         }
-        Progress::Failed(CloseReason::ProtocolHeaderMismatch) => matches!(expected, Expected::Header),
+        Progress::Failed(CloseReason::ProtocolHeaderMismatch) => matches!(
+            expected,
+            Expected::Header
+        ),
         Progress::Failed(
             CloseReason::MalformedFrame(FrameError::OutOfMemory)
             | CloseReason::Refused(SaslCode::Ok)
@@ -177,11 +183,17 @@ fn is_server_at(progress: Progress, expected: Expected) -> bool
 fn is_client_at(progress: Progress, expected: Expected) -> bool
     ensures { result ≡ client_fits progress expected }
 {
-    let is_outcome = matches!(expected, Expected::Frame(FrameKind::Challenge | FrameKind::Outcome));
+    let is_outcome = matches!(
+        expected,
+        Expected::Frame(FrameKind::Challenge | FrameKind::Outcome)
+    );
     let is_frame = matches!(expected, Expected::Frame(FrameKind::Mechanisms)) || is_outcome;
     match progress {
         Progress::InProgress => matches!(expected, Expected::Header) || is_frame,
-        Progress::Failed(CloseReason::ProtocolHeaderMismatch) => matches!(expected, Expected::Header),
+        Progress::Failed(CloseReason::ProtocolHeaderMismatch) => matches!(
+            expected,
+            Expected::Header
+        ),
         Progress::Failed(
             CloseReason::MalformedFrame(FrameError::OutOfMemory)
             | CloseReason::Refused(SaslCode::Ok)

@@ -1,3 +1,4 @@
+pub mod examples
 pub mod hashes
 pub mod messages
 pub mod providers

@@ -28,5 +28,5 @@ pub mod Exchanges
 pub mod Logins
 pub mod Agreement
 pub mod Laws
-pub mod MemoryExamples
+pub mod examples
 pub mod private

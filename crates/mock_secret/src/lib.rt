@@ -35,7 +35,7 @@ pub enum SecretError {
 
     /// The file is not read.
     #[error("it cannot be read: {0}")]
-    MalformedFrame(ErrorKind),
+    Unreadable(ErrorKind),
 
     /// The file is not there, and is not made.
     #[error("it cannot be made: {0}")]
@@ -55,7 +55,7 @@ impl SecretError {
     fn of_reading(error: Error) -> SecretError {
         match error.kind() {
             ErrorKind::OutOfMemory => SecretError::OutOfMemory,
-            kind => SecretError::MalformedFrame(kind),
+            kind => SecretError::Unreadable(kind),
         }
     }
 
@@ -95,7 +95,7 @@ pub fn secret_of<R: Files + RandomSource + AllocGlobal>(
 {
     let file = file_of(rt.alloc(), records)?;
     match read(rt, &file) {
-        Err(SecretError::MalformedFrame(ErrorKind::NotFound)) => {
+        Err(SecretError::Unreadable(ErrorKind::NotFound)) => {
             make(rt, &file)?;
             read(rt, &file)
         }
@@ -149,8 +149,8 @@ pub fn test(is_regular: bool, mode: u32, len: usize) -> Result<(), SecretError>
     Ok(())
 }
 
-/// Makes the file of a secret, unless another process is first: the secret is written whole under a name that nobody
-/// else has, and that file then gets the other name too, which never replaces a file.
+/// Makes the file of a secret, unless another process is first: the secret is written whole under a name that no other
+/// process has, and that file then gets the other name too, which never replaces a file.
 fn make<R: Files + RandomSource + AllocGlobal>(rt: &R, file: &str) -> Result<(), SecretError> {
     let beside = name_beside(rt, file)?;
     let mut new = create(rt, &beside)?;

@@ -2,7 +2,7 @@
 //! Characters are mapped and the text is normalized with form KC; the result is refused where it
 //! holds what the RFC prohibits, where it mixes directions, and, if the caller says so, for a code
 //! point that Unicode 3.2 does not assign. The tables are those of RFC 3454, of Unicode 3.2; the
-//! normalization is that of `unicode_normalization`, of a later Unicode, and `CALLING.md` lists where
+//! normalization is that of `unicode_normalization`, of a later Unicode, and `README.md` lists where
 //! the two differ.
 #![tactic(auto)]
 

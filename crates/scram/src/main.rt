@@ -1,4 +1,4 @@
-//! The program `scram`: `scram_lib` over the words and the streams that it is given.
+//! The program `scram`: `scram_audit_lib` over the process's arguments and streams.
 #![tactic(auto)]
 
 use scram_lib::stop::Stop;
@@ -21,7 +21,7 @@ fn run(rt: &HostRuntime) -> Result<u8, Stop> {
     let words = words(rt)?;
     let mut input = BufReader::new(rt.alloc(), rt.reader()).map_err(Stop::of_input)?;
     let (mut output, mut errors) = (io::writer(rt), rt.stderr());
-    Ok(scram_lib::run(rt, &words, &mut input, &mut output, &mut errors))
+    Ok(scram_audit_lib::run(rt, &words, &mut input, &mut output, &mut errors))
 }
 
 fn main(rt: HostRuntime) -> ExitCode {

@@ -20,9 +20,11 @@ pub struct Login<'a> {
     /// The user's name, plain.
     pub user: &'a str,
 
-    /// The largest and the least iteration count that are accepted.
-    pub limit: u32,
-    pub least: u32,
+    /// The minimum iteration count that is accepted.
+    pub min_iterations: u32,
+
+    /// The maximum iteration count that is accepted.
+    pub max_iterations: u32,
 
     /// The file of keys, if any.
     pub keys: Option<&'a str>,
@@ -85,8 +87,8 @@ impl Login<'_> {
         let user = self.user.to_string(rt.alloc())?;
         let client = ScramClient::with_secret(rt.alloc(), user, secret, self.version)?;
         let client = client
-            .with_min_iterations(self.least)
-            .with_iteration_limit(self.limit);
+            .with_min_iterations(self.min_iterations)
+            .with_iteration_limit(self.max_iterations);
         Ok(Box::new(rt.alloc(), client)?)
     }
 

@@ -13,18 +13,18 @@ use std::io::{BufRead, Write};
 
 /// What the messages so far have named.
 #[derive(Drop)]
-pub(crate) struct Heard {
+pub struct Heard {
     /// What is printed before each message: whose it is, or nothing.
     side: &'static str,
 
     /// The user of the client's first message, plain.
-    pub(crate) user: String,
+    pub user: String,
 
     /// The nonce of the client's first message.
-    pub(crate) client_nonce: String,
+    pub client_nonce: String,
 
     /// The nonce of the server's first message.
-    pub(crate) nonce: String,
+    pub nonce: String,
 }
 
 /// Why a message is refused.
@@ -105,7 +105,7 @@ impl From<AllocError> for Refusal {
 
 impl Heard {
     /// Nothing so far, of messages before each of which this is printed.
-    pub(crate) fn new(alloc: Global, side: &'static str) -> Heard {
+    pub fn new(alloc: Global, side: &'static str) -> Heard {
         Heard {
             side,
             user: String::new(alloc),
@@ -114,8 +114,8 @@ impl Heard {
         }
     }
 
-    /// The nonce of the server's own, which stands behind the client's (RFC 5802, section 5.1, `r`).
-    pub(crate) fn server_nonce(&self) -> Option<&str> {
+    /// The server's part of the nonce, which follows the client's (RFC 5802, section 5.1, `r`).
+    pub fn server_nonce(&self) -> Option<&str> {
         let (nonce, client_nonce) = (self.nonce.as_str(), self.client_nonce.as_str());
         nonce.strip_prefix(client_nonce)
     }
@@ -148,7 +148,7 @@ impl Heard {
             self.print(NAMES[place], told, output)?;
         }
         match input::next_line(alloc, input)? {
-            Some(_) => Err(Stop::Behind),
+            Some(_) => Err(Stop::ExtraLine),
             None => Ok(()),
         }
     }
@@ -171,7 +171,7 @@ impl Heard {
     }
 
     /// Prints what a body says, and the text in it.
-    pub(crate) fn body<O: Write>(
+    pub fn body<O: Write>(
         &mut self,
         alloc: Global,
         body: &[u8],
@@ -229,7 +229,7 @@ impl Heard {
 }
 
 /// The bytes that a line spells in hexadecimal digits.
-pub(crate) fn body_of(alloc: Global, line: &str) -> Result<Vec<u8>, Stop> {
+pub fn body_of(alloc: Global, line: &str) -> Result<Vec<u8>, Stop> {
     match hex::decode(alloc, line) {
         Ok(body) => Ok(body),
         Err(hex::FromHexError::OutOfMemory) => Err(Stop::OutOfMemory),

@@ -1,8 +1,7 @@
 //! `--frames`: a login over the bytes of a connection of AMQP, as they come on the input.
 
 ghost use Rattle.std.specs.Prelude.{◌≡◌, IfOk, OnOk};
-ghost use Rattle.fe2o3_sasl_negotiation.specs.Sides.{client_side, server_side};
-ghost use Rattle.fe2o3_sasl_negotiation.specs.declared.progress.Progress.{Progress};
+ghost use Rattle.fe2o3_sasl_negotiation.specs.Sides.{client_side, server_side, connection_side};
 ghost use Rattle.fe2o3_sasl_negotiation.specs.declared.progress.Progress.TheVariants.{Authenticated};
 
 use crate::client::Login;
@@ -10,9 +9,9 @@ use crate::nonces;
 use crate::server::Service;
 use crate::stop::Stop;
 use bytes::BytesMut;
-use fe2o3_sasl::{Meter, AuthenticatedUser, SaslProfile};
 use fe2o3_sasl_negotiation::{
-    ClientNegotiation, CloseReason, Received, ServerNegotiation, Progress,
+    AuthenticatedUser, ClientNegotiation, CloseReason, ConnectionSide, Endpoint, Meter, Progress, Role,
+    SaslProfile, ServerNegotiation,
 };
 use fe2o3_scram::{OutOfMemory, ScramClient};
 use std::alloc::Global;
@@ -20,53 +19,10 @@ use std::io::{BufRead, Result as Written, Write};
 use std::random::RandomSource;
 use std::rt::Files;
 
-/// A side of a connection.
-trait Side {
-    ghost stands: { Self → Progress };
-
-    /// Takes bytes that came, and appends what is to be sent.
-    fn take(
-        &mut self,
-        alloc: Global,
-        bytes: &[u8],
-        nonce: &[u8; 32],
-        sent: &mut BytesMut,
-    ) -> Result<Received, OutOfMemory>
-        ensures progress { IfOk result (λ received. received.progress ≡ stands self.new) };
-}
-
-impl Side for ClientNegotiation {
-    ghost stands = { λ client. (client_side client).progress };
-
-    fn take(
-        &mut self,
-        alloc: Global,
-        bytes: &[u8],
-        nonce: &[u8; 32],
-        sent: &mut BytesMut,
-    ) -> Result<Received, OutOfMemory> {
-        self.receive(alloc, bytes, nonce, &mut Meter::new(), sent)
-    }
-}
-
-impl<A: AuthenticatedUser> Side for ServerNegotiation<A> {
-    ghost stands = { λ server. (server_side A.state server).progress };
-
-    fn take(
-        &mut self,
-        alloc: Global,
-        bytes: &[u8],
-        nonce: &[u8; 32],
-        sent: &mut BytesMut,
-    ) -> Result<Received, OutOfMemory> {
-        self.receive(alloc, bytes, nonce, &mut Meter::new(), sent)
-    }
-}
-
-/// Carries bytes to a side and from it until the login is done, and returns how it stands.
-fn carry<R, S, I, O>(
+/// Carries bytes to a side and from it until the login is done, and returns its progress.
+fn carry<R, E, K, I, O>(
     rt: &R,
-    side: &mut S,
+    side: &mut ConnectionSide<E, K>,
     word: Option<&str>,
     sent: &mut BytesMut,
     input: &mut I,
@@ -74,16 +30,17 @@ fn carry<R, S, I, O>(
 ) -> Result<Progress, Stop>
 where
     R: RandomSource + AllocGlobal,
-    S: Side,
+    E: Endpoint<K>,
+    K: Role,
     I: BufRead,
     O: Write,
-    ensures { IfOk result (λ progress. progress ≡ S.stands side.new) }
+    ensures { IfOk result (λ progress. progress ≡ (connection_side E.state side.new).progress) }
 {
     for _ in 0..u64::MAX {
         send(output, sent).map_err(Stop::of_output)?;
         let nonce = nonces::nonce(rt, word)?;
         let bytes = input.fill_buf().map_err(Stop::of_input)?;
-        let received = side.take(rt.alloc(), bytes, &nonce, sent)?;
+        let received = side.receive(rt.alloc(), bytes, &nonce, &mut Meter::new(), sent)?;
         input.consume(received.taken);
         if received.taken == 0 || received.progress != Progress::InProgress {
             send(output, sent).map_err(Stop::of_output)?;

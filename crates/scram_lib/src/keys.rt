@@ -18,7 +18,7 @@ pub fn read<R: Files + AllocGlobal>(
 ) -> Result<Option<CachedKeys>, Stop> {
     match store::read(rt, file) {
         Ok(text) => Ok(Some(keys_of(rt.alloc(), &text, version)?)),
-        Err(Stop::MalformedFrame(std::io::ErrorKind::NotFound)) => Ok(None),
+        Err(Stop::Unreadable(std::io::ErrorKind::NotFound)) => Ok(None),
         Err(stop) => Err(stop),
     }
 }
@@ -69,11 +69,7 @@ impl Change for Kept {
 }
 
 /// Keeps the keys of a login.
-pub fn keep<R: Files + AllocGlobal>(
-    rt: &R,
-    file: &str,
-    keys: &CachedKeys,
-) -> Result<(), Stop> {
+pub fn keep<R: Files + AllocGlobal>(rt: &R, file: &str, keys: &CachedKeys) -> Result<(), Stop> {
     let line = line_of(rt.alloc(), keys)?;
     store::make_change(rt, file, &Kept { line })?;
     Ok(())

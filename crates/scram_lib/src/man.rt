@@ -1,6 +1,6 @@
 //! The page of the manual, in the words of `man` (roff), made of the table of words.
 
-use crate::manual::{ABOUT, BEHIND, COMMANDS, Kind, USERS, USERS_COMMANDS, Word, Words};
+use crate::manual::{ABOUT, COMMANDS, Kind, NOTES, USERS, USERS_COMMANDS, Word, Words};
 use std::io::{Result, Write};
 
 /// Prints the page.
@@ -10,7 +10,7 @@ pub fn print<O: Write>(output: &mut O) -> Result<()> {
     print_commands(output, "scram", &COMMANDS)?;
     write!(output, ".SS scram users\n{USERS}.\n")?;
     print_commands(output, "scram users", &USERS_COMMANDS)?;
-    write!(output, ".SH PASSWORDS AND STATUS\n{BEHIND}\n")
+    write!(output, ".SH PASSWORDS AND STATUS\n{NOTES}\n")
 }
 
 /// Prints commands.
@@ -29,8 +29,8 @@ fn print_commands<O: Write>(output: &mut O, above: &str, commands: &[Words]) -> 
 fn print_word<O: Write>(output: &mut O, word: &Word) -> Result<()> {
     let (name, value, help) = (word.name, word.value, word.help);
     let default = match word.kind {
-        Kind::DefaultMechanism => "; else it is SCRAM-SHA-256",
-        Kind::Iterations => "; else it is 4096",
+        Kind::DefaultMechanism => "; default SCRAM-SHA-256",
+        Kind::Iterations => "; default 4096",
         _ => "",
     };
     match word.kind {

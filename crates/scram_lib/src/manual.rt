@@ -7,7 +7,7 @@ use std::alloc::{AllocError, Global};
 /// What a word is.
 #[derive(Clone, Copy)]
 pub enum Kind {
-    /// It stands at its place, and has to.
+    /// A required argument at its place.
     Place,
 
     /// An option with a text.
@@ -16,16 +16,16 @@ pub enum Kind {
     /// An option with the name of a mechanism.
     Mechanism,
 
-    /// The same, which is SCRAM-SHA-256 where it is not there.
+    /// An option with the name of a mechanism, by default SCRAM-SHA-256.
     DefaultMechanism,
 
-    /// An option with an iteration count, which is 4096 where it is not there.
+    /// An option with an iteration count, by default 4096.
     Iterations,
 
     /// An option with an iteration count.
     Count,
 
-    /// The same, which needs another option.
+    /// An option with an iteration count, which needs another option.
     CountOf(&'static str),
 
     /// The name of a mechanism at its place.
@@ -60,7 +60,7 @@ pub struct Words {
     /// What it does.
     pub about: &'static str,
 
-    /// The words behind it.
+    /// The words after it.
     pub words: &'static [Word],
 }
 
@@ -68,12 +68,12 @@ pub struct Words {
 static MECHANISMS: [&str; 3] = ["SCRAM-SHA-1", "SCRAM-SHA-256", "SCRAM-SHA-512"];
 
 /// What the program does.
-pub static ABOUT: &str = "Makes, keeps and tries the records of SCRAM (RFC 5802, RFC 7677)";
+pub static ABOUT: &str = "Makes, keeps and checks records of SCRAM (RFC 5802, RFC 7677)";
 
 /// What holds of every command.
-pub static BEHIND: &str = "\
-A password is the first line of standard input, in printable ASCII, and never a word. Status: 0 done, 1 refused
-by the other side, 2 wrong words, 3 this side refuses the other or an audit finds no whole login, 4 an input that
+pub static NOTES: &str = "\
+A password is the first line of standard input, in printable ASCII, and never an argument. Status: 0 done, 1 refused
+by the other side, 2 wrong arguments, 3 this side refuses the other or an audit finds no whole login, 4 an input that
 cannot be read or audited, or a file, memory or an output that fails.";
 
 /// What `users` does.
@@ -97,7 +97,7 @@ const MECHANISM: Word = Word {
     kind: Kind::Mechanism,
     name: "mechanism",
     value: "M",
-    help: "The mechanism that the record is for, where not each",
+    help: "The mechanism that the record is for; default each",
 };
 
 const NEW_MECHANISM: Word = Word {
@@ -118,7 +118,7 @@ const SALT: Word = Word {
     kind: Kind::Text,
     name: "salt",
     value: "HEX",
-    help: "The salt, for tests; else it is 32 random bytes",
+    help: "The salt, for tests; default 32 random bytes",
 };
 
 const M: Word = Word {
@@ -135,18 +135,18 @@ const USER: Word = Word {
     help: "The user's name",
 };
 
-const LIMIT: Word = Word {
+const MIN_ITERATIONS: Word = Word {
     kind: Kind::Count,
-    name: "limit",
+    name: "min-iterations",
     value: "N",
-    help: "The largest iteration count that is accepted; else it is 1000000",
+    help: "The minimum iteration count that is accepted; default 4096",
 };
 
-const LEAST: Word = Word {
+const MAX_ITERATIONS: Word = Word {
     kind: Kind::Count,
-    name: "least",
+    name: "max-iterations",
     value: "N",
-    help: "The least iteration count that is accepted; else it is 4096",
+    help: "The maximum iteration count that is accepted; default 1000000",
 };
 
 const KEYS: Word = Word {
@@ -160,7 +160,7 @@ const NONCE: Word = Word {
     kind: Kind::Text,
     name: "nonce",
     value: "HEX",
-    help: "The nonce, for tests; else it is 32 random bytes",
+    help: "The nonce, for tests; default 32 random bytes",
 };
 
 const FRAMES: Word = Word {
@@ -174,7 +174,7 @@ const TELL_UNKNOWN_USERS: Word = Word {
     kind: Kind::Flag,
     name: "tell-unknown-users",
     value: "",
-    help: "Answers an unknown user with an error; without this, as a known one, by the secret in FILE.secret",
+    help: "Answers an unknown user with an error; default with a mock record, by the secret in FILE.secret",
 };
 
 const BODIES: Word = Word {
@@ -188,18 +188,18 @@ const AUDIT: Word = Word {
     kind: Kind::Text,
     name: "audit",
     value: "FILE",
-    help: "Audits both sides by this file of users: behind the password, each line is client or server and one of \
+    help: "Audits both sides by this file of users: after the password, each line is client or server and one of \
         its bodies, whose nonces are the base64 of 32 bytes",
 };
 
-const AUDITED_LIMIT: Word = Word {
+const AUDITED_ITERATIONS: Word = Word {
     kind: Kind::CountOf("audit"),
-    name: "limit",
+    name: "max-iterations",
     value: "N",
-    help: "The largest iteration count that the client of an audit accepts; else it is 1000000",
+    help: "The maximum iteration count that the client of an audit accepts; default 1000000",
 };
 
-/// The commands that stand alone.
+/// The commands without subcommands.
 pub static COMMANDS: [Words; 5] = [
     Words {
         name: "record",
@@ -208,8 +208,8 @@ pub static COMMANDS: [Words; 5] = [
     },
     Words {
         name: "client",
-        about: "Logs in: behind the password, each line is a message in base64",
-        words: &[M, USER, LIMIT, LEAST, KEYS, NONCE, FRAMES],
+        about: "Logs in: after the password, each line is a message in base64",
+        words: &[M, USER, MIN_ITERATIONS, MAX_ITERATIONS, KEYS, NONCE, FRAMES],
     },
     Words {
         name: "server",
@@ -219,7 +219,7 @@ pub static COMMANDS: [Words; 5] = [
     Words {
         name: "explain",
         about: "Tells what the messages of a login say: each line is one in base64",
-        words: &[BODIES, AUDIT, AUDITED_LIMIT],
+        words: &[BODIES, AUDIT, AUDITED_ITERATIONS],
     },
     Words {
         name: "man",
@@ -228,11 +228,11 @@ pub static COMMANDS: [Words; 5] = [
     },
 ];
 
-/// The commands behind `users`.
+/// The commands of `users`.
 pub static USERS_COMMANDS: [Words; 4] = [
     Words {
         name: "add",
-        about: "Adds a user's record, or puts it in the place of that for the mechanism",
+        about: "Adds a user's record, or replaces the one for the mechanism",
         words: &[FILE, NAME, NEW_MECHANISM, ITERATIONS, SALT],
     },
     Words {
@@ -312,7 +312,7 @@ fn commands<'a>(alloc: Global, table: &[Words]) -> Result<Vec<Command<'a>>, Allo
     Ok(commands)
 }
 
-/// A command that has others behind it, and is nothing alone.
+/// A command that needs a subcommand.
 fn above<'a>(alloc: Global, name: &'static str, about: &'static str) -> Command<'a> {
     Command::new(alloc, name)
         .about(about)
@@ -333,6 +333,6 @@ pub fn manual<'a>(alloc: Global) -> Result<Command<'a>, AllocError> {
     commands.push(users(alloc)?)?;
     above(alloc, "scram", ABOUT)
         .version("0.2.0")
-        .after_help(BEHIND)
+        .after_help(NOTES)
         .subcommands(commands)
 }

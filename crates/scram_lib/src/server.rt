@@ -8,9 +8,9 @@ pub mod mock;
 use crate::server::mock::Shape;
 use crate::stop::Stop;
 use crate::{frames, nonces, store, wire};
-use fe2o3_sasl::AuthenticatedUser;
+use fe2o3_sasl_negotiation::AuthenticatedUser;
 use fe2o3_scram::{
-    HidingAuthenticator, MultiRecordStore, ScramAuthenticator, RecordStore, ScramVersion,
+    HidingAuthenticator, MultiRecordStore, RecordStore, ScramAuthenticator, ScramVersion,
     ServerScramErrorKind,
 };
 use mock_secret::secret_of;

@@ -3,7 +3,6 @@
 ghost use Rattle.std.specs.Prelude.{◌≡◌, ◌≤◌};
 ghost use Rattle.scram_lib.specs.Stop.{status_of};
 
-use fe2o3_sasl::AuditError;
 use fe2o3_sasl_negotiation::CloseReason;
 use fe2o3_scram::{
     ClientSecretError, ReadLinesError, ReadLinesErrorKind, RecordError, ScramErrorKind,
@@ -52,7 +51,7 @@ pub enum Stop {
 
     /// The file is not read.
     #[error("The file cannot be read: {0}.")]
-    MalformedFrame(ErrorKind),
+    Unreadable(ErrorKind),
 
     /// The file is not UTF-8.
     #[error("The file cannot be read: it is not UTF-8.")]
@@ -63,7 +62,7 @@ pub enum Stop {
     Line(ReadLinesError),
 
     /// Another program writes the file, or was cut off while it did.
-    #[error("The file is being changed: its name with .new behind it is there. Remove that if nobody is at work.")]
+    #[error("The file is being changed: FILE.new exists. Remove that if no other program is changing the file.")]
     Busy,
 
     /// The new file is not written, and the old one stays.
@@ -76,7 +75,7 @@ pub enum Stop {
 
     /// No record has the name.
     #[error("The file has no such record.")]
-    MockSettings,
+    NoSuchRecord,
 
     /// The password is another.
     #[error("The password is not that of each record.")]
@@ -94,9 +93,9 @@ pub enum Stop {
     #[error("A line of standard input is not base64.")]
     NotBase64,
 
-    /// The messages of an exchange have come, and more.
-    #[error("A line of standard input is behind the four messages.")]
-    Behind,
+    /// The input has a line after the messages of an exchange.
+    #[error("Standard input has a line after the four messages.")]
+    ExtraLine,
 
     /// The file of keys is none.
     #[error("The file of keys cannot be read: it is not one line of keys.")]
@@ -138,7 +137,7 @@ pub enum Stop {
     #[error("A line of standard input does not begin with client or server and a space.")]
     NoSide,
 
-    /// A nonce is none of an audit, which makes both sides anew from nonces of 32 bytes.
+    /// A nonce is none of an audit, which replays both sides from nonces of 32 bytes.
     #[error("The bodies cannot be audited: a nonce is not the base64 of 32 bytes.")]
     OtherNonces,
 
@@ -154,8 +153,8 @@ pub enum Stop {
     #[error("The two sides have no login in common.")]
     NothingInCommon,
 
-    /// The server has accepted the client, which has not heard so, or does not believe it.
-    #[error("The client does not believe the server that accepts it.")]
+    /// The server has accepted the client, which has not received its signature, or rejects it.
+    #[error("The client does not authenticate the server that accepts it.")]
     NotVerified,
 
     /// Two logins have one proof or one signature.
@@ -191,7 +190,7 @@ impl Stop {
         match error.kind() {
             ErrorKind::OutOfMemory => Stop::OutOfMemory,
             ErrorKind::InvalidData => Stop::NotUtf8,
-            kind => Stop::MalformedFrame(kind),
+            kind => Stop::Unreadable(kind),
         }
     }
 
@@ -208,7 +207,7 @@ impl Stop {
         match self {
             Stop::Ended | Stop::RefusedByServer => 1,
             Stop::WrongSalt | Stop::WrongNonce | Stop::WrongName => 2,
-            Stop::MockSettings
+            Stop::NoSuchRecord
             | Stop::OtherPassword
             | Stop::Client(_)
             | Stop::Server(_)
@@ -224,14 +223,14 @@ impl Stop {
             | Stop::Input(_)
             | Stop::Output(_)
             | Stop::Random(_)
-            | Stop::MalformedFrame(_)
+            | Stop::Unreadable(_)
             | Stop::NotUtf8
             | Stop::Line(_)
             | Stop::Busy
             | Stop::Secret(_)
             | Stop::NotBase64
             | Stop::NotHex
-            | Stop::Behind
+            | Stop::ExtraLine
             | Stop::NoSide
             | Stop::OtherNonces
             | Stop::NoLogin
@@ -296,14 +295,6 @@ impl From<ServerScramErrorKind> for Stop {
         match kind {
             ServerScramErrorKind::OutOfMemory => Stop::OutOfMemory,
             _ => Stop::Server(kind),
-        }
-    }
-}
-
-impl From<AuditError> for Stop {
-    fn from(fault: AuditError) -> Stop {
-        match fault {
-            AuditError::OutOfMemory => Stop::OutOfMemory,
         }
     }
 }

@@ -8,7 +8,7 @@ use std::io::{Error, ErrorKind, Read, Write};
 use std::os::unix::fs::{OpenOptionsExt, PermissionsExt};
 use std::rt::Files;
 
-/// What is behind a change.
+/// The result of a change.
 #[derive(Drop)]
 pub struct Changed {
     /// The new text.
@@ -23,7 +23,7 @@ pub trait Change {
     /// Whether a file that is not there counts as an empty one.
     fn makes_files(&self) -> bool;
 
-    /// The text behind the change.
+    /// Returns the text after the change.
     fn apply(&self, alloc: Global, text: &str) -> Result<Changed, Stop>;
 }
 
@@ -40,7 +40,7 @@ pub fn read<R: Files + AllocGlobal>(rt: &R, file: &str) -> Result<String, Stop> 
 }
 
 /// Changes a file: the new text is written into a new file beside it, `FILE.new`, which takes its place. What
-/// fails leaves the old file as it was. While the new one is there nobody else begins a change.
+/// fails leaves the old file as it was. While the new one is there no other process begins a change.
 pub fn make_change<R: Files + AllocGlobal, C: Change>(
     rt: &R,
     file: &str,
@@ -74,7 +74,7 @@ fn fill<R: Files + AllocGlobal, C: Change>(
     Ok(done)
 }
 
-/// A new file, which was not there, and which its owner alone may read.
+/// Creates a file that was not there, which only its owner may read.
 fn create<R: Files>(rt: &R, beside: &str) -> Result<R::File, Stop> {
     let mut options = OpenOptions::new();
     options.write(true).create_new(true).mode(0o600);
@@ -89,7 +89,7 @@ fn of_creating(error: Error) -> Stop {
     }
 }
 
-/// Writes the text behind the change, under the old file's permissions.
+/// Writes the text after the change, under the old file's permissions.
 fn write<R: Files + AllocGlobal, C: Change>(
     rt: &R,
     file: &str,
@@ -102,7 +102,7 @@ fn write<R: Files + AllocGlobal, C: Change>(
     Ok(changed.done)
 }
 
-/// The old file, or an empty one for its owner alone where that may be new.
+/// Reads the old file, or returns an empty one for only its owner where that may be new.
 fn read_old<R: Files + AllocGlobal>(rt: &R, file: &str, makes_files: bool) -> Result<Old, Stop> {
     match fs::open(rt, file) {
         Ok(mut open) => read_open(rt.alloc(), &mut open).map_err(Stop::of_reading),

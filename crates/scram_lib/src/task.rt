@@ -1,6 +1,5 @@
 //! What the words ask for.
 
-use crate::audit::{Audited, audit};
 use crate::client::{Login, log_in};
 use crate::explain::explain;
 use crate::record::{ITERATIONS, NewRecord};
@@ -22,6 +21,26 @@ pub struct Streams<'a, I, O> {
 }
 
 /// What the words ask for.
+#[derive(Clone, Copy)]
+pub enum Command<'a> {
+    /// A task of this library.
+    Task(Task<'a>),
+
+    /// An audit of both sides of a login, which is not made here.
+    Audit(Audited<'a>),
+}
+
+/// The audit that is asked for.
+#[derive(Clone, Copy)]
+pub struct Audited<'a> {
+    /// The file of the server's users.
+    pub file: &'a str,
+
+    /// The maximum iteration count that the client accepts.
+    pub max_iterations: u32,
+}
+
+/// A task of this library.
 #[derive(Clone, Copy)]
 pub enum Task<'a> {
     /// Prints a record.
@@ -48,28 +67,45 @@ pub enum Task<'a> {
     /// Tells what messages say: those of bodies of frames, or texts.
     Explain(bool),
 
-    /// Tells what messages of both sides say, and what both have in common.
-    Audit(Audited<'a>),
-
     /// Prints the page of the manual.
     Man,
 }
 
-impl<'a> Task<'a> {
+impl<'a> Command<'a> {
     /// Reads what a parse found.
-    pub fn of(matches: &ArgMatches<'a>) -> Task<'a> {
+    pub fn of(matches: &ArgMatches<'a>) -> Command<'a> {
+        match matches.subcommand() {
+            Some(("explain", found)) => Command::of_explain(found),
+            _ => Command::Task(Task::of(matches)),
+        }
+    }
+
+    /// Reads what a parse found after `explain`.
+    fn of_explain(matches: &ArgMatches<'a>) -> Command<'a> {
+        match matches.get_str("audit") {
+            Some(file) => Command::Audit(Audited {
+                file,
+                max_iterations: max_iterations(matches),
+            }),
+            None => Command::Task(Task::Explain(matches.get_flag("frames"))),
+        }
+    }
+}
+
+impl<'a> Task<'a> {
+    /// Reads what a parse found, other than `explain`.
+    fn of(matches: &ArgMatches<'a>) -> Task<'a> {
         match matches.subcommand() {
             Some(("users", found)) => Task::of_users(found),
             Some(("client", found)) => Task::Client(login(found)),
             Some(("server", found)) => Task::Server(service(found)),
-            Some(("explain", found)) => Task::of_explain(found),
             Some(("man", _)) => Task::Man,
             Some((_, found)) => Task::Record(new_record(found)),
             None => Task::Record(new_record(matches)),
         }
     }
 
-    /// Reads what a parse found behind `users`.
+    /// Reads what a parse found after `users`.
     fn of_users(matches: &ArgMatches<'a>) -> Task<'a> {
         match matches.subcommand() {
             Some(("add", found)) => Task::Add(named(found), new_record(found)),
@@ -77,17 +113,6 @@ impl<'a> Task<'a> {
             Some(("check", found)) => Task::Check(named(found)),
             Some((_, found)) => Task::List(text(found, "FILE")),
             None => Task::List(text(matches, "FILE")),
-        }
-    }
-
-    /// Reads what a parse found behind `explain`.
-    fn of_explain(matches: &ArgMatches<'a>) -> Task<'a> {
-        match matches.get_str("audit") {
-            Some(file) => Task::Audit(Audited {
-                file,
-                limit: matches.get_one::<u32>("limit").unwrap_or(1_000_000),
-            }),
-            None => Task::Explain(matches.get_flag("frames")),
         }
     }
 
@@ -117,7 +142,6 @@ impl<'a> Task<'a> {
             Task::Client(login) => log_in(rt, login, streams.input, streams.output),
             Task::Server(service) => serve(rt, service, streams.input, streams.output),
             Task::Explain(frames) => explain(alloc, *frames, streams.input, streams.output),
-            Task::Audit(asked) => audit(rt, asked, streams.input, streams.output),
             Task::Man => man::print(streams.output).map_err(Stop::of_output),
         }
     }
@@ -128,12 +152,19 @@ fn login<'a>(matches: &ArgMatches<'a>) -> Login<'a> {
     Login {
         version: version_of(matches, "M").unwrap_or(ScramVersion::Sha256),
         user: text(matches, "USER"),
-        limit: matches.get_one::<u32>("limit").unwrap_or(1_000_000),
-        least: matches.get_one::<u32>("least").unwrap_or(4096),
+        min_iterations: matches.get_one::<u32>("min-iterations").unwrap_or(4096),
+        max_iterations: max_iterations(matches),
         keys: matches.get_str("keys"),
         nonce: matches.get_str("nonce"),
         frames: matches.get_flag("frames"),
     }
+}
+
+/// The maximum iteration count that the words name, or the default.
+fn max_iterations(matches: &ArgMatches<'_>) -> u32 {
+    matches
+        .get_one::<u32>("max-iterations")
+        .unwrap_or(1_000_000)
 }
 
 /// The server that the words describe.

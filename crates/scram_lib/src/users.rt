@@ -40,7 +40,7 @@ static VERSIONS: [ScramVersion; 3] = [
     ScramVersion::Sha512,
 ];
 
-/// Adds a user's record behind the others, or puts it in the place of the one that counts.
+/// Adds a user's record after the others, or replaces the one that counts.
 pub fn add<R: Files + RandomSource + AllocGlobal, O: Write>(
     rt: &R,
     named: &Named<'_>,
@@ -156,7 +156,7 @@ fn conclude<O: Write>(answers: &[Option<bool>; 3], output: &mut O) -> Result<(),
         return Err(Stop::OtherPassword);
     }
     if !answers.contains(&Some(true)) {
-        return Err(Stop::MockSettings);
+        return Err(Stop::NoSuchRecord);
     }
     Ok(())
 }

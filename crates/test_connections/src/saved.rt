@@ -168,13 +168,13 @@ fn logins_of_one_mechanism_of_several_are_restored(rt: HostRuntime) {
     let selected = Some(Selected::First);
     let servers = (
         both(&rt, scram(&rt), None),
-        both(&rt, first, asked),
-        both(&rt, scram(&rt), asked),
+        both(&rt, first, selected),
+        both(&rt, scram(&rt), selected),
     );
     is_restored(&rt, servers, &SCRAM_LOGIN, Some(USER));
     let servers = (
         cut_down(&rt, both(&rt, scram(&rt), None)),
-        cut_down(&rt, both(&rt, second, asked)),
+        cut_down(&rt, both(&rt, second, selected)),
         cut_down(&rt, both(&rt, scram(&rt), None)),
     );
     is_restored(&rt, servers, &SCRAM_LOGIN, Some(USER));

@@ -7,7 +7,7 @@ use fe2o3_sasl::external_server::ExternalServer;
 use fe2o3_sasl::hmac::{Meter, ScramVersion};
 use fe2o3_sasl::restrict_mechanisms::{OfferError, RestrictMechanisms};
 use fe2o3_sasl::any_mechanism::{HasMechanism, AnyMechanism};
-use fe2o3_sasl::runs::{acceptor_step, acceptor_step_metered};
+use fe2o3_sasl::runs::{acceptor_body_step, acceptor_step};
 use fe2o3_sasl::sasl_acceptor::{
     AuthenticatedUser, SaslAcceptor, SaslAcceptorExt, SaslAnonymousMechanism, SaslPlainMechanism,
     SaslServerFrame,
@@ -123,7 +123,8 @@ fn answers<R: Abort + AllocGlobal, A: AuthenticatedUser + Drop>(rt: &R, mut acce
         replies(rt, &acceptor, row);
         let &(given, wanted, user, count) = row;
         let (event, mut meter) = (event(rt, 2, given), Meter::new());
-        let reply = acceptor_step_metered(rt.alloc(), &mut acceptor, &event, &mut meter);
+        let Event { body, nonce } = &event;
+        let reply = acceptor_body_step(rt.alloc(), &mut acceptor, body, nonce, &mut meter);
         let is_sent = is_server_reply(&reply.expect(rt, "a reply"), &bytes_of(rt, wanted));
         assert!(rt;
             is_sent && acceptor.authenticated_user() == user && meter.count() == count,

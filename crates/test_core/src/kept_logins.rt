@@ -5,7 +5,7 @@ use fe2o3_sasl::cached_keys::CachedKeys;
 use fe2o3_sasl::client_secret::ClientSecret;
 use fe2o3_sasl::hmac::Meter;
 use fe2o3_sasl::passwords::Password;
-use fe2o3_sasl::runs::{ClientReply, profile_step_metered};
+use fe2o3_sasl::runs::{ClientReply, profile_body_step};
 use fe2o3_sasl::sasl_profile::{ProfileError, SaslProfile, SaslScramSha256};
 use fe2o3_sasl::scram_messages::ScramErrorKind;
 use fe2o3_sasl::{ScramClient, ScramVersion};
@@ -81,7 +81,8 @@ fn step<R: Abort + AllocGlobal>(
     given: &str,
 ) -> (Result<ClientReply, ProfileError>, u64) {
     let (event, mut meter) = (event(rt, 1, given), Meter::new());
-    let reply = profile_step_metered(rt.alloc(), profile, &event, Some("h"), &mut meter);
+    let (body, nonce) = (&event.body, &event.nonce);
+    let reply = profile_body_step(rt.alloc(), profile, body, nonce, Some("h"), &mut meter);
     (reply, meter.count())
 }
 

@@ -81,7 +81,11 @@ fn secret_of(by: Secret, keys: &CachedKeys) -> ClientSecret<'_> {
 }
 
 /// A client that has sent nothing.
-fn client(alloc: Global, by: Secret, keys: &CachedKeys) -> Result<ScramClient, ClientSecretError> {
+fn new_client(
+    alloc: Global,
+    by: Secret,
+    keys: &CachedKeys,
+) -> Result<ScramClient, ClientSecretError> {
     let username = USER.to_string(alloc)?;
     ScramClient::with_secret(alloc, username, secret_of(by, keys), VERSION)
 }
@@ -212,7 +216,7 @@ impl Call for Does {
 
     fn subject(&self, alloc: Global, by: &Secret) -> Result<AtClient, Fail> {
         let keys = keys(alloc)?;
-        let mut client = Box::new(alloc, client(alloc, *by, &keys)?)?;
+        let mut client = Box::new(alloc, new_client(alloc, *by, &keys)?)?;
         log_in(alloc, &mut client, calls_before(self))?;
         Ok(AtClient { keys, client })
     }
@@ -239,10 +243,10 @@ impl Call for Does {
                 copy_goes_on(alloc, client, self, *by)
             }
             Does::Answer => answer_server_first(alloc, *by, &at.keys),
-            Does::Make => {
-                let made = client(alloc, *by, &at.keys);
-                told(made, ClientSecretError::OutOfMemory)
-            }
+            Does::Make => match new_client(alloc, *by, &at.keys) {
+                Ok(made) => right(has_made(&made, 0)),
+                Err(_) => Answer::WantOfMemory,
+            },
             Does::MakeKeys => told(keys(alloc), RecordError::OutOfMemory),
             Does::CloneKeys => told(at.keys.clone(), OutOfMemory),
         }

@@ -89,7 +89,7 @@ fn no_side_keeps_a_whole_unit(rt: HostRuntime) -> Result<(), Fail> {
 /// The body that the bytes up to `end` of an init complete, by the side to which as many have come.
 fn completed(alloc: Global, unit: &[u8], come: usize, end: usize) -> Option<Vec<u8>> {
     let (held, more) = (unit.get(..come)?, unit.get(come..end)?);
-    kept(INIT_DUE, 512, held).completed(alloc, more).ok()?
+    kept(INIT_DUE, 512, held).peek_frame(alloc, more).ok()?
 }
 
 #[test]

@@ -229,13 +229,13 @@ impl Files for Disk {
         }
         match found {
             Some(node) if !how.asks_write() => self.open(node),
-            Some(_) => Err(Error::from(ErrorKind::NotSupported)),
+            Some(_) => Err(Error::from(ErrorKind::Unsupported)),
             None => Err(Error::from(ErrorKind::NotFound)),
         }
     }
 
     fn open_dir(&self, _path: &str) -> Result<Open> {
-        Err(Error::from(ErrorKind::NotSupported))
+        Err(Error::from(ErrorKind::Unsupported))
     }
 
     fn metadata(&self, path: &str) -> Result<Metadata> {
@@ -247,11 +247,11 @@ impl Files for Disk {
     }
 
     fn symlink_metadata(&self, _path: &str) -> Result<Metadata> {
-        Err(Error::from(ErrorKind::NotSupported))
+        Err(Error::from(ErrorKind::Unsupported))
     }
 
     fn copy(&self, _from: &str, _to: &str) -> Result<u64> {
-        Err(Error::from(ErrorKind::NotSupported))
+        Err(Error::from(ErrorKind::Unsupported))
     }
 
     fn rename(&self, from: &str, to: &str) -> Result<()> {
@@ -288,15 +288,15 @@ impl Files for Disk {
     }
 
     fn create_dir(&self, _path: &str) -> Result<()> {
-        Err(Error::from(ErrorKind::NotSupported))
+        Err(Error::from(ErrorKind::Unsupported))
     }
 
     fn remove_dir(&self, _path: &str) -> Result<()> {
-        Err(Error::from(ErrorKind::NotSupported))
+        Err(Error::from(ErrorKind::Unsupported))
     }
 
     fn remove_dir_all<B: std::alloc::Allocator>(&self, _alloc: B, _path: &str) -> Result<()> {
-        Err(Error::from(ErrorKind::NotSupported))
+        Err(Error::from(ErrorKind::Unsupported))
     }
 }
 
@@ -307,7 +307,7 @@ impl OpenFile for Open {
     }
 
     fn set_len(&self, _size: u64) -> Result<()> {
-        Err(Error::from(ErrorKind::NotSupported))
+        Err(Error::from(ErrorKind::Unsupported))
     }
 
     fn sync_all(&self) -> Result<()> {
@@ -315,7 +315,7 @@ impl OpenFile for Open {
     }
 
     fn sync_data(&self) -> Result<()> {
-        Err(Error::from(ErrorKind::NotSupported))
+        Err(Error::from(ErrorKind::Unsupported))
     }
 
     fn set_permissions(&self, permissions: Permissions) -> Result<()> {
@@ -355,6 +355,6 @@ impl Write for Open {
 
 impl Seek for Open {
     fn seek(&mut self, _to: SeekFrom) -> Result<u64> {
-        Err(Error::from(ErrorKind::NotSupported))
+        Err(Error::from(ErrorKind::Unsupported))
     }
 }

@@ -1,4 +1,4 @@
-//! Replays runs of the programs `scram` and `broker`, the files of `data/`, and prints one line a file. A run that is not
+//! Replays runs of the programs `scram` and `example_broker`, the files of `data/`, and prints one line a file. A run that is not
 //! confirmed is printed with what comes of it, and ends the program with status 1.
 #![tactic(auto)]
 

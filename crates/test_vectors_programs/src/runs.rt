@@ -2,7 +2,7 @@
 
 use crate::disk::Disk;
 use example_broker_lib::log_in;
-use scram_lib::run;
+use scram_audit_lib::run;
 use std::alloc::{AllocError, Global};
 use std::fs::Metadata;
 use std::io::{BufRead, BufReader, Result, Write};
@@ -118,7 +118,7 @@ fn play_on(disk: &Disk, asked: &Run, piece: usize, told: &mut String) -> Result<
     let (mut output, mut errors) = (Vec::new(alloc), Vec::new(alloc));
     let mut input = BufReader::with_capacity(alloc, piece, asked.input.as_slice())?;
     let status = match asked.words.as_slice() {
-        [name, words @ ..] if name.as_str() == "broker" => {
+        [name, words @ ..] if name.as_str() == "example_broker" => {
             serve(disk, words, &mut input, &mut output, &mut errors)?
         }
         words => run(disk, words, &mut input, &mut output, &mut errors),
@@ -133,7 +133,7 @@ fn play_on(disk: &Disk, asked: &Run, piece: usize, told: &mut String) -> Result<
     Ok(())
 }
 
-/// Serves the connections of an input as the program `broker` does by these words, and answers its status.
+/// Serves the connections of an input as the program `example_broker` does by these words, and answers its status.
 fn serve<I: BufRead>(
     disk: &Disk,
     words: &[String],

@@ -5,10 +5,12 @@ pub mod sides;
 pub mod strangers;
 
 use crate::connections::fed::Fed;
-use crate::connections::sides::{Play, Side, play_side};
+use crate::connections::sides::{Play, SaysUser, play_side, say_progress};
 use crate::rows::Row;
 use crate::runs::{Run, read};
 use bytes::BytesMut;
+use fe2o3_sasl::hmac::Meter;
+use fe2o3_sasl_negotiation::{ConnectionSide, Endpoint, Role};
 
 /// Checks the connection that a paragraph spells, and tells how many calls it has.
 pub fn check(row: &mut Row<'_>) -> usize {
@@ -22,15 +24,22 @@ pub fn check(row: &mut Row<'_>) -> usize {
 struct Replay<'a, 'b>(&'a Run<'b>);
 
 impl Play for Replay<'_, '_> {
-    fn play<S: Side>(&mut self, row: &mut Row<'_>, side: &mut S) {
+    fn play<E, R>(&mut self, row: &mut Row<'_>, side: &mut ConnectionSide<E, R>)
+    where
+        E: Endpoint<R>,
+        R: Role,
+        ConnectionSide<E, R>: SaysUser,
+    {
         for (call, wanted) in self.0.events.iter().zip(self.0.wanted.iter()) {
             let mut out = BytesMut::new(row.alloc);
-            match side.take(row.alloc, &call.body, &call.nonce, &mut out) {
+            let meter = &mut Meter::new();
+            match side.receive(row.alloc, &call.body, &call.nonce, meter, &mut out) {
                 Ok(received) => row.say(received.taken),
                 Err(error) => row.refuse(error),
             }
             row.say_bytes(out.as_slice());
-            side.say_progress(row);
+            say_progress(row, side.progress());
+            side.say_user(row);
             row.agree(wanted);
         }
     }

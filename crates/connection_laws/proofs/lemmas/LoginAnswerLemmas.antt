@@ -247,7 +247,7 @@ module _ (p : Premises) where
   first_acceptor = ScramAcceptor provider Initial
 
   abbrev pub challenged_acceptor : Acceptor
-  challenged_acceptor = ScramAcceptor provider (ServerFirstSent challenge)
+  challenged_acceptor = ScramAcceptor provider (ServerFirstSent challenge (record_in exchange))
 
   abbrev pub last_acceptor : Acceptor
   last_acceptor = ScramAcceptor provider (ServerFinalSent login.user)
@@ -282,8 +282,13 @@ module _ (p : Premises) where
       ap mechanism_name (sym p.holds.version),
       (
         Ok (Some (first_in exchange)),
-        ServerFirstSent challenge,
-        (challenge, (read_first, record_in exchange, (frame.meets p).client_first, p.holds.stored, refl), refl, refl),
+        ServerFirstSent challenge (record_in exchange),
+        (
+          challenge,
+          (read_first, record_in exchange, (frame.meets p).client_first, p.holds.stored, refl),
+          refl,
+          (record_in exchange, p.holds.stored, refl),
+        ),
         refl,
         refl,
       ),
@@ -315,7 +320,7 @@ module _ (p : Premises) where
     (
       Ok (Some final_sent),
       ServerFinalSent login.user,
-      (record_in exchange, p.holds.stored, (final_in exchange, response_read, refl), refl),
+      ((final_in exchange, response_read, refl), refl),
       refl,
       refl,
     ),

@@ -13,7 +13,7 @@ use Rattle.fe2o3_sasl_core.specs.PlainServer.{PlainState, PlainLogsIn, plain_mac
 use Rattle.fe2o3_sasl_core.specs.Runs.{Runs, AcceptorSteps, SendsCanonical}
 use Rattle.fe2o3_sasl_core.specs.SaslAcceptor.{ends_with}
 use Rattle.fe2o3_sasl_core.proofs.lemmas.frames.SpellingLemmas.{one_spelled_frame}
-use Rattle.fe2o3_sasl.proofs.lemmas.steps.StepLawLemmas.{plain_oks_log_in}
+use Rattle.fe2o3_sasl_core.proofs.lemmas.steps.StepLawLemmas.{plain_oks_log_in}
 use Rattle.fe2o3_sasl_negotiation.specs.declared.progress.FrameKind.TheVariants as turns
 use Rattle.fe2o3_sasl_negotiation.specs.Connections.{Piece, SpellsTurn, AreFrames, LastReply, IsOkSent}
 use Rattle.fe2o3_sasl_negotiation.proofs.lemmas.LoginLemmas.{servers_log_in}

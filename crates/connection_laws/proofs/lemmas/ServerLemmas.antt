@@ -1,10 +1,6 @@
 -- What the negotiations of each kind of server are: runs of its machine, of which its laws hold.
 use Rattle.std.proofs.Common.{ℕ, List}
-use Rattle.fe2o3_scram.specs.HidingServer.{HidingServer}
-use Rattle.fe2o3_scram.specs.MockSettings.{with_mock}
-use Rattle.fe2o3_scram.specs.ScramServer.{Initial, logged_in as named_in}
-use Rattle.fe2o3_sasl_core.specs.HidingAcceptor.{hiding_machine}
-use Rattle.fe2o3_sasl_core.specs.HidingLaws.{hiding}
+use Rattle.fe2o3_scram.specs.ScramServer.{Initial}
 use Rattle.fe2o3_sasl_core.specs.AnyMechanismLaws.{Machine}
 use Rattle.fe2o3_sasl_core.specs.SaslAcceptor.{ScramAcceptor, acceptor_machine, acceptor_user}
 use Rattle.fe2o3_sasl_core.proofs.lemmas.machines.RestrictMechanismsLemmas.{offering_runs}
@@ -12,8 +8,7 @@ use Rattle.fe2o3_sasl_core.proofs.lemmas.machines.AnyMechanismLemmas.{any_mechan
 use Rattle.fe2o3_sasl_core.proofs.lemmas.machines.AnyMechanismUserLemmas.{offered_names_users}
 use Rattle.fe2o3_sasl_core.proofs.lemmas.machines.ServerMachineLemmas.{acceptor_runs_are_histories, acceptor_runs_name_users}
 use Rattle.fe2o3_sasl_core.proofs.lemmas.two_sides.HeadlineLemmas.{answers_ok_exactly}
-use Rattle.fe2o3_sasl.proofs.lemmas.machines.HidingRunLemmas.{hidden_runs_are_runs}
-use Rattle.connection_laws.specs.Servers.{MockServersServe, MockRunsServe, ScramRunsServe, AnyMechanismServersSplit, OfferingServersPassOn, OfferingServersNameUsers}
+use Rattle.connection_laws.specs.Servers.{ScramRunsServe, AnyMechanismServersSplit, OfferingServersPassOn, OfferingServersNameUsers}
 
 pub scram_runs_serve : ScramRunsServe acceptor_machine (λ provider. ScramAcceptor provider Initial) acceptor_user
 scram_runs_serve provider events replies last run =
@@ -23,19 +18,6 @@ scram_runs_serve provider events replies last run =
       exactly = answers_ok_exactly provider events replies history;
       user = λ user. acceptor_runs_name_users provider events replies last user run;
     }
-
-pub mock_runs_serve : MockRunsServe hiding_machine (λ provider mock. hiding provider mock Initial)
-    (λ (server : HidingServer). named_in server.state)
-mock_runs_serve provider mock names events replies last holds run =
-    let all = with_mock provider mock names in
-    scram_runs_serve all events replies (ScramAcceptor all last.state)
-    (hidden_runs_are_runs provider mock names events replies last holds run)
-
-pub mock_servers_serve : MockServersServe hiding_machine (λ provider mock. hiding provider mock Initial)
-    (λ (server : HidingServer). named_in server.state)
-mock_servers_serve provider mock names server holds =
-    let n = server.connection in
-    mock_runs_serve provider mock names n.events n.replies server.last.state holds n.run
 
 pub any_mechanism_servers_split : {S T : Type 0} (names : S → List (List ℕ)) (others : T → List (List ℕ)) (machine : Machine S)
     (other : Machine T) → AnyMechanismServersSplit names others machine other

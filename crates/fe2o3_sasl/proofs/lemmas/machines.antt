@@ -1,4 +1,3 @@
-pub mod HidingRunLemmas
 pub mod KeyedRunLemmas
 pub mod MechanismLemmas
 pub mod PlainRunLemmas

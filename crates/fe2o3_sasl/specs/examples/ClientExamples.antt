@@ -1,20 +1,17 @@
--- Worked examples of clients. Each is the client of the first examples but for one value: it has a hostname, or the
--- keys of its password, or a floor.
-use Rattle.std.specs.Prelude.{ℕ, Option, Some, None, List, [], ◌∷◌, ◌++◌, replicate, codes}
+-- Worked examples of clients. Each is the client of the first examples, but with the keys of its password.
+use Rattle.std.specs.Prelude.{ℕ, Option, Some, None, List, [], ◌∷◌, replicate, codes}
 use Rattle.fe2o3_sasl_wire.specs.declared.amqp_types.SaslCode.TheVariants as outcomes
-use Rattle.fe2o3_sasl_wire.specs.SaslFrames.{SaslFrame}
 use Rattle.fe2o3_sasl_wire.specs.SaslFrames as frames
 use Rattle.fe2o3_scram.specs.declared.hmac.ScramVersion.TheVariants.{Sha256}
-use Rattle.fe2o3_scram.specs.declared.scram_messages.error.ScramErrorKind.TheVariants.{IterationCountTooSmall}
 use Rattle.fe2o3_scram.specs.ClientKeys.{keys_of}
-use Rattle.fe2o3_scram.specs.ClientSecret.{Secret, Keys, no_limit}
+use Rattle.fe2o3_scram.specs.ClientSecret.{Secret, Keys}
 use Rattle.fe2o3_scram.specs.declared.client_secret.IterationLimits.{IterationLimits}
 use Rattle.fe2o3_scram.specs.Texts.{joined}
 use Rattle.fe2o3_sasl_core.specs.ClientHistory.{Answering, ClientHistory}
 use Rattle.fe2o3_sasl_core.specs.Events.{ClientSays, Given, Login, Answered, Reported, Refused, Started}
 use Rattle.fe2o3_sasl_core.specs.TwoSides.{proof_at}
 use Rattle.fe2o3_sasl.specs.examples.Examples.{answer_to, binds, body_of, both, client_bytes, event_of, login, names, offers, salt, salted, sends_init, sends_ok, sends_response, unaltered, verifier}
-use Rattle.fe2o3_sasl_core.specs.declared.sasl_profile.error.ProfileError.TheVariants.{StaleKeys, Scram}
+use Rattle.fe2o3_sasl_core.specs.declared.sasl_profile.error.ProfileError.TheVariants.{StaleKeys}
 
 -- the client of the first examples with this secret, these limits and this hostname
 abbrev pub changed : Secret → IterationLimits → Option (List ℕ) → Login
@@ -44,21 +41,6 @@ logs_in = Answered (body_of (sends_response (joined (binds both)) (proof_at logi
 abbrev pub is_served : List Given
 is_served = asks salt ∷ event_of client_bytes (sends_ok made) ∷ []
 
--- ---- a hostname
-
-abbrev pub with_hostname : Login
-with_hostname = changed login.secret login.limits (Some (codes "vhost"))
-
--- the init with it
-abbrev pub names_host : SaslFrame
-names_host = frames.Init (codes "SCRAM-SHA-256") (Some (codes "n,," ++ joined (names (codes "user"))))
-    (Some (codes "vhost"))
-
--- the init carries it, and nothing else is said in another way
-abbrev pub HostnamesAreSent : Type 0
-HostnamesAreSent = ClientHistory with_hostname (event_of client_bytes offers ∷ is_served)
-    (Started (body_of names_host) ∷ logs_in)
-
 -- ---- keys in place of the password
 
 abbrev pub with_keys : Login
@@ -76,13 +58,3 @@ other_salt = replicate 32 4
 abbrev pub StaleKeysLogInLater : Type 0
 StaleKeysLogInLater = ClientHistory with_keys (event_of client_bytes offers ∷ asks other_salt ∷ is_served)
     (starts ∷ Refused StaleKeys ∷ logs_in)
-
--- ---- a floor
-
-abbrev pub with_floor : Login
-with_floor = changed login.secret (record { min_iterations = 10000; max_iterations = no_limit }) None
-
--- a challenge with the count 4096 is refused
-abbrev pub FloorsRefuse : Type 0
-FloorsRefuse = ClientHistory with_floor (event_of client_bytes offers ∷ asks salt ∷ [])
-    (starts ∷ Refused (Scram IterationCountTooSmall) ∷ [])

@@ -1,23 +1,22 @@
--- Worked examples: one login over frame bodies, as it is sent, shifted by somebody on the way, and refused. Hashes stay
--- as they are.
+-- Worked examples: one login over frame bodies, as it is sent, and with a text that is shifted on the way. Hashes stay as
+-- they are.
 use Rattle.std.specs.Prelude.{◌≢◌, ℕ, Some, None, List, [], ◌∷◌, ◌++◌, replicate, codes, false}
 use Rattle.fe2o3_sasl_wire.specs.declared.amqp_types.SaslCode.TheVariants as outcomes
-use Rattle.fe2o3_sasl_wire.specs.SaslFrames.{canonical, fault_of, SaslFrame}
+use Rattle.fe2o3_sasl_wire.specs.SaslFrames.{canonical, SaslFrame}
 use Rattle.fe2o3_sasl_wire.specs.SaslFrames as frames
 use Rattle.fe2o3_scram.specs.declared.hmac.ScramVersion.TheVariants.{Sha256}
 use Rattle.fe2o3_scram.specs.Texts.{base64_text, joined}
 use Rattle.fe2o3_scram.specs.ClientSecret.{Password, no_limit, up_to}
 use Rattle.fe2o3_scram.specs.declared.scram_messages.channel_binding_flag.ChannelBindingFlag.TheVariants.{NotSupported}
 use Rattle.fe2o3_scram.specs.Passwords.{Typed}
-use Rattle.fe2o3_scram.specs.Credentials.{Record, Provider, record_of}
+use Rattle.fe2o3_scram.specs.Credentials.{Record, Provider, record_of, serving}
 use Rattle.fe2o3_sasl_core.specs.ClientHistory.{Answering, answer_at, OpenAnswer}
-use Rattle.fe2o3_sasl_core.specs.Events.{Given, Login, IsLogin, IsRecord, Challenged, Concluded, Failed, Started, Answered, Reported, Refused}
+use Rattle.fe2o3_sasl_core.specs.Events.{Given, Login, IsLogin, IsRecord, Challenged, Concluded, Started, Answered, Reported}
 use Rattle.fe2o3_sasl_core.specs.Bodies.{carried}
 use Rattle.fe2o3_sasl_core.specs.ServerHistory.{Challenging, Accepted, full_nonce}
 use Rattle.fe2o3_sasl_core.specs.TwoSides.{Sides, Histories, Takes, Shows, HasParts, proof_at}
 use Rattle.fe2o3_sasl_core.specs.Verdicts.{Agreed, JudgesVerifier, JudgesProof}
 use Rattle.fe2o3_sasl_core.specs.UnalteredRuns.{UnalteredRun, Suffices, HoldsLogin}
-use Rattle.fe2o3_sasl_core.specs.declared.sasl_profile.error.ProfileError.TheVariants.{Frame}
 
 -- ---- the client and the server
 
@@ -61,7 +60,7 @@ stored = record_of Sha256 (codes "pencil") salt 4096
 
 -- a provider with that record alone
 abbrev pub provider : Provider
-provider = record { version = Sha256; records = (codes "user", stored) ∷ []; cbind_flag_y = false }
+provider = serving false (record { version = Sha256; records = (codes "user", stored) ∷ [] })
 
 -- ---- messages
 
@@ -121,10 +120,6 @@ verifier answer = codes "v=" ++ base64_text (answer_at login answer).signature
 abbrev pub sends_ok : Answering → SaslFrame
 sends_ok answer = frames.Outcome outcomes.Ok (Some (verifier answer))
 
--- the outcome Auth
-abbrev pub sends_auth : SaslFrame
-sends_auth = frames.Outcome outcomes.Auth None
-
 -- the body of a frame
 abbrev pub body_of : SaslFrame → List ℕ
 body_of frame = carried [] (λ body. body) (canonical frame)
@@ -132,10 +127,6 @@ body_of frame = carried [] (λ body. body) (canonical frame)
 -- a frame that arrives in its body, with these bytes for a nonce
 abbrev pub event_of : List ℕ → SaslFrame → Given
 event_of nonce frame = record { body = body_of frame; nonce = nonce }
-
--- nothing in place of a body
-abbrev pub silent : List ℕ → Given
-silent nonce = record { body = []; nonce = nonce }
 
 -- ---- a login to which somebody on the way may add
 
@@ -237,21 +228,3 @@ pub record IsShifted (sides : Sides) (answer : Answering) (accepted : Accepted) 
 -- agreement on more than user name and client nonce cannot be had where the init has five parts
 abbrev pub ShiftedTextsPass : Type 0
 ShiftedTextsPass = IsShifted (sides_with shifted) (answer_to shifted) (accepted_with shifted)
-
--- ---- a login that is refused
-
--- the server knows no user and says so, the client reports it, and whatever comes after is no body
-abbrev pub refused_sides : Sides
-refused_sides = record {
-  login = login;
-  client_events = event_of client_bytes offers ∷ event_of client_bytes sends_auth ∷ silent client_bytes ∷ [];
-  client_replies = Started (body_of (sends_init (joined (names (codes "user"))))) ∷ Reported outcomes.Auth None
-      ∷ Refused (Frame (fault_of [])) ∷ [];
-  provider = record { version = Sha256; records = []; cbind_flag_y = false };
-  server_events = event_of server_bytes (sends_init (joined (names (codes "user")))) ∷ silent server_bytes ∷ [];
-  server_replies = Concluded outcomes.Auth (body_of sends_auth) ∷ Failed (fault_of []) ∷ [];
-}
-
--- it is an unaltered run too: no reply is premised to send a body
-abbrev pub RefusalsAreUnaltered : Type 0
-RefusalsAreUnaltered = UnalteredRun refused_sides × Histories refused_sides

@@ -5,7 +5,7 @@ use Rattle.fe2o3_sasl_wire.specs.declared.sasl_frames.error.Error.TheVariants as
 use Rattle.fe2o3_sasl_wire.specs.SaslFrames as frames
 use Rattle.fe2o3_scram.specs.ClientFinal.{ClientFinal, HasProof}
 use Rattle.fe2o3_scram.specs.ClientFirst.{ReadsClientFirst, client_first_values}
-use Rattle.fe2o3_scram.specs.Credentials.{Provider, record_at, kept}
+use Rattle.fe2o3_scram.specs.Credentials.{Provider, kept}
 use Rattle.fe2o3_scram.specs.ServerFirst.{challenge_of, challenge_values}
 use Rattle.fe2o3_scram.specs.Texts.{base64_text}
 use Rattle.fe2o3_sasl.specs.declared.audit.server_receipts.challenges.Opened.{Opened}
@@ -46,7 +46,7 @@ pub record OpenedFor (provider : Provider) (init : Given) (challenge : Challengi
   pub hostname : Option (List ℕ)
   pub spells : SpellsBody init.body (Ok (frames.Init mechanism (Some text) hostname))
   pub reads : ReadsClientFirst provider.cbind_flag_y text (Ok challenge.client)
-  pub known : record_at provider.records challenge.client.user ≡ Some challenge.stored
+  pub known : provider.records challenge.client.user ≡ Some challenge.stored
   pub nonce : challenge.nonce ≡ base64_text init.nonce
 
 -- a receipt that was made of the body of a response to this challenge

@@ -6,3 +6,4 @@ pub mod ProfileReplyLemmas
 pub mod WrittenReplyLemmas
 pub mod WrittenStepLemmas
 pub mod CostLemmas
+pub mod StepLawLemmas

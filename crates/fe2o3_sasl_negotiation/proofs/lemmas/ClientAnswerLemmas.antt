@@ -1,12 +1,11 @@
 -- What a client answers.
-use Rattle.std.proofs.Common.{◌≡◌, ℕ, Option, Some, None, List, ◌++◌, drop, refl, ap, inl, inr, Result, Ok, Err, IfOk}
+use Rattle.std.proofs.Common.{◌≡◌, ℕ, Option, Some, None, List, ◌++◌, drop, refl, sym, ap, subst, inl, inr, Result, Ok, Err, IfOk}
 use Rattle.fe2o3_sasl_core.specs.Costs.{ProfileStepCosts}
 use Rattle.fe2o3_sasl_core.specs.Events.{Given, ClientSays, Refused}
 use Rattle.fe2o3_sasl_core.specs.Profiles.{Profile}
 use Rattle.fe2o3_sasl_core.specs.Runs.{ProfileSteps}
 use Rattle.fe2o3_sasl_core.specs.declared.events.ClientReply.{ClientReply}
 use Rattle.fe2o3_sasl_core.specs.declared.sasl_profile.error.ProfileError.{ProfileError}
-use Rattle.fe2o3_sasl_negotiation.specs.declared.framing.Arrived.TheVariants.{Whole}
 use Rattle.fe2o3_sasl_negotiation.specs.declared.framing.Step.{Step}
 use Rattle.fe2o3_sasl_negotiation.specs.declared.progress.CloseReason.{CloseReason}
 use Rattle.fe2o3_sasl_negotiation.specs.declared.progress.Expected.{Expected}
@@ -14,13 +13,15 @@ use Rattle.fe2o3_sasl_negotiation.specs.declared.progress.Expected.TheVariants.{
 use Rattle.fe2o3_sasl_negotiation.specs.declared.progress.Progress.{Progress}
 use Rattle.fe2o3_sasl_negotiation.specs.declared.progress.Progress.TheVariants.{InProgress}
 use Rattle.fe2o3_sasl_negotiation.specs.declared.progress.FrameKind.{FrameKind}
-use Rattle.fe2o3_sasl_negotiation.specs.Negotiations.{closes}
-use Rattle.fe2o3_sasl_negotiation.specs.ClientNegotiation.{ClientOutputs, ClientReplies, ClientReplyCosts, ClientUnitCosts, ClientCosts}
-use Rattle.fe2o3_sasl_negotiation.specs.private.Units.{Appends, Screens, TakesUnit}
+use Rattle.fe2o3_sasl_negotiation.specs.Negotiations.{Side, closes}
+use Rattle.fe2o3_sasl_negotiation.specs.ClientNegotiation.{ClientOutputs, ClientReplies, ClientReplyCosts, ClientCosts}
+use Rattle.fe2o3_sasl_negotiation.specs.private.Units.{Appends, CompletesUnit, Screens}
+use Rattle.fe2o3_sasl_negotiation.specs.Connections.{SpellsTurn}
+use Rattle.fe2o3_sasl_negotiation.proofs.lemmas.ReceivingLemmas.{completes_body}
 
 -- what closes before the profile is asked
 pub screened : (hostname : Option (List ℕ)) (turn : FrameKind) (state : Profile)
-    (event : Given) (why : CloseReason) → Screens turn event.body (Some why)
+    (event : Given) (why : CloseReason) → Screens turn event.body (Err why)
     → ClientReplies hostname turn state event (closes why (Frame turn)) state
 screened hostname turn state event why (inl (fault, spells, is)) =
     (Err fault, spells, (ap (λ (w : CloseReason). closes w (Frame turn)) is, refl))
@@ -29,7 +30,7 @@ screened hostname turn state event why (inr (frame, spells, out, is)) =
 
 -- what the profile says
 pub asked : (hostname : Option (List ℕ)) (turn : FrameKind) (state next : Profile)
-    (event : Given) (says : ClientSays) (old new : List ℕ) (step : Step) → Screens turn event.body None
+    (event : Given) (says : ClientSays) (old new : List ℕ) (step : Step) → SpellsTurn turn event.body
     → ProfileSteps hostname state event says next → Appends (ClientOutputs says turn) old new step
     → Appends (λ answer. ClientReplies hostname turn state event answer next) old new step
 asked hostname turn state next event says old new step (frame, spells, in_turn) steps (sent, appended, holds) =
@@ -38,7 +39,7 @@ asked hostname turn state next event says old new step (frame, spells, in_turn) 
 -- and what it refuses
 pub asked_in_vain : {E : Type 0} (hostname : Option (List ℕ)) (turn : FrameKind)
     (state next : Profile) (event : Given) (fault : ProfileError) (old : List ℕ) (result : Result Step E)
-    → Screens turn event.body None → ProfileSteps hostname state event (Refused fault) next
+    → SpellsTurn turn event.body → ProfileSteps hostname state event (Refused fault) next
     → IfOk result (λ step. (out : List ℕ) → Appends (ClientOutputs (Refused fault) turn) out out step)
     → IfOk result (λ step. Appends (λ answer. ClientReplies hostname turn state event answer next) old old step)
 asked_in_vain hostname turn state next event fault old (Ok step) screens steps says =
@@ -47,18 +48,22 @@ asked_in_vain hostname turn state next event fault old (Err failed) screens step
 
 -- what the profile's step costs
 pub asked_costs : (turn : FrameKind) (state : Profile) (event : Given)
-    (reply : Result ClientReply ProfileError) (before after : ℕ) → Screens turn event.body None
+    (reply : Result ClientReply ProfileError) (before after : ℕ) → SpellsTurn turn event.body
     → ProfileStepCosts state event reply before after
     → ClientReplyCosts turn state event before after
 asked_costs turn state event reply before after (frame, spells, in_turn) costs =
     inr (frame, reply, spells, in_turn, costs)
 
--- what an answer to a unit costs, the call costs that completes it
-pub unit_costs : (progress : Progress) (expected : Expected) (limit : ℕ)
-    (held bytes nonce kept : List ℕ) (state : Profile) (before after : ℕ) → progress ≡ InProgress
-    → TakesUnit expected limit (held ++ bytes) Whole kept → ClientUnitCosts expected state nonce kept before after
-    → ClientCosts (record { progress = progress; expected = expected; limit = limit; held = held; state = state }) bytes nonce
-    before after
-unit_costs progress Header limit held bytes nonce kept state before after wanting takes costs = inl costs
-unit_costs progress (Frame turn) limit held bytes nonce kept state before after wanting takes costs =
-    inr (turn, drop 4 kept, (wanting, refl, takes.0, ap (drop 4) takes.1), costs)
+-- what an answer to a frame costs, the call costs that completes it
+pub unit_costs : (side : Side Profile) (bytes nonce : List ℕ) (turn : FrameKind) (unit : List ℕ) (state : Profile)
+    (before after : ℕ) → CompletesUnit side bytes (Frame turn) unit → side.state ≡ state
+    → ClientReplyCosts turn state (record { body = drop 4 unit; nonce = nonce }) before after
+    → ClientCosts side bytes nonce before after
+unit_costs side bytes nonce turn unit state before after completes same costs =
+    inr (
+      turn,
+      drop 4 unit,
+      completes_body side bytes turn unit completes,
+      subst (λ (s : Profile). ClientReplyCosts turn s (record { body = drop 4 unit; nonce = nonce }) before after) (sym same)
+          costs,
+    )

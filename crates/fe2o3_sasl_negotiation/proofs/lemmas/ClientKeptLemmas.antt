@@ -1,5 +1,5 @@
 -- A client's progress and what is expected to it, after an answer to a unit.
-use Rattle.std.proofs.Common.{◌≡◌, ◌≢◌, ℕ, Option, Some, None, List, [], drop, IsTrue, refl, sym, ◌∙◌, subst, inl, inr, Result, Ok, Err}
+use Rattle.std.proofs.Common.{◌≡◌, ◌≢◌, ℕ, Option, Some, None, List, [], drop, IsTrue, refl, sym, ◌∙◌, subst, inl, inr, Result, Ok, Err, IfOk}
 use Rattle.fe2o3_sasl_wire.specs.declared.amqp_types.SaslCode.{SaslCode}
 use Rattle.fe2o3_sasl_wire.specs.declared.amqp_types.SaslCode.TheVariants as outcomes
 use Rattle.fe2o3_sasl_wire.specs.declared.sasl_frames.error.Error.{Error}
@@ -21,7 +21,7 @@ use Rattle.fe2o3_sasl_negotiation.specs.declared.progress.Progress.TheVariants.{
 use Rattle.fe2o3_sasl_negotiation.specs.declared.progress.FrameKind.{FrameKind}
 use Rattle.fe2o3_sasl_negotiation.specs.declared.progress.FrameKind.TheVariants as turns
 use Rattle.fe2o3_sasl_negotiation.specs.Negotiations.{SideOutput, closes, Sends, IsInTurn}
-use Rattle.fe2o3_sasl_negotiation.specs.ClientNegotiation.{ClientOutputs, ClientReplies, ClientSideAnswers}
+use Rattle.fe2o3_sasl_negotiation.specs.ClientNegotiation.{ClientOpens, ClientOutputs, ClientReplies, ClientSideAnswers}
 use Rattle.fe2o3_sasl_negotiation.specs.Snapshot.{client_due, outcome_due, client_fits}
 use Rattle.fe2o3_sasl_negotiation.specs.private.Units.{Appends}
 use Rattle.fe2o3_sasl_negotiation.proofs.lemmas.KeptLemmas.{unread_is_no_memory}
@@ -37,6 +37,16 @@ sent_at_client : (body : List ℕ) (expected : Expected) (answer : SideOutput) �
 sent_at_client body expected answer holds after (inl (fits, is)) =
     at_client answer (record { sent = _; progress = InProgress; expected = expected }) is holds
 sent_at_client body expected answer holds after (inr (long, is)) = at_client answer (closes ReplyTooLarge expected) is after
+
+-- a client that has had a header
+pub opened_at_client : (header out : List ℕ) (step : Step) → Appends (ClientOpens header) out out step
+    → IsTrue (client_fits step.progress step.expected)
+opened_at_client header out step (sent, appended, inl (other, is)) =
+    at_client (record { sent = sent; progress = step.progress; expected = step.expected })
+    (closes ProtocolHeaderMismatch Header) is refl
+opened_at_client header out step (sent, appended, inr (sasl, is)) =
+    at_client (record { sent = sent; progress = step.progress; expected = step.expected })
+    (record { sent = []; progress = InProgress; expected = Frame turns.Mechanisms }) is refl
 
 -- a client that closes at a frame for a fault of its body
 unread_at_client : (fault : Error) (turn : FrameKind) → fault ≢ faults.OutOfMemory → IsTrue (client_due (Frame turn))
@@ -157,11 +167,12 @@ module _ (hostname : Option (List ℕ)) where
       replied_at_client turn profile next (record { body = drop 4 unit; nonce = nonce }) answer is answers
 
   -- and so does what it appends
-  pub client_stays : (progress : Progress) (expected : Expected) (profile next : Profile) (nonce unit old new : List ℕ)
-      (step : Step) → progress ≡ InProgress → IsTrue (client_fits progress expected)
-      → Appends (λ answer. ClientSideAnswers hostname expected profile nonce unit answer next) old new step
-      → IsTrue (client_fits step.progress step.expected)
-  client_stays progress expected profile next nonce unit old new step wanting holds (sent, appended, answers) =
+  pub client_stays : {E : Type 0} (expected : Expected) (profile next : Profile) (nonce unit old new : List ℕ)
+      (result : Result Step E)
+      → IfOk result (λ step.
+      Appends (λ answer. ClientSideAnswers hostname expected profile nonce unit answer next) old new step)
+      → IfOk result (λ step. IsTrue (client_fits InProgress expected) → IsTrue (client_fits step.progress step.expected))
+  client_stays expected profile next nonce unit old new (Ok step) (sent, appended, answers) = λ fits.
       answered_at_client expected profile next nonce unit
-      (record { sent = sent; progress = step.progress; expected = step.expected })
-      (subst (λ (s : Progress). IsTrue (client_fits s expected)) wanting holds) answers
+      (record { sent = sent; progress = step.progress; expected = step.expected }) fits answers
+  client_stays expected profile next nonce unit old new (Err fault) appends = tt

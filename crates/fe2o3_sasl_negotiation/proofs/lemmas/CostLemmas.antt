@@ -61,6 +61,25 @@ module _ {S : Type 0} (Answers : Expected → S → List ℕ → List ℕ → Si
           let rest : after ≡ between = done_calls ends calls next (drop taken stream) between after done others in
           (omega (arith, least, rest), omega (arith, bound, rest))
 
+module _ {S : Type 0} (Answers : Expected → S → List ℕ → List ℕ → SideOutput → S → Type 0)
+    (Costs : Side S → List ℕ → List ℕ → ℕ → ℕ → Type 0) (MayCost : Side S → ℕ → Type 0) where
+  -- a call to a side that may cost so many takes what it costs from them
+  abbrev pub PaidSteps : Type 0
+  PaidSteps = (side next : Side S) (bytes nonce sent : List ℕ) (taken before after may : ℕ) → MayCost side may
+      → Receives Answers side bytes nonce taken sent next → Costs side bytes nonce before after
+      → (less : ℕ) × MayCost next less × (before ≤ after) × (after + less ≤ before + may)
+
+  pub paid_calls : PaidSteps → (calls : List Call) (side : Side S) (stream : List ℕ) (before after may : ℕ)
+      → MayCost side may → MeteredCalls Answers Costs side calls stream before after
+      → (before ≤ after) × (after ≤ before + may)
+  paid_calls steps [] side stream before after may costs_so same = none before after may same
+  paid_calls steps (call ∷ calls) side stream before after may costs_so
+      (taken, sent, next, between, receives, costs, others) =
+      let (less, still, least, bound) = steps side next (take call.handed stream) call.nonce sent taken before between may
+      costs_so receives costs in
+      let (more, total) = paid_calls steps calls next (drop taken stream) between after less still others in
+      (omega (arith, least, more), omega (arith, bound, total))
+
 module _ {S : Type 0} (Answers : Expected → S → List ℕ → List ℕ → SideOutput → S → Type 0) where
   -- a side at its end rests
   pub rests : (progress : Progress) (side next : Side S) (bytes nonce sent : List ℕ) (taken : ℕ)

@@ -1,5 +1,5 @@
 -- A side's progress and what is expected to it, after an answer to a unit.
-use Rattle.std.proofs.Common.{◌≡◌, ◌≢◌, ℕ, Option, Some, None, List, length, drop, nat_lt, slice_index, ◌==◌, ◌&&◌, if◌then◌else◌, Bool, true, false, IsTrue, refl, sym, ◌∙◌, subst, inl, inr, Ok, Err}
+use Rattle.std.proofs.Common.{◌≡◌, ◌≢◌, ℕ, Option, Some, None, List, length, drop, nat_lt, slice_index, ◌==◌, ◌&&◌, if◌then◌else◌, Bool, true, false, IsTrue, refl, sym, ◌∙◌, subst, inl, inr, Result, Ok, Err, IfOk}
 use Rattle.fe2o3_sasl_wire.specs.declared.amqp_types.SaslCode.TheVariants as outcomes
 use Rattle.fe2o3_sasl_wire.specs.declared.sasl_frames.error.Error.{Error}
 use Rattle.fe2o3_sasl_wire.specs.declared.sasl_frames.error.Error.TheVariants as faults
@@ -113,11 +113,11 @@ module _ {S : Type 0} (names : S → List (List ℕ)) (machine : S → List ℕ 
       replied_at_server turn state next (record { body = drop 4 unit; nonce = nonce }) answer is answers
 
   -- and so does what it appends
-  pub server_stays : (progress : Progress) (expected : Expected) (state next : S) (nonce unit old new : List ℕ) (step : Step)
-      → progress ≡ InProgress → IsTrue (server_fits progress expected)
-      → Appends (λ answer. ServerSideAnswers names machine expected state nonce unit answer next) old new step
-      → IsTrue (server_fits step.progress step.expected)
-  server_stays progress expected state next nonce unit old new step wanting holds (sent, appended, answers) =
+  pub server_stays : {E : Type 0} (expected : Expected) (state next : S) (nonce unit old new : List ℕ) (result : Result Step E)
+      → IfOk result (λ step.
+      Appends (λ answer. ServerSideAnswers names machine expected state nonce unit answer next) old new step)
+      → IfOk result (λ step. IsTrue (server_fits InProgress expected) → IsTrue (server_fits step.progress step.expected))
+  server_stays expected state next nonce unit old new (Ok step) (sent, appended, answers) = λ fits.
       answered_at_server expected state next nonce unit
-      (record { sent = sent; progress = step.progress; expected = step.expected })
-      (subst (λ (s : Progress). IsTrue (server_fits s expected)) wanting holds) answers
+      (record { sent = sent; progress = step.progress; expected = step.expected }) fits answers
+  server_stays expected state next nonce unit old new (Err fault) appends = tt

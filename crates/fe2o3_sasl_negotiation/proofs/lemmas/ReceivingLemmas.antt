@@ -1,5 +1,5 @@
 -- What a call makes of the bytes that it is handed, whatever the machine is.
-use Rattle.std.proofs.Common.{◌≡◌, ℕ, ◌-◌, ◌<◌, ◌≤◌, List, [], ◌++◌, length, take, refl, sym, ap, ◌∙◌, subst, inl, inr, arith, Result, Ok, Err, IfOk}
+use Rattle.std.proofs.Common.{◌≡◌, ℕ, ◌-◌, ◌<◌, ◌≤◌, List, [], ◌++◌, length, take, drop, refl, sym, ap, ◌∙◌, subst, inl, inr, arith, Result, Ok, Err, IfOk, OnErr}
 use Rattle.std.proofs.lemmas.List.{append-nil, length-take-le, take-take, take_at}
 use Rattle.fe2o3_sasl_negotiation.specs.declared.framing.Arrived.TheVariants.{Part, Refused, Whole}
 use Rattle.fe2o3_sasl_negotiation.specs.declared.framing.Step.{Step}
@@ -7,13 +7,24 @@ use Rattle.fe2o3_sasl_negotiation.specs.declared.progress.CloseReason.{CloseReas
 use Rattle.fe2o3_sasl_negotiation.specs.declared.progress.CloseReason.TheVariants.{FrameSize}
 use Rattle.fe2o3_sasl_negotiation.specs.declared.progress.Expected.{Expected}
 use Rattle.fe2o3_sasl_negotiation.specs.declared.progress.Expected.TheVariants.{Header, Frame}
+use Rattle.fe2o3_sasl_negotiation.specs.declared.progress.FrameKind.{FrameKind}
 use Rattle.fe2o3_sasl_negotiation.specs.declared.progress.Received.{Received}
 use Rattle.fe2o3_sasl_negotiation.specs.declared.progress.Progress.{Progress}
 use Rattle.fe2o3_sasl_negotiation.specs.declared.progress.Progress.TheVariants.{InProgress, Authenticated, Failed}
 use Rattle.fe2o3_sasl_negotiation.specs.Framing.{unit_size, IsPart, IsRefused, IsWhole}
-use Rattle.fe2o3_sasl_negotiation.specs.Negotiations.{Side, SideOutput, closes, Receives, ReceivesAt}
-use Rattle.fe2o3_sasl_negotiation.specs.private.Units.{TakesUnit, Appends}
+use Rattle.fe2o3_sasl_negotiation.specs.Negotiations.{Side, SideOutput, closes, Receives, ReceivesAt, Completes}
+use Rattle.fe2o3_sasl_negotiation.specs.private.Units.{TakesUnit, Appends, CompletesUnit}
 use Rattle.fe2o3_sasl_negotiation.proofs.lemmas.FramingLemmas.{part_is_short, part_is_shorter, refused_is_short}
+
+-- a call that completes a frame completes its body
+pub completes_body : {S : Type 0} (side : Side S) (bytes : List ℕ) (turn : FrameKind) (unit : List ℕ)
+    → CompletesUnit side bytes (Frame turn) unit → Completes side bytes turn (drop 4 unit)
+completes_body side bytes turn unit (going, expects, whole, is) = (going, expects, whole, ap (drop 4) is)
+
+-- what holds holds on an error
+pub on_error : {A E P : Type 0} (result : Result A E) → P → OnErr result P
+on_error (Ok value) holds = tt
+on_error (Err fault) holds = holds
 
 -- nothing is sent where a side closes
 pub closed_appends : (Answers : SideOutput → Type 0) (out : List ℕ) (why : CloseReason) (expected : Expected) (step : Step)
@@ -132,28 +143,20 @@ pub same_side : {S : Type 0} (progress : Progress) (expected : Expected) (limit 
 same_side progress expected limit same kept = λ i.
     record { progress = progress; expected = expected; limit = limit; held = same i; state = kept i }
 
--- a call to a side that wants bytes takes one at least
-pub moves : {S : Type 0} (Answers : Expected → S → List ℕ → List ℕ → SideOutput → S → Type 0) (side next : Side S)
-    (bytes nonce sent : List ℕ) (taken : ℕ) → IsPart side.expected side.limit side.held → 0 < length bytes
-    → ReceivesAt InProgress Answers side bytes nonce taken sent next → 0 < taken
-moves Answers side next bytes nonce sent taken part some (inl waits) =
-    let all : taken ≡ length bytes = waits.1.0 in omega (arith, all, some)
-moves Answers side next bytes nonce sent taken part some (inr (inl refused)) =
-    let few = refused_is_short side.expected side.limit side.held bytes part refused.0 in
-    let all : taken ≡ 4 - length side.held = refused.1.0 in omega (arith, few, all)
-moves Answers side next bytes nonce sent taken part some (inr (inr whole)) =
-    let short : length side.held < unit_size side.expected (side.held ++ bytes) =
-    part_is_shorter side.expected side.limit side.held bytes part whole.2 in
-    let all : taken ≡ unit_size side.expected (side.held ++ bytes) - length side.held = whole.4.0 in
-    omega (arith, short, all)
+-- a call takes one byte at least where it completes a size that is refused, or a unit
+pub refused_moves : (expected : Expected) (limit : ℕ) (held bytes kept : List ℕ) (had taken : ℕ) → IsPart expected limit held
+    → TakesUnit expected limit (held ++ bytes) Refused kept → had ≡ length held → taken ≡ length kept - had → 0 < taken
+refused_moves expected limit held bytes kept had taken part takes held_before is =
+    let few = refused_is_short expected limit held bytes part takes.0 in
+    let four : length kept ≡ 4 =
+    ap length takes.1 ∙ length-take-le 4 (held ++ bytes) (refused_four expected limit (held ++ bytes) takes.0) in
+    omega (arith, few, four, held_before, is)
 
--- the same of what a call answers
-pub moves_on : {S E : Type 0} (Answers : Expected → S → List ℕ → List ℕ → SideOutput → S → Type 0) (side next : Side S)
-    (bytes nonce old new : List ℕ) (result : Result Received E) → IsPart side.expected side.limit side.held
-    → IfOk result (λ received. (sent : List ℕ) × (new ≡ old ++ sent)
-    × Receives Answers side bytes nonce received.taken sent next)
-    → IfOk result (λ received. side.progress ≡ InProgress → 0 < length bytes → 0 < received.taken)
-moves_on Answers side next bytes nonce old new (Ok received) part (sent, appended, receives) = λ wants some.
-    moves Answers side next bytes nonce sent received.taken part some
-    (subst (λ (s : Progress). ReceivesAt s Answers side bytes nonce received.taken sent next) wants receives)
-moves_on Answers side next bytes nonce old new (Err fault) part receives = tt
+pub whole_moves : (expected : Expected) (limit : ℕ) (held bytes kept : List ℕ) (had taken : ℕ) → IsPart expected limit held
+    → TakesUnit expected limit (held ++ bytes) Whole kept → had ≡ length held → taken ≡ length kept - had → 0 < taken
+whole_moves expected limit held bytes kept had taken part takes held_before is =
+    let short : length held < unit_size expected (held ++ bytes) = part_is_shorter expected limit held bytes part takes.0 in
+    let all : length kept ≡ unit_size expected (held ++ bytes) =
+    ap length takes.1 ∙ length-take-le (unit_size expected (held ++ bytes)) (held ++ bytes)
+    (whole_within expected limit (held ++ bytes) takes.0) in
+    omega (arith, short, all, held_before, is)

@@ -1,15 +1,17 @@
--- A profile that refuses is as it was.
+-- A profile that refuses is as it was, and so is an acceptor.
 use Rattle.std.proofs.Common.{◌≡◌, ℕ, Option, Some, None, List, ap, ◌∙◌, inl, inr, Result, Ok, Err}
 use Rattle.fe2o3_sasl_wire.specs.declared.amqp_types.SaslCode.TheVariants as outcomes
+use Rattle.fe2o3_sasl_wire.specs.declared.sasl_frames.error.Error.{Error}
 use Rattle.fe2o3_sasl_wire.specs.declared.sasl_frames.error.Error.TheVariants as faults
 use Rattle.fe2o3_sasl_wire.specs.SaslFrames.{canonical, SaslFrame}
 use Rattle.fe2o3_sasl_wire.specs.SaslFrames as frames
 use Rattle.fe2o3_scram.specs.declared.scram_messages.error.ScramErrorKind.{ScramErrorKind}
 use Rattle.fe2o3_scram.specs.ScramClient.{ClientSide, ClientState, AnswersIn, VerifiesIn}
 use Rattle.fe2o3_scram.specs.ScramClient as client_states
-use Rattle.fe2o3_sasl_core.specs.Events.{Given, ClientSays, Started, Answered, Refused}
+use Rattle.fe2o3_sasl_core.specs.Events.{Given, Failed, ClientSays, Started, Answered, Refused}
+use Rattle.fe2o3_sasl_core.specs.Bodies.{carried, server_says}
 use Rattle.fe2o3_sasl_core.specs.Profiles.{Profile, ScramProfile, PlainProfile, AnonymousProfile, ExternalProfile, client_frame, profile_machine}
-use Rattle.fe2o3_sasl_core.specs.Runs.{SendsCanonical, Replies, ProfileSteps}
+use Rattle.fe2o3_sasl_core.specs.Runs.{SendsCanonical, AcceptorAnswers, AcceptorGives, AcceptorSteps, Replies, ProfileSteps}
 use Rattle.fe2o3_sasl_core.specs.declared.sasl_profile.error.ProfileError.{ProfileError}
 use Rattle.fe2o3_sasl_core.specs.declared.sasl_profile.error.ProfileError.TheVariants.{Frame}
 
@@ -111,3 +113,30 @@ step_refused hostname profile next event fault (Err kind, spells, gives) = gives
 step_refused hostname profile next event fault (Ok frame, spells, inl wants) = wants.2
 step_refused hostname profile next event fault (Ok frame, spells, inr gives) =
     reply_refused profile gives.1 next hostname event.nonce frame gives.0 fault gives.2 gives.3
+
+-- an acceptor whose step fails
+pub acceptor_refused : {S : Type 0} (machine : S → List ℕ → SaslFrame → SaslFrame → S → Type 0) (state next : S)
+    (event : Given) (fault : Error) → AcceptorSteps machine state event (Failed fault) next → next ≡ state
+acceptor_refused {S} machine state next event fault (spelled, spells, gives) = given spelled gives
+  where
+    sent : (reply : SaslFrame) (moved : S) (body : Option (List ℕ))
+        → Failed fault ≡ carried (Failed faults.TooLarge) (server_says reply) body
+        → next ≡ carried state (λ _. moved) body → next ≡ state
+    sent reply moved None says after = after
+    sent (frames.Mechanisms names) moved (Some body) says after = absurd (cc)
+    sent (frames.Init mechanism response hostname) moved (Some body) says after = absurd (cc)
+    sent (frames.Challenge text) moved (Some body) says after = absurd (cc)
+    sent (frames.Response text) moved (Some body) says after = absurd (cc)
+    sent (frames.Outcome code more) moved (Some body) says after = absurd (cc)
+
+    answered : (frame : SaslFrame) → AcceptorAnswers machine state event.nonce frame (Failed fault) next → next ≡ state
+    answered frame (inl (memory, same)) = same
+    answered frame (inr (reply, moved, runs, (says, after))) = sent reply moved (canonical reply) says after
+
+    given : (spelled : Result SaslFrame Error) → AcceptorGives machine state event spelled (Failed fault) next → next ≡ state
+    given (Err other) gives = gives.1
+    given (Ok (frames.Mechanisms names)) gives = gives.1
+    given (Ok (frames.Challenge text)) gives = gives.1
+    given (Ok (frames.Outcome code more)) gives = gives.1
+    given (Ok (frames.Init mechanism response hostname)) gives = answered (frames.Init mechanism response hostname) gives
+    given (Ok (frames.Response text)) gives = answered (frames.Response text) gives

@@ -8,7 +8,6 @@ pub mod FittingKeyLemmas
 pub mod KeptKeyLemmas
 pub mod LineListLemmas
 pub mod LoginLemmas
-pub mod MemoryExampleLemmas
 pub mod MixedLinesLemmas
 pub mod OneValueLemmas
 pub mod PreparedLemmas

@@ -60,11 +60,7 @@ impl Shape {
     }
 
     /// Returns the server of these users, with mock records by a secret.
-    pub fn hide(
-        self,
-        users: RecordStore,
-        secret: Vec<u8>,
-    ) -> HidingAuthenticator<RecordStore>
+    pub fn hide(self, users: RecordStore, secret: Vec<u8>) -> HidingAuthenticator<RecordStore>
         requires { self.salt_len ≤ 64 }
         ensures secret { result.mock.secret ≡ secret.items }
         ensures salt_len { result.mock.salt_len ≡ self.salt_len }

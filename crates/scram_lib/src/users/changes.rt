@@ -7,7 +7,7 @@ use crate::users::lines::UserLine;
 use fe2o3_scram::ScramVersion;
 use std::alloc::Global;
 
-/// A line that is put in the place of the first with its name and mechanism, or behind all.
+/// A line that replaces the first with its name and mechanism, or is added after all.
 #[derive(Drop)]
 pub struct Put {
     /// The line, with its line feed.
@@ -74,7 +74,7 @@ impl Change for Taken {
             }
         }
         if kept.len() == text.len() {
-            return Err(Stop::MockSettings);
+            return Err(Stop::NoSuchRecord);
         }
         Ok(Changed {
             text: kept,

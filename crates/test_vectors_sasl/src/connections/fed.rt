@@ -1,9 +1,10 @@
-//! A stream of bytes that is handed in in pieces.
+//! A stream of bytes that is passed in pieces.
 
-use crate::connections::sides::{Play, Side};
+use crate::connections::sides::{Play, SaysUser, say_progress};
 use crate::rows::Row;
 use bytes::BytesMut;
-use fe2o3_sasl_negotiation::Progress;
+use fe2o3_sasl::hmac::Meter;
+use fe2o3_sasl_negotiation::{ConnectionSide, Endpoint, Progress, Role};
 use std::alloc::Global;
 
 /// A stream, and what came of it.
@@ -24,7 +25,7 @@ pub struct Fed<'a> {
 }
 
 impl<'a> Fed<'a> {
-    /// A stream that is handed in in pieces which end at these places, each with this nonce.
+    /// Makes a stream that is passed in pieces which end at these places, each with this nonce.
     pub fn new(alloc: Global, stream: &'a [u8], ends: &'a [usize], nonce: &'a [u8; 32]) -> Fed<'a> {
         Fed {
             stream,
@@ -36,18 +37,24 @@ impl<'a> Fed<'a> {
         }
     }
 
-    /// Hands a piece in, until all of it is taken or the side is at its end.
-    fn hand_in<S: Side>(&mut self, row: &mut Row<'_>, side: &mut S, piece: &[u8]) {
+    /// Passes a piece, until all of it is taken or the side has ended.
+    fn pass<E: Endpoint<R>, R: Role>(
+        &mut self,
+        row: &mut Row<'_>,
+        side: &mut ConnectionSide<E, R>,
+        piece: &[u8],
+    ) {
         let mut left = piece;
         for _ in 0..=piece.len() {
-            let received = match side.take(row.alloc, left, self.nonce, &mut self.sent) {
+            let meter = &mut Meter::new();
+            let received = match side.receive(row.alloc, left, self.nonce, meter, &mut self.sent) {
                 Ok(received) => received,
                 Err(error) => return row.refuse(error),
             };
             self.calls = self.calls.saturating_add(1);
             self.taken = self.taken.saturating_add(received.taken);
             let Some(rest) = left.get(received.taken..) else {
-                return row.refuse("more is taken than was handed in");
+                return row.refuse("more is taken than was passed");
             };
             left = rest;
             if left.is_empty() || received.progress != Progress::InProgress {
@@ -58,17 +65,23 @@ impl<'a> Fed<'a> {
 }
 
 impl Play for Fed<'_> {
-    /// Hands all in, and says how the side stands then.
-    fn play<S: Side>(&mut self, row: &mut Row<'_>, side: &mut S) {
+    /// Passes all, and says the progress after that.
+    fn play<E, R>(&mut self, row: &mut Row<'_>, side: &mut ConnectionSide<E, R>)
+    where
+        E: Endpoint<R>,
+        R: Role,
+        ConnectionSide<E, R>: SaysUser,
+    {
         let (stream, ends) = (self.stream, self.ends);
         let mut start = 0usize;
         for end in ends {
             match stream.get(start..*end) {
-                Some(piece) => self.hand_in(row, side, piece),
+                Some(piece) => self.pass(row, side, piece),
                 None => row.refuse("no such piece"),
             }
             start = *end;
         }
-        side.say_progress(row);
+        say_progress(row, side.progress());
+        side.say_user(row);
     }
 }

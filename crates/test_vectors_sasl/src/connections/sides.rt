@@ -1,48 +1,26 @@
-//! Both sides of a connection as one: bytes in, bytes out, and words for how the side stands.
+//! The sides of a connection that a line names, and words for the progress of a side.
 
 use crate::rows::Row;
 use crate::runs::profiles::profile_of;
-use bytes::BytesMut;
 use fe2o3_sasl::credentials::{ScramRecord, UserRecord};
-use fe2o3_sasl::hmac::{Meter, ScramVersion};
+use fe2o3_sasl::hmac::ScramVersion;
 use fe2o3_sasl::passwords::Password;
 use fe2o3_sasl::sasl_acceptor::{AuthenticatedUser, SaslAnonymousMechanism, SaslPlainMechanism};
 use fe2o3_sasl::sasl_profile::ProfileError;
 use fe2o3_sasl::scram_server::ScramAuthenticator;
 use fe2o3_sasl_negotiation::{
-    ClientNegotiation, CloseReason, Progress, Received, ServerNegotiation,
+    ClientNegotiation, CloseReason, ConnectionSide, Endpoint, Progress, Role, ServerNegotiation,
 };
-use std::alloc::{AllocError, Global};
 use std::rc::Rc;
 
-/// A side of a connection.
-pub trait Side {
-    /// Hands bytes in.
-    fn take(
-        &mut self,
-        alloc: Global,
-        bytes: &[u8],
-        nonce: &[u8; 32],
-        out: &mut BytesMut,
-    ) -> Result<Received, AllocError>;
-
-    /// Says how it stands.
-    fn say_progress(&self, row: &mut Row<'_>);
+/// Says which user a side has authenticated, where it is a server.
+pub trait SaysUser {
+    /// Says it.
+    fn say_user(&self, row: &mut Row<'_>);
 }
 
-impl<A: AuthenticatedUser> Side for ServerNegotiation<A> {
-    fn take(
-        &mut self,
-        alloc: Global,
-        bytes: &[u8],
-        nonce: &[u8; 32],
-        out: &mut BytesMut,
-    ) -> Result<Received, AllocError> {
-        self.receive(alloc, bytes, nonce, &mut Meter::new(), out)
-    }
-
-    fn say_progress(&self, row: &mut Row<'_>) {
-        say(row, self.progress());
+impl<A: AuthenticatedUser> SaysUser for ServerNegotiation<A> {
+    fn say_user(&self, row: &mut Row<'_>) {
         match self.authenticated_user() {
             _ if self.progress() != Progress::Authenticated => {}
             Some(user) => row.say_bytes(user.as_bytes()),
@@ -51,24 +29,12 @@ impl<A: AuthenticatedUser> Side for ServerNegotiation<A> {
     }
 }
 
-impl Side for ClientNegotiation {
-    fn take(
-        &mut self,
-        alloc: Global,
-        bytes: &[u8],
-        nonce: &[u8; 32],
-        out: &mut BytesMut,
-    ) -> Result<Received, AllocError> {
-        self.receive(alloc, bytes, nonce, &mut Meter::new(), out)
-    }
-
-    fn say_progress(&self, row: &mut Row<'_>) {
-        say(row, self.progress());
-    }
+impl SaysUser for ClientNegotiation {
+    fn say_user(&self, _row: &mut Row<'_>) {}
 }
 
-/// Says how a side stands, and why it is closed.
-fn say(row: &mut Row<'_>, progress: Progress) {
+/// Says a progress, and why a negotiation has failed.
+pub fn say_progress(row: &mut Row<'_>, progress: Progress) {
     match progress {
         Progress::Failed(CloseReason::MalformedFrame(fault)) => {
             row.say(format_args!("MalformedFrame {fault:?}"));
@@ -93,7 +59,11 @@ fn say(row: &mut Row<'_>, progress: Progress) {
 /// What is done with a side that no connection has used.
 pub trait Play {
     /// Does it.
-    fn play<S: Side>(&mut self, row: &mut Row<'_>, side: &mut S);
+    fn play<E, R>(&mut self, row: &mut Row<'_>, side: &mut ConnectionSide<E, R>)
+    where
+        E: Endpoint<R>,
+        R: Role,
+        ConnectionSide<E, R>: SaysUser;
 }
 
 /// Plays with the side that a line names.

@@ -5,9 +5,6 @@ use Rattle.connection_laws.proofs.cuts.functions.Goals as goal
 pub returns-clause-acceptors : goal.returns-clause-acceptors
 returns-clause-acceptors g c = one_acceptor_reply
 
-pub returns-clause-mock : goal.returns-clause-mock
-returns-clause-mock g c = lemma.mock_is_function
-
 pub returns-clause-external : goal.returns-clause-external
 returns-clause-external g c = lemma.external_is_function
 

@@ -1,6 +1,4 @@
-use Rattle.fe2o3_sasl_core.specs.HidingAcceptor.{hiding_names, hiding_machine}
 use Rattle.connection_laws.proofs.lemmas.CutCallLemmas.{function_calls_end_equally, server_calls_end_equally, client_calls_end_equally}
-use Rattle.connection_laws.proofs.lemmas.FunctionLemmas.{mock_is_function}
 use Rattle.connection_laws.proofs.cuts.one_result.Goals as goal
 
 pub returns-clause-functions : goal.returns-clause-functions
@@ -8,9 +6,6 @@ returns-clause-functions g c = function_calls_end_equally g.A.SaslAcceptor.names
 
 pub returns-clause-acceptors : goal.returns-clause-acceptors
 returns-clause-acceptors g c = server_calls_end_equally
-
-pub returns-clause-mock : goal.returns-clause-mock
-returns-clause-mock g c = function_calls_end_equally hiding_names hiding_machine mock_is_function
 
 pub returns-clause-clients : goal.returns-clause-clients
 returns-clause-clients g c = client_calls_end_equally

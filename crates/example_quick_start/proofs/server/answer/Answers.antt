@@ -3,10 +3,10 @@ use Rattle.fe2o3_sasl_wire.specs.declared.amqp_types.SaslCode.{SaslCode}
 use Rattle.fe2o3_sasl_wire.specs.declared.amqp_types.SaslCode.TheVariants.{Ok as OkCode}
 use Rattle.fe2o3_scram.specs.HidingServer.{HidingServer, hiding_server}
 use Rattle.fe2o3_scram.specs.ScramServer.{logged_in}
-use Rattle.fe2o3_sasl.specs.Events.{ServerSays, Concluded}
-use Rattle.fe2o3_sasl.specs.HidingAcceptor.{hiding_machine}
-use Rattle.fe2o3_sasl.specs.Runs.{AcceptorSteps, given, server_reply}
-use Rattle.fe2o3_sasl.proofs.lemmas.steps.StepLawLemmas.{hidden_oks_log_in}
+use Rattle.fe2o3_sasl_core.specs.Events.{ServerSays, Concluded}
+use Rattle.fe2o3_sasl_core.specs.HidingAcceptor.{hiding_machine}
+use Rattle.fe2o3_sasl_core.specs.Runs.{AcceptorSteps, given, server_reply}
+use Rattle.fe2o3_sasl_core.proofs.lemmas.steps.StepLawLemmas.{hidden_oks_log_in}
 use Rattle.example_quick_start.proofs.server.answer.Goals as goal
 
 pub returns-in-Outcome : goal.returns-in-Outcome

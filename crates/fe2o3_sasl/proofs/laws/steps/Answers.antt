@@ -1,4 +1,4 @@
-use Rattle.fe2o3_sasl.proofs.lemmas.steps.StepLawLemmas.{oks_log_in, plain_oks_log_in, reported_oks_are_signed}
+use Rattle.fe2o3_sasl_core.proofs.lemmas.steps.StepLawLemmas.{oks_log_in, plain_oks_log_in, reported_oks_are_signed}
 use Rattle.fe2o3_sasl.proofs.laws.steps.Goals as goal
 
 pub returns-clause-server : goal.returns-clause-server

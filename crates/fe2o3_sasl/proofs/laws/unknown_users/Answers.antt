@@ -1,4 +1,4 @@
-use Rattle.fe2o3_sasl_core.proofs.lemmas.machines.UnknownUserLemmas.{salt_texts_differ, unknown_costs_as_mock, unknown_is_mock, unknown_is_mock_in_both}
+use Rattle.fe2o3_sasl_core.proofs.lemmas.machines.UnknownUserLemmas.{mock_record_is_met, salt_texts_differ, unknown_costs_as_mock, unknown_is_mock, unknown_is_mock_in_both}
 use Rattle.fe2o3_sasl.proofs.laws.unknown_users.Goals as goal
 
 pub returns-clause-one : goal.returns-clause-one
@@ -12,3 +12,6 @@ returns-clause-salts c = salt_texts_differ
 
 pub returns-clause-cost : goal.returns-clause-cost
 returns-clause-cost c = unknown_costs_as_mock
+
+pub returns-clause-met : goal.returns-clause-met
+returns-clause-met c = mock_record_is_met

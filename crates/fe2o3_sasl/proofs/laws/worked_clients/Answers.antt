@@ -1,14 +1,8 @@
-use Rattle.fe2o3_sasl.proofs.lemmas.examples.ExampleClientLemmas.{floors_refuse, hostnames_are_sent, keys_log_in, stale_keys_log_in_later}
+use Rattle.fe2o3_sasl.proofs.lemmas.examples.ExampleClientLemmas.{keys_log_in, stale_keys_log_in_later}
 use Rattle.fe2o3_sasl.proofs.laws.worked_clients.Goals as goal
-
-pub returns-clause-hostname : goal.returns-clause-hostname
-returns-clause-hostname c = hostnames_are_sent
 
 pub returns-clause-keys : goal.returns-clause-keys
 returns-clause-keys c = keys_log_in
 
 pub returns-clause-stale_keys : goal.returns-clause-stale_keys
 returns-clause-stale_keys c = stale_keys_log_in_later
-
-pub returns-clause-floor : goal.returns-clause-floor
-returns-clause-floor c = floors_refuse

@@ -8,7 +8,7 @@ use Rattle.fe2o3_sasl_wire.specs.SaslFrames.{SaslFrame}
 use Rattle.fe2o3_scram.specs.ClientFinal.{ClientFinal, HasProof, ReadsFinalText}
 use Rattle.fe2o3_scram.specs.declared.scram_messages.channel_binding_flag.ChannelBindingFlag.{ChannelBindingFlag}
 use Rattle.fe2o3_scram.specs.ClientFirst.{ClientFirst, ReadsClientFirst}
-use Rattle.fe2o3_scram.specs.Credentials.{Provider, Record, Store, record_at, serving}
+use Rattle.fe2o3_scram.specs.Credentials.{Provider, Record, Store, serving}
 use Rattle.fe2o3_scram.specs.ServerFirst.{ServerChallenge, challenge_of, AnswersClientFirst}
 use Rattle.fe2o3_scram.proofs.lemmas.messages.ClientFinalLemmas.{names_final_text, one_proof}
 use Rattle.fe2o3_scram.proofs.lemmas.messages.OneValueLemmas.{one_client_first_value}
@@ -40,12 +40,12 @@ HasParts-length text n has =
 -- what is answered to a message that was read, where this is the record of its user
 pub challenge_again : (provider : Provider) (nonce text : List ℕ) (challenge : ServerChallenge) (client : ClientFirst)
     (stored : Record) → AnswersClientFirst provider nonce text (Ok (Some challenge))
-    → ReadsClientFirst provider.cbind_flag_y text (Ok client) → Some stored ≡ record_at provider.records client.user
+    → ReadsClientFirst provider.cbind_flag_y text (Ok client) → Some stored ≡ provider.records client.user
     → challenge ≡ challenge_of client nonce stored
 challenge_again provider nonce text challenge client stored answers reads known =
     let one = one_client_first_value provider.cbind_flag_y text answers.0 client answers.2 reads in
     let same = same_Some answers.1 stored
-    (sym answers.3 ∙ (ap (λ (first : ClientFirst). record_at provider.records first.user) one ∙ sym known)) in
+    (sym answers.3 ∙ (ap (λ (first : ClientFirst). provider.records first.user) one ∙ sym known)) in
     answers.4 ∙ (λ i. challenge_of (one i) nonce (same i))
 
 pub proof_again : (header : ChannelBindingFlag) (nonce text : List ℕ) (final : ClientFinal)

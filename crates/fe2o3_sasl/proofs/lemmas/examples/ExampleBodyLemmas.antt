@@ -123,10 +123,6 @@ pub mechanisms_sent : canonical (frames.Mechanisms (codes "SCRAM-SHA-256" ∷ []
 unfolding canonical
 mechanisms_sent = refl
 
-pub auth_bodied : canonical (frames.Outcome outcomes.Auth None) ≡ Some (body_of (frames.Outcome outcomes.Auth None))
-unfolding canonical
-auth_bodied = refl
-
 -- ---- what a body spells
 
 pub spells_body : (frame : SaslFrame) → HasTexts frame → canonical frame ≡ Some (body_of frame)

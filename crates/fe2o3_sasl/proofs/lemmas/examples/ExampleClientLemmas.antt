@@ -1,31 +1,30 @@
 -- The worked examples of clients.
-use Rattle.std.proofs.Common.{◌≡◌, ℕ, suc, true, List, [], ◌∷◌, ◌++◌, length, Err, Ok, refl, sym, ◌∙◌, ap, subst, arith, codes, inl, inr}
+use Rattle.std.proofs.Common.{◌≡◌, ℕ, suc, true, List, [], ◌∷◌, length, Err, Ok, refl, sym, ◌∙◌, ap, subst, arith, inl, inr}
 use Rattle.std.specs.Prelude.{Some, slice_get}
 use Rattle.fe2o3_sasl_wire.specs.declared.amqp_types.SaslCode.TheVariants as outcomes
 use Rattle.fe2o3_sasl_wire.specs.declared.sasl_frames.error.Error.TheVariants as faults
-use Rattle.std.proofs.lemmas.List.{length-append}
 use Rattle.base64.specs.GeneralPurpose.{IsBytes}
-use Rattle.fe2o3_sasl_wire.specs.SaslFrames.{canonical, canonical_field, content, shortest}
+use Rattle.fe2o3_sasl_wire.specs.SaslFrames.{canonical}
 use Rattle.fe2o3_sasl_wire.specs.SaslFrames as frames
 use Rattle.fe2o3_scram.specs.ClientFinal.{Answer}
 use Rattle.fe2o3_scram.specs.ServerFirst.{ReadsServerFirst, client_of}
 use Rattle.fe2o3_scram.specs.ServerFinal.{ReadsServerFinal}
 use Rattle.fe2o3_scram.specs.Texts.{joined}
 use Rattle.fe2o3_scram.specs.declared.scram_messages.error.ScramErrorKind.{ScramErrorKind}
-use Rattle.fe2o3_scram.specs.declared.scram_messages.error.ScramErrorKind.TheVariants.{IterationCountTooSmall, StaleKeys as NamesStaleKeys}
+use Rattle.fe2o3_scram.specs.declared.scram_messages.error.ScramErrorKind.TheVariants.{StaleKeys as NamesStaleKeys}
 use Rattle.fe2o3_sasl_core.specs.Bodies.{SpellsBody, carried}
-use Rattle.fe2o3_sasl_core.specs.ClientHistory.{AnswersAt, IsDue, NonceAt, ReadsChallenge, answer_at, ends_answer, is_answer, is_start, says_answer, says_start}
-use Rattle.fe2o3_sasl_core.specs.Events.{Answered, ClientSays, Given, Login, Refused, Reported, Started, scram_fault}
+use Rattle.fe2o3_sasl_core.specs.ClientHistory.{AnswersAt, IsDue, NonceAt, ReadsChallenge, answer_at, ends_answer, is_answer, is_start, says_answer}
+use Rattle.fe2o3_sasl_core.specs.Events.{Answered, ClientSays, Given, Login, Refused, Reported, scram_fault}
 use Rattle.fe2o3_sasl_core.specs.Positions.{test_at}
 use Rattle.fe2o3_sasl_core.specs.TwoSides.{client_message, proof_at}
-use Rattle.fe2o3_sasl.specs.examples.ClientExamples.{FloorsRefuse, HostnamesAreSent, KeysLogIn, StaleKeysLogInLater, asks, is_served, logs_in, made, names_host, other_salt, starts, with_floor, with_hostname, with_keys}
-use Rattle.fe2o3_sasl.specs.examples.Examples.{binds, body_of, both, client_bytes, client_nonce, event_of, login, names, offers, salt, salted, sends_ok, sends_response, server_nonce, unaltered, verifier}
-use Rattle.fe2o3_scram.proofs.lemmas.messages.ServerFirstLemmas.{count_refused, one_has_salt, secret_refused, values_read}
-use Rattle.fe2o3_sasl.proofs.lemmas.examples.ExampleBodyLemmas.{bodied, challenge_bodied, mechanisms_sent, mechanisms_texts, ok_sent, short_joined, short_names, short_salted, short_variable, spells_body}
+use Rattle.fe2o3_sasl.specs.examples.ClientExamples.{KeysLogIn, StaleKeysLogInLater, asks, is_served, logs_in, made, other_salt, starts, with_keys}
+use Rattle.fe2o3_sasl.specs.examples.Examples.{binds, body_of, both, client_bytes, client_nonce, event_of, login, offers, salt, salted, sends_ok, sends_response, server_nonce, unaltered, verifier}
+use Rattle.fe2o3_scram.proofs.lemmas.messages.ServerFirstLemmas.{one_has_salt, secret_refused, values_read}
+use Rattle.fe2o3_sasl.proofs.lemmas.examples.ExampleBodyLemmas.{challenge_bodied, mechanisms_sent, mechanisms_texts, ok_sent, short_joined, short_salted, spells_body}
 use Rattle.fe2o3_sasl.proofs.lemmas.examples.ExampleLemmas.{is_unaltered, short_both}
 use Rattle.fe2o3_sasl.proofs.lemmas.examples.ExampleLoginLemmas.{answer_said, client_history, start_said}
-use Rattle.fe2o3_sasl.proofs.lemmas.examples.ExampleReadingLemmas.{count_passes, count_small, names_salted, nonce_passes, plain_both, plain_salted, reads_values, salt_bytes, salt_passes, signature_read}
-use Rattle.fe2o3_sasl.proofs.lemmas.examples.ExampleTextLemmas.{IsBytes-replicate, user_text, utf8_joined}
+use Rattle.fe2o3_sasl.proofs.lemmas.examples.ExampleReadingLemmas.{count_passes, names_salted, nonce_passes, plain_both, plain_salted, salt_bytes, salt_passes, signature_read}
+use Rattle.fe2o3_sasl.proofs.lemmas.examples.ExampleTextLemmas.{IsBytes-replicate, utf8_joined}
 use Rattle.fe2o3_sasl_core.proofs.lemmas.histories.LongerClientHistoryLemmas.{SaysAt}
 use Rattle.fe2o3_sasl_core.proofs.lemmas.positions.PositionLemmas.{opens_here, stays_open}
 use Rattle.fe2o3_sasl_core.specs.declared.sasl_profile.error.ProfileError.TheVariants.{Frame, StaleKeys}
@@ -94,46 +93,6 @@ module _ (some : Login) (one : answer_at some made ≡ answer_at login made)
         inr (inl ((made, (k, opens_here is_answer ends_answer replies k is, answers), signature_taken), refl)),
       )
 
--- ---- a hostname
-
-host_sent : canonical names_host ≡ Some (body_of names_host)
-host_sent =
-    let text = codes "n,," ++ joined (names (codes "user")) in
-    let host = canonical_field (frames.Text (codes "vhost")) ++ [] in
-    let seven : length host ≡ 7 = refl in
-    bodied names_host (omega (
-      arith,
-      seven,
-      short_variable 0xa0 0xb0 text,
-      length-append (content (shortest (length text)) text) host,
-      short_joined (names (codes "user")) (short_names (codes "user") (omega arith)),
-    ))
-
-host_said : Started (body_of names_host) ≡ says_start with_hostname (event_of client_bytes offers)
-host_said =
-    let says = carried (Refused (Frame faults.TooLarge)) (λ body. Started body) in
-    let named : says_start with_hostname (event_of client_bytes offers) ≡ says (canonical names_host) =
-    ap (λ (name : List ℕ). says (canonical (frames.Init (codes "SCRAM-SHA-256")
-    (Some (codes "n,," ++ joined (names name))) (Some (codes "vhost"))))) user_text in
-    sym (named ∙ ap says host_sent)
-
-host_reads : ReadsServerFirst client_nonce with_hostname.secret with_hostname.limits made.text (Ok made.first)
-host_reads = reads_values both server_nonce [] refl plain_both tt
-
-pub hostnames_are_sent : HostnamesAreSent
-hostnames_are_sent =
-    let events = event_of client_bytes offers ∷ is_served in
-    let replies = Started (body_of names_host) ∷ logs_in in
-    let due : IsDue events replies 1 client_nonce =
-    (0, opens_here is_start is_answer replies 0 refl, (event_of client_bytes offers, refl, refl)) in
-    client_history with_hostname events replies refl (
-      (Ok offers, spells_body offers mechanisms_texts mechanisms_sent, inr (inl ((0, omega arith, refl), host_said))),
-      (
-        answered with_hostname refl host_reads events replies 1 due,
-        (reported with_hostname refl host_reads events replies 1 refl refl due, tt),
-      ),
-    )
-
 -- ---- keys in place of the password
 
 keys_read : ReadsServerFirst client_nonce with_keys.secret with_keys.limits made.text (Ok made.first)
@@ -199,24 +158,4 @@ stale_keys_log_in_later =
           (reported with_keys refl keys_read events replies 2 refl refl due, tt),
         ),
       ),
-    )
-
--- ---- a floor
-
-floor_refused : ReadsServerFirst client_nonce with_floor.secret with_floor.limits made.text (Err IterationCountTooSmall)
-floor_refused = count_refused (client_of client_nonce with_floor.secret with_floor.limits) made.text
-    IterationCountTooSmall
-    (nonce_passes salt salt_bytes both server_nonce [] refl plain_both tt)
-    (salt_passes salt salt_bytes both server_nonce [] refl plain_both tt)
-    (count_small salt salt_bytes both server_nonce [] refl plain_both tt with_floor.limits (omega arith))
-
-pub floors_refuse : FloorsRefuse
-floors_refuse =
-    let events = event_of client_bytes offers ∷ asks salt ∷ [] in
-    let replies = starts ∷ Refused (scram_fault IterationCountTooSmall) ∷ [] in
-    let due : IsDue events replies 1 client_nonce =
-    (0, opens_here is_start is_answer replies 0 refl, (event_of client_bytes offers, refl, refl)) in
-    client_history with_floor events replies refl (
-      (Ok offers, spells_body offers mechanisms_texts mechanisms_sent, inr (inl ((0, omega arith, refl), start_said))),
-      (refuses with_floor events replies 1 salt IterationCountTooSmall refl due floor_refused, tt),
     )

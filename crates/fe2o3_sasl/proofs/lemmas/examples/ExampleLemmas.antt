@@ -1,24 +1,17 @@
--- The three worked examples.
-use Rattle.std.proofs.Common.{◌≡◌, ◌≢◌, ◌≤◌, ℕ, zero, suc, List, [], ◌∷◌, ◌++◌, length, Err, Ok, refl, sym, ◌∙◌, ap, arith, codes, inl, inr, ◌⊎◌}
-use Rattle.std.specs.Prelude.{Some, None, slice_get}
+-- The two worked examples.
+use Rattle.std.proofs.Common.{◌≡◌, ◌≢◌, ◌≤◌, ℕ, zero, suc, List, [], ◌∷◌, ◌++◌, length, refl, sym, ◌∙◌, ap, arith, codes, inl, inr, ◌⊎◌}
+use Rattle.std.specs.Prelude.{Some, slice_get}
 use Rattle.std.proofs.lemmas.List.{length-append}
-use Rattle.std.proofs.lemmas.Option.{none-some}
-use Rattle.fe2o3_sasl_wire.specs.declared.amqp_types.SaslCode.TheVariants as outcomes
 use Rattle.fe2o3_sasl_wire.specs.declared.sasl_frames.error.Error.{Error}
 use Rattle.fe2o3_sasl_wire.specs.declared.sasl_frames.error.Error.TheVariants as faults
-use Rattle.fe2o3_sasl_wire.specs.SaslFrames as frames
-use Rattle.fe2o3_sasl_wire.specs.SaslFrames.{fault_of, Begins, SaslFrame}
-use Rattle.fe2o3_scram.specs.Texts.{joined, Parts}
-use Rattle.fe2o3_sasl_core.specs.ClientHistory.{ClientHistory}
-use Rattle.fe2o3_sasl_core.specs.Events.{Concluded, Failed, Refused}
-use Rattle.fe2o3_sasl_core.specs.Bodies.{SpellsBody, carried, says_frame}
-use Rattle.fe2o3_sasl_core.specs.ServerHistory.{ServerHistory}
+use Rattle.fe2o3_scram.specs.Texts.{Parts}
+use Rattle.fe2o3_sasl_core.specs.Events.{Failed, Refused}
 use Rattle.fe2o3_sasl_core.specs.TwoSides.{Agree, IsPlainInit, NoneMisplacedIn}
 use Rattle.fe2o3_sasl_core.specs.UnalteredRuns.{UnalteredRun, HoldsLogin, Suffices}
-use Rattle.fe2o3_sasl.specs.examples.Examples.{client_bytes, server_bytes, client_nonce, server_nonce, both, salt, login, names, values, binds, sends_init, sends_auth, body_of, told, challenge_text, init_text, answer_to, accepted_with, sides_with, unaltered, PremisesCanBeMet, shifted, ShiftedTextsPass, refused_sides, RefusalsAreUnaltered}
+use Rattle.fe2o3_sasl.specs.examples.Examples.{client_bytes, server_bytes, client_nonce, server_nonce, both, salt, login, names, values, binds, told, challenge_text, init_text, answer_to, accepted_with, sides_with, unaltered, PremisesCanBeMet, shifted, ShiftedTextsPass}
 use Rattle.fe2o3_scram.proofs.lemmas.texts.PartsLemmas.{one_list_of_parts}
-use Rattle.fe2o3_sasl.proofs.lemmas.examples.ExampleBodyLemmas.{Short, auth_bodied, init_texts, length-both, mechanisms_sent, short_binds, short_joined, short_names, short_values, spells_body}
-use Rattle.fe2o3_sasl.proofs.lemmas.examples.ExampleLoginLemmas.{PassesUnseen, client_history, server_history, start_sent, starts, histories, takes, shows, open_two}
+use Rattle.fe2o3_sasl.proofs.lemmas.examples.ExampleBodyLemmas.{Short, length-both, mechanisms_sent, short_binds, short_joined, short_names, short_values}
+use Rattle.fe2o3_sasl.proofs.lemmas.examples.ExampleLoginLemmas.{PassesUnseen, histories, takes, shows, open_two}
 use Rattle.fe2o3_sasl.proofs.lemmas.examples.ExampleReadingLemmas.{is_login, is_record, password_printable, plain_user, plain_both, plain_names, plain_values, plain_binds, client_joined, server_joined}
 use Rattle.fe2o3_sasl.proofs.lemmas.examples.ExampleTextLemmas.{Plain, plain-literal, plain-append, plain-base64_text, parts_joined, length-base64_text, IsBytes-replicate}
 use Rattle.fe2o3_sasl_core.proofs.lemmas.lists.EachLemmas.{each_append}
@@ -195,57 +188,3 @@ shifted_texts_pass = record {
   five = (bare_parts, five_parts, refl);
   apart = nonces_apart;
 }
-
--- ---- a login that is refused
-
-refused_run : UnalteredRun refused_sides
-refused_run = record {
-  offer = _;
-  challenge = _;
-  outcome = _;
-  init = _;
-  response = _;
-  client_events = refl;
-  server_events = refl;
-  offered = mechanisms_sent;
-  started = refl;
-  challenged = refl;
-  answered = tt;
-  concluded = tt;
-}
-
--- nothing spells no frame
-empty_spells_none : (frame : SaslFrame) (n : ℕ) → ¬ Begins [] frame n
-empty_spells_none frame zero begins = let e = ap length begins.spelled.whole in absurd (omega (arith, e))
-empty_spells_none frame (suc n) begins = let e = ap length begins.spelled.whole in absurd (omega (arith, e))
-
-empty_spelled : SpellsBody [] (Err (fault_of []))
-empty_spelled = (refl, empty_spells_none)
-
-auth_said : Concluded outcomes.Auth (body_of sends_auth) ≡ says_frame (frames.Outcome outcomes.Auth None)
-auth_said = sym (ap (carried (Failed faults.TooLarge) (λ body. Concluded outcomes.Auth body)) auth_bodied)
-
-refusing : ServerHistory refused_sides.provider refused_sides.server_events refused_sides.server_replies
-refusing =
-    let init = sends_init (joined (names (codes "user"))) in
-    server_history refused_sides.provider refused_sides.server_events refused_sides.server_replies refl (
-      (
-        Ok init,
-        spells_body init (init_texts (joined (names (codes "user")))) start_sent,
-        inr (inr (λ challenge fits. none-some challenge.stored fits.2, auth_said)),
-      ),
-      ((Err (fault_of []), empty_spelled, inr refl), tt),
-    )
-
-reporting : ClientHistory login refused_sides.client_events refused_sides.client_replies
-reporting =
-    client_history login refused_sides.client_events refused_sides.client_replies refl (
-      starts refused_sides.client_events refused_sides.client_replies,
-      (
-        (Ok sends_auth, spells_body sends_auth (tt, (tt, tt)) auth_bodied, inr refl),
-        ((Err (fault_of []), empty_spelled, inr refl), tt),
-      ),
-    )
-
-pub refusals_are_unaltered : RefusalsAreUnaltered
-refusals_are_unaltered = (refused_run, record { client = reporting; server = refusing })

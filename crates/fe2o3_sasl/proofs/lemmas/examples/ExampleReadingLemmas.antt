@@ -1,5 +1,5 @@
 -- How the messages of the worked examples are read.
-use Rattle.std.proofs.Common.{◌≡◌, ◌≤◌, ◌<◌, ℕ, List, [], ◌∷◌, ◌++◌, length, refl, sym, ◌∙◌, ap, subst, arith, codes, Ok, inl, inr, false}
+use Rattle.std.proofs.Common.{◌≡◌, ◌≤◌, ℕ, List, [], ◌∷◌, ◌++◌, length, refl, sym, ◌∙◌, ap, subst, arith, codes, Ok, false}
 use Rattle.std.specs.List.{AllByRecursion}
 use Rattle.std.specs.Str.{IsUtf8}
 use Rattle.std.proofs.lemmas.List.Elements.{All-from_recursion}
@@ -21,10 +21,9 @@ use Rattle.fe2o3_scram.specs.Hmac.{digest, digest_len, hmac_of, exclusive_or}
 use Rattle.fe2o3_scram.specs.Keys.{auth_message}
 use Rattle.fe2o3_scram.specs.SaslprepAscii.{IsPrintable}
 use Rattle.fe2o3_scram.specs.ServerFinal.{ReadsServerFinal}
-use Rattle.fe2o3_scram.specs.Readings.{IsFirst, NoneHolds}
+use Rattle.fe2o3_scram.specs.Readings.{NoneHolds}
 use Rattle.fe2o3_scram.specs.ServerFirst.{NamesServerFirst, ReadsServerFirst, nonce_tests, client_of}
 use Rattle.fe2o3_scram.specs.declared.client_secret.IterationLimits.{IterationLimits}
-use Rattle.fe2o3_scram.specs.declared.scram_messages.error.ScramErrorKind.TheVariants.{IterationCountTooSmall}
 use Rattle.fe2o3_sasl_core.specs.ServerHistory.{first_message}
 use Rattle.fe2o3_sasl_core.specs.TwoSides.{keys_at, proof_at, client_message}
 use Rattle.fe2o3_scram.proofs.lemmas.texts.AsciiLemmas.{IsUtf8-literal}
@@ -170,14 +169,6 @@ module _ (bytes : List ℕ) (is : IsBytes bytes) (nonce rest : List ℕ) (more :
         (not_too_large challenge limits.max_iterations 4096 names_salted.count most, tt),
       ),
     ),
-  )
-
-  -- a floor above it
-  pub count_small : (limits : IterationLimits) → 4096 < limits.min_iterations
-      → IsFirst (count_tests limits challenge) IterationCountTooSmall
-  count_small limits small = inr (
-    λ none. none (codes "4096") digits,
-    inr (λ none. none 4096 names_salted.count, inl ((4096, names_salted.count, small), refl)),
   )
 
 pub reads_values : (nonce rest : List ℕ) (more : List (List ℕ)) → nonce ≡ client_nonce ++ rest → Plain nonce

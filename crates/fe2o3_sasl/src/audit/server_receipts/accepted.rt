@@ -25,7 +25,7 @@ use fe2o3_sasl_wire::{FrameView, view_frame};
 use fe2o3_scram::credentials::ScramCredentialProvider;
 use fe2o3_scram::hmac::{Meter, ScramVersion};
 use fe2o3_scram::keys::auth_message;
-use fe2o3_scram::scram_messages::{ClientFinal, ChannelBindingFlag};
+use fe2o3_scram::scram_messages::{ChannelBindingFlag, ClientFinal};
 use std::alloc::Global;
 
 /// The receipt of an Ok to the response in this body. The one refusal is `OutOfMemory`, also of a
@@ -64,8 +64,12 @@ fn response_again<'a>(
     let Ok((FrameView::Response(text), _)) = view_frame(body) else {
         return Err(OutOfMemory);
     };
-    let Ok(client_final) = ClientFinal::parse_with_gs2_header(alloc, header, client_server_nonce, text)
-    else {
+    let Ok(client_final) = ClientFinal::parse_with_gs2_header(
+        alloc,
+        header,
+        client_server_nonce,
+        text,
+    ) else {
         return Err(OutOfMemory);
     };
     Ok(client_final)

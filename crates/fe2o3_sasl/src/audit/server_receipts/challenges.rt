@@ -51,7 +51,8 @@ pub(crate) fn opened_again<'a, C: ScramCredentialProvider>(
     ) else {
         return Err(OutOfMemory);
     };
-    let Ok(client_first) = ClientFirst::parse_with_cbind_flag_y(alloc, text, accept_cbind_flag_y) else {
+    let Ok(client_first) = ClientFirst::parse_with_cbind_flag_y(alloc, text, accept_cbind_flag_y)
+    else {
         return Err(OutOfMemory);
     };
     let Some(stored_password) = credentials.get_stored_password(&client_first.username) else {

@@ -19,9 +19,9 @@ returns-in-Err-clause-step c =
 pub returns-clause-step : goal.returns-clause-step
 returns-clause-step c =
     profile_reads (shown c.args.hostname) (profile_of c.args.profile.now) (event_of c.args.body.now c.args.nonce.now)
-    (viewed_frame c.in-Ok.read.0) c.in-Ok.read.1 (client_answer c.answer_view.result)
-    (profile_of c.answer_view.new.profile) c.in-Ok.ensures.reads
-    c.answer_view.ensures.answer
+    (viewed_frame c.in-Ok.read.0) c.in-Ok.read.1 (client_answer c.profile_frame_step.result)
+    (profile_of c.profile_frame_step.new.profile) c.in-Ok.ensures.reads
+    c.profile_frame_step.ensures.answer
 
 pub returns-in-Err-clause-cost : goal.returns-in-Err-clause-cost
 returns-in-Err-clause-cost c =
@@ -33,5 +33,5 @@ pub returns-clause-cost : goal.returns-clause-cost
 returns-clause-cost c =
     profile_step_costs (profile_of c.args.profile.now) (event_of c.args.body.now c.args.nonce.now)
     (viewed_frame c.in-Ok.read.0)
-    c.in-Ok.read.1 c.answer_view.result c.args.meter.now c.answer_view.new.meter
-    c.in-Ok.ensures.reads c.answer_view.ensures.cost
+    c.in-Ok.read.1 c.profile_frame_step.result c.args.meter.now c.profile_frame_step.new.meter
+    c.in-Ok.ensures.reads c.profile_frame_step.ensures.cost

@@ -35,7 +35,7 @@ loop-taken-preserved c =
     let within = c.loop-taken.invariant.within in
     record {
       within = omega (arith, few, within, length-drop c.loop-taken.taken bytes);
-      hostname = c.in_ok-received.ensures.hostname ∙ c.loop-taken.invariant.hostname;
+      hostname = c.in_ok-received.ensures.config ∙ c.loop-taken.invariant.hostname;
       kept = (
         more ++ first,
         sent ∙ (ap (λ l. l ++ first) kept ∙ append_assoc c.args.sent.now.items more first),

@@ -1,4 +1,4 @@
-use Rattle.fe2o3_scram.proofs.lemmas.messages.MemoryExampleLemmas.{answered_clients_take_none, commas_take_none, errors_take_none, other_nonces_take_none, unbound_texts_take_none, unknown_mechanisms_take_none, unknown_users_take_none}
+use Rattle.fe2o3_scram.proofs.lemmas.examples.MemoryExampleLemmas.{answered_clients_take_none, commas_take_none, errors_take_none, other_nonces_take_none, unbound_texts_take_none, unknown_mechanisms_take_none, unknown_users_take_none}
 use Rattle.fe2o3_scram.proofs.laws.texts_without_memory.Goals as goal
 
 pub returns-clause-errors : goal.returns-clause-errors

@@ -35,4 +35,4 @@ returns-clause-message g c =
     challenge_again provider (string_bytes c.in_ok-server_nonce.server_nonce) c.in-Some.text.now
     (challenge_values c.in-Ok-Some.server_first) (client_first_values c.in-Ok.client_first)
     (kept c.in-Some-get_stored_password.stored_password) (rw c.deref-2.ensures at answers) c.in-Ok.ensures.answer
-    (c.in-Some-get_stored_password.ensures ∙ ap (record_at provider.records) c.deref-3.ensures.value)
+    (c.in-Some-get_stored_password.ensures ∙ ap provider.records c.deref-3.ensures.value)

@@ -1,0 +1,17 @@
+use Rattle.std.proofs.Common.{Result, Ok, Err, ap}
+use Rattle.std.specs.Result.{IfOk}
+use Rattle.fe2o3_scram.specs.HidingServer.{hiding_server}
+use Rattle.fe2o3_scram.specs.ScramServer.{logged_in}
+use Rattle.fe2o3_scram.proofs.lemmas.messages.LoginLemmas.{hidden_texts_log_in}
+use Rattle.example_quick_start.proofs.own_store.broker.conclude.Goals as goal
+
+-- what holds whatever the result is
+always : {T E : Type 0} {P : Type 0} → P → (result : Result T E) → IfOk result (λ _. P)
+always is (Ok value) = is
+always is (Err fault) = tt
+
+pub returns : goal.returns
+returns c =
+    let logs = hidden_texts_log_in (hiding_server (λ store. store.value) c.args.server.now)
+    c.compute_server_final_message.new.self.state c.args.client_final.now _ c.in_ok-signature.ensures.answer in
+    always (logs.0, logs.1, ap logged_in logs.2) c.context.result

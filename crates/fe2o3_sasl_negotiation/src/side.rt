@@ -1,0 +1,238 @@
+//! One side of a connection, whatever answers it: the framing, the progress, and the calls that pass bytes.
+
+ghost use Rattle.std.specs.Prelude.{◌≡◌, ◌≢◌, ◌<◌, ◌≤◌, ◌^◌, ◌++◌, ℕ, Bool, List, Option, [], IsTrue, IfOk, IfErr, OnOk, OnErr, length, min};
+ghost use Rattle.fe2o3_sasl_negotiation.specs.Framing.{IsPart, IsPart-prop, longest_unit};
+ghost use Rattle.fe2o3_sasl_negotiation.specs.Negotiations.{Side, SideOutput, Receives};
+ghost use Rattle.fe2o3_sasl_negotiation.specs.private.Units.{Appends, CompletesUnit};
+ghost use Rattle.fe2o3_sasl_negotiation.specs.declared.progress.CloseReason.TheVariants.{FrameSize};
+ghost use Rattle.fe2o3_sasl_negotiation.specs.declared.progress.Expected.{Expected};
+ghost use Rattle.fe2o3_sasl_negotiation.specs.declared.progress.Expected.TheVariants.{Header, Frame};
+ghost use Rattle.fe2o3_sasl_negotiation.specs.declared.progress.FrameKind.{FrameKind as Kind};
+ghost use Rattle.fe2o3_sasl_negotiation.specs.declared.progress.Progress.{Progress};
+ghost use Rattle.fe2o3_sasl_negotiation.specs.declared.progress.Progress.TheVariants.{InProgress, Failed};
+
+use crate::framing::{Arrived, MAX_FRAME, Step, end_unit, take_unit};
+use crate::progress::{CloseReason, Expected, Progress, Received};
+use crate::snapshot::{RestoreError, Snapshot};
+use bytes::BytesMut;
+use fe2o3_sasl_core::OutOfMemory;
+use fe2o3_scram::Meter;
+use std::alloc::Global;
+use std::marker::PhantomData;
+
+/// Says what a side can expect with which progress: [`ServerRole`](crate::ServerRole) or
+/// [`ClientRole`](crate::ClientRole).
+pub trait Role {
+    ghost fits: { Progress → Expected → Bool };
+}
+
+/// Answers the header and the frames that arrive: on a server every acceptor, on a client a
+/// [`ClientEndpoint`](crate::ClientEndpoint).
+///
+/// `State` is the state of its machine, `Config` what never changes, and `answers` what it answers to a header or to a
+/// frame. `asks` says which calls may ask for memory, and `costs` how many HMAC values they take.
+pub trait Endpoint<R: Role> {
+    ghost State: { Type 0 };
+
+    ghost Config: { Type 0 };
+
+    ghost state: { Self → State };
+
+    ghost config: { Self → Config };
+
+    ghost answers: { Config → Expected → State → List ℕ → List ℕ → SideOutput → State → Type 0 };
+
+    ghost asks: { ℕ → Side State → List ℕ → Type 0 };
+
+    ghost costs: { Side State → List ℕ → List ℕ → ℕ → ℕ → Type 0 };
+
+    /// Answers a header, or a frame with its size, and appends what is to be sent. The meter, of at most 2^63, counts the
+    /// HMAC values. `OutOfMemory` changes nothing but the meter.
+    fn answer(
+        &mut self,
+        alloc: Global,
+        expected: Expected,
+        unit: &[u8],
+        nonce: &[u8; 32],
+        meter: &mut Meter,
+        out: &mut BytesMut,
+    ) -> Result<Step, OutOfMemory>
+        requires four { 4 ≤ length unit.now }
+        requires meter { meter.old ≤ 2 ^ 63 }
+        ensures ok { IfOk result (λ step. Appends (λ answer. answers (config self.old) expected (state self.old)
+            nonce.now unit.now answer (state self.new)) out.old.items out.new.items step) }
+        ensures fits { IfOk result (λ step. IsTrue (R.fits InProgress expected)
+            → IsTrue (R.fits step.progress step.expected)) }
+        ensures unsent { OnErr result (out.new.items ≡ out.old.items) }
+        ensures unchanged { OnErr result (state self.new ≡ state self.old) }
+        ensures config { config self.new ≡ config self.old }
+        ensures memory { OnErr result ((room : ℕ) (side : Side State) (bytes : List ℕ)
+            → CompletesUnit side bytes expected unit.now → asks room side bytes) }
+        ensures cost { (side : Side State) (bytes : List ℕ) → CompletesUnit side bytes expected unit.now
+            → side.state ≡ state self.old → costs side bytes nonce.now meter.old meter.new };
+
+    /// A call that makes no HMAC value may do so.
+    ghost costs_none: { (side : Side State) (bytes nonce : List ℕ) (count : ℕ) → costs side bytes nonce count count };
+
+    /// A side in progress may ask for room for the longest unit.
+    ghost asks_room: { (room : ℕ) (side : Side State) (bytes : List ℕ) → side.progress ≡ InProgress
+        → room < longest_unit side.limit → asks room side bytes };
+
+    /// A side that expects a frame can fail at its size.
+    ghost size_fits: { (kind : Kind) → IsTrue (R.fits InProgress (Frame kind))
+        → IsTrue (R.fits (Failed FrameSize) (Frame kind)) };
+}
+
+/// One side of a connection: [`ServerNegotiation`](crate::ServerNegotiation) or
+/// [`ClientNegotiation`](crate::ClientNegotiation). A function over both sides takes a `ConnectionSide<E, R>` with
+/// `E: Endpoint<R>` and `R: Role`.
+#[derive(Drop)]
+pub struct ConnectionSide<E, R: Role> {
+    pub(crate) endpoint: E,
+    pub(crate) progress: Progress,
+    pub(crate) expected: Expected,
+    pub(crate) limit: usize,
+    pub(crate) held: Vec<u8>,
+    role: PhantomData<R>,
+    ghost part: { IsPart expected limit held.items } by { IsPart-prop expected limit held.items },
+    ghost most: { limit ≤ 512 },
+    ghost at: { IsTrue (R.fits progress expected) },
+    ghost empty: { progress ≢ InProgress → held.items ≡ [] },
+}
+
+impl<E: Endpoint<R>, R: Role> ConnectionSide<E, R> {
+    ghost use Rattle.fe2o3_sasl_negotiation.specs.Memory.{HasRoom, room_in};
+    ghost use Rattle.fe2o3_sasl_negotiation.specs.Sides.{endpoint_in, connection_side};
+    ghost use Rattle.fe2o3_sasl_negotiation.specs.Snapshot.{IsKept, EndsEmpty, side_of};
+
+    /// Makes a side of a new connection.
+    pub(crate) fn begin(alloc: Global, endpoint: E, limit: usize) -> Self
+        requires { IsTrue (R.fits InProgress Header) }
+        ensures side { connection_side E.state result ≡ record {
+          progress = InProgress;
+          expected = Header;
+          limit = min limit 512;
+          held = [];
+          state = E.state endpoint;
+        } }
+        ensures endpoint { endpoint_in result ≡ endpoint }
+    {
+        Self {
+            endpoint,
+            progress: Progress::InProgress,
+            expected: Expected::Header,
+            limit: limit.min(MAX_FRAME),
+            held: Vec::new(alloc),
+            role: PhantomData,
+        }
+    }
+
+    /// Makes a side of these values.
+    pub(crate) fn restored(
+        alloc: Global,
+        endpoint: E,
+        kept: &Snapshot<'_>,
+    ) -> Result<Self, RestoreError>
+    where
+        E: Drop,
+        requires kept { IsKept kept.now }
+        requires fits { IsTrue (R.fits kept.now.progress kept.now.expected) }
+        requires empty { EndsEmpty kept.now }
+        ensures side { IfOk result (λ side. connection_side E.state side ≡ side_of kept.now (E.state endpoint)) }
+        ensures endpoint { IfOk result (λ side. endpoint_in side ≡ endpoint) }
+        ensures err { IfErr result (λ error. error ≡ RestoreError.OutOfMemory) }
+    {
+        let held = kept.held.to_vec(alloc)?;
+        Ok(Self {
+            endpoint,
+            progress: kept.progress,
+            expected: kept.expected,
+            limit: kept.limit,
+            held,
+            role: PhantomData,
+        })
+    }
+
+    /// Returns how far the negotiation is.
+    pub fn progress(&self) -> Progress
+        ensures { result ≡ (connection_side E.state self.now).progress }
+    {
+        self.progress
+    }
+
+    /// Takes the received bytes up to the end of the header or frame that is expected, and appends what is to be sent to
+    /// `out`. While more bytes are wanted, a call takes at least one. The nonce belongs to the frame that these bytes
+    /// complete: pass fresh random bytes with each call. The meter, of at most 2^63, counts the HMAC values.
+    ///
+    /// Once the client is authenticated or the negotiation has failed, nothing is taken, sent or changed, and no memory is
+    /// asked for. Otherwise a call asks for room for the longest unit, once for a connection, and for its answer to a
+    /// frame that is expected; a server asks also for its answer to a header.
+    /// `OutOfMemory` changes nothing but the meter: you can pass the same bytes again.
+    pub fn receive(
+        &mut self,
+        alloc: Global,
+        bytes: &[u8],
+        nonce: &[u8; 32],
+        meter: &mut Meter,
+        out: &mut BytesMut,
+    ) -> Result<Received, OutOfMemory>
+        requires { meter.old ≤ 2 ^ 63 }
+        ensures ok { IfOk result (λ received. (sent : List ℕ) × (out.new.items ≡ out.old.items ++ sent)
+            × Receives (E.answers (E.config (endpoint_in self.old))) (connection_side E.state self.old) bytes.now nonce.now
+            received.taken sent (connection_side E.state self.new)) }
+        ensures within { IfOk result (λ received. received.taken ≤ length bytes.now) }
+        ensures moves { IfOk result (λ received. (connection_side E.state self.old).progress ≡ InProgress
+            → 0 < length bytes.now → 0 < received.taken) }
+        ensures progress { IfOk result (λ received. received.progress ≡ (connection_side E.state self.new).progress) }
+        ensures unsent { OnErr result (out.new.items ≡ out.old.items) }
+        ensures unchanged { OnErr result (connection_side E.state self.new ≡ connection_side E.state self.old) }
+        ensures config { E.config (endpoint_in self.new) ≡ E.config (endpoint_in self.old) }
+        ensures memory { OnErr result (E.asks (room_in self.old) (connection_side E.state self.old) bytes.now) }
+        ensures room { OnOk result ((connection_side E.state self.old).progress ≡ InProgress
+            → HasRoom (room_in self.new) (connection_side E.state self.old)) }
+        ensures room_stays { room_in self.old ≤ room_in self.new }
+        ensures cost { E.costs (connection_side E.state self.old) bytes.now nonce.now meter.old meter.new }
+    {
+        let Progress::InProgress = self.progress else {
+            return Ok(Received {
+                taken: 0,
+                progress: self.progress,
+            });
+        };
+        let had = self.held.len();
+        match take_unit(&mut self.held, self.expected, self.limit, bytes)? {
+            Arrived::Part => Ok(Received {
+                taken: bytes.len(),
+                progress: Progress::InProgress,
+            }),
+            Arrived::Refused => {
+                let taken = end_unit(&mut self.held, had);
+                self.progress = Progress::Failed(CloseReason::FrameSize);
+                Ok(Received {
+                    taken,
+                    progress: self.progress,
+                })
+            }
+            Arrived::Whole => {
+                match self
+                    .endpoint
+                    .answer(alloc, self.expected, &self.held, nonce, meter, out)
+                {
+                    Ok(step) => {
+                        let taken = end_unit(&mut self.held, had);
+                        self.progress = step.progress;
+                        self.expected = step.expected;
+                        Ok(Received {
+                            taken,
+                            progress: step.progress,
+                        })
+                    }
+                    Err(fault) => {
+                        self.held.truncate(had);
+                        Err(fault)
+                    }
+                }
+            }
+        }
+    }
+}

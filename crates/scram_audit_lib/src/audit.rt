@@ -1,0 +1,292 @@
+//! `explain --audit`: what the bodies of a client and those of a server say of both. Both sides are replayed, the
+//! client by the password and the server by its users, over the bodies that the real ones received.
+
+ghost use Rattle.std.specs.Prelude.{◌≡◌, IfOk, OnOk, is_ok};
+ghost use Rattle.std.specs.List.{list_all, list_any};
+ghost use Rattle.scram_audit_lib.specs.private.Audit.{FindsAll, FindsWhole, verifies, is_whole, means_one};
+
+use crate::answers::{print_accepted, print_verified};
+use crate::half::{Given, Half};
+use crate::sentences::sentence_of;
+use fe2o3_sasl::audit::{AuditError, Finding, FindingKind, Verdict, audit_limited};
+use fe2o3_sasl::{scram_client_run_limited, scram_server_run};
+use fe2o3_scram::{MultiRecordStore, RecordStore, ScramCredentialProvider, ScramVersion, saslprep};
+use scram_lib::explain::body_of;
+use scram_lib::input;
+use scram_lib::stop::Stop;
+use scram_lib::task::Audited;
+use scram_lib::users::lines;
+use std::alloc::Global;
+use std::io::{BufRead, Result as Written, Write};
+use std::rt::Files;
+
+/// The bodies of both sides.
+#[derive(Drop)]
+struct Sides {
+    client: Half,
+    server: Half,
+}
+
+/// Who logs in, and where.
+#[derive(Clone, Copy)]
+struct Login<'a> {
+    user: &'a str,
+    password: &'a str,
+    version: ScramVersion,
+    limit: u32,
+    credentials: &'a RecordStore,
+}
+
+/// Prints what each body says, up to the first that is refused, and then an audit of both sides.
+pub fn audit<R, I, O>(
+    rt: &R,
+    asked: &Audited<'_>,
+    input: &mut I,
+    output: &mut O,
+) -> Result<(), Stop>
+where
+    R: Files + AllocGlobal,
+    I: BufRead,
+    O: Write,
+{
+    let alloc = rt.alloc();
+    let password = input::password(alloc, input)?;
+    if saslprep(&password).is_err() {
+        return Err(Stop::WrongPassword);
+    }
+    let users = lines::users(rt, asked.file)?;
+    let mut sides = Sides {
+        client: Half::client(alloc),
+        server: Half::server(alloc),
+    };
+    sides.run(
+        alloc,
+        &password,
+        &users,
+        asked.max_iterations,
+        input,
+        output,
+    )
+}
+
+impl Sides {
+    /// Reads the bodies, and audits them.
+    fn run<I: BufRead, O: Write>(
+        &mut self,
+        alloc: Global,
+        password: &str,
+        users: &MultiRecordStore,
+        limit: u32,
+        input: &mut I,
+        output: &mut O,
+    ) -> Result<(), Stop> {
+        self.read(alloc, input, output)?;
+        let login = self.login(password, users, limit)?;
+        self.audit(alloc, &login, output)
+    }
+
+    /// Reads lines of a side and a body, the first of which is the second of the input, and prints what they say.
+    fn read<I: BufRead, O: Write>(
+        &mut self,
+        alloc: Global,
+        input: &mut I,
+        output: &mut O,
+    ) -> Result<(), Stop> {
+        for number in 2..u64::MAX {
+            let Some(line) = input::next_line(alloc, input)? else {
+                break;
+            };
+            self.take(alloc, number, &line, output)?;
+        }
+        Ok(())
+    }
+
+    /// Takes a line, and prints what its body says.
+    fn take<O: Write>(
+        &mut self,
+        alloc: Global,
+        number: u64,
+        line: &str,
+        output: &mut O,
+    ) -> Result<(), Stop> {
+        match line.split_once(' ') {
+            Some(("client", digits)) => {
+                self.client
+                    .take(alloc, number, body_of(alloc, digits)?, output)
+            }
+            Some(("server", digits)) => {
+                self.server
+                    .take(alloc, number, body_of(alloc, digits)?, output)
+            }
+            _ => Err(Stop::NoSide),
+        }
+    }
+
+    /// The login that the client's bodies ask for, which has to be one that can be audited.
+    fn login<'a>(
+        &'a self,
+        password: &'a str,
+        users: &'a MultiRecordStore,
+        limit: u32,
+    ) -> Result<Login<'a>, Stop> {
+        if let Some(stop) = self.client.unfit.or(self.server.unfit) {
+            return Err(stop);
+        }
+        let Some(asked) = &self.client.asked else {
+            return Err(Stop::NoLogin);
+        };
+        let credentials = users.for_version(asked.version);
+        if credentials.get_stored_password(&asked.user).is_none() {
+            return Err(Stop::UnknownUser);
+        }
+        Ok(Login {
+            user: &asked.user,
+            password,
+            version: asked.version,
+            limit,
+            credentials,
+        })
+    }
+
+    /// Prints an audit: whom each side authenticates, and what both agree on. Ok says that both completed a login.
+    fn audit<O: Write>(&self, alloc: Global, login: &Login<'_>, output: &mut O) -> Result<(), Stop>
+        ensures { OnOk result (FindsWhole self.now login.now) }
+    {
+        self.print_client(alloc, login, output)?;
+        self.print_server(alloc, login, output)?;
+        let findings = self.findings(alloc, login)?;
+        self.print_all(alloc, login.version, &findings, output)?;
+        conclude(&findings)
+    }
+
+    /// Prints what is found.
+    fn print_all<O: Write>(
+        &self,
+        alloc: Global,
+        version: ScramVersion,
+        findings: &[Finding],
+        output: &mut O,
+    ) -> Result<(), Stop> {
+        if findings.is_empty() {
+            writeln!(output, "audit: the two sides have no login in common").map_err(
+                Stop::of_output,
+            )?;
+        }
+        for finding in findings {
+            let sentence = sentence_of(alloc, version, &finding.verdict)?;
+            self.print(finding, &sentence, output)
+                .map_err(Stop::of_output)?;
+        }
+        Ok(())
+    }
+
+    /// Prints a finding.
+    fn print<O: Write>(&self, finding: &Finding, sentence: &str, output: &mut O) -> Written<()> {
+        let client = line_at(&self.client.given, finding.client);
+        let server = line_at(&self.server.given, finding.server);
+        let authenticated = match finding.kind {
+            FindingKind::Verifier => "the client authenticates this server",
+            FindingKind::Proof => "the server accepts this client",
+        };
+        writeln!(
+            output,
+            "audit: lines {client} and {server}: {authenticated}, {sentence}"
+        )
+    }
+
+    /// Prints whom the client authenticates.
+    fn print_client<O: Write>(
+        &self,
+        alloc: Global,
+        login: &Login<'_>,
+        output: &mut O,
+    ) -> Result<(), Stop> {
+        let replies = scram_client_run_limited(
+            alloc,
+            login.user,
+            login.password,
+            login.version,
+            login.limit,
+            &self.client.events,
+        )?;
+        print_verified(&self.client.given, &replies, output)
+    }
+
+    /// Prints whom the server accepts.
+    fn print_server<O: Write>(
+        &self,
+        alloc: Global,
+        login: &Login<'_>,
+        output: &mut O,
+    ) -> Result<(), Stop> {
+        let replies = scram_server_run(alloc, login.credentials, &self.server.events)?;
+        print_accepted(&self.server.given, &replies, output)
+    }
+
+    /// What both sides have in common.
+    fn findings(&self, alloc: Global, login: &Login<'_>) -> Result<Vec<Finding>, Stop>
+        ensures { IfOk result (λ findings. FindsAll self.now login.now findings.items) }
+    {
+        match audit_limited(
+            alloc,
+            login.user,
+            login.password,
+            login.version,
+            login.limit,
+            &self.client.events,
+            login.credentials,
+            &self.server.events,
+        ) {
+            Ok(findings) => Ok(findings),
+            Err(AuditError::OutOfMemory) => Err(Stop::OutOfMemory),
+        }
+    }
+}
+
+/// The line of a body at a position.
+fn line_at(given: &[Given], position: usize) -> u64 {
+    given.get(position).map_or(0, |given| given.line)
+}
+
+/// Whether both sides completed a login, and each finding is agreed; otherwise what is amiss.
+fn conclude(findings: &[Finding]) -> Result<(), Stop>
+    ensures { is_ok result ≡ is_whole findings.now }
+{
+    if !all_agreed(findings) {
+        Err(Stop::OneProofOfTwo)
+    } else if some_verified(findings) {
+        Ok(())
+    } else if findings.is_empty() {
+        Err(Stop::NothingInCommon)
+    } else {
+        Err(Stop::NotVerified)
+    }
+}
+
+/// Whether each finding is agreed.
+fn all_agreed(findings: &[Finding]) -> bool
+    ensures { result ≡ list_all means_one findings.now }
+{
+    findings.iter().all(|finding| is_agreed(finding))
+}
+
+/// Whether by some finding the client authenticates the server.
+fn some_verified(findings: &[Finding]) -> bool
+    ensures { result ≡ list_any verifies findings.now }
+{
+    findings.iter().any(|finding| is_verified(finding))
+}
+
+/// Whether both sides mean one login.
+fn is_agreed(finding: &Finding) -> bool
+    ensures { result ≡ means_one finding.now }
+{
+    matches!(finding.verdict, Verdict::Agreed { .. })
+}
+
+/// Whether the client took a verifier, by which it authenticates the server.
+fn is_verified(finding: &Finding) -> bool
+    ensures { result ≡ verifies finding.now }
+{
+    matches!(finding.kind, FindingKind::Verifier)
+}

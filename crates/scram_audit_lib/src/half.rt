@@ -1,0 +1,240 @@
+//! The bodies of one side: those that it received, and what it answered.
+
+ghost use Rattle.std.specs.Prelude.{◌≡◌, ◌≢◌, ℕ, List, length, Ok, IfOk, MatchOption};
+ghost use Rattle.base64.specs.Engines.{standard};
+ghost use Rattle.base64.specs.GeneralPurpose.{decode_of};
+
+use base64::DecodeAllocError;
+use base64::engine::general_purpose::STANDARD;
+use fe2o3_sasl::Event;
+use fe2o3_sasl_wire::{FrameView, SaslCode, view_frame};
+use fe2o3_scram::ScramVersion;
+use scram_lib::explain::Heard;
+use scram_lib::stop::Stop;
+use std::alloc::{AllocError, Global};
+use std::io::Write;
+
+/// A body that a side was given.
+#[derive(Drop)]
+pub struct Given {
+    /// Its line of the input.
+    pub line: u64,
+
+    /// The user of the last init before it, or in it, plain.
+    pub user: String,
+
+    /// Whether it needs an answer, of which none has come yet.
+    is_open: bool,
+
+    /// The text of the answer, where that goes on with a login.
+    pub answer: Option<Vec<u8>>,
+}
+
+/// The login that a client asks for.
+#[derive(Drop)]
+pub struct Asked {
+    /// The user, plain.
+    pub user: String,
+
+    /// The mechanism.
+    pub version: ScramVersion,
+}
+
+/// The bodies of one side.
+#[derive(Drop)]
+pub struct Half {
+    is_client: bool,
+
+    /// What its messages have named.
+    heard: Heard,
+
+    /// The nonce of its last message that names one of its own.
+    nonce: [u8; 32],
+
+    /// The text of an answer to a body that comes later.
+    early: Option<Vec<u8>>,
+
+    /// The login that its inits ask for, if any is for one by SCRAM.
+    pub asked: Option<Asked>,
+
+    /// Why its bodies cannot be audited, if they cannot.
+    pub unfit: Option<Stop>,
+
+    /// The bodies that it was given, each with the nonce of the answer.
+    pub events: Vec<Event>,
+
+    /// What else is known of each.
+    pub given: Vec<Given>,
+}
+
+impl Half {
+    /// A client without a body.
+    pub fn client(alloc: Global) -> Half {
+        Half::new(alloc, true, "client: ")
+    }
+
+    /// A server without a body.
+    pub fn server(alloc: Global) -> Half {
+        Half::new(alloc, false, "server: ")
+    }
+
+    fn new(alloc: Global, is_client: bool, name: &'static str) -> Half {
+        Half {
+            is_client,
+            heard: Heard::new(alloc, name),
+            nonce: [0; 32],
+            early: None,
+            asked: None,
+            unfit: None,
+            events: Vec::new(alloc),
+            given: Vec::new(alloc),
+        }
+    }
+
+    /// Prints what a body says, and takes it as one that the side was given or that it sent.
+    pub fn take<O: Write>(
+        &mut self,
+        alloc: Global,
+        line: u64,
+        body: Vec<u8>,
+        output: &mut O,
+    ) -> Result<(), Stop> {
+        self.heard.body(alloc, &body, output)?;
+        let Ok((view, _)) = view_frame(&body) else {
+            return Ok(());
+        };
+        if self.is_client != is_of_server(&view) {
+            return self.send(alloc, &view);
+        }
+        let is_open = !matches!(view, FrameView::Outcome { .. });
+        self.receive(line, is_open, body)
+    }
+
+    /// Takes a body that the side was given.
+    fn receive(&mut self, line: u64, is_open: bool, body: Vec<u8>) -> Result<(), Stop> {
+        let user = self.heard.user.clone()?;
+        let answer = if is_open { self.early.take() } else { None };
+        let is_open = is_open && answer.is_none();
+        self.given.push(Given {
+            line,
+            user,
+            is_open,
+            answer,
+        })?;
+        let nonce = self.nonce;
+        self.events.push(Event { body, nonce })?;
+        Ok(())
+    }
+
+    /// Takes a body that the side sent.
+    fn send(&mut self, alloc: Global, view: &FrameView<'_>) -> Result<(), Stop> {
+        match view {
+            FrameView::Mechanisms(_) => return Ok(()),
+            FrameView::Init {
+                mechanism,
+                initial_response: Some(_),
+                ..
+            } => self.ask(alloc, mechanism)?,
+            FrameView::Challenge(_) => self.challenge(alloc)?,
+            _ => {}
+        }
+        let text = match text_of(view) {
+            Some(text) => Some(text.to_vec(alloc)?),
+            None => None,
+        };
+        self.answer(text);
+        Ok(())
+    }
+
+    /// Takes the text of an answer: to the last body, where that has none yet, otherwise to the next.
+    fn answer(&mut self, text: Option<Vec<u8>>) {
+        match (self.given.last_mut(), self.events.last_mut()) {
+            (Some(given), Some(event)) if given.is_open => {
+                given.is_open = false;
+                given.answer = text;
+                event.nonce = self.nonce;
+            }
+            _ => self.early = text,
+        }
+    }
+
+    /// Takes what an init asks for, and its nonce.
+    fn ask(&mut self, alloc: Global, mechanism: &str) -> Result<(), Stop> {
+        let nonce = bytes_of(alloc, &self.heard.client_nonce)?;
+        self.keep(nonce);
+        let Some(version) = ScramVersion::from_mechanism(mechanism) else {
+            return Ok(());
+        };
+        match &self.asked {
+            Some(asked) if asked.version == version && asked.user == self.heard.user => {}
+            Some(_) => self.unfit = Some(Stop::TwoLogins),
+            None => {
+                let user = self.heard.user.as_str().to_string(alloc)?;
+                self.asked = Some(Asked { user, version });
+            }
+        }
+        Ok(())
+    }
+
+    /// Takes the server's nonce of a challenge.
+    fn challenge(&mut self, alloc: Global) -> Result<(), Stop> {
+        let nonce = match self.heard.server_nonce() {
+            Some(nonce) => bytes_of(alloc, nonce)?,
+            None => None,
+        };
+        self.keep(nonce);
+        Ok(())
+    }
+
+    /// Keeps a nonce, if it is one of an audit.
+    fn keep(&mut self, nonce: Option<[u8; 32]>) {
+        match nonce {
+            Some(nonce) => self.nonce = nonce,
+            None => self.unfit = Some(Stop::OtherNonces),
+        }
+    }
+}
+
+/// The 32 bytes that a nonce is the base64 of, or none where it is not that of 32 bytes.
+fn bytes_of(alloc: Global, nonce: &str) -> Result<Option<[u8; 32]>, AllocError>
+    ensures { IfOk result (λ found. MatchOption found
+        ((bytes : List ℕ) → decode_of standard nonce.now ≡ Ok bytes → length bytes ≢ 32)
+        (λ bytes. decode_of standard nonce.now ≡ Ok bytes)) }
+{
+    match STANDARD.decode(alloc, nonce.as_bytes()) {
+        Ok(bytes) => Ok(array_of(&bytes)),
+        Err(DecodeAllocError::DecodeError(_)) => Ok(None),
+        Err(DecodeAllocError::OutOfMemory) => Err(AllocError),
+    }
+}
+
+/// These bytes, where they are 32.
+fn array_of(bytes: &[u8]) -> Option<[u8; 32]>
+    ensures { MatchOption result (length bytes.now ≢ 32) (λ array. array ≡ bytes.now) }
+{
+    <[u8; 32]>::try_from(bytes).ok()
+}
+
+/// Whether a server sends it (AMQP 1.0, part 5, section 5.3.2).
+fn is_of_server(view: &FrameView<'_>) -> bool {
+    match view {
+        FrameView::Mechanisms(_) | FrameView::Challenge(_) | FrameView::Outcome { .. } => true,
+        FrameView::Init { .. } | FrameView::Response(_) => false,
+    }
+}
+
+/// The text by which a frame goes on with a login, or ends it by Ok.
+pub fn text_of<'a>(view: &FrameView<'a>) -> Option<&'a [u8]> {
+    match view {
+        FrameView::Init {
+            initial_response,
+            ..
+        } => *initial_response,
+        FrameView::Challenge(text) | FrameView::Response(text) => Some(*text),
+        FrameView::Outcome {
+            code: SaslCode::Ok,
+            additional_data,
+        } => *additional_data,
+        FrameView::Mechanisms(_) | FrameView::Outcome { .. } => None,
+    }
+}
