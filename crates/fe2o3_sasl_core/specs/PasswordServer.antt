@@ -1,6 +1,6 @@
 -- A server of passwords over one list of records: SCRAM of two hashes, and PLAIN where it is offered (AMQP 1.0, part 5,
 -- section 5.3.3.1).
-use Rattle.std.specs.Prelude.{◌≡◌, ◌<◌, ℕ, Bool, true, false, Option, Some, None, List, [], ◌∷◌, codes, option_map}
+use Rattle.std.specs.Prelude.{◌≡◌, ◌<◌, ℕ, Bool, true, false, Option, Some, None, MatchOption, List, [], ◌∷◌, codes, option_map}
 use Rattle.fe2o3_scram.specs.declared.hmac.ScramVersion.{ScramVersion}
 use Rattle.fe2o3_scram.specs.declared.hmac.ScramVersion.TheVariants.{Sha256, Sha512}
 use Rattle.fe2o3_scram.specs.Credentials.{Store, serving}
@@ -43,7 +43,7 @@ mock_for version mock = record {
 
 -- the mock salts are longer than the 64 bytes that a salt can have
 abbrev pub HasLongSalts : PasswordSettings → Type 0
-HasLongSalts settings = (mock : MockChoice) × (settings.mock ≡ Some mock) × (64 < mock.salt_len)
+HasLongSalts settings = MatchOption settings.mock ⊥ (λ mock. 64 < mock.salt_len)
 
 -- the iteration count by which PLAIN answers an unknown user
 abbrev pub count_of_unknown : Option MockChoice → ℕ

@@ -2,7 +2,7 @@
 
 ghost use Rattle.std.specs.Prelude.{◌≡◌, ◌↔◌, Some, None, IfOk, IfErr, IsTrue, false};
 ghost use Rattle.fe2o3_scram.specs.Mixed.{provider_for};
-ghost use Rattle.fe2o3_sasl_core.specs.PasswordServer.{password_server, password_state, scram_part, scram_state, count_of_unknown, HasLongSalts};
+ghost use Rattle.fe2o3_sasl_core.specs.PasswordServer.{password_server, password_state, scram_part, scram_state, count_of_unknown, settings_of, HasLongSalts};
 ghost use Rattle.fe2o3_sasl_core.specs.declared.password_server.BuildError.TheVariants.{OutOfMemory as BuildOutOfMemory, SaltTooLong as BuildSaltTooLong};
 
 use crate::OutOfMemory;
@@ -13,7 +13,6 @@ use fe2o3_scram::credentials::{DEFAULT_SCRAM_ITERATIONS, MultiRecordStore, Recor
 use fe2o3_scram::hmac::ScramVersion;
 use fe2o3_scram::scram_server::{SaltTooLong, ScramAuthenticator};
 use std::alloc::{AllocError, Global};
-use std::marker::Model;
 use thiserror::Error;
 
 /// A server of SCRAM-SHA-512, SCRAM-SHA-256 and PLAIN, of which it may offer only some.
@@ -77,18 +76,10 @@ pub struct PasswordServerBuilder<'a> {
     plain: bool,
 }
 
-impl Model for PasswordServerBuilder<'_> {
-    ghost use Rattle.fe2o3_sasl_core.specs.PasswordServer.{PasswordSettings, settings_of};
-
-    ghost Value = { PasswordSettings };
-
-    ghost view = { settings_of };
-}
-
 impl<'a> PasswordServerBuilder<'a> {
     /// Returns a builder without options, over these records.
     pub fn new(records: &'a MultiRecordStore) -> Self
-        ensures { result ≡ record { records = records.now; mock = None; plain = false } }
+        ensures { settings_of result ≡ record { records = records.now; mock = None; plain = false } }
     {
         Self {
             records,
@@ -102,7 +93,7 @@ impl<'a> PasswordServerBuilder<'a> {
     /// the records. `salt_len` is the length of the records' salts, in bytes, and `iterations` their
     /// iteration count.
     pub fn mock_unknown_users(self, secret: &'a [u8], salt_len: usize, iterations: u32) -> Self
-        ensures { result ≡ record self { mock = Some (record {
+        ensures { settings_of result ≡ record (settings_of self) { mock = Some (record {
           secret = secret.now;
           salt_len = salt_len;
           count = iterations;
@@ -122,7 +113,7 @@ impl<'a> PasswordServerBuilder<'a> {
     /// Returns this builder, which offers PLAIN only if the connection is under TLS: PLAIN sends the
     /// password itself (RFC 4616, section 5).
     pub fn plain_under_tls(self, is_tls: bool) -> Self
-        ensures { result ≡ record self { plain = is_tls } }
+        ensures { settings_of result ≡ record (settings_of self) { plain = is_tls } }
     {
         Self {
             records: self.records,
@@ -138,10 +129,10 @@ impl<'a> PasswordServerBuilder<'a> {
     ///
     /// Errors: `SaltTooLong` if the mock salts are longer than 64 bytes, and otherwise `OutOfMemory`.
     pub fn build(&self, alloc: Global) -> Result<PasswordServer, BuildError>
-        ensures ok { IfOk result (λ server. password_state server ≡ password_server self.now) }
-        ensures short { IfOk result (λ _. ¬ HasLongSalts self.now) }
-        ensures err { IfErr result (λ error. error ≡ BuildError.SaltTooLong → HasLongSalts self.now) }
-        ensures memory { IfErr result (λ error. error ≡ BuildError.OutOfMemory → ¬ HasLongSalts self.now) }
+        ensures ok { IfOk result (λ server. password_state server ≡ password_server (settings_of self.now)) }
+        ensures short { IfOk result (λ _. ¬ HasLongSalts (settings_of self.now)) }
+        ensures err { IfErr result (λ error. error ≡ BuildError.SaltTooLong → HasLongSalts (settings_of self.now)) }
+        ensures memory { IfErr result (λ error. error ≡ BuildError.OutOfMemory → ¬ HasLongSalts (settings_of self.now)) }
     {
         if self.has_long_salts() {
             return Err(BuildError::SaltTooLong);
@@ -162,7 +153,7 @@ impl<'a> PasswordServerBuilder<'a> {
 
     /// Returns true if the mock salts are longer than a mock salt can be.
     fn has_long_salts(&self) -> bool
-        ensures { IsTrue result ↔ HasLongSalts self.now }
+        ensures { IsTrue result ↔ HasLongSalts (settings_of self.now) }
     {
         match &self.mock {
             Some(mock) => mock.salt_len > 64,
@@ -172,7 +163,7 @@ impl<'a> PasswordServerBuilder<'a> {
 
     /// Returns the records for this hash, which are shared.
     fn store(&self, version: ScramVersion) -> Result<RecordStore, OutOfMemory>
-        ensures { IfOk result (λ store. store ≡ provider_for version self.now.records) }
+        ensures { IfOk result (λ store. store ≡ provider_for version (settings_of self.now).records) }
     {
         Ok(self.records.for_version(version).clone()?)
     }
@@ -183,8 +174,8 @@ impl<'a> PasswordServerBuilder<'a> {
         alloc: Global,
         version: ScramVersion,
     ) -> Result<ScramAuthenticator<RecordStore>, BuildError>
-        ensures ok { IfOk result (λ scram. scram_state scram ≡ scram_part self.now version) }
-        ensures err { IfErr result (λ error. error ≡ BuildError.SaltTooLong → HasLongSalts self.now) }
+        ensures ok { IfOk result (λ scram. scram_state scram ≡ scram_part (settings_of self.now) version) }
+        ensures err { IfErr result (λ error. error ≡ BuildError.SaltTooLong → HasLongSalts (settings_of self.now)) }
     {
         let scram = ScramAuthenticator::new(self.store(version)?);
         match &self.mock {
@@ -198,7 +189,7 @@ impl<'a> PasswordServerBuilder<'a> {
 
     /// Returns the iteration count by which PLAIN answers an unknown user.
     fn iterations(&self) -> u32
-        ensures { result ≡ count_of_unknown self.now.mock }
+        ensures { result ≡ count_of_unknown (settings_of self.now).mock }
     {
         match &self.mock {
             Some(mock) => mock.iterations,
