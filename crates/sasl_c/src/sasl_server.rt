@@ -1,8 +1,8 @@
 //! The server's side of a connection, which stands in a struct between its calls.
 
-ghost use Rattle.std.specs.Prelude.{false, ◌≡◌, ◌≢◌, ◌<◌, ◌≤◌, ◌⊎◌, ◌+◌, ◌^◌, ℕ, List, Ok, length, map, option_map, string_bytes, IfOk, IfErr, IfSome, OnErr, MatchOption, MatchResult};
+ghost use Rattle.std.specs.Prelude.{false, ◌≡◌, ◌≢◌, ◌<◌, ◌≤◌, ◌⊎◌, ◌+◌, ◌^◌, ℕ, List, None, Ok, length, map, option_map, string_bytes, IfOk, IfErr, IfSome, OnErr, MatchOption, MatchResult};
 ghost use Rattle.std.specs.Str.{IsUtf8};
-ghost use Rattle.fe2o3_scram.specs.ScramServer.{challenge_kept, provider_in, state_in, cbind_flag_y_in};
+ghost use Rattle.fe2o3_scram.specs.ScramServer.{challenge_kept, provider_in, state_in, cbind_flag_y_in, mock_in};
 ghost use Rattle.fe2o3_sasl_core.specs.ExternalServer.{external_of};
 ghost use Rattle.fe2o3_sasl_negotiation.specs.declared.progress.Progress.{Progress as ProgressOf};
 ghost use Rattle.fe2o3_sasl_negotiation.specs.declared.progress.Progress.TheVariants.{InProgress};
@@ -29,7 +29,10 @@ use fe2o3_sasl_core::{
     AnyMechanism, AuthenticatedUser, ExternalServer, OfferError, RestrictMechanisms, Selected,
 };
 use fe2o3_sasl_negotiation::{Progress, RestoreError, ServerNegotiation, Snapshot};
-use fe2o3_scram::{Meter, OpenChallenge, RecordStore, ScramAuthenticator, ScramVersion};
+use fe2o3_scram::{
+    Meter, OpenChallenge, RecordStore, ScramAuthenticator, ScramCredentialProvider, ScramVersion,
+    StoredPassword,
+};
 use std::alloc::Global;
 
 /// What a server offers, and the record of one user. You lend the struct to each call.
@@ -169,7 +172,7 @@ fn joined(
     asked: Option<Selected>,
 ) -> All
     ensures { (peer : List ℕ) → external_of external ≡ record { user = external_name peer; accepted = false }
-        → provider_in scram ≡ store → all_in result
+        → provider_in scram ≡ store → mock_in scram ≡ None → all_in result
         ≡ all_of (cbind_flag_y_in scram) store iterations peer (state_in scram) asked }
 {
     AnyMechanism::with_selected(scram, Others::new(store, iterations, external), asked)
@@ -179,20 +182,36 @@ fn joined(
 fn exchange(
     alloc: Global,
     accept_cbind_flag_y: bool,
-    store: RecordStore,
+    store: &RecordStore,
     scram: &ScramServer,
 ) -> Result<(Scram, Option<Selected>), Status>
-    ensures provider { IfOk result (λ made. provider_in made.0 ≡ store) }
+    ensures provider { IfOk result (λ made. provider_in made.0 ≡ store.now) }
     ensures cbind_flag_y { IfOk result (λ made. cbind_flag_y_in made.0 ≡ accept_cbind_flag_y) }
-    ensures state { IfOk result (λ made. ShowsExchange scram.now (state_in made.0) made.1) }
+    ensures mock { IfOk result (λ made. mock_in made.0 ≡ None) }
+    ensures state { IfOk result (λ made. ShowsExchange store.now.records scram.now (state_in made.0) made.1) }
     ensures err { IfErr result (λ status. status ≡ StatusOutOfMemory) }
 {
-    let fresh = server_over(store, accept_cbind_flag_y);
-    match scram.challenge() {
-        Some(challenge) => Ok((fresh.waiting_for(alloc, &challenge)?, Some(Selected::First))),
-        None => Ok((fresh, None)),
-    }
+    let fresh = server_over(store.clone()?, accept_cbind_flag_y);
+    let Some(challenge) = scram.challenge() else {
+        return Ok((fresh, None));
+    };
+    let stored = match store.get_stored_password(challenge.username) {
+        Some(stored) => stored,
+        None => NO_RECORD,
+    };
+    Ok((
+        fresh.restore_challenge(alloc, &challenge, &stored)?,
+        Some(Selected::First),
+    ))
 }
+
+/// A record without keys, which no proof meets: that of a user of whom no record was passed.
+const NO_RECORD: StoredPassword<'static> = StoredPassword {
+    salt: &[],
+    iterations: 0,
+    stored_key: &[],
+    server_key: &[],
+};
 
 impl SaslServerConfig<'_> {
     /// The store of the configuration's one user, or of nobody. `NotUtf8`, and else `OutOfMemory`.
@@ -249,7 +268,7 @@ impl SaslServerConfig<'_> {
     {
         let store = self.store(alloc, version)?;
         let external = self.external(alloc)?;
-        let (machine, asked) = exchange(alloc, accept_cbind_flag_y, store.clone()?, scram)?;
+        let (machine, asked) = exchange(alloc, accept_cbind_flag_y, &store, scram)?;
         Ok(joined(machine, store, self.iterations, external, asked))
     }
 
