@@ -4,7 +4,7 @@ use crate::replies::{Reply, agree_all};
 use crate::rows::Row;
 use crate::runs::{Part, Run, Side, check_side};
 use fe2o3_sasl::credentials::{
-    ScramCredentialProvider, RecordStore, ScramRecord, SingleScramCredential,
+    RecordStore, ScramCredentialProvider, ScramRecord, SingleScramCredential,
 };
 use fe2o3_sasl::hmac::ScramVersion;
 use fe2o3_sasl::runs::{Event, acceptor_step, run_acceptor, scram_server_run_with_cbind_flag_y};
@@ -101,11 +101,7 @@ fn check_shared<C: ScramCredentialProvider + Drop>(
     };
     check_run(row, run, accept_cbind_flag_y, &shared);
     let fresh = ScramAuthenticator::new(shared);
-    if accept_cbind_flag_y {
-        check_acceptor(row, run, fresh.accept_cbind_flag_y());
-    } else {
-        check_acceptor(row, run, fresh);
-    }
+    check_acceptor(row, run, fresh.accept_cbind_flag_y(accept_cbind_flag_y));
 }
 
 /// Checks what a server of these credentials answers in a run.
@@ -116,7 +112,12 @@ fn check_run<C: ScramCredentialProvider>(
     credentials: &C,
 ) {
     let alloc = row.alloc;
-    let replies = scram_server_run_with_cbind_flag_y(alloc, accept_cbind_flag_y, credentials, &run.events);
+    let replies = scram_server_run_with_cbind_flag_y(
+        alloc,
+        accept_cbind_flag_y,
+        credentials,
+        &run.events,
+    );
     let replies = row.made(replies, Vec::new(alloc));
     agree_all(row, &replies, &run.wanted);
 }
