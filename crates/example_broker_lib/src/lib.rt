@@ -4,8 +4,7 @@
 use anyhow::{Context, Result, bail, ensure};
 use bytes::BytesMut;
 use fe2o3_sasl_negotiation::{
-    AnyMechanism, AuthenticatedUser, CloseReason, HasMechanism, Meter, MultiRecordStore, PlainServer,
-    Progress, RecordStore, RestrictMechanisms, SaslCode, ScramAuthenticator, ScramVersion,
+    CloseReason, Meter, MultiRecordStore, PasswordServer, PasswordServerBuilder, Progress, SaslCode,
     ServerNegotiation,
 };
 use mock_secret::{file_of, secret_of};
@@ -46,9 +45,7 @@ pub fn log_in<'a, R: Files + RandomSource + AllocGlobal, I: BufRead, O: Write>(
         tls,
     };
     for wrong in 0..3 {
-        let strong = broker.scram(ScramVersion::Sha512)?;
-        let weak = broker.scram(ScramVersion::Sha256)?;
-        if let Some(user) = broker.serve(strong, weak)? {
+        if let Some(user) = broker.serve()? {
             return Ok((user, wrong));
         }
     }
@@ -56,29 +53,17 @@ pub fn log_in<'a, R: Files + RandomSource + AllocGlobal, I: BufRead, O: Write>(
 }
 
 impl<R: RandomSource + AllocGlobal, I: BufRead, O: Write> Broker<'_, R, I, O> {
-    /// SCRAM over the records of a version, which does not tell which users it knows.
-    fn scram(&self, version: ScramVersion) -> Result<ScramAuthenticator<RecordStore>> {
-        let records = self.records.for_version(version).clone()?;
-        let server = ScramAuthenticator::new(records);
-        Ok(server.mock_unknown_users(self.secret.clone()?, 16, 4096)?)
-    }
-
-    /// Serves one connection by both, and by PLAIN: who has logged in, or `None` if that was refused.
-    fn serve<A: HasMechanism + Drop>(&mut self, strong: A, weak: A) -> Result<Option<String>> {
-        let records = self.records.for_version(ScramVersion::Sha256).clone()?;
-        let plain = PlainServer::new(records, 4096);
-        self.offer(AnyMechanism::new(AnyMechanism::new(strong, weak), plain))
-    }
-
-    /// Serves one by what may be offered.
-    fn offer<A: HasMechanism + Drop>(&mut self, all: A) -> Result<Option<String>> {
-        let names = ["SCRAM-SHA-512", "SCRAM-SHA-256", "PLAIN"];
-        let offered = &names[..if self.tls { 3 } else { 2 }];
-        self.carry(RestrictMechanisms::new(self.rt.alloc(), all, offered)?)
+    /// Serves one connection: who has logged in, or `None` if that was refused.
+    fn serve(&mut self) -> Result<Option<String>> {
+        let server = PasswordServerBuilder::new(&self.records)
+            .mock_unknown_users(&self.secret, 16, 4096)
+            .plain_under_tls(self.tls)
+            .build(self.rt.alloc())?;
+        self.carry(server)
     }
 
     /// Serves one to its end, each call of the server with a fresh nonce.
-    fn carry<A: AuthenticatedUser + Drop>(&mut self, acceptor: A) -> Result<Option<String>> {
+    fn carry(&mut self, acceptor: PasswordServer) -> Result<Option<String>> {
         let (alloc, mut nonce) = (self.rt.alloc(), [0; 32]);
         let mut server = ServerNegotiation::new(alloc, acceptor);
         let mut sent = BytesMut::new(alloc);

@@ -9,6 +9,7 @@ pub mod AnyMechanism
 pub mod RestrictMechanisms
 pub mod AnyMechanismSides
 pub mod ExternalServer
+pub mod PasswordServer
 pub mod PlainServer
 pub mod ProfileFaults
 pub mod Profiles

@@ -10,6 +10,7 @@ pub mod client_policy;
 pub mod events;
 pub mod external_server;
 mod mechanism_names;
+pub mod password_server;
 pub mod plain_server;
 pub mod restrict_mechanisms;
 pub mod sasl_acceptor;
@@ -21,6 +22,7 @@ pub use crate::any_mechanism::{AnyMechanism, HasMechanism, Selected};
 pub use crate::client_policy::{ChoiceError, ClientPolicy, Mechanism, select_mechanism};
 pub use crate::events::{ClientReply, Event, EventError, ServerReply};
 pub use crate::external_server::{ExternalServer, NoExternalIdentity};
+pub use crate::password_server::{BuildError, PasswordServer, PasswordServerBuilder};
 pub use crate::plain_server::{MAX_PASSWORD_LEN, PlainServer};
 pub use crate::restrict_mechanisms::{OfferError, RestrictMechanisms};
 pub use crate::sasl_acceptor::{

@@ -31,9 +31,9 @@ pub use side::{ConnectionSide, Endpoint, Role};
 pub use snapshot::{RestoreError, Snapshot};
 
 pub use fe2o3_sasl_core::{
-    AnyMechanism, AuthenticatedUser, ChoiceError, ClientPolicy, ClientReply, Event, EventError,
+    AnyMechanism, AuthenticatedUser, BuildError, ChoiceError, ClientPolicy, ClientReply, Event, EventError,
     ExternalServer, HasMechanism, MAX_PASSWORD_LEN, Mechanism, Negotiation, NoExternalIdentity,
-    OfferError, PlainServer, ProfileError, RestrictMechanisms, SaslAcceptor, SaslAcceptorExt,
+    OfferError, PasswordServer, PasswordServerBuilder, PlainServer, ProfileError, RestrictMechanisms, SaslAcceptor, SaslAcceptorExt,
     SaslAnonymousMechanism, SaslPlainMechanism, SaslProfile, SaslScramSha1, SaslScramSha256,
     SaslScramSha512, SaslServerFrame, Selected, ServerReply, UrlError, acceptor_body_step,
     acceptor_frame_step, acceptor_step, profile_body_step, profile_frame_step, profile_step,
