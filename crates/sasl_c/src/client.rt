@@ -13,7 +13,7 @@ ghost use Rattle.sasl_c.specs.Status.{Answers, AnswersText, AsksText, AsksWhere,
 ghost use Rattle.sasl_c.specs.declared.status.Status.TheVariants.{OutOfMemory as StatusOutOfMemory, NotUtf8 as StatusNotUtf8};
 ghost use Rattle.sasl_c.specs.declared.status.WriteError.TheVariants.{RoomTooSmall};
 
-use crate::arrays::{head, padded, put, store};
+use crate::arrays::{fill, head, padded, put, store};
 use crate::keys::ScramKeys;
 use crate::status::{Status, WriteError, number, text, text_number, version_of};
 use bytes::Bytes;
@@ -172,14 +172,18 @@ impl ScramClient {
         })
     }
 
-    /// The struct of a client that has sent this answer, or `None` where the signature that it waits for has no room.
-    pub fn answered(answer: &ClientAnswer) -> Option<ScramClient>
-        ensures state { MatchOption result (64 < length answer.now.signature.items) (λ client. (user : List ℕ)
-            → IsState user client (ClientFinalSent answer.now.signature.items (Some answer.now.keys))) }
-        ensures writes { IfSome result (λ client.
-            WritesClient client (ClientFinalSent answer.now.signature.items (Some answer.now.keys))) }
+    /// Makes it the struct of a client that has sent this answer.
+    pub fn wait(&mut self, answer: &ClientAnswer)
+        requires { length answer.now.signature.items ≤ 64 }
+        ensures state { (user : List ℕ)
+            → IsState user self.new (ClientFinalSent answer.now.signature.items (Some answer.now.keys)) }
+        ensures writes { WritesClient self.new (ClientFinalSent answer.now.signature.items (Some answer.now.keys)) }
     {
-        ScramClient::waiting_for(&answer.signature, Some(&answer.keys))
+        self.state = 2;
+        self.signature_len = answer.signature.len() as u32;
+        self.nonce.fill(0);
+        fill(&mut self.signature, &answer.signature);
+        self.keys.hold(&answer.keys);
     }
 
     /// The struct of a client that has sent its client-final message, or `None` where it has not, or where the

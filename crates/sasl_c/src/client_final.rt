@@ -236,11 +236,11 @@ fn answer(
         return Err(WriteError::Other(Status::Client(ScramErrorKind::Utf8Error)));
     };
     let answer = answered(alloc, login, client, text, meter)?;
-    let Some(waiting) = ScramClient::answered(&answer) else {
+    if answer.signature.len() > 64 {
         return Err(WriteError::Other(Status::TooLong));
-    };
+    }
     put(&answer.message, out, out_len)?;
-    *client = waiting;
+    client.wait(&answer);
     Ok(())
 }
 

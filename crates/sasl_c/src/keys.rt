@@ -1,16 +1,16 @@
 //! What a client keeps in place of its password, as a struct.
 
-ghost use Rattle.std.specs.Prelude.{◌≡◌, ◌≢◌, ◌↔◌, IsTrue, MatchOption, IfOk, IfErr};
+ghost use Rattle.std.specs.Prelude.{◌≡◌, ◌≢◌, ◌↔◌, IsTrue, MatchOption, IfOk, IfErr, Some};
 ghost use Rattle.fe2o3_scram.specs.Passwords.{Prepared, Typed};
 ghost use Rattle.fe2o3_scram.specs.Readings.{Gives, NoneHolds};
-ghost use Rattle.sasl_c.specs.Keys.{KeysHaveRoom, MakesKeysStruct, ShowsKeys, ShowsNoKeys, ShowsSomeKeys, keys_struct};
+ghost use Rattle.sasl_c.specs.Keys.{KeysHaveRoom, MakesKeysStruct, ShowsKeys, ShowsNoKeys, ShowsSomeKeys, WritesKeys, keys_struct};
 ghost use Rattle.sasl_c.specs.Passwords.{in_form};
 ghost use Rattle.sasl_c.specs.Records.{struct_making_tests};
 ghost use Rattle.sasl_c.specs.Status.{Answers, Makes};
 ghost use Rattle.sasl_c.specs.declared.keys.ScramKeys.{ScramKeys as Struct};
 ghost use Rattle.sasl_c.specs.declared.status.Status.TheVariants.{OutOfMemory as StatusOutOfMemory};
 
-use crate::arrays::{head, padded, store};
+use crate::arrays::{fill, head, padded, store};
 use crate::passwords::PasswordForm;
 use crate::status::{Status, digest_len, number, number_of, text, version_of};
 use fe2o3_scram::{CachedKeys, Meter};
@@ -59,7 +59,31 @@ impl ScramKeys {
         })
     }
 
-    /// The same struct.
+    /// Makes it the struct of keys, or of no keys if it cannot hold them. It is written in place, since a login by keys
+    /// makes few instructions besides.
+    pub fn hold(&mut self, keys: &CachedKeys)
+        ensures { WritesKeys self.new (Some keys.now) }
+    {
+        let (version, salt) = (keys.scram_version(), keys.salt());
+        let len = digest_len(version);
+        if salt.len() > 128 || keys.client_key().len() != len || keys.server_key().len() != len {
+            self.version = 0;
+            self.iterations = 0;
+            self.salt_len = 0;
+            self.salt.fill(0);
+            self.client_key.fill(0);
+            self.server_key.fill(0);
+            return;
+        }
+        self.version = number_of(version);
+        self.iterations = keys.iterations();
+        self.salt_len = salt.len() as u32;
+        fill(&mut self.salt, salt);
+        fill(&mut self.client_key, keys.client_key());
+        fill(&mut self.server_key, keys.server_key());
+    }
+
+    /// A copy of the struct.
     pub fn copied(&self) -> ScramKeys
         ensures { result ≡ self.now }
     {
