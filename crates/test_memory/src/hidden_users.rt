@@ -5,7 +5,7 @@ use crate::scram_values::{CLIENT_FIRST, SALT, WITHOUT_PROOF};
 use crate::users::stored;
 use fe2o3_scram::credentials::UserRecord;
 use fe2o3_scram::scram_messages::ServerScramErrorKind;
-use fe2o3_scram::scram_server::hiding::HidingAuthenticator;
+use fe2o3_scram::scram_server::ScramAuthenticator;
 use std::alloc::Global;
 use std::test::Fail;
 
@@ -22,12 +22,12 @@ const STEP: usize = 16;
 const TRIES: usize = 1000;
 
 /// A server of one user.
-type Server = HidingAuthenticator<UserRecord>;
+type Server = ScramAuthenticator<UserRecord>;
 
 /// Makes a server whose mock records have the salt length and the count of the stored record.
 fn server(alloc: Global) -> Result<Box<Server>, Fail> {
     let secret = SALT.to_vec(alloc)?;
-    let server = HidingAuthenticator::new(stored(alloc)?, secret, SALT.len(), 1)?;
+    let server = ScramAuthenticator::new(stored(alloc)?).mock_unknown_users(secret, SALT.len(), 1)?;
     Ok(Box::new(alloc, server)?)
 }
 

@@ -101,11 +101,7 @@ fn check_shared<C: ScramCredentialProvider + Drop>(
     };
     check_run(row, run, accept_cbind_flag_y, &shared);
     let fresh = ScramAuthenticator::new(shared);
-    if accept_cbind_flag_y {
-        check_acceptor(row, run, fresh.accept_cbind_flag_y());
-    } else {
-        check_acceptor(row, run, fresh);
-    }
+    check_acceptor(row, run, fresh.accept_cbind_flag_y(accept_cbind_flag_y));
 }
 
 /// Checks what a server of these credentials answers in a run.
