@@ -23,7 +23,6 @@ use Rattle.fe2o3_sasl_core.specs.AnyMechanism.{BothStates, both_names, any_mecha
 use Rattle.fe2o3_sasl_core.specs.AnyMechanismSides.{both_states}
 use Rattle.fe2o3_sasl_core.specs.PlainServer.{IsTaken, PlainParts, PlainState, SpellsPlain, plain_machine, plain_state}
 use Rattle.fe2o3_sasl_core.specs.SaslAcceptor.{Acceptor, ScramAcceptor, AnonymousAcceptor, acceptor_machine, acceptor_names, acceptor_user}
-use Rattle.fe2o3_sasl_negotiation.specs.declared.server.ServerNegotiation.{ServerNegotiation}
 use Rattle.fe2o3_sasl_negotiation.specs.declared.progress.Expected.{Expected}
 use Rattle.fe2o3_sasl_negotiation.specs.declared.progress.Expected.TheVariants.{Header}
 use Rattle.fe2o3_sasl_negotiation.specs.declared.progress.Progress.{Progress}
@@ -34,7 +33,7 @@ use Rattle.fe2o3_sasl_negotiation.specs.Framing.{IsPart}
 use Rattle.fe2o3_sasl_negotiation.specs.Negotiations.{Completes, Side}
 use Rattle.fe2o3_sasl_negotiation.specs.ServerNegotiation.{ServerReceives}
 use Rattle.fe2o3_sasl_negotiation.specs.Snapshot.{server_due}
-use Rattle.fe2o3_sasl_negotiation.specs.Sides.{acceptor_in, server_side}
+use Rattle.fe2o3_sasl_negotiation.specs.Sides.{ServerConnectionSide, acceptor_in, server_side}
 use Rattle.sasl_c.specs.declared.connection.Connection.{Connection}
 use Rattle.sasl_c.specs.declared.others.Others.{Others as OthersCode}
 use Rattle.sasl_c.specs.declared.sasl_server.Choice.{Choice}
@@ -268,20 +267,20 @@ abbrev pub state_struct : Progress → State → ScramStruct
 state_struct progress server = progress_struct progress (open_in server) (user_in server)
 
 -- the structs show a side, where this says what the one of SCRAM shows of its acceptor
-abbrev pub ShowsBy : {A S : Type 0} → (A → S) → (ScramStruct → Progress → A → Type 0) → Struct → ServerNegotiation A
+abbrev pub ShowsBy : {A S : Type 0} → (A → S) → (ScramStruct → Progress → A → Type 0) → Struct → ServerConnectionSide A
     → Type 0
 ShowsBy state shows server next = let side = server_side state next in
     Keeps server.connection side.progress side.expected side.held × shows server.scram side.progress (acceptor_in next)
 
 -- the structs that a call writes for a side
-abbrev pub struct_by : {A S : Type 0} → (A → S) → (Progress → A → ScramStruct) → ServerNegotiation A → Struct
+abbrev pub struct_by : {A S : Type 0} → (A → S) → (Progress → A → ScramStruct) → ServerConnectionSide A → Struct
 struct_by state written next = let side = server_side state next in record {
   connection = connection_struct side.progress side.expected side.held;
   scram = written side.progress (acceptor_in next);
 }
 
 -- no structs do: more is held than has room in one, or none shows how far the acceptor is
-abbrev pub HasNone : {A S : Type 0} → (A → S) → (ScramStruct → Progress → A → Type 0) → ServerNegotiation A → Type 0
+abbrev pub HasNone : {A S : Type 0} → (A → S) → (ScramStruct → Progress → A → Type 0) → ServerConnectionSide A → Type 0
 HasNone state shows next = let side = server_side state next in
     (512 < length side.held) ⊎ ((scram : ScramStruct) → ¬ shows scram side.progress (acceptor_in next))
 
@@ -441,8 +440,8 @@ abbrev pub Code : Type 0
 Code = RestrictMechanisms (AnyMechanism (ScramAuthenticator Store) OthersCode)
 
 -- the acceptor of SCRAM that a value is
-abbrev pub scram_state : ScramAuthenticator Store → Acceptor
-scram_state machine = ScramAcceptor (served_by (λ (store : Store). store) machine) (state_in machine)
+abbrev pub scram_acceptor : ScramAuthenticator Store → Acceptor
+scram_acceptor machine = ScramAcceptor (served_by (λ (store : Store). store) machine) (state_in machine)
 
 -- those beside it
 abbrev pub other_state : OthersCode → Others
@@ -451,12 +450,12 @@ other_state others = both_states (plain_state (λ store. store)) (both_states (�
 
 -- the four that a value is
 abbrev pub all_in : AnyMechanism (ScramAuthenticator Store) OthersCode → All
-all_in all = both_states scram_state other_state all
+all_in all = both_states scram_acceptor other_state all
 
 -- its state
 abbrev pub value_state : Code → State
 value_state acceptor = offering_of all_in acceptor
 
 -- the side that a value is
-abbrev pub side_in : ServerNegotiation Code → Side State
+abbrev pub side_in : ServerConnectionSide Code → Side State
 side_in server = server_side value_state server

@@ -298,7 +298,7 @@ fn client_by(
     secret: ClientSecret<'_>,
     version: ScramVersion,
 ) -> Result<Machine, Status>
-    requires { IsOfVersion version (secret_of secret.entry) }
+    requires { IsOfVersion version (secret_of secret) }
     ensures ok { IfOk result (λ side. (side.secret ≡ secret_of secret.entry) × (side.user ≡ string_bytes username)
         × (side.version ≡ version) × (side.state ≡ ClientInitial)) }
     ensures err { IfErr result (λ status. status ≡ StatusOutOfMemory) }
@@ -459,10 +459,10 @@ impl Login<'_> {
                 let password = Password::Typed(text(self.password)?);
                 client_by(alloc, username, ClientSecret::Password(password), version)
             }
-            1 => {
-                let keys = self.keys(alloc)?;
-                client_by(alloc, username, ClientSecret::Keys(&keys), version)
-            }
+            1 => match self.keys(alloc) {
+                Ok(keys) => client_by(alloc, username, ClientSecret::Keys(&keys), version),
+                Err(status) => Err(status),
+            },
             2 => {
                 let password = Password::Typed(text(self.password)?);
                 let keys = self.keys(alloc)?;

@@ -8,7 +8,7 @@ ghost use Rattle.fe2o3_sasl_negotiation.specs.declared.progress.Progress.{Progre
 ghost use Rattle.fe2o3_sasl_negotiation.specs.declared.progress.Progress.TheVariants.{InProgress};
 ghost use Rattle.fe2o3_sasl_negotiation.specs.ServerNegotiation.{ServerReceives};
 ghost use Rattle.fe2o3_sasl_negotiation.specs.Snapshot.{IsServerKept, side_of};
-ghost use Rattle.fe2o3_sasl_negotiation.specs.Sides.{server_side};
+ghost use Rattle.fe2o3_sasl_negotiation.specs.Sides.{ServerConnectionSide, server_side};
 ghost use Rattle.sasl_c.specs.SaslServer.{ServerIsReached, HasNoServerWords, HasNone, HasRecords, IsAll, IsNoConfig, NotReceived, Received, ReceivesAsServer, ShowsBy, ShowsProgress, ShowsState, ShowsExchange, all_in, all_of, allowed_of, external_mechanism, external_name, config_tests, name_where, one_where, progress_struct, value_state, state_struct, struct_by, sum_of};
 ghost use Rattle.sasl_c.specs.declared.sasl_server.Choice.{Choice as Choices};
 ghost use Rattle.sasl_c.specs.declared.server.ScramServer.{ScramServer as ScramStruct};
@@ -453,11 +453,11 @@ fn taken<A: Shows + Drop>(
 ) -> Result<Made, Status>
     requires meter { meter.old ≤ 2 ^ 63 }
     requires wanting { kept.now.progress ≡ InProgress }
-    ensures ok { IfOk result (λ made. (next : ServerNegotiation A) × ServerReceives A.names A.machine
+    ensures ok { IfOk result (λ made. (next : ServerConnectionSide A) × ServerReceives A.names A.machine
         (side_of kept.now (A.state acceptor)) bytes.now nonce.now made.taken made.sent.items (server_side A.state next)
         × ShowsBy A.state A.shows made.next next × (made.next ≡ struct_by A.state A.written_for next)) }
     ensures err { IfErr result (λ status. status ≢ StatusOutOfMemory → ((status ≡ StatusInvalidSnapshot) × ¬ IsServerKept kept.now)
-        ⊎ ((status ≡ StatusTooLong) × ((next : ServerNegotiation A) × (taken : ℕ) × (sent : List ℕ)
+        ⊎ ((status ≡ StatusTooLong) × ((next : ServerConnectionSide A) × (taken : ℕ) × (sent : List ℕ)
         × ServerReceives A.names A.machine (side_of kept.now (A.state acceptor)) bytes.now nonce.now taken sent
         (server_side A.state next) × HasNone A.state A.shows next))) }
 {
