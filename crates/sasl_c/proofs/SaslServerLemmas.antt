@@ -1,6 +1,6 @@
 -- What structs show of a server of a connection, and of which server they are (AMQP 1.0, part 5, section 5.3.2).
 use Rattle.std.proofs.Common.{arith, refl, sym, ap, inl, inr, ◌∙◌, ◌≡◌, ◌≢◌, ◌≤◌, ◌<◌, ◌∷◌, ℕ, List, [], length}
-use Rattle.std.specs.Prelude.{Bool, true, false, MatchOption, Option, Some, None, Err, take}
+use Rattle.std.specs.Prelude.{Bool, true, false, MatchOption, Option, Some, None, Ok, Err, take}
 use Rattle.std.specs.Str.{IsUtf8}
 use Rattle.std.proofs.lemmas.List.{length-take}
 use Rattle.fe2o3_scram.specs.declared.hmac.ScramVersion.{ScramVersion}
@@ -8,8 +8,11 @@ use Rattle.fe2o3_scram.specs.declared.hmac.ScramVersion.TheVariants as versions
 use Rattle.fe2o3_scram.specs.declared.scram_messages.channel_binding_flag.ChannelBindingFlag.{ChannelBindingFlag}
 use Rattle.fe2o3_scram.specs.declared.scram_messages.channel_binding_flag.ChannelBindingFlag.TheVariants.{NotSupported, ClientSupports}
 use Rattle.fe2o3_scram.specs.Credentials.{Records, VersionedRecord, versioned}
+use Rattle.fe2o3_scram.specs.ClientFinal.{ClientFinal, ReadsClientFinal, Server}
+use Rattle.fe2o3_scram.specs.Hmac.{digest_len}
+use Rattle.fe2o3_scram.proofs.lemmas.hashes.DigestLemmas.{length-digest}
 use Rattle.fe2o3_scram.specs.Readings.{NoneHolds}
-use Rattle.fe2o3_scram.specs.ScramServer.{ServerState, Initial, open_challenge}
+use Rattle.fe2o3_scram.specs.ScramServer.{ServerState, Initial, open_challenge, server_against}
 use Rattle.fe2o3_scram.specs.ServerFirst.{ServerChallenge}
 use Rattle.fe2o3_sasl_core.specs.declared.any_mechanism.Selected.{Selected}
 use Rattle.fe2o3_sasl_negotiation.specs.Sides.{ServerConnectionSide}
@@ -25,7 +28,7 @@ use Rattle.sasl_c.specs.declared.server.ScramServer.{ScramServer as ScramStruct}
 use Rattle.sasl_c.specs.declared.status.Status.{Status}
 use Rattle.sasl_c.specs.declared.status.Status.TheVariants as statuses
 use Rattle.sasl_c.specs.Records.{IsVersion, ShowsRecord, SpellsStruct}
-use Rattle.sasl_c.specs.SaslServer.{All, Code, ServerIsReached, HasNoServerWords, HasNoStruct, HasRecords, IsAll, IsNoConfig, IsOf, IsServer, HasNone, config_tests, ShowsBy, ShowsOpen, ShowsSide, ShowsProgress, ShowsState, ShowsExchange, State, allowed_of, one_where, open_in, struct_server, opened_by, side_in, side_struct, state_names, value_state, state_struct, struct_by, sum_of, user_in}
+use Rattle.sasl_c.specs.SaslServer.{All, Code, ServerIsReached, HasNoServerWords, HasNoStruct, HasRecords, IsAll, IsNoConfig, IsOf, IsServer, HasNone, config_tests, ShowsBy, ShowsOpen, ShowsSide, ShowsProgress, ShowsState, ShowsExchange, State, allowed_of, one_where, open_in, struct_server, NoRecordIsUnmet, no_record as record_without_keys, opened_by, side_in, side_struct, state_names, value_state, state_struct, struct_by, sum_of, user_in}
 use Rattle.sasl_c.specs.Server.{IsAuthenticated, ChallengeHasRoom, IsOpen, open_number}
 use Rattle.sasl_c.specs.Status.{version_number}
 use Rattle.sasl_c.proofs.StatusLemmas.{carried}
@@ -123,6 +126,26 @@ one_record config version shown name is same named = inl (
 )
 
 pub ruleset store = (no_record, other_version, one_record)
+
+-- ---- a record without keys
+
+some_digest : (version : ScramVersion) → 0 < digest_len version
+some_digest versions.Sha1 = omega arith
+some_digest versions.Sha256 = omega arith
+some_digest versions.Sha512 = omega arith
+
+-- a digest has bytes, and the stored key has none
+never_read : (server : Server) (text : List ℕ) (final : ClientFinal) → server.stored.stored_key ≡ []
+    → ReadsClientFinal server text (Ok final) → ⊥
+unfolding ReadsClientFinal
+never_read server text final none (read, sized, meets) =
+    let empty : digest_len server.version ≡ 0 = sym (length-digest server.version _) ∙ ap length (meets ∙ none) in
+    absurd (omega (arith, empty, some_digest server.version))
+
+pub never_met : NoRecordIsUnmet
+unfolding NoRecordIsUnmet
+never_met challenge version text message next ((final, read, sent), then) =
+    never_read (server_against version challenge record_without_keys) text final refl read
 
 -- ---- the server of a configuration
 

@@ -10,7 +10,7 @@ use Rattle.fe2o3_scram.specs.ClientFirst.{ClientFirst, HasEscapes, ReadsClientFi
 use Rattle.fe2o3_scram.specs.Credentials.{Record, Records, Store, record_at, serving, versioned}
 use Rattle.fe2o3_scram.specs.Hmac.{mechanism_name}
 use Rattle.fe2o3_scram.specs.Readings.{IsFirst, NoneHolds}
-use Rattle.fe2o3_scram.specs.ScramServer.{ServerState, Initial, ServerFirstSent, open_challenge, served_by, state_in}
+use Rattle.fe2o3_scram.specs.ScramServer.{ConcludesFrom, ServerState, Initial, ServerFirstSent, open_challenge, served_by, state_in}
 use Rattle.fe2o3_scram.specs.ServerFirst.{ServerChallenge}
 use Rattle.fe2o3_sasl_core.specs.declared.restrict_mechanisms.RestrictMechanisms.{RestrictMechanisms}
 use Rattle.fe2o3_sasl_core.specs.declared.any_mechanism.AnyMechanism.{AnyMechanism}
@@ -192,6 +192,11 @@ struct_server config version choice records state asked = record {
 -- a record without keys, which no proof meets
 abbrev pub no_record : Record
 no_record = record { salt = []; count = 0; stored_key = []; server_key = [] }
+
+-- no client-final message concludes a login by it
+unfoldable pub NoRecordIsUnmet : Type 0
+NoRecordIsUnmet = (challenge : ServerChallenge) (version : ScramVersion) (text message : List ℕ) (next : ServerState)
+    → ¬ ConcludesFrom (ServerFirstSent challenge no_record) version text (Ok (Some message)) next
 
 -- a record, and in place of none one without keys
 abbrev pub or_no_record : Option Record → Record

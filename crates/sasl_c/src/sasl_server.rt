@@ -9,7 +9,7 @@ ghost use Rattle.fe2o3_sasl_negotiation.specs.declared.progress.Progress.TheVari
 ghost use Rattle.fe2o3_sasl_negotiation.specs.ServerNegotiation.{ServerReceives};
 ghost use Rattle.fe2o3_sasl_negotiation.specs.Snapshot.{IsServerKept, side_of};
 ghost use Rattle.fe2o3_sasl_negotiation.specs.Sides.{ServerConnectionSide, server_side};
-ghost use Rattle.sasl_c.specs.SaslServer.{ServerIsReached, HasNoServerWords, HasNone, HasRecords, IsAll, IsNoConfig, NotReceived, Received, ReceivesAsServer, ShowsBy, ShowsProgress, ShowsState, ShowsExchange, all_in, all_of, allowed_of, external_mechanism, external_name, config_tests, name_where, one_where, progress_struct, value_state, state_struct, struct_by, sum_of};
+ghost use Rattle.sasl_c.specs.SaslServer.{ServerIsReached, HasNoServerWords, HasNone, HasRecords, IsAll, IsNoConfig, NotReceived, Received, ReceivesAsServer, ShowsBy, ShowsProgress, ShowsState, ShowsExchange, NoRecordIsUnmet, all_in, all_of, allowed_of, external_mechanism, external_name, config_tests, name_where, one_where, progress_struct, value_state, state_struct, struct_by, sum_of};
 ghost use Rattle.sasl_c.specs.declared.sasl_server.Choice.{Choice as Choices};
 ghost use Rattle.sasl_c.specs.declared.server.ScramServer.{ScramServer as ScramStruct};
 ghost use Rattle.fe2o3_scram.specs.Readings.{NoneHolds};
@@ -179,6 +179,7 @@ fn joined(
 }
 
 /// The server of SCRAM that a struct is, over a store, and what was asked last. `OutOfMemory` is the only refusal.
+#[tactic(auto, using(crate::proofs::SaslServerLemmas::never_met))]
 fn exchange(
     alloc: Global,
     accept_cbind_flag_y: bool,
@@ -189,6 +190,7 @@ fn exchange(
     ensures cbind_flag_y { IfOk result (λ made. cbind_flag_y_in made.0 ≡ accept_cbind_flag_y) }
     ensures mock { IfOk result (λ made. mock_in made.0 ≡ None) }
     ensures state { IfOk result (λ made. ShowsExchange store.now.records scram.now (state_in made.0) made.1) }
+    ensures unmet { NoRecordIsUnmet }
     ensures err { IfErr result (λ status. status ≡ StatusOutOfMemory) }
 {
     let fresh = server_over(store.clone()?, accept_cbind_flag_y);
@@ -205,7 +207,8 @@ fn exchange(
     ))
 }
 
-/// A record without keys, which no proof meets: that of a user of whom no record was passed.
+/// A record without keys, which no proof meets (clause `unmet` of `exchange`). It is passed where the configuration has
+/// no record of the challenge's user: the open challenge has to survive a call that completes no frame.
 const NO_RECORD: StoredPassword<'static> = StoredPassword {
     salt: &[],
     iterations: 0,
