@@ -79,7 +79,7 @@ response_costs Allocates view provider server_states.Initial next text result be
 response_costs Allocates view provider (server_states.ServerFinalSent user) next text result before after gives costs =
     (omega (arith, costs), λ n takes. omega (arith, costs))
 
--- ---- where memory is not wanting
+-- ---- where memory does not run out
 
 -- as many as an answer against the record of the open challenge takes
 exactly_against : {V : Type 0} (Allocates : Type 0) (view : V → Option (List ℕ)) (challenge : ServerChallenge)
