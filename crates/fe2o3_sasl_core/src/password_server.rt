@@ -2,7 +2,7 @@
 
 ghost use Rattle.std.specs.Prelude.{◌≡◌, ◌↔◌, Some, None, IfOk, IfErr, IsTrue, false};
 ghost use Rattle.fe2o3_scram.specs.Mixed.{provider_for};
-ghost use Rattle.fe2o3_sasl_core.specs.PasswordServer.{password_server, password_state, scram_part, scram_state, count_of_unknown, settings_of, HasLongSalts};
+ghost use Rattle.fe2o3_sasl_core.specs.PasswordServer.{password_server, password_state, scram_part, scram_acceptor, count_of_unknown, settings_of, HasLongSalts};
 ghost use Rattle.fe2o3_sasl_core.specs.declared.password_server.BuildError.TheVariants.{OutOfMemory as BuildOutOfMemory, SaltTooLong as BuildSaltTooLong};
 
 use crate::OutOfMemory;
@@ -93,6 +93,7 @@ impl<'a> PasswordServerBuilder<'a> {
     /// the records. `salt_len` is the length of the records' salts, in bytes, and `iterations` their
     /// iteration count.
     pub fn mock_unknown_users(self, secret: &'a [u8], salt_len: usize, iterations: u32) -> Self
+<<<<<<< HEAD
         ensures { settings_of result ≡ record (settings_of self) {
           mock = Some (record {
             secret = secret.now;
@@ -100,6 +101,13 @@ impl<'a> PasswordServerBuilder<'a> {
             count = iterations;
           });
         } }
+=======
+        ensures { settings_of result ≡ record (settings_of self.entry) { mock = Some (record {
+          secret = secret.now;
+          salt_len = salt_len;
+          count = iterations;
+        }) } }
+>>>>>>> c026a69b (fe2o3_sasl_core: the builder's clauses name the entry value)
     {
         Self {
             records: self.records,
@@ -115,7 +123,7 @@ impl<'a> PasswordServerBuilder<'a> {
     /// Returns this builder, which offers PLAIN only if the connection is under TLS: PLAIN sends the
     /// password itself (RFC 4616, section 5).
     pub fn plain_under_tls(self, is_tls: bool) -> Self
-        ensures { settings_of result ≡ record (settings_of self) { plain = is_tls } }
+        ensures { settings_of result ≡ record (settings_of self.entry) { plain = is_tls } }
     {
         Self {
             records: self.records,
@@ -176,7 +184,7 @@ impl<'a> PasswordServerBuilder<'a> {
         alloc: Global,
         version: ScramVersion,
     ) -> Result<ScramAuthenticator<RecordStore>, BuildError>
-        ensures ok { IfOk result (λ scram. scram_state scram ≡ scram_part (settings_of self.now) version) }
+        ensures ok { IfOk result (λ scram. scram_acceptor scram ≡ scram_part (settings_of self.now) version) }
         ensures err { IfErr result (λ error. error ≡ BuildError.SaltTooLong → HasLongSalts (settings_of self.now)) }
     {
         let scram = ScramAuthenticator::new(self.store(version)?);
