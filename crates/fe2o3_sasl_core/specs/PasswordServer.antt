@@ -77,14 +77,14 @@ password_server settings = record {
 }
 
 -- the acceptor of SCRAM that a value is
-abbrev pub scram_acceptor : ScramAuthenticator Store → Acceptor
-scram_acceptor scram = ScramAcceptor (served_by (λ store. store) scram) (state_in scram)
+abbrev pub scram_state : ScramAuthenticator Store → Acceptor
+scram_state scram = ScramAcceptor (served_by (λ store. store) scram) (state_in scram)
 
 -- the state of the server that a value is
 abbrev pub password_state : RestrictMechanisms (AnyMechanism (AnyMechanism (ScramAuthenticator Store)
     (ScramAuthenticator Store)) (PlainServer Store)) → PasswordState
 password_state server =
-    offering_of (both_states (both_states scram_acceptor scram_acceptor) (plain_state (λ store. store))) server
+    offering_of (both_states (both_states scram_state scram_state) (plain_state (λ store. store))) server
 
 -- the settings of mock authentication that the code holds
 abbrev pub mock_held : Mock → MockChoice

@@ -2,7 +2,7 @@
 
 ghost use Rattle.std.specs.Prelude.{◌≡◌, ◌↔◌, Some, None, IfOk, IfErr, IsTrue, false};
 ghost use Rattle.fe2o3_scram.specs.Mixed.{provider_for};
-ghost use Rattle.fe2o3_sasl_core.specs.PasswordServer.{password_server, password_state, scram_part, scram_acceptor, count_of_unknown, settings_of, HasLongSalts};
+ghost use Rattle.fe2o3_sasl_core.specs.PasswordServer.{password_server, password_state, scram_part, scram_state, count_of_unknown, settings_of, HasLongSalts};
 ghost use Rattle.fe2o3_sasl_core.specs.declared.password_server.BuildError.TheVariants.{OutOfMemory as BuildOutOfMemory, SaltTooLong as BuildSaltTooLong};
 
 use crate::OutOfMemory;
@@ -176,7 +176,7 @@ impl<'a> PasswordServerBuilder<'a> {
         alloc: Global,
         version: ScramVersion,
     ) -> Result<ScramAuthenticator<RecordStore>, BuildError>
-        ensures ok { IfOk result (λ scram. scram_acceptor scram ≡ scram_part (settings_of self.now) version) }
+        ensures ok { IfOk result (λ scram. scram_state scram ≡ scram_part (settings_of self.now) version) }
         ensures err { IfErr result (λ error. error ≡ BuildError.SaltTooLong → HasLongSalts (settings_of self.now)) }
     {
         let scram = ScramAuthenticator::new(self.store(version)?);
