@@ -9,10 +9,10 @@ use Rattle.fe2o3_scram.specs.declared.scram_messages.channel_binding_flag.Channe
 use Rattle.fe2o3_scram.specs.declared.scram_messages.channel_binding_flag.ChannelBindingFlag.TheVariants.{NotSupported, ClientSupports}
 use Rattle.fe2o3_scram.specs.Credentials.{Records, VersionedRecord, versioned}
 use Rattle.fe2o3_scram.specs.Readings.{NoneHolds}
-use Rattle.fe2o3_scram.specs.ScramServer.{ServerState, open_challenge}
+use Rattle.fe2o3_scram.specs.ScramServer.{ServerState, Initial, open_challenge}
 use Rattle.fe2o3_scram.specs.ServerFirst.{ServerChallenge}
 use Rattle.fe2o3_sasl_core.specs.declared.any_mechanism.Selected.{Selected}
-use Rattle.fe2o3_sasl_negotiation.specs.declared.server.ServerNegotiation.{ServerNegotiation}
+use Rattle.fe2o3_sasl_negotiation.specs.Sides.{ServerConnectionSide}
 use Rattle.fe2o3_sasl_negotiation.specs.declared.progress.CloseReason.{CloseReason}
 use Rattle.fe2o3_sasl_negotiation.specs.declared.progress.Progress.{Progress}
 use Rattle.fe2o3_sasl_negotiation.specs.declared.progress.Progress.TheVariants.{InProgress, Authenticated, Failed}
@@ -25,7 +25,7 @@ use Rattle.sasl_c.specs.declared.server.ScramServer.{ScramServer as ScramStruct}
 use Rattle.sasl_c.specs.declared.status.Status.{Status}
 use Rattle.sasl_c.specs.declared.status.Status.TheVariants as statuses
 use Rattle.sasl_c.specs.Records.{IsVersion, ShowsRecord, SpellsStruct}
-use Rattle.sasl_c.specs.SaslServer.{All, Code, ServerIsReached, HasNoServerWords, HasNoStruct, HasRecords, IsAll, IsNoConfig, IsOf, IsServer, HasNone, config_tests, ShowsBy, ShowsOpen, ShowsSide, ShowsProgress, ShowsState, ShowsExchange, State, allowed_of, one_where, open_in, struct_server, side_in, side_struct, state_names, value_state, state_struct, struct_by, sum_of, user_in}
+use Rattle.sasl_c.specs.SaslServer.{All, Code, ServerIsReached, HasNoServerWords, HasNoStruct, HasRecords, IsAll, IsNoConfig, IsOf, IsServer, HasNone, config_tests, ShowsBy, ShowsOpen, ShowsSide, ShowsProgress, ShowsState, ShowsExchange, State, allowed_of, one_where, open_in, struct_server, opened_by, side_in, side_struct, state_names, value_state, state_struct, struct_by, sum_of, user_in}
 use Rattle.sasl_c.specs.Server.{IsAuthenticated, ChallengeHasRoom, IsOpen, open_number}
 use Rattle.sasl_c.specs.Status.{version_number}
 use Rattle.sasl_c.proofs.StatusLemmas.{carried}
@@ -136,9 +136,9 @@ whole config version choice all other names server named is same = is
     offering : All → List (List ℕ) → State
     offering inner allowed = record { inner = inner; allowed = allowed }
 
-is_of : (config : Config) (version : ScramVersion) (choice : Choice) (records : Records) (state other : ServerState)
-    (asked last : Option Selected) (server : State) → IsVersion config.version version → sum_of choice ≡ config.mechanisms
-    → HasRecords config version records → server ≡ struct_server config version choice records state asked → state ≡ other
+is_of : (config : Config) (version : ScramVersion) (choice : Choice) (records : Records) (state : ServerState)
+    (other : Records → ServerState) (asked last : Option Selected) (server : State) → IsVersion config.version version → sum_of choice ≡ config.mechanisms
+    → HasRecords config version records → server ≡ struct_server config version choice records state asked → state ≡ other records
     → asked ≡ last → IsOf config other last server
 unfolding IsOf
 is_of config version choice records state other asked last server known sum has is same too = (
@@ -150,7 +150,7 @@ is_of config version choice records state other asked last server known sum has 
   has,
   is
       ∙ (ap (λ (s : ServerState). struct_server config version choice records s asked) same
-      ∙ ap (λ (a : Option Selected). struct_server config version choice records other a) too),
+      ∙ ap (λ (a : Option Selected). struct_server config version choice records (other records) a) too),
 )
 
 shows_it : (scram : ScramStruct) (server : State) (challenge : Option ServerChallenge) → open_in server ≡ challenge
@@ -169,13 +169,14 @@ made config version choice scram all names server known sum named is (records, s
     all_is : server ≡ struct_server config version choice records state asked
     all_is = whole config version choice all _ names server named is same
 
-    go : ShowsExchange scram state asked → ServerIsReached config InProgress server × ShowsState scram InProgress server
+    go : ShowsExchange records scram state asked → ServerIsReached config InProgress server × ShowsState scram InProgress server
     go (inl (challenge, opened, stood, last)) = (
-      inr (challenge, is_of config version choice records state _ asked _ server known sum has all_is stood last),
+      inr (challenge, is_of config version choice records state (opened_by challenge) asked _ server known sum has all_is stood
+          last),
       shows_it scram server (Some challenge) (ap open_in all_is ∙ ap open_challenge stood) opened,
     )
     go (inr (none, stood, last)) = (
-      inl (is_of config version choice records state _ asked _ server known sum has all_is stood last),
+      inl (is_of config version choice records state (λ _. Initial) asked _ server known sum has all_is stood last),
       shows_it scram server None (ap open_in all_is ∙ ap open_challenge stood) none,
     )
 
@@ -216,10 +217,10 @@ no_offer config version choice scram all names server known sum named is (record
       ),
       refl,
       (
-        state,
+        λ _. state,
         asked,
         server,
-        is_of config version choice records state state asked asked server known sum has
+        is_of config version choice records state (λ _. state) asked asked server known sum has
             (whole config version choice all _ names server named is same) refl refl,
         nothing,
       ),
@@ -351,16 +352,16 @@ Shown scram progress acceptor = ShowsState scram progress (value_state acceptor)
 abbrev pub written_for : Progress → Code → ScramStruct
 written_for progress acceptor = state_struct progress (value_state acceptor)
 
-pub writes_side : (server : Struct) (next : ServerNegotiation Code) → server ≡ struct_by value_state written_for next
+pub writes_side : (server : Struct) (next : ServerConnectionSide Code) → server ≡ struct_by value_state written_for next
     → server ≡ side_struct (side_in next)
 writes_side server next written = written
 
-pub shows_side : (server : Struct) (next : ServerNegotiation Code) → ShowsBy value_state Shown server next
+pub shows_side : (server : Struct) (next : ServerConnectionSide Code) → ShowsBy value_state Shown server next
     → ShowsSide server (side_in next)
 unfolding ShowsSide
 shows_side server next shows = shows
 
-pub shows_nothing : (next : ServerNegotiation Code) → HasNone value_state Shown next → HasNoStruct (side_in next)
+pub shows_nothing : (next : ServerConnectionSide Code) → HasNone value_state Shown next → HasNoStruct (side_in next)
 unfolding HasNoStruct
 shows_nothing next none = none
 

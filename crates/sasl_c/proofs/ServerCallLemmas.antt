@@ -11,7 +11,7 @@ use Rattle.fe2o3_sasl_wire.specs.SaslFrames as frames
 use Rattle.fe2o3_sasl_wire.specs.SaslFrames.{SaslFrame, canonical}
 use Rattle.fe2o3_scram.specs.declared.hmac.ScramVersion.{ScramVersion}
 use Rattle.fe2o3_scram.specs.declared.scram_messages.error.ServerScramErrorKind.{ServerScramErrorKind}
-use Rattle.fe2o3_scram.specs.Credentials.{Provider, Records}
+use Rattle.fe2o3_scram.specs.Credentials.{Provider, Record, Records, serving}
 use Rattle.fe2o3_scram.specs.Readings.{IsFirst, NoneHolds}
 use Rattle.fe2o3_scram.specs.ScramServer.{ChallengesFrom, ServerState, Initial, ServerFirstSent}
 use Rattle.fe2o3_scram.specs.ServerFirst.{ServerChallenge}
@@ -25,7 +25,7 @@ use Rattle.fe2o3_sasl_core.specs.AnyMechanism.{PartReplies, part_for}
 use Rattle.fe2o3_sasl_core.specs.PlainServer.{PlainState, plain_machine}
 use Rattle.fe2o3_sasl_core.specs.Runs.{AcceptorGives}
 use Rattle.fe2o3_sasl_core.specs.SaslAcceptor.{Acceptor, ScramAcceptor, AnonymousAcceptor, acceptor_machine, acceptor_names, ends_with, server_frame}
-use Rattle.fe2o3_sasl_negotiation.specs.declared.server.ServerNegotiation.{ServerNegotiation}
+use Rattle.fe2o3_sasl_negotiation.specs.Sides.{ServerConnectionSide}
 use Rattle.fe2o3_sasl_negotiation.specs.declared.snapshot.Snapshot.{Snapshot}
 use Rattle.fe2o3_sasl_negotiation.specs.declared.progress.CloseReason.{CloseReason}
 use Rattle.fe2o3_sasl_negotiation.specs.declared.progress.CloseReason.TheVariants.{ProtocolHeaderMismatch, ReplyTooLarge}
@@ -47,7 +47,7 @@ use Rattle.sasl_c.specs.declared.sasl_server.SaslServer.{SaslServer as Struct}
 use Rattle.sasl_c.specs.declared.status.Status.{Status}
 use Rattle.sasl_c.specs.declared.status.Status.TheVariants as statuses
 use Rattle.sasl_c.specs.Connection.{Keeps, KeepsNoPart, side_tests, KeepsNoPartOf}
-use Rattle.sasl_c.specs.SaslServer.{All, Code, ServerIsReached, HasNone, IsNoConfig, IsNoServer, IsOf, IsServer, Last, NotReceived, Others, Received, ShowsBy, ShowsSide, ShowsState, State, all_machine, all_names, external_names, last_machine, last_names, other_machine, other_names, plain_names, struct_server, side_in, side_struct, state_machine, state_names, value_state, struct_by}
+use Rattle.sasl_c.specs.SaslServer.{All, Code, ServerIsReached, HasNone, IsNoConfig, IsNoServer, IsOf, IsServer, Last, NotReceived, Others, Received, ShowsBy, ShowsSide, ShowsState, State, all_machine, all_names, external_names, last_machine, last_names, other_machine, other_names, plain_names, struct_server, opened_by, or_no_record, side_in, side_struct, state_machine, state_names, value_state, struct_by}
 use Rattle.sasl_c.proofs.SaslClientLemmas.{one_due, part_short, tests_without_memory}
 use Rattle.sasl_c.proofs.SaslServerLemmas.{Shown, is_server, no_server, shows_nothing, shows_side, writes_side, written_for}
 use Rattle.sasl_c.proofs.StatusLemmas.{carried}
@@ -107,15 +107,17 @@ others_end others next (Some Second) nonce frame reply is (moved, held, then) = 
 
 -- SCRAM opens a challenge, or ends it
 abbrev Opens : Provider → Acceptor → Type 0
-Opens provider next = (challenge : ServerChallenge) × (next ≡ ScramAcceptor provider (ServerFirstSent challenge))
+Opens provider next = (challenge : ServerChallenge) × (stored : Record) × (provider.records challenge.user ≡ Some stored)
+    × (next ≡ ScramAcceptor provider (ServerFirstSent challenge stored))
 
 opens_or_ends : (provider : Provider) (state after : ServerState) (nonce text : List ℕ)
     (answer : Result (Option (List ℕ)) ServerScramErrorKind) (reply : SaslFrame) (next : Acceptor)
     → ChallengesFrom state provider nonce text answer after
     → reply ≡ server_frame (λ message. frames.Challenge message) answer → next ≡ ScramAcceptor provider after
     → Ends reply ⊎ Opens provider next
-opens_or_ends provider state after nonce text (Ok (Some message)) reply next held same is =
-    inr (held.0, is ∙ ap (λ (s : ServerState). ScramAcceptor provider s) held.3)
+opens_or_ends provider state after nonce text (Ok (Some message)) reply next
+    (challenge, given, sent, (stored, found, then)) same is =
+    inr (challenge, stored, found, is ∙ ap (λ (s : ServerState). ScramAcceptor provider s) then)
 opens_or_ends provider state after nonce text (Ok None) reply next held same is =
     inl (ends_so reply outcomes.Auth same)
 opens_or_ends provider state after nonce text (Err fault) reply next held same is =
@@ -151,23 +153,27 @@ module _ (config : Config) (version : ScramVersion) (choice : Choice) (records :
   abbrev one : ServerState → Option Selected → State
   one state asked = struct_server config version choice records state asked
 
+  abbrev scram_provider : Provider
+  scram_provider = serving choice.cbind_flag_y (record { version = version; records = records })
+
   abbrev Then : SaslFrame → State → Type 0
-  Then reply next = Ends reply ⊎ ((challenge : ServerChallenge) × (next ≡ one (ServerFirstSent challenge) (Some First)))
+  Then reply next =
+      Ends reply ⊎ ((challenge : ServerChallenge) × (next ≡ one (opened_by challenge records) (Some First)))
 
   opened : (state : ServerState) (asked : Option Selected) (all : All) (acceptor : Acceptor) (next : State)
-      (reply : SaslFrame) → Ends reply ⊎ Opens (record {
-        version = version;
-        records = records;
-        cbind_flag_y = choice.cbind_flag_y;
-      }) acceptor
+      (reply : SaslFrame) → Ends reply ⊎ Opens scram_provider acceptor
       → all ≡ record { first = acceptor; second = (one state asked).inner.second; selected = Some First }
       → next ≡ record (one state asked) { inner = all } → Then reply next
   opened state asked all acceptor next reply (inl ends) is same = inl ends
-  opened state asked all acceptor next reply (inr (challenge, opens)) is same = inr (
+  opened state asked all acceptor next reply (inr (challenge, stored, found, opens)) is same = inr (
     challenge,
-    same ∙ ap (λ (a : All). with_all a) (is ∙ ap with_first opens),
+    same ∙ ap (λ (a : All). with_all a)
+        (is ∙ ap with_first (opens ∙ ap (opened_with challenge) (sym (ap or_no_record found)))),
   )
     where
+      opened_with : ServerChallenge → Record → Acceptor
+      opened_with made stored = ScramAcceptor scram_provider (ServerFirstSent made stored)
+
       with_all : All → State
       with_all a = record (one state asked) { inner = a }
 
@@ -193,13 +199,13 @@ module _ (config : Config) (version : ScramVersion) (choice : Choice) (records :
       part_goes state asked (part_for acceptor_names other_names (one state asked).inner frame) nonce frame reply moved
       next held then
 
-of_goes : (config : Config) (state : ServerState) (asked : Option Selected) (server next : State) (nonce : List ℕ)
+of_goes : (config : Config) (state : Records → ServerState) (asked : Option Selected) (server next : State) (nonce : List ℕ)
     (frame reply : SaslFrame) → IsOf config state asked server → state_machine server nonce frame reply next
     → Goes config reply next
 unfolding IsOf
 of_goes config state asked server next nonce frame reply (version, choice, records, known, sum, has, is) held =
-    go (offered_goes config version choice records state asked
-    (is_passed_on all_names (struct_server config version choice records state asked) frame) nonce frame reply next
+    go (offered_goes config version choice records (state records) asked
+    (is_passed_on all_names (struct_server config version choice records (state records) asked) frame) nonce frame reply next
     (carried (λ (s : State). state_machine s nonce frame reply next) server _ is held))
   where
     go : Then config version choice records reply next → Goes config reply next
@@ -209,9 +215,9 @@ of_goes config state asked server next nonce frame reply (version, choice, recor
 comes_goes : (config : Config) (server next : State) (nonce : List ℕ) (frame reply : SaslFrame)
     → ServerIsReached config InProgress server → state_machine server nonce frame reply next → Goes config reply next
 comes_goes config server next nonce frame reply (inl fresh) held =
-    of_goes config Initial None server next nonce frame reply fresh held
+    of_goes config (λ _. Initial) None server next nonce frame reply fresh held
 comes_goes config server next nonce frame reply (inr (challenge, waits)) held =
-    of_goes config (ServerFirstSent challenge) (Some First) server next nonce frame reply waits held
+    of_goes config (opened_by challenge) (Some First) server next nonce frame reply waits held
 
 -- ---- so a server that sends a challenge is one that the configuration comes to
 
@@ -512,10 +518,10 @@ not_kept config bytes nonce before kept state status keeps wants limit mock come
   inr (is, keeps_no_server before.connection kept keeps wants limit mock wrong, config_has comes),
 ))
   where
-    config_has : ServerIsReached config InProgress state → (at : ServerState) × (asked : Option Selected) × (server : State)
-        × IsOf config at asked server
-    config_has (inl fresh) = (Initial, None, state, fresh)
-    config_has (inr (challenge, waits)) = (ServerFirstSent challenge, Some First, state, waits)
+    config_has : ServerIsReached config InProgress state → (at : Records → ServerState) × (asked : Option Selected)
+        × (server : State) × IsOf config at asked server
+    config_has (inl fresh) = ((λ _. Initial), None, state, fresh)
+    config_has (inr (challenge, waits)) = (opened_by challenge, Some First, state, waits)
 
 -- what comes of a side that was taken up
 module _ (config : Config) (bytes nonce : List ℕ) (before : Struct) (kept : Snapshot) (state : State)
@@ -528,12 +534,12 @@ module _ (config : Config) (bytes nonce : List ℕ) (before : Struct) (kept : Sn
   is = taken_up config before kept state keeps wants limit known.0 known.1
 
   -- a side that it can be behind these bytes
-  abbrev Follows : ℕ → List ℕ → ServerNegotiation Code → Type 0
+  abbrev Follows : ℕ → List ℕ → ServerConnectionSide Code → Type 0
   Follows taken sent next =
       ServerReceives state_names state_machine taken_side bytes nonce taken sent (side_in next)
 
   pub answered : (after : Struct) (taken : ℕ) (sent : List ℕ)
-      → (next : ServerNegotiation Code) × Follows taken sent next × ShowsBy value_state Shown after next
+      → (next : ServerConnectionSide Code) × Follows taken sent next × ShowsBy value_state Shown after next
       × (after ≡ struct_by value_state written_for next) → Received config bytes nonce before after taken sent
   answered after taken sent (next, held, shows, written) =
       received config bytes nonce before after taken_side (side_in next) taken sent is wants held
@@ -543,13 +549,13 @@ module _ (config : Config) (bytes nonce : List ℕ) (before : Struct) (kept : Sn
       (writes_side after next written)
 
   pub short_answer : (after : Struct) (taken : ℕ) (sent : List ℕ)
-      → (next : ServerNegotiation Code) × Follows taken sent next × ShowsBy value_state Shown after next
+      → (next : ServerConnectionSide Code) × Follows taken sent next × ShowsBy value_state Shown after next
       × (after ≡ struct_by value_state written_for next) → length sent ≤ 520
   short_answer after taken sent (next, held, shows, written) =
       behind_short config before taken_side (side_in next) bytes nonce taken sent is wants held
 
   pub unanswered : (status : Status) → shown kept.user ≡ None → ((status ≡ statuses.InvalidSnapshot) × ¬ IsServerKept kept)
-      ⊎ ((status ≡ statuses.TooLong) × ((next : ServerNegotiation Code) × (taken : ℕ) × (sent : List ℕ)
+      ⊎ ((status ≡ statuses.TooLong) × ((next : ServerConnectionSide Code) × (taken : ℕ) × (sent : List ℕ)
       × Follows taken sent next × HasNone value_state Shown next)) → NotReceived config bytes nonce before status
   unanswered status mock (inl wrong) =
       not_kept config bytes nonce before kept state status keeps wants limit mock known.0 wrong

@@ -15,7 +15,8 @@ use Rattle.fe2o3_scram.specs.Keys.{auth_message, server_signature}
 use Rattle.fe2o3_scram.specs.ServerFinal.{AnswersClientFinal, FinalCosts}
 use Rattle.fe2o3_scram.proofs.lemmas.hashes.DigestLemmas.{length-hmac_of}
 use Rattle.sasl_c.proofs.TextLemmas.{short, short_text}
-use Rattle.fe2o3_scram.specs.Credentials.{Store, VersionedRecord, record_at, serving}
+use Rattle.fe2o3_scram.specs.Credentials.{Record, Store, VersionedRecord, serving}
+use Rattle.fe2o3_scram.specs.MockSettings.{MockSettings, mocking}
 use Rattle.fe2o3_scram.specs.ScramServer.{ChallengesFrom, ServerState, ServerFirstSent, open_challenge}
 use Rattle.fe2o3_scram.specs.ServerFirst.{AnswersClientFirst, ServerChallenge}
 use Rattle.fe2o3_scram.specs.Texts.{base64_text}
@@ -51,9 +52,9 @@ unfolding NotChallenged
 no_room cbind_flag_y kept nonce text challenge held wide = inr (inr (refl, (challenge, held, wide)))
 
 -- the challenge that is open is the one that was made
-pub one_challenge : (state : ServerState) (challenge shown : ServerChallenge) → state ≡ ServerFirstSent challenge
-    → Some shown ≡ open_challenge state → shown ≡ challenge
-one_challenge state challenge shown stands opened =
+pub one_challenge : (state : ServerState) (challenge shown : ServerChallenge) (stored : Record)
+    → state ≡ ServerFirstSent challenge stored → Some shown ≡ open_challenge state → shown ≡ challenge
+one_challenge state challenge shown stored stands opened =
     let same : Some shown ≡ Some challenge = opened ∙ ap open_challenge stands in cc
 
 -- what is written of it
@@ -93,25 +94,28 @@ opens_asks Asks challenge before after room filled (Err RoomTooSmall) is = λ sa
 opens_asks Asks challenge before after room filled (Err (Other status)) is =
     λ same. let other : Other statuses.TooLong ≡ Other statuses.OutOfMemory = ap Other (sym is.3) ∙ same in absurd (cc)
 
--- a server that takes whom another takes answers what that one answers
-pub challenges_so : (state next : ServerState) (store : Store) (own cbind_flag_y : Bool) (nonce text : List ℕ)
-    (answer : Result (Option (List ℕ)) ServerScramErrorKind) → own ≡ cbind_flag_y
-    → ChallengesFrom state (serving own store) nonce text answer next
+-- a server without mock authentication that takes whom another takes answers what that one answers
+pub challenges_so : (state next : ServerState) (store : Store) (mock : Option MockSettings) (own cbind_flag_y : Bool)
+    (nonce text : List ℕ) (answer : Result (Option (List ℕ)) ServerScramErrorKind) → mock ≡ None → own ≡ cbind_flag_y
+    → ChallengesFrom state (mocking mock (serving own store)) nonce text answer next
     → ChallengesFrom state (serving cbind_flag_y store) nonce text answer next
-challenges_so state next store own cbind_flag_y nonce text answer same held =
+challenges_so state next store mock own cbind_flag_y nonce text answer none same held =
     carried (λ (option : Bool). ChallengesFrom state (serving option store) nonce text answer next) own cbind_flag_y same
-    held
+    (carried (λ (settings : Option MockSettings). ChallengesFrom state (mocking settings (serving own store)) nonce text
+    answer next) mock None none held)
 
 -- the machine's answers
 pub challenged : (cbind_flag_y : Bool) (kept : Kept) (nonce text user message : List ℕ) (shown : VersionedRecord)
     (store : Store) (state next : ServerState) → ShowsRecord kept shown → store ≡ one_user user shown
     → ChallengesFrom state (serving cbind_flag_y store) nonce text (Ok (Some message)) next
-    → (challenge : ServerChallenge) × (next ≡ ServerFirstSent challenge) × MakesChallenge cbind_flag_y kept nonce text challenge
+    → (challenge : ServerChallenge) × (stored : Record) × (next ≡ ServerFirstSent challenge stored)
+    × MakesChallenge cbind_flag_y kept nonce text challenge
 unfolding MakesChallenge
-challenged cbind_flag_y kept nonce text user message shown store state next is same held =
-    let given = carried (λ s. AnswersClientFirst (serving cbind_flag_y s) (base64_text nonce) text (Ok (Some held.0))) store
-    (one_user user shown) same held.1 in
-    (held.0, held.3, (shown, user, is, given))
+challenged cbind_flag_y kept nonce text user message shown store state next is same
+    (challenge, answers, sent, (stored, found, then)) =
+    let given = carried (λ s. AnswersClientFirst (serving cbind_flag_y s) (base64_text nonce) text (Ok (Some challenge))) store
+    (one_user user shown) same answers in
+    (challenge, stored, then, (shown, user, is, given))
 
 -- the record stands under the name that the message has, so its user is never unknown
 pub never_unknown : (cbind_flag_y : Bool) (kept : Kept) (nonce text user : List ℕ) (shown : VersionedRecord) (store : Store)
@@ -153,10 +157,6 @@ short_final server text message held =
       short_text signature long,
     )
 
--- the one user's record is found
-found : (user : List ℕ) (shown : VersionedRecord) → record_at (one_user user shown).records user ≡ Some shown.stored
-found user shown = ap (λ test. cond test (Some shown.stored) None) ((bytes_eq-Decides user user).1 refl)
-
 pub concluded : (kept : Kept) (before : Struct) (text message : List ℕ) (challenge : ServerChallenge)
     (shown : VersionedRecord) → IsOpen before challenge → ShowsRecord kept shown
     → AnswersClientFinal (server_of shown.version challenge.header challenge.bare challenge.first challenge.nonce
@@ -165,7 +165,7 @@ pub concluded : (kept : Kept) (before : Struct) (text message : List ℕ) (chall
     → ConcludesLogin kept before text message challenge.user × (length message ≤ 90)
 unfolding ConcludesLogin
 concluded kept before text message challenge shown is shows held = (
-  (challenge, shown, is, shows, refl, (shown.stored, found challenge.user shown, held, refl)),
+  (challenge, shown, is, shows, refl, (held, refl)),
   short_final _ text message held,
 )
 
@@ -178,7 +178,7 @@ pub refuses : (kept : Kept) (before : Struct) (text : List ℕ) (challenge : Ser
 unfolding Concludes
 refuses kept before text challenge shown why status is shows held gives other =
     let told = held (λ memory. other (gives ∙ ap server_status memory)) in
-    inr (inr (why, gives, (challenge, shown, is, shows, (inl (shown.stored, found challenge.user shown, told), refl))))
+    inr (inr (why, gives, (challenge, shown, is, shows, (told, refl))))
 
 pub not_open : (kept : Kept) (before : Struct) (text : List ℕ)
     → ((challenge : ServerChallenge) → ¬ IsOpen before challenge)

@@ -7,7 +7,7 @@ use Rattle.fe2o3_sasl_wire.specs.SaslFrames as frames
 use Rattle.fe2o3_scram.specs.declared.hmac.ScramVersion.{ScramVersion}
 use Rattle.fe2o3_scram.specs.declared.scram_server.ScramAuthenticator.{ScramAuthenticator}
 use Rattle.fe2o3_scram.specs.ClientFirst.{ClientFirst, HasEscapes, ReadsClientFirst}
-use Rattle.fe2o3_scram.specs.Credentials.{Record, Records, Store, serving, versioned}
+use Rattle.fe2o3_scram.specs.Credentials.{Record, Records, Store, record_at, serving, versioned}
 use Rattle.fe2o3_scram.specs.Hmac.{mechanism_name}
 use Rattle.fe2o3_scram.specs.Readings.{IsFirst, NoneHolds}
 use Rattle.fe2o3_scram.specs.ScramServer.{ServerState, Initial, ServerFirstSent, open_challenge, served_by, state_in}
@@ -23,7 +23,6 @@ use Rattle.fe2o3_sasl_core.specs.AnyMechanism.{BothStates, both_names, any_mecha
 use Rattle.fe2o3_sasl_core.specs.AnyMechanismSides.{both_states}
 use Rattle.fe2o3_sasl_core.specs.PlainServer.{IsTaken, PlainParts, PlainState, SpellsPlain, plain_machine, plain_state}
 use Rattle.fe2o3_sasl_core.specs.SaslAcceptor.{Acceptor, ScramAcceptor, AnonymousAcceptor, acceptor_machine, acceptor_names, acceptor_user}
-use Rattle.fe2o3_sasl_negotiation.specs.declared.server.ServerNegotiation.{ServerNegotiation}
 use Rattle.fe2o3_sasl_negotiation.specs.declared.progress.Expected.{Expected}
 use Rattle.fe2o3_sasl_negotiation.specs.declared.progress.Expected.TheVariants.{Header}
 use Rattle.fe2o3_sasl_negotiation.specs.declared.progress.Progress.{Progress}
@@ -34,7 +33,7 @@ use Rattle.fe2o3_sasl_negotiation.specs.Framing.{IsPart}
 use Rattle.fe2o3_sasl_negotiation.specs.Negotiations.{Completes, Side}
 use Rattle.fe2o3_sasl_negotiation.specs.ServerNegotiation.{ServerReceives}
 use Rattle.fe2o3_sasl_negotiation.specs.Snapshot.{server_due}
-use Rattle.fe2o3_sasl_negotiation.specs.Sides.{acceptor_in, server_side}
+use Rattle.fe2o3_sasl_negotiation.specs.Sides.{ServerConnectionSide, acceptor_in, server_side}
 use Rattle.sasl_c.specs.declared.connection.Connection.{Connection}
 use Rattle.sasl_c.specs.declared.others.Others.{Others as OthersCode}
 use Rattle.sasl_c.specs.declared.sasl_server.Choice.{Choice}
@@ -190,16 +189,34 @@ struct_server config version choice records state asked = record {
   allowed = allowed_of version choice config.external_authcid.now;
 }
 
--- the server is that of a configuration, with SCRAM in this state, and the mechanism that was asked last
-unfoldable pub IsOf : Config → ServerState → Option Selected → State → Type 0
+-- a record without keys, which no proof meets
+abbrev pub no_record : Record
+no_record = record { salt = []; count = 0; stored_key = []; server_key = [] }
+
+-- a record, and in place of none one without keys
+abbrev pub or_no_record : Option Record → Record
+or_no_record None = no_record
+or_no_record (Some stored) = stored
+
+-- the record of a user, and where there is none one without keys, which no proof meets
+abbrev pub record_or_none : Records → List ℕ → Record
+record_or_none records user = or_no_record (record_at records user)
+
+-- the state of SCRAM in which this challenge is open, by the record of its user
+abbrev pub opened_by : ServerChallenge → Records → ServerState
+opened_by challenge records = ServerFirstSent challenge (record_or_none records challenge.user)
+
+-- the server is that of a configuration, with SCRAM in the state that follows from the configuration's records, and the
+-- mechanism that was asked last
+unfoldable pub IsOf : Config → (Records → ServerState) → Option Selected → State → Type 0
 IsOf config state asked server = (version : ScramVersion) × (choice : Choice) × (records : Records)
     × IsVersion config.version version × (sum_of choice ≡ config.mechanisms) × HasRecords config version records
-    × (server ≡ struct_server config version choice records state asked)
+    × (server ≡ struct_server config version choice records (state records) asked)
 
 -- the servers that a configuration comes to while more bytes are wanted: before the init, and with a challenge of SCRAM open
 abbrev pub ServerIsReached : Config → Progress → State → Type 0
-ServerIsReached config InProgress server = IsOf config Initial None server
-    ⊎ ((challenge : ServerChallenge) × IsOf config (ServerFirstSent challenge) (Some First) server)
+ServerIsReached config InProgress server = IsOf config (λ records. Initial) None server
+    ⊎ ((challenge : ServerChallenge) × IsOf config (opened_by challenge) (Some First) server)
 ServerIsReached config Authenticated server = Unit {0}
 ServerIsReached config (Failed why) server = Unit {0}
 
@@ -209,15 +226,15 @@ ShowsOpen scram None = (challenge : ServerChallenge) → ¬ IsOpen scram challen
 ShowsOpen scram (Some challenge) = IsOpen scram challenge
 
 -- so is the server of SCRAM of a struct, and what was asked last
-abbrev pub ShowsExchange : ScramStruct → ServerState → Option Selected → Type 0
-ShowsExchange scram state asked = ((challenge : ServerChallenge) × IsOpen scram challenge × (state ≡ ServerFirstSent challenge)
-    × (asked ≡ Some First))
+abbrev pub ShowsExchange : Records → ScramStruct → ServerState → Option Selected → Type 0
+ShowsExchange records scram state asked = ((challenge : ServerChallenge) × IsOpen scram challenge
+    × (state ≡ opened_by challenge records) × (asked ≡ Some First))
     ⊎ (((challenge : ServerChallenge) → ¬ IsOpen scram challenge) × (state ≡ Initial) × (asked ≡ None))
 
 -- and so all four mechanisms of a configuration in the exchange that a struct shows
 abbrev pub IsAll : Config → ScramVersion → Bool → ScramStruct → All → Type 0
 IsAll config version cbind_flag_y scram all = (records : Records) × (state : ServerState) × (asked : Option Selected)
-    × HasRecords config version records × ShowsExchange scram state asked
+    × HasRecords config version records × ShowsExchange records scram state asked
     × (all ≡ all_of cbind_flag_y (record { version = version; records = records }) config.iterations config.external_authcid.now state asked)
 
 -- the struct shows that this user has logged in, or nothing of whom no name is known
@@ -250,20 +267,20 @@ abbrev pub state_struct : Progress → State → ScramStruct
 state_struct progress server = progress_struct progress (open_in server) (user_in server)
 
 -- the structs show a side, where this says what the one of SCRAM shows of its acceptor
-abbrev pub ShowsBy : {A S : Type 0} → (A → S) → (ScramStruct → Progress → A → Type 0) → Struct → ServerNegotiation A
+abbrev pub ShowsBy : {A S : Type 0} → (A → S) → (ScramStruct → Progress → A → Type 0) → Struct → ServerConnectionSide A
     → Type 0
 ShowsBy state shows server next = let side = server_side state next in
     Keeps server.connection side.progress side.expected side.held × shows server.scram side.progress (acceptor_in next)
 
 -- the structs that a call writes for a side
-abbrev pub struct_by : {A S : Type 0} → (A → S) → (Progress → A → ScramStruct) → ServerNegotiation A → Struct
+abbrev pub struct_by : {A S : Type 0} → (A → S) → (Progress → A → ScramStruct) → ServerConnectionSide A → Struct
 struct_by state written next = let side = server_side state next in record {
   connection = connection_struct side.progress side.expected side.held;
   scram = written side.progress (acceptor_in next);
 }
 
 -- no structs do: more is held than has room in one, or none shows how far the acceptor is
-abbrev pub HasNone : {A S : Type 0} → (A → S) → (ScramStruct → Progress → A → Type 0) → ServerNegotiation A → Type 0
+abbrev pub HasNone : {A S : Type 0} → (A → S) → (ScramStruct → Progress → A → Type 0) → ServerConnectionSide A → Type 0
 HasNone state shows next = let side = server_side state next in
     (512 < length side.held) ⊎ ((scram : ScramStruct) → ¬ shows scram side.progress (acceptor_in next))
 
@@ -303,7 +320,7 @@ config_tests config = (statuses.NoSuchVersion, (known : ScramVersion) → ¬ IsV
 unfoldable pub IsNoConfig : Config → Status → Type 0
 IsNoConfig config status = IsFirst (config_tests config) status
     ⊎ (NoneHolds (config_tests config) × (status ≡ statuses.NoSuchMechanism)
-    × ((state : ServerState) × (asked : Option Selected) × (server : State) × IsOf config state asked server
+    × ((state : Records → ServerState) × (asked : Option Selected) × (server : State) × IsOf config state asked server
     × (state_names server ≡ [])))
 
 -- why the structs are those of no side that wants more bytes: the tests of the connection, those of the configuration, and last
@@ -312,7 +329,7 @@ unfoldable pub IsNoServer : Config → Struct → Status → Type 0
 IsNoServer config server status = IsFirst (side_tests server.connection) status
     ⊎ (NoneHolds (side_tests server.connection) × (IsNoConfig config status
     ⊎ ((status ≡ statuses.InvalidSnapshot) × KeepsNoPartOf server_due server.connection
-    × ((state : ServerState) × (asked : Option Selected) × (kept : State) × IsOf config state asked kept))))
+    × ((state : Records → ServerState) × (asked : Option Selected) × (kept : State) × IsOf config state asked kept))))
 
 -- a call answers bytes: between two structs, what the library's side of the connection makes of them
 unfoldable pub Received : Config → List ℕ → List ℕ → Struct → Struct → ℕ → List ℕ → Type 0
@@ -423,8 +440,8 @@ abbrev pub Code : Type 0
 Code = RestrictMechanisms (AnyMechanism (ScramAuthenticator Store) OthersCode)
 
 -- the acceptor of SCRAM that a value is
-abbrev pub scram_state : ScramAuthenticator Store → Acceptor
-scram_state machine = ScramAcceptor (served_by (λ (store : Store). store) machine) (state_in machine)
+abbrev pub scram_acceptor : ScramAuthenticator Store → Acceptor
+scram_acceptor machine = ScramAcceptor (served_by (λ (store : Store). store) machine) (state_in machine)
 
 -- those beside it
 abbrev pub other_state : OthersCode → Others
@@ -433,12 +450,12 @@ other_state others = both_states (plain_state (λ store. store)) (both_states (�
 
 -- the four that a value is
 abbrev pub all_in : AnyMechanism (ScramAuthenticator Store) OthersCode → All
-all_in all = both_states scram_state other_state all
+all_in all = both_states scram_acceptor other_state all
 
 -- its state
 abbrev pub value_state : Code → State
 value_state acceptor = offering_of all_in acceptor
 
 -- the side that a value is
-abbrev pub side_in : ServerNegotiation Code → Side State
+abbrev pub side_in : ServerConnectionSide Code → Side State
 side_in server = server_side value_state server

@@ -163,7 +163,7 @@ ClaimedUser text (Err status) = (why : ServerScramErrorKind) × (status ≡ serv
 unfoldable pub ConcludesLogin : Kept → Struct → List ℕ → List ℕ → List ℕ → Type 0
 ConcludesLogin kept before text message user = (challenge : ServerChallenge) × (shown : VersionedRecord) × IsOpen before challenge
     × ShowsRecord kept shown × (user ≡ challenge.user)
-    × ConcludesFrom (ServerFirstSent challenge) (serving false (one_user user shown)) text (Ok (Some message))
+    × ConcludesFrom (ServerFirstSent challenge shown.stored) shown.version text (Ok (Some message))
     (ServerFinalSent user)
 
 -- memory is asked for to answer a client-final message: a challenge is open, the struct of the record shows one, and
@@ -190,8 +190,8 @@ Concludes kept text before after (Err status) =
     ⊎ ((challenge : ServerChallenge) × IsOpen before challenge × SpellsStruct kept (Err status))
     ⊎ ((why : ServerScramErrorKind) × (status ≡ server_status why)
     × ((challenge : ServerChallenge) × (shown : VersionedRecord) × IsOpen before challenge × ShowsRecord kept shown
-    × ConcludesFrom (ServerFirstSent challenge) (serving false (one_user challenge.user shown)) text (Err why)
-    (ServerFirstSent challenge)))
+    × ConcludesFrom (ServerFirstSent challenge shown.stored) shown.version text (Err why)
+    (ServerFirstSent challenge shown.stored)))
 
 -- who has logged in
 abbrev pub TellsUser : Struct → Result (List ℕ) Status → Type 0

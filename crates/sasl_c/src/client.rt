@@ -3,6 +3,7 @@
 ghost use Rattle.std.specs.Prelude.{◌≡◌, ◌≢◌, ◌<◌, ◌≤◌, length, IfOk, IfErr, IfSome, OnErr, MatchOption, MatchResult, Option, Some, List, ℕ, Ok, option_map, take};
 ghost use Rattle.std.specs.Str.{IsUtf8};
 ghost use Rattle.std.specs.String.{string_bytes};
+ghost use Rattle.fe2o3_scram.specs.ClientSecret.{IsOfVersion, secret_of};
 ghost use Rattle.fe2o3_scram.specs.ScramClient.{ClientFinalSent, ClientInitial};
 ghost use Rattle.fe2o3_scram.specs.Readings.{IsFirst, NoneHolds, Reads};
 ghost use Rattle.sasl_c.specs.Records.{IsVersion};
@@ -18,7 +19,8 @@ use crate::keys::ScramKeys;
 use crate::status::{Status, WriteError, number, text, text_number, version_of};
 use bytes::Bytes;
 use fe2o3_scram::{
-    CachedKeys, ClientAnswer, IterationLimits, ScramClient as Machine, ScramErrorKind, ScramVersion,
+    CachedKeys, ClientAnswer, ClientSecret, IterationLimits, Password, ScramClient as Machine,
+    ScramErrorKind, ScramVersion,
 };
 use std::alloc::Global;
 
@@ -266,7 +268,7 @@ impl ScramClient {
         let signature = signature.to_vec(alloc)?;
         let keys = shown(alloc, &self.keys)?;
         match login.client(alloc) {
-            Ok(machine) => Ok(machine.waiting_for(signature, keys)),
+            Ok(machine) => Ok(machine.restore_client_final_sent(signature, keys)),
             Err(status) => Err(status),
         }
     }
@@ -286,6 +288,24 @@ fn shown(alloc: Global, keys: &ScramKeys) -> Result<Option<CachedKeys>, Status>
         Ok(keys) => Ok(Some(keys)),
         Err(Status::OutOfMemory) => Err(Status::OutOfMemory),
         Err(_) => Ok(None),
+    }
+}
+
+/// Returns a client by this secret, whose keys, if it has any, are of this version. `OutOfMemory` is the only error.
+fn client_by(
+    alloc: Global,
+    username: String,
+    secret: ClientSecret<'_>,
+    version: ScramVersion,
+) -> Result<Machine, Status>
+    requires { IsOfVersion version (secret_of secret) }
+    ensures ok { IfOk result (λ side. (side.secret ≡ secret_of secret.entry) × (side.user ≡ string_bytes username)
+        × (side.version ≡ version) × (side.state ≡ ClientInitial)) }
+    ensures err { IfErr result (λ status. status ≡ StatusOutOfMemory) }
+{
+    match Machine::with_secret(alloc, username, secret, version) {
+        Ok(client) => Ok(client),
+        Err(_) => Err(Status::OutOfMemory),
     }
 }
 
@@ -428,19 +448,29 @@ impl Login<'_> {
         username: String,
         version: ScramVersion,
     ) -> Result<Machine, Status>
+        requires version { IsVersion self.now.version version }
         ensures ok { IfOk result (λ side. IsSecretOf self.now side.secret × (side.user ≡ string_bytes username)
             × (side.state ≡ ClientInitial)) }
-        ensures version { IfOk result (λ side. IsVersion self.now.version version
-            → IsVersion self.now.version side.version) }
+        ensures version { IfOk result (λ side. IsVersion self.now.version side.version) }
         ensures err { IfErr result (λ status. status ≢ StatusOutOfMemory → IsNoSecret self.now status) }
     {
         match self.secret {
-            0 => Ok(Machine::new(username, self.password(alloc)?, version)),
-            1 => Ok(Machine::with_keys(username, self.keys(alloc)?)),
+            0 => {
+                let password = Password::Typed(text(self.password)?);
+                client_by(alloc, username, ClientSecret::Password(password), version)
+            }
+            1 => match self.keys(alloc) {
+                Ok(keys) => client_by(alloc, username, ClientSecret::Keys(&keys), version),
+                Err(status) => Err(status),
+            },
             2 => {
-                let password = self.password(alloc)?;
+                let password = Password::Typed(text(self.password)?);
                 let keys = self.keys(alloc)?;
-                Ok(Machine::with_password_and_keys(username, password, keys))
+                let secret = ClientSecret::PasswordAndKeys {
+                    password,
+                    keys: &keys,
+                };
+                client_by(alloc, username, secret, version)
             }
             _ => self.by_prepared(alloc, username, version),
         }
@@ -454,19 +484,26 @@ impl Login<'_> {
         username: String,
         version: ScramVersion,
     ) -> Result<Machine, Status>
-        requires { 2 < self.now.secret }
+        requires secret { 2 < self.now.secret }
+        requires version { IsVersion self.now.version version }
         ensures ok { IfOk result (λ side. IsSecretOf self.now side.secret × (side.user ≡ string_bytes username)
             × (side.state ≡ ClientInitial)) }
-        ensures version { IfOk result (λ side. IsVersion self.now.version version
-            → IsVersion self.now.version side.version) }
+        ensures version { IfOk result (λ side. IsVersion self.now.version side.version) }
         ensures err { IfErr result (λ status. status ≢ StatusOutOfMemory → IsNoSecret self.now status) }
     {
         match self.secret {
-            3 => Ok(Machine::with_prepared_password(username, self.password(alloc)?, version)),
+            3 => {
+                let password = Password::Prepared(text(self.password)?);
+                client_by(alloc, username, ClientSecret::Password(password), version)
+            }
             4 => {
-                let password = self.password(alloc)?;
+                let password = Password::Prepared(text(self.password)?);
                 let keys = self.keys(alloc)?;
-                Ok(Machine::with_prepared_password_and_keys(username, password, keys))
+                let secret = ClientSecret::PasswordAndKeys {
+                    password,
+                    keys: &keys,
+                };
+                client_by(alloc, username, secret, version)
             }
             _ => Err(Status::NoSuchSecret),
         }

@@ -16,7 +16,7 @@ use crate::arrays::put;
 use crate::client::{Login, ScramClient};
 use crate::status::{Status, WriteError, text, text_number};
 use base64::engine::general_purpose::STANDARD;
-use fe2o3_scram::{ClientAnswer, ClientSecret, Meter, ScramErrorKind, ScramVersion};
+use fe2o3_scram::{ClientAnswer, ClientSecret, Meter, Password, ScramErrorKind, ScramVersion};
 use std::alloc::Global;
 
 /// How many bytes more than a server-first message its answer has at most.
@@ -95,7 +95,7 @@ fn answered_of_prepared(
                 Ok(password) => password,
                 Err(status) => return Err(status),
             };
-            let secret = ClientSecret::Prepared(password);
+            let secret = ClientSecret::Password(Password::Prepared(password));
             answered_by(alloc, login, version, secret, client, server_first, meter)
         }
         4 => {
@@ -107,8 +107,8 @@ fn answered_of_prepared(
                 Ok(keys) => keys,
                 Err(status) => return Err(status),
             };
-            let secret = ClientSecret::PreparedAndKeys {
-                password,
+            let secret = ClientSecret::PasswordAndKeys {
+                password: Password::Prepared(password),
                 keys: &keys,
             };
             answered_by(alloc, login, version, secret, client, server_first, meter)
@@ -140,7 +140,7 @@ fn answered_of(
                 Ok(password) => password,
                 Err(status) => return Err(status),
             };
-            let secret = ClientSecret::Password(password);
+            let secret = ClientSecret::Password(Password::Typed(password));
             answered_by(alloc, login, version, secret, client, server_first, meter)
         }
         1 => {
@@ -160,8 +160,8 @@ fn answered_of(
                 Ok(keys) => keys,
                 Err(status) => return Err(status),
             };
-            let secret = ClientSecret::Both {
-                password,
+            let secret = ClientSecret::PasswordAndKeys {
+                password: Password::Typed(password),
                 keys: &keys,
             };
             answered_by(alloc, login, version, secret, client, server_first, meter)

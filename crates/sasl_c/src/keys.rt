@@ -13,7 +13,7 @@ ghost use Rattle.sasl_c.specs.declared.status.Status.TheVariants.{OutOfMemory as
 use crate::arrays::{fill, head, padded, store};
 use crate::passwords::PasswordForm;
 use crate::status::{Status, digest_len, number, number_of, text, version_of};
-use fe2o3_scram::{CachedKeys, Meter};
+use fe2o3_scram::{CachedKeys, Meter, Password};
 use std::alloc::Global;
 
 /// The keys that a client can cache in place of its password. They are secret: they suffice to log in.
@@ -157,9 +157,9 @@ fn compute_keys(
     }
     let mut meter = Meter::new();
     // (what it refuses besides is told by now)
-    let Ok(keys) = CachedKeys::from_prepared_password(
-        alloc, version, password, salt, iterations, &mut meter,
-    ) else {
+    let password = Password::Prepared(password);
+    let made = CachedKeys::from_password(alloc, version, password, salt, iterations, &mut meter);
+    let Ok(keys) = made else {
         return Err(Status::OutOfMemory);
     };
     match ScramKeys::of(&keys) {

@@ -5,7 +5,7 @@ ghost use Rattle.fe2o3_scram.specs.Credentials.{MeetsRecord, kept};
 ghost use Rattle.fe2o3_scram.specs.Passwords.{IsNormal};
 ghost use Rattle.sasl_c.specs.Passwords.{in_form};
 
-use fe2o3_scram::{ScramVersion, StoredPassword, saslprep};
+use fe2o3_scram::{Meter, Password, ScramVersion, StoredPassword, saslprep};
 
 /// How a password is handed in.
 #[derive(Clone, Copy)]
@@ -32,9 +32,10 @@ impl PasswordForm {
     pub fn meets(self, version: ScramVersion, stored: &StoredPassword<'_>, password: &str) -> bool
         ensures { IsTrue result ↔ MeetsRecord version (in_form self password.now) (kept stored.now) }
     {
-        match self {
-            PasswordForm::Typed => stored.verify_password(version, password),
-            PasswordForm::Prepared => stored.verify_prepared_password(version, password),
-        }
+        let password = match self {
+            PasswordForm::Typed => Password::Typed(password),
+            PasswordForm::Prepared => Password::Prepared(password),
+        };
+        stored.verify_password(version, password, &mut Meter::new())
     }
 }

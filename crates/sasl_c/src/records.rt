@@ -17,7 +17,7 @@ use crate::passwords::PasswordForm;
 use crate::status::{
     Status, WriteError, digest_len, number, number_of, text, text_number, version_of,
 };
-use fe2o3_scram::{RecordTextError, ScramVersion, StoredPassword};
+use fe2o3_scram::{Meter, Password, RecordTextError, ScramVersion, StoredPassword};
 use std::alloc::Global;
 
 /// What a server stores of a password: a SCRAM record (RFC 5802, section 3).
@@ -125,9 +125,11 @@ fn compute_record(
         return Err(Status::ZeroIterations);
     }
     // (what it refuses besides is told by now)
-    let Ok(kept) = fe2o3_scram::ScramRecord::from_prepared_password(
-        alloc, version, password, salt, iterations,
-    ) else {
+    let (password, mut meter) = (Password::Prepared(password), Meter::new());
+    let made = fe2o3_scram::ScramRecord::from_password(
+        alloc, version, password, salt, iterations, &mut meter,
+    );
+    let Ok(kept) = made else {
         return Err(Status::OutOfMemory);
     };
     match ScramRecord::of(&kept) {

@@ -1,14 +1,14 @@
 //! The server's side of a connection, which stands in a struct between its calls.
 
-ghost use Rattle.std.specs.Prelude.{false, ◌≡◌, ◌≢◌, ◌<◌, ◌≤◌, ◌⊎◌, ◌+◌, ◌^◌, ℕ, List, Ok, length, map, option_map, string_bytes, IfOk, IfErr, IfSome, OnErr, MatchOption, MatchResult};
+ghost use Rattle.std.specs.Prelude.{false, ◌≡◌, ◌≢◌, ◌<◌, ◌≤◌, ◌⊎◌, ◌+◌, ◌^◌, ℕ, List, None, Ok, length, map, option_map, string_bytes, IfOk, IfErr, IfSome, OnErr, MatchOption, MatchResult};
 ghost use Rattle.std.specs.Str.{IsUtf8};
-ghost use Rattle.fe2o3_scram.specs.ScramServer.{challenge_kept, provider_in, state_in, cbind_flag_y_in};
+ghost use Rattle.fe2o3_scram.specs.ScramServer.{challenge_kept, provider_in, state_in, cbind_flag_y_in, mock_in};
 ghost use Rattle.fe2o3_sasl_core.specs.ExternalServer.{external_of};
 ghost use Rattle.fe2o3_sasl_negotiation.specs.declared.progress.Progress.{Progress as ProgressOf};
 ghost use Rattle.fe2o3_sasl_negotiation.specs.declared.progress.Progress.TheVariants.{InProgress};
 ghost use Rattle.fe2o3_sasl_negotiation.specs.ServerNegotiation.{ServerReceives};
 ghost use Rattle.fe2o3_sasl_negotiation.specs.Snapshot.{IsServerKept, side_of};
-ghost use Rattle.fe2o3_sasl_negotiation.specs.Sides.{server_side};
+ghost use Rattle.fe2o3_sasl_negotiation.specs.Sides.{ServerConnectionSide, server_side};
 ghost use Rattle.sasl_c.specs.SaslServer.{ServerIsReached, HasNoServerWords, HasNone, HasRecords, IsAll, IsNoConfig, NotReceived, Received, ReceivesAsServer, ShowsBy, ShowsProgress, ShowsState, ShowsExchange, all_in, all_of, allowed_of, external_mechanism, external_name, config_tests, name_where, one_where, progress_struct, value_state, state_struct, struct_by, sum_of};
 ghost use Rattle.sasl_c.specs.declared.sasl_server.Choice.{Choice as Choices};
 ghost use Rattle.sasl_c.specs.declared.server.ScramServer.{ScramServer as ScramStruct};
@@ -29,7 +29,10 @@ use fe2o3_sasl_core::{
     AnyMechanism, AuthenticatedUser, ExternalServer, OfferError, RestrictMechanisms, Selected,
 };
 use fe2o3_sasl_negotiation::{Progress, RestoreError, ServerNegotiation, Snapshot};
-use fe2o3_scram::{Meter, OpenChallenge, RecordStore, ScramAuthenticator, ScramVersion};
+use fe2o3_scram::{
+    Meter, OpenChallenge, RecordStore, ScramAuthenticator, ScramCredentialProvider, ScramVersion,
+    StoredPassword,
+};
 use std::alloc::Global;
 
 /// What a server offers, and the record of one user. You lend the struct to each call.
@@ -169,7 +172,7 @@ fn joined(
     asked: Option<Selected>,
 ) -> All
     ensures { (peer : List ℕ) → external_of external ≡ record { user = external_name peer; accepted = false }
-        → provider_in scram ≡ store → all_in result
+        → provider_in scram ≡ store → mock_in scram ≡ None → all_in result
         ≡ all_of (cbind_flag_y_in scram) store iterations peer (state_in scram) asked }
 {
     AnyMechanism::with_selected(scram, Others::new(store, iterations, external), asked)
@@ -179,20 +182,36 @@ fn joined(
 fn exchange(
     alloc: Global,
     accept_cbind_flag_y: bool,
-    store: RecordStore,
+    store: &RecordStore,
     scram: &ScramServer,
 ) -> Result<(Scram, Option<Selected>), Status>
-    ensures provider { IfOk result (λ made. provider_in made.0 ≡ store) }
+    ensures provider { IfOk result (λ made. provider_in made.0 ≡ store.now) }
     ensures cbind_flag_y { IfOk result (λ made. cbind_flag_y_in made.0 ≡ accept_cbind_flag_y) }
-    ensures state { IfOk result (λ made. ShowsExchange scram.now (state_in made.0) made.1) }
+    ensures mock { IfOk result (λ made. mock_in made.0 ≡ None) }
+    ensures state { IfOk result (λ made. ShowsExchange store.now.records scram.now (state_in made.0) made.1) }
     ensures err { IfErr result (λ status. status ≡ StatusOutOfMemory) }
 {
-    let fresh = server_over(store, accept_cbind_flag_y);
-    match scram.challenge() {
-        Some(challenge) => Ok((fresh.waiting_for(alloc, &challenge)?, Some(Selected::First))),
-        None => Ok((fresh, None)),
-    }
+    let fresh = server_over(store.clone()?, accept_cbind_flag_y);
+    let Some(challenge) = scram.challenge() else {
+        return Ok((fresh, None));
+    };
+    let stored = match store.get_stored_password(challenge.username) {
+        Some(stored) => stored,
+        None => NO_RECORD,
+    };
+    Ok((
+        fresh.restore_challenge(alloc, &challenge, &stored)?,
+        Some(Selected::First),
+    ))
 }
+
+/// A record without keys, which no proof meets: that of a user of whom no record was passed.
+const NO_RECORD: StoredPassword<'static> = StoredPassword {
+    salt: &[],
+    iterations: 0,
+    stored_key: &[],
+    server_key: &[],
+};
 
 impl SaslServerConfig<'_> {
     /// The store of the configuration's one user, or of nobody. `NotUtf8`, and else `OutOfMemory`.
@@ -249,7 +268,7 @@ impl SaslServerConfig<'_> {
     {
         let store = self.store(alloc, version)?;
         let external = self.external(alloc)?;
-        let (machine, asked) = exchange(alloc, accept_cbind_flag_y, store.clone()?, scram)?;
+        let (machine, asked) = exchange(alloc, accept_cbind_flag_y, &store, scram)?;
         Ok(joined(machine, store, self.iterations, external, asked))
     }
 
@@ -434,11 +453,11 @@ fn taken<A: Shows + Drop>(
 ) -> Result<Made, Status>
     requires meter { meter.old ≤ 2 ^ 63 }
     requires wanting { kept.now.progress ≡ InProgress }
-    ensures ok { IfOk result (λ made. (next : ServerNegotiation A) × ServerReceives A.names A.machine
+    ensures ok { IfOk result (λ made. (next : ServerConnectionSide A) × ServerReceives A.names A.machine
         (side_of kept.now (A.state acceptor)) bytes.now nonce.now made.taken made.sent.items (server_side A.state next)
         × ShowsBy A.state A.shows made.next next × (made.next ≡ struct_by A.state A.written_for next)) }
     ensures err { IfErr result (λ status. status ≢ StatusOutOfMemory → ((status ≡ StatusInvalidSnapshot) × ¬ IsServerKept kept.now)
-        ⊎ ((status ≡ StatusTooLong) × ((next : ServerNegotiation A) × (taken : ℕ) × (sent : List ℕ)
+        ⊎ ((status ≡ StatusTooLong) × ((next : ServerConnectionSide A) × (taken : ℕ) × (sent : List ℕ)
         × ServerReceives A.names A.machine (side_of kept.now (A.state acceptor)) bytes.now nonce.now taken sent
         (server_side A.state next) × HasNone A.state A.shows next))) }
 {

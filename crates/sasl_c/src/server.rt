@@ -1,9 +1,10 @@
 //! A SCRAM server whose state is a struct between its calls.
 
-ghost use Rattle.std.specs.Prelude.{false, true, ◌≡◌, ◌≢◌, ◌<◌, ◌≤◌, ◌^◌, ◌↔◌, IsTrue, List, ℕ, length, take, Ok, Err, IfOk, IfErr, IfSome, OnErr, MatchOption};
+ghost use Rattle.std.specs.Prelude.{false, true, ◌≡◌, ◌≢◌, ◌<◌, ◌≤◌, ◌^◌, ◌↔◌, IsTrue, List, ℕ, None, length, take, Ok, Err, IfOk, IfErr, IfSome, OnErr, MatchOption};
 ghost use Rattle.fe2o3_scram.specs.ClientFirst.{HasEscapes};
+ghost use Rattle.fe2o3_scram.specs.Credentials.{Record};
 ghost use Rattle.fe2o3_scram.specs.ServerFirst.{ServerChallenge};
-ghost use Rattle.fe2o3_scram.specs.ScramServer.{Initial, ServerFirstSent, challenge_kept, provider_in, state_in, cbind_flag_y_in};
+ghost use Rattle.fe2o3_scram.specs.ScramServer.{Initial, ServerFirstSent, challenge_kept, provider_in, state_in, cbind_flag_y_in, mock_in};
 ghost use Rattle.fe2o3_scram.specs.declared.scram_messages.channel_binding_flag.ChannelBindingFlag.{ChannelBindingFlag as HeaderOf};
 ghost use Rattle.sasl_c.specs.Server.{MakesChallenge, Challenges, ConcludesLogin, Concludes, FinalAsks, WritesChallenge, IsAuthenticated, ChallengeHasRoom, IsOpen, ClaimedUser, NotChallenged, OpensExchange, MemoryCosts, ReadsFirst, TellsUser, fresh_server_struct, authenticated_struct, open_number, open_struct, user_struct};
 ghost use Rattle.sasl_c.specs.Status.{Answers, AnswersText, AsksText, AsksWhere, Fills, FillsWithin};
@@ -184,14 +185,10 @@ pub fn server_over<C: ScramCredentialProvider>(
 ) -> ScramAuthenticator<C>
     ensures provider { provider_in result ≡ credentials }
     ensures cbind_flag_y { cbind_flag_y_in result ≡ accept_cbind_flag_y }
+    ensures mock { mock_in result ≡ None }
     ensures state { state_in result ≡ Initial }
 {
-    let fresh = ScramAuthenticator::new(credentials);
-    if accept_cbind_flag_y {
-        fresh.accept_cbind_flag_y()
-    } else {
-        fresh
-    }
+    ScramAuthenticator::new(credentials).accept_cbind_flag_y(accept_cbind_flag_y)
 }
 
 impl ScramServer {
@@ -226,7 +223,8 @@ fn challenged(
     nonce: &[u8; 32],
     client_first: &[u8],
 ) -> Result<Machine, Status>
-    ensures ok { IfOk result (λ machine. (challenge : ServerChallenge) × (state_in machine ≡ ServerFirstSent challenge)
+    ensures ok { IfOk result (λ machine. (challenge : ServerChallenge) × (stored : Record)
+        × (state_in machine ≡ ServerFirstSent challenge stored)
         × MakesChallenge accept_cbind_flag_y kept.now nonce.now client_first.now challenge) }
     ensures err { IfErr result (λ status. status ≢ StatusOutOfMemory
         → NotChallenged accept_cbind_flag_y kept.now nonce.now client_first.now status) }

@@ -142,7 +142,7 @@ fn compute_claimed_user(alloc: Global, server: &SaslServer, bytes: &[u8]) -> Res
     ensures memory { AsksWhere (AwaitsFrame server.now.connection) result }
 {
     let kept = server.connection.read()?;
-    let body = match kept.completed(alloc, bytes) {
+    let body = match kept.peek_frame(alloc, bytes) {
         Ok(Some(body)) => body,
         Ok(None) => return Err(Status::NamesNoUser),
         Err(RestoreError::InvalidSnapshot) => return Err(Status::InvalidSnapshot),
