@@ -80,7 +80,7 @@ ClientAnswers login Due IsOpen event (Ok (frames.Outcome outcomes.Ok more)) says
 ClientAnswers login Due IsOpen event (Ok (frames.Outcome code more)) says = says ≡ Reported code more
 ClientAnswers login Due IsOpen event (Ok frame) says = says ≡ Refused NotImplemented
 
--- the replies that memory may be wanting for: those to a mechanisms list with the name, to a challenge in UTF-8, and
+-- the replies that memory may run out for: those to a mechanisms list with the name, to a challenge in UTF-8, and
 -- to an outcome with data, which in one of code Ok are UTF-8
 abbrev pub ClientAllocates : Login → Result SaslFrame Error → Type 0
 ClientAllocates login (Ok (frames.Mechanisms names)) = Contains names (mechanism_name login.version)
@@ -125,7 +125,7 @@ abbrev pub OpenAnswer : Login → List Given → List ClientSays → ℕ → Ans
 OpenAnswer login events replies k answer = OpenBy is_answer ends_answer
     (AnswersAt login events replies) replies k answer
 
--- a reply for each event: the one that the table gives, or want of memory where memory may be wanting
+-- a reply for each event: the one that the table gives, or running out of memory where memory may run out
 pub record ClientHistory (login : Login) (events : List Given) (replies : List ClientSays) : Type 0 where
   pub count : length replies ≡ length events
   pub each : (k : ℕ) (event : Given) (says : ClientSays) → slice_get events k ≡ Some event

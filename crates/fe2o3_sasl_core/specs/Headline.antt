@@ -23,7 +23,7 @@ pub record AnswersOkExactly (provider : Provider) (events : List Given) (replies
   -- that closes the challenge: no later position finds it open, by the definition of what is open
   pub closes : (n j k : ℕ) (body : List ℕ) → slice_get replies n ≡ Some (Concluded outcomes.Ok body)
       → IsLastOpen is_challenge is_ok replies n j → n < k → ¬ IsLastOpen is_challenge is_ok replies k j
-  -- and every such response, but for want of memory and an outcome that is too large, as `says_ok` says
+  -- and every such response, but for running out of memory and an outcome that is too large, as `says_ok` says
   pub wherever : (n : ℕ) (accepted : Accepted) (says : ServerSays) → AcceptsAt provider events replies n accepted
       → slice_get replies n ≡ Some says → says ≢ Failed faults.OutOfMemory → says ≡ says_ok provider accepted
 
@@ -38,7 +38,7 @@ pub record ReportsOkExactly (login : Login) (events : List Given) (replies : Lis
   -- only the signature of its open answered challenge
   pub only : (m : ℕ) (more : Option (List ℕ)) → slice_get replies m ≡ Some (Reported outcomes.Ok more)
       → (text : List ℕ) × (more ≡ Some text) × SignedAt login events replies m text
-  -- and every such signature, but for want of memory
+  -- and every such signature, but for running out of memory
   pub wherever : (m : ℕ) (text : List ℕ) (says : ClientSays) → SignedAt login events replies m text
       → slice_get replies m ≡ Some says → says ≢ Refused OutOfMemory → says ≡ Reported outcomes.Ok (Some text)
 

@@ -36,7 +36,7 @@ abbrev pub EveryClient : (Login → List Given → List ClientSays → Type 0) �
 EveryClient Has = (login : Login) (events : List Given) (replies : List ClientSays)
     → ClientHistory login events replies → Has login events replies
 
--- a history without want of memory is a function of the events
+-- a history without running out of memory is a function of the events
 abbrev pub OneServerHistory : Type 0
 OneServerHistory = (provider : Provider) (events : List Given) (replies others : List ServerSays)
     → ServerHistory provider events replies → ServerHistory provider events others
@@ -283,7 +283,7 @@ RepeatedServerFindings = (sides : Sides) (findings : List Finding) (finding othe
 abbrev pub BodiesAreBytes : List Given → Type 0
 BodiesAreBytes events = (k : ℕ) (event : Given) → slice_get events k ≡ Some event → IsBytes event.body
 
--- events whose bodies are bytes have a server history without want of memory
+-- events whose bodies are bytes have a server history without running out of memory
 abbrev pub SomeServerHistory : Type 0
 SomeServerHistory = (provider : Provider) (events : List Given) → BodiesAreBytes events
     → (replies : List ServerSays) × ServerHistory provider events replies × ServerComplete replies
@@ -301,14 +301,14 @@ ClientsLogIn = EveryClient (λ login events replies. IsLogin login → ClientLog
 abbrev pub ServersLogIn : Type 0
 ServersLogIn = EveryServer ServerLogsIn
 
--- a frame at which memory may be wanting for a server's reply: an init or a response
+-- a frame at which memory may run out for a server's reply: an init or a response
 abbrev pub WantsAtServer : SaslFrame → Type 0
 WantsAtServer frame =
     ((mechanism : List ℕ) × (response : Option (List ℕ)) × (hostname : Option (List ℕ))
     × (frame ≡ frames.Init mechanism response hostname))
     ⊎ ((text : List ℕ) × (frame ≡ frames.Response text))
 
--- want of memory stands at no other frame of a server's history, and at no body that spells none
+-- running out of memory stands at no other frame of a server's history, and at no body that spells none
 abbrev pub ServersWantMemory : Type 0
 ServersWantMemory = (provider : Provider) (events : List Given) (replies : List ServerSays) (k : ℕ)
     → ServerHistory provider events replies → slice_get replies k ≡ Some (Failed faults.OutOfMemory)

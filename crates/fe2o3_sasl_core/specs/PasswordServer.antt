@@ -1,6 +1,6 @@
 -- A server of passwords over one list of records: SCRAM of two hashes, and PLAIN where it is offered (AMQP 1.0, part 5,
 -- section 5.3.3.1).
-use Rattle.std.specs.Prelude.{◌≡◌, ◌<◌, ℕ, Bool, true, false, Option, Some, None, MatchOption, List, [], ◌∷◌, codes, option_map}
+use Rattle.std.specs.Prelude.{◌<◌, ℕ, Bool, true, false, Option, Some, None, MatchOption, List, [], ◌∷◌, codes, option_map}
 use Rattle.fe2o3_scram.specs.declared.hmac.ScramVersion.{ScramVersion}
 use Rattle.fe2o3_scram.specs.declared.hmac.ScramVersion.TheVariants.{Sha256, Sha512}
 use Rattle.fe2o3_scram.specs.Credentials.{Store, serving}

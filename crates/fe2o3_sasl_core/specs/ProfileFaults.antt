@@ -13,7 +13,7 @@ abbrev pub answered : {A : Type 0} → (A → SaslFrame) → Result A ProfileErr
 answered frame (Ok value) = Ok (frame value)
 answered frame (Err fault) = Err fault
 
--- the fault for a refusal of SCRAM: neither want of memory nor other keys are inside another fault
+-- the fault for a refusal of SCRAM: neither running out of memory nor other keys are inside another fault
 abbrev pub fault_of_kind : ScramErrorKind → ProfileError
 fault_of_kind kinds.OutOfMemory = faults.OutOfMemory
 fault_of_kind kinds.StaleKeys = faults.StaleKeys

@@ -130,7 +130,7 @@ abbrev pub in_state : Profile → ClientState → Profile
 in_state (ScramProfile client) state = ScramProfile (with_state client state)
 in_state profile state = profile
 
--- what a profile answers to a frame: what its machine replies, or want of memory, where the profile stays
+-- what a profile answers to a frame: what its machine replies, or running out of memory, where the profile stays
 abbrev pub ProfileAnswers : (Profile → SaslFrame → Type 0) → Profile → Option (List ℕ) → List ℕ → SaslFrame
     → Result SaslFrame ProfileError → Profile → Type 0
 ProfileAnswers Allocates profile hostname nonce frame (Err OutOfMemory) next =

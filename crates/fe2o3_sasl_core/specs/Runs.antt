@@ -27,7 +27,7 @@ abbrev pub SendsCanonical : {S A : Type 0} → A → (List ℕ → A) → Option
 SendsCanonical too_large says body state moved reply next =
     (reply ≡ carried too_large says body) × (next ≡ carried state (λ _. moved) body)
 
--- what a machine of an acceptor answers to a frame that it takes: its reply, or want of memory, where the state stays
+-- what a machine of an acceptor answers to a frame that it takes: its reply, or running out of memory, where the state stays
 abbrev pub AcceptorAnswers : {S : Type 0} → (S → List ℕ → SaslFrame → SaslFrame → S → Type 0) → S → List ℕ → SaslFrame
     → ServerSays → S → Type 0
 AcceptorAnswers {S} machine state nonce frame says next =
@@ -63,7 +63,7 @@ Replies profile moved (Ok (frames.Outcome code more)) says next = (says ≡ Repo
 Replies profile moved (Ok frame) says next = SendsCanonical (Refused (Frame faults.TooLarge)) (λ body. Answered body)
     (canonical frame) profile moved says next
 
--- what a profile replies to a frame: what its machine says, or want of memory, where the profile stays
+-- what a profile replies to a frame: what its machine says, or running out of memory, where the profile stays
 abbrev pub ProfileReplies : Option (List ℕ) → Profile → List ℕ → SaslFrame → ClientSays → Profile → Type 0
 ProfileReplies hostname profile nonce frame says next =
     (StepAllocates profile frame × (says ≡ Refused OutOfMemory) × (next ≡ profile))

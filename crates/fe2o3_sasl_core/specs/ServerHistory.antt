@@ -84,7 +84,7 @@ ServerAnswers provider IsOpen event (Ok (frames.Response text)) says =
     ⊎ (((accepted : Accepted) → ¬ Fits accepted) × (says ≡ says_frame (frames.Outcome outcomes.Auth None)))
 ServerAnswers provider IsOpen event (Ok frame) says = says ≡ Failed faults.NotImplemented
 
--- the replies that memory may be wanting for: those to an init and to a response
+-- the replies that memory may run out for: those to an init and to a response
 abbrev pub ServerAllocates : Result SaslFrame Error → Type 0
 ServerAllocates (Ok (frames.Init mechanism response hostname)) = Unit {0}
 ServerAllocates (Ok (frames.Response text)) = Unit {0}
@@ -125,7 +125,7 @@ AcceptsUser provider events replies n user =
 abbrev pub LoggedIn : Provider → List Given → List ServerSays → ℕ → List ℕ → Type 0
 LoggedIn provider events replies k user = OpenBy is_ok is_challenge (AcceptsUser provider events replies) replies k user
 
--- a reply for each event: the one that the table gives, or want of memory where memory may be wanting
+-- a reply for each event: the one that the table gives, or running out of memory where memory may run out
 pub record ServerHistory (provider : Provider) (events : List Given) (replies : List ServerSays) : Type 0 where
   pub count : length replies ≡ length events
   pub each : (k : ℕ) (event : Given) (says : ServerSays) → slice_get events k ≡ Some event

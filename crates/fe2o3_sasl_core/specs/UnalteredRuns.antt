@@ -49,7 +49,7 @@ pub record UnalteredRun (sides : Sides) : Type 0 where
   pub answered : Arrives (client_body (slice_get sides.client_replies 1)) response.body
   pub concluded : Arrives (server_body (slice_get sides.server_replies 1)) outcome.body
 
--- memory is not wanting, and nothing is too large
+-- memory does not run out, and nothing is too large
 pub record Suffices (sides : Sides) : Type 0 where
   pub client : ClientComplete sides.client_replies
   pub server : ServerComplete sides.server_replies

@@ -129,7 +129,7 @@ IsProofFinding sides finding =
     (finding.kind ≡ OfProof) × ((answer : Answering) × (accepted : Accepted)
     × Shows sides finding.client finding.server answer accepted × JudgesProof sides answer accepted finding.verdict)
 
--- what an audit lists: of two histories without want of memory exactly the pairs of `Takes`, and then exactly
+-- what an audit lists: of two histories without running out of memory exactly the pairs of `Takes`, and then exactly
 -- those of `Shows`, each once, in order, and with its verdict
 pub record Audits (sides : Sides) (findings : List Finding) : Type 0 where
   pub verifiers : List Finding

@@ -93,11 +93,13 @@ impl<'a> PasswordServerBuilder<'a> {
     /// the records. `salt_len` is the length of the records' salts, in bytes, and `iterations` their
     /// iteration count.
     pub fn mock_unknown_users(self, secret: &'a [u8], salt_len: usize, iterations: u32) -> Self
-        ensures { settings_of result ≡ record (settings_of self.entry) { mock = Some (record {
-          secret = secret.now;
-          salt_len = salt_len;
-          count = iterations;
-        }) } }
+        ensures { settings_of result ≡ record (settings_of self.entry) {
+          mock = Some (record {
+            secret = secret.now;
+            salt_len = salt_len;
+            count = iterations;
+          });
+        } }
     {
         Self {
             records: self.records,

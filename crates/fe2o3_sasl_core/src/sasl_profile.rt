@@ -142,7 +142,7 @@ impl SaslProfile {
         }
     }
 
-    /// The keys of the login of SCRAM, once its server was believed, and `None` before and of another
+    /// The keys of the login of SCRAM, once its server was verified, and `None` before and of another
     /// profile. The next login by them takes two HMAC values, as long as the server keeps its salt and its
     /// iteration count (RFC 5802, section 3).
     pub fn keys(&self) -> Option<&CachedKeys>

@@ -20,37 +20,125 @@ mod server;
 mod side;
 mod snapshot;
 
-pub use client::{ClientEndpoint, ClientNegotiation, ClientRole};
-pub use pieces::{
-    Negotiated, Piece, client_connection, scram_server_connection, server_connection,
-};
-pub use progress::{CloseReason, Expected, FrameKind, Progress, Received};
-pub use restored::{restored_client, restored_server};
-pub use server::{ServerNegotiation, ServerRole};
-pub use side::{ConnectionSide, Endpoint, Role};
-pub use snapshot::{RestoreError, Snapshot};
-
-pub use fe2o3_sasl_core::{
-    AnyMechanism, AuthenticatedUser, BuildError, ChoiceError, ClientPolicy, ClientReply, Event, EventError,
-    ExternalServer, HasMechanism, MAX_PASSWORD_LEN, Mechanism, Negotiation, NoExternalIdentity,
-    OfferError, PasswordServer, PasswordServerBuilder, PlainServer, ProfileError, RestrictMechanisms, SaslAcceptor, SaslAcceptorExt,
-    SaslAnonymousMechanism, SaslPlainMechanism, SaslProfile, SaslScramSha1, SaslScramSha256,
-    SaslScramSha512, SaslServerFrame, Selected, ServerReply, UrlError, acceptor_body_step,
-    acceptor_frame_step, acceptor_step, profile_body_step, profile_frame_step, profile_step,
-    run_acceptor, run_profile, scram_client_run, scram_client_run_limited, scram_server_run,
-    scram_server_run_with_cbind_flag_y, select_mechanism,
-};
-pub use fe2o3_sasl_wire::{
-    Array, Binary, Frame, FrameCodec, FrameView, NegotiationError,
-    ProtocolHeader, ProtocolHeaderCodec, ProtocolId, SaslChallenge, SaslCode, SaslInit,
-    SaslMechanisms, SaslOutcome, SaslResponse, Symbol, SymbolError, SymbolsIter, SymbolsView,
-    amqp_types, protocol_header, sasl_frames, view_frame,
-};
-pub use fe2o3_scram::{
-    AddRecordError, CachedKeys, ClientSecret, Password, DEFAULT_SCRAM_ITERATIONS, DigestBytes,
-    IterationLimits, KeyError, Meter, MultiRecordStore, NormalizeError,
-    OpenChallenge, OutOfMemory, ReadLinesError, ReadLinesErrorKind, RecordError, RecordStore,
-    RecordTextError, SaltTooLong, ScramAuthenticator, ScramClient, ScramCredentialProvider,
-    ScramErrorKind, ScramRecord, ScramVersion, ServerScramErrorKind, SingleScramCredential,
-    StoredPassword, UnknownMechanism, UserRecord, WriteLinesError, saslprep,
-};
+pub use client::ClientEndpoint;
+pub use client::ClientNegotiation;
+pub use client::ClientRole;
+pub use fe2o3_sasl_core::AnyMechanism;
+pub use fe2o3_sasl_core::AuthenticatedUser;
+pub use fe2o3_sasl_core::BuildError;
+pub use fe2o3_sasl_core::ChoiceError;
+pub use fe2o3_sasl_core::ClientPolicy;
+pub use fe2o3_sasl_core::ClientReply;
+pub use fe2o3_sasl_core::Event;
+pub use fe2o3_sasl_core::EventError;
+pub use fe2o3_sasl_core::ExternalServer;
+pub use fe2o3_sasl_core::HasMechanism;
+pub use fe2o3_sasl_core::MAX_PASSWORD_LEN;
+pub use fe2o3_sasl_core::Mechanism;
+pub use fe2o3_sasl_core::Negotiation;
+pub use fe2o3_sasl_core::NoExternalIdentity;
+pub use fe2o3_sasl_core::OfferError;
+pub use fe2o3_sasl_core::PasswordServer;
+pub use fe2o3_sasl_core::PasswordServerBuilder;
+pub use fe2o3_sasl_core::PlainServer;
+pub use fe2o3_sasl_core::ProfileError;
+pub use fe2o3_sasl_core::RestrictMechanisms;
+pub use fe2o3_sasl_core::SaslAcceptor;
+pub use fe2o3_sasl_core::SaslAcceptorExt;
+pub use fe2o3_sasl_core::SaslAnonymousMechanism;
+pub use fe2o3_sasl_core::SaslPlainMechanism;
+pub use fe2o3_sasl_core::SaslProfile;
+pub use fe2o3_sasl_core::SaslScramSha1;
+pub use fe2o3_sasl_core::SaslScramSha256;
+pub use fe2o3_sasl_core::SaslScramSha512;
+pub use fe2o3_sasl_core::SaslServerFrame;
+pub use fe2o3_sasl_core::Selected;
+pub use fe2o3_sasl_core::ServerReply;
+pub use fe2o3_sasl_core::UrlError;
+pub use fe2o3_sasl_core::acceptor_body_step;
+pub use fe2o3_sasl_core::acceptor_frame_step;
+pub use fe2o3_sasl_core::acceptor_step;
+pub use fe2o3_sasl_core::profile_body_step;
+pub use fe2o3_sasl_core::profile_frame_step;
+pub use fe2o3_sasl_core::profile_step;
+pub use fe2o3_sasl_core::run_acceptor;
+pub use fe2o3_sasl_core::run_profile;
+pub use fe2o3_sasl_core::scram_client_run;
+pub use fe2o3_sasl_core::scram_client_run_limited;
+pub use fe2o3_sasl_core::scram_server_run;
+pub use fe2o3_sasl_core::scram_server_run_with_cbind_flag_y;
+pub use fe2o3_sasl_core::select_mechanism;
+pub use fe2o3_sasl_wire::Array;
+pub use fe2o3_sasl_wire::Binary;
+pub use fe2o3_sasl_wire::Frame;
+pub use fe2o3_sasl_wire::FrameCodec;
+pub use fe2o3_sasl_wire::FrameView;
+pub use fe2o3_sasl_wire::NegotiationError;
+pub use fe2o3_sasl_wire::ProtocolHeader;
+pub use fe2o3_sasl_wire::ProtocolHeaderCodec;
+pub use fe2o3_sasl_wire::ProtocolId;
+pub use fe2o3_sasl_wire::SaslChallenge;
+pub use fe2o3_sasl_wire::SaslCode;
+pub use fe2o3_sasl_wire::SaslInit;
+pub use fe2o3_sasl_wire::SaslMechanisms;
+pub use fe2o3_sasl_wire::SaslOutcome;
+pub use fe2o3_sasl_wire::SaslResponse;
+pub use fe2o3_sasl_wire::Symbol;
+pub use fe2o3_sasl_wire::SymbolError;
+pub use fe2o3_sasl_wire::SymbolsIter;
+pub use fe2o3_sasl_wire::SymbolsView;
+pub use fe2o3_sasl_wire::amqp_types;
+pub use fe2o3_sasl_wire::protocol_header;
+pub use fe2o3_sasl_wire::sasl_frames;
+pub use fe2o3_sasl_wire::view_frame;
+pub use fe2o3_scram::AddRecordError;
+pub use fe2o3_scram::CachedKeys;
+pub use fe2o3_scram::ClientSecret;
+pub use fe2o3_scram::DEFAULT_SCRAM_ITERATIONS;
+pub use fe2o3_scram::DigestBytes;
+pub use fe2o3_scram::IterationLimits;
+pub use fe2o3_scram::KeyError;
+pub use fe2o3_scram::Meter;
+pub use fe2o3_scram::MultiRecordStore;
+pub use fe2o3_scram::NormalizeError;
+pub use fe2o3_scram::OpenChallenge;
+pub use fe2o3_scram::OutOfMemory;
+pub use fe2o3_scram::Password;
+pub use fe2o3_scram::ReadLinesError;
+pub use fe2o3_scram::ReadLinesErrorKind;
+pub use fe2o3_scram::RecordError;
+pub use fe2o3_scram::RecordStore;
+pub use fe2o3_scram::RecordTextError;
+pub use fe2o3_scram::SaltTooLong;
+pub use fe2o3_scram::ScramAuthenticator;
+pub use fe2o3_scram::ScramClient;
+pub use fe2o3_scram::ScramCredentialProvider;
+pub use fe2o3_scram::ScramErrorKind;
+pub use fe2o3_scram::ScramRecord;
+pub use fe2o3_scram::ScramVersion;
+pub use fe2o3_scram::ServerScramErrorKind;
+pub use fe2o3_scram::SingleScramCredential;
+pub use fe2o3_scram::StoredPassword;
+pub use fe2o3_scram::UnknownMechanism;
+pub use fe2o3_scram::UserRecord;
+pub use fe2o3_scram::WriteLinesError;
+pub use fe2o3_scram::saslprep;
+pub use pieces::Negotiated;
+pub use pieces::Piece;
+pub use pieces::client_connection;
+pub use pieces::scram_server_connection;
+pub use pieces::server_connection;
+pub use progress::CloseReason;
+pub use progress::Expected;
+pub use progress::FrameKind;
+pub use progress::Progress;
+pub use progress::Received;
+pub use restored::restored_client;
+pub use restored::restored_server;
+pub use server::ServerNegotiation;
+pub use server::ServerRole;
+pub use side::ConnectionSide;
+pub use side::Endpoint;
+pub use side::Role;
+pub use snapshot::RestoreError;
+pub use snapshot::Snapshot;

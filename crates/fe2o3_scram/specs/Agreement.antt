@@ -15,7 +15,7 @@ use Rattle.fe2o3_scram.specs.ScramServer.{ServerState, ChallengesFrom, Concludes
 use Rattle.fe2o3_scram.specs.ServerFirst.{ServerChallenge, ServerFirst, ReadsServerFirst, challenge_of}
 use Rattle.fe2o3_scram.specs.Texts.{Part, Parts, base64_text}
 
--- a client's calls: it started with this nonce, answered this server-first message, and believed this server-final
+-- a client's calls: it started with this nonce, answered this server-first message, and verified this server-final
 -- message
 pub record Verified (side : ClientSide) (nonce first last : List ℕ) : Type 0 where
   pub message : List ℕ
@@ -103,7 +103,7 @@ pub record Collide {side : ClientSide} {provider : Provider} {own text its init 
   pub one : hmac_of provider.version (keys_known client).server_key (client_auth_message client)
       ≡ hmac_of provider.version server.stored.server_key (server_auth_message server)
 
--- a client that believed the message by which a server accepted: both sides agree where their AuthMessages are equal,
+-- a client that verified the message by which a server accepted: both sides agree where their AuthMessages are equal,
 -- and where these differ they collide
 abbrev pub VerifiedTextsAgree : Type 0
 VerifiedTextsAgree = (side : ClientSide) (provider : Provider) (own text last its init response verifier : List ℕ)

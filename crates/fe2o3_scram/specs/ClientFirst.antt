@@ -16,7 +16,7 @@ abbrev pub client_first_bare : List ℕ → List ℕ → List ℕ
 client_first_bare username nonce = joined ((codes "n=" ++ escaped username) ∷ (codes "r=" ++ nonce) ∷ [])
 
 -- the GS2 header of a client that binds no channel and acts for itself (RFC 5802, sections 6 and 7): it cannot bind
--- one, or it could and believes that the server cannot
+-- one, or it could and assumes that the server cannot
 abbrev pub header_text : ChannelBindingFlag → List ℕ
 header_text NotSupported = codes "n,,"
 header_text ClientSupports = codes "y,,"

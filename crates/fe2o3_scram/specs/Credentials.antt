@@ -92,7 +92,7 @@ pub record Store : Type 0 where
   pub records : Records
 
 -- what a server answers by: a version, the record of each user name, how many HMAC values it makes to look a name up,
--- and whether it takes a client that could bind a channel and believes that the server cannot (RFC 5802, section 6)
+-- and whether it takes a client that could bind a channel and assumes that the server cannot (RFC 5802, section 6)
 pub record Provider : Type 0 where
   pub version : ScramVersion
   pub records : List ℕ → Option Record

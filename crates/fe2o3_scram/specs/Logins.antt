@@ -34,7 +34,7 @@ pub record IsSigned (state : ClientState) (text : List ℕ) : Type 0 where
   pub waits : state ≡ ClientFinalSent signature keys
   pub reads : ReadsServerFinal signature text (Ok tt)
 
--- a client believes only such a text
+-- a client accepts only such a text
 abbrev pub VerifiedTextsAreSigned : Type 0
 VerifiedTextsAreSigned = (side next : ClientSide) (text : List ℕ) → VerifiesIn side.state side text (Ok tt) next
     → IsSigned side.state text

@@ -96,7 +96,7 @@ AnswerCostsIn (ClientFirstSent nonce bare) side text result before after =
     AnswerCosts (holding side nonce) text result before after
 AnswerCostsIn state side text result before after = after ≡ before
 
--- whether a client in this state believes a server-final message (RFC 5802, section 5), and the client after it: one
+-- whether a client in this state accepts a server-final message (RFC 5802, section 5), and the client after it: one
 -- that has answered tests it, any other refuses it unread, and a refusal changes nothing
 abbrev pub VerifiesIn : ClientState → ClientSide → List ℕ → Result (Unit {0}) ScramErrorKind → ClientSide → Type 0
 VerifiesIn (ClientFinalSent signature keys) side text (Ok verified) next =
@@ -119,17 +119,17 @@ client_state_of (CodeClientFirstSent nonce bare) keys = ClientFirstSent (base64_
 client_state_of (CodeClientFinalSent signature) keys = ClientFinalSent signature.items keys
 client_state_of CodeComplete keys = Complete keys
 
--- whether the server was believed, which ends an exchange (RFC 5802, section 5)
+-- whether the server was verified, which ends an exchange (RFC 5802, section 5)
 abbrev pub is_complete : ClientState → Bool
 is_complete (Complete keys) = true
 is_complete state = false
 
--- the keys of a login whose server was believed (RFC 5802, section 5), and of no other
+-- the keys of a login whose server was verified (RFC 5802, section 5), and of no other
 abbrev pub login_keys : ClientState → Option ClientKeys
 login_keys (Complete keys) = keys
 login_keys state = None
 
--- the keys of an answer whose server is not believed yet, and of no other
+-- the keys of an answer whose server is not verified yet, and of no other
 abbrev pub answer_keys : ClientState → Option ClientKeys
 answer_keys (ClientFinalSent signature keys) = keys
 answer_keys state = None

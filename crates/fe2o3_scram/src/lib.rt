@@ -1,7 +1,7 @@
 //! SCRAM over texts (RFC 5802), after the authentication layer of `fe2o3-amqp` 0.18.4. No AMQP is in it.
 //!
 //! A client makes its first message with [`ScramVersion::client_first_message`], answers the
-//! server's with [`ScramVersion::compute_client_final_message`], and believes the server only
+//! server's with [`ScramVersion::compute_client_final_message`], and verifies the server only
 //! where [`ScramVersion::validate_server_final`] accepts its last one. A server makes its two
 //! messages with [`ScramVersion::compute_server_first_message`] and
 //! [`ScramVersion::compute_server_final_message`], from the records of a

@@ -311,7 +311,7 @@ impl ScramClient {
         }
     }
 
-    /// The keys of the login, once its server was believed, and `None` before: those that its answer was
+    /// The keys of the login, once its server was verified, and `None` before: those that its answer was
     /// made by. The next login by them takes two HMAC values, as long as the server keeps its salt and its
     /// iteration count (RFC 5802, section 3).
     pub fn keys(&self) -> Option<&CachedKeys>
@@ -324,7 +324,7 @@ impl ScramClient {
         }
     }
 
-    /// Whether the server was believed, which ends the exchange.
+    /// Whether the server was verified, which ends the exchange.
     pub fn is_complete(&self) -> bool
         ensures { result ≡ is_complete self.now.state }
     {

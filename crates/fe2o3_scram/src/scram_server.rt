@@ -172,7 +172,7 @@ impl<C: ScramCredentialProvider> ScramAuthenticator<C> {
     }
 
     /// Returns this server, but with this option: whether it accepts the GS2 header `y,,` too. A client
-    /// with that header supports channel binding, and believes that the server does not, since it was
+    /// with that header supports channel binding, and assumes that the server does not, since it was
     /// offered no mechanism with `-PLUS` (RFC 5802, section 6). Its client-final message has to repeat
     /// the header. A server that offers such a mechanism must not accept that client.
     pub fn accept_cbind_flag_y(self, accept: bool) -> Self

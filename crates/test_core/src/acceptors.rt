@@ -6,8 +6,8 @@ use fe2o3_sasl::credentials::SingleScramCredential;
 use fe2o3_sasl::external_server::ExternalServer;
 use fe2o3_sasl::hmac::{Meter, ScramVersion};
 use fe2o3_sasl::restrict_mechanisms::{OfferError, RestrictMechanisms};
-use fe2o3_sasl::any_mechanism::{HasMechanism, AnyMechanism};
-use fe2o3_sasl::runs::{acceptor_body_step, acceptor_step};
+use fe2o3_sasl::any_mechanism::{AnyMechanism, HasMechanism};
+use fe2o3_sasl::runs::{Event, acceptor_body_step, acceptor_step};
 use fe2o3_sasl::sasl_acceptor::{
     AuthenticatedUser, SaslAcceptor, SaslAcceptorExt, SaslAnonymousMechanism, SaslPlainMechanism,
     SaslServerFrame,

@@ -26,7 +26,7 @@ use Rattle.fe2o3_sasl_negotiation.specs.declared.progress.FrameKind.TheVariants 
 use Rattle.fe2o3_sasl_negotiation.specs.Connections.{Piece, AreFrames, Replied, LastReply, IsOkSent}
 use Rattle.fe2o3_sasl_negotiation.specs.Negotiations.{Side, SideOutput}
 use Rattle.fe2o3_sasl_negotiation.specs.ServerNegotiation.{ServerOutputs}
-use Rattle.fe2o3_sasl_negotiation.proofs.lemmas.ConnectionLemmas.{closed_is_not_wanting}
+use Rattle.fe2o3_sasl_negotiation.proofs.lemmas.ConnectionLemmas.{failed_is_not_in_progress}
 use Rattle.fe2o3_sasl_negotiation.proofs.lemmas.KindLemmas.{closes_waits_not, sends_ends}
 use Rattle.fe2o3_sasl_negotiation.proofs.lemmas.LoginLemmas.{servers_log_in}
 use Rattle.connection_laws.specs.Servers.{ServerBy, side_with, NegotiatesAs, PartNegotiates, AnyMechanismServersActAsPart, OfferingServersActAsInner}
@@ -39,7 +39,7 @@ goes_on_is_no_refusal : (says : ServerSays) (answer : SideOutput) → ServerOutp
     → answer.progress ≡ InProgress → ¬ IsRefusal says
 goes_on_is_no_refusal (Challenged body) answer said waits refused = refused
 goes_on_is_no_refusal (Concluded outcomes.Auth body) answer sends waits refused =
-    sends_ends body _ (Frame turns.Init) answer (closed_is_not_wanting (Refused outcomes.Auth)) sends waits
+    sends_ends body _ (Frame turns.Init) answer (failed_is_not_in_progress (Refused outcomes.Auth)) sends waits
 goes_on_is_no_refusal (Concluded outcomes.Ok body) answer said waits refused = refused
 goes_on_is_no_refusal (Concluded outcomes.Sys body) answer said waits refused = refused
 goes_on_is_no_refusal (Concluded outcomes.SysPerm body) answer said waits refused = refused

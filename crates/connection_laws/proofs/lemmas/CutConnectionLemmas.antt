@@ -11,7 +11,7 @@ use Rattle.fe2o3_sasl_negotiation.specs.Connections.{Piece, IsHeaderPart, IsOthe
 use Rattle.fe2o3_sasl_negotiation.specs.Framing.{sasl_header, framed}
 use Rattle.fe2o3_sasl_negotiation.specs.Negotiations.{Side}
 use Rattle.fe2o3_sasl_negotiation.specs.ServerNegotiation.{offer_body}
-use Rattle.fe2o3_sasl_negotiation.proofs.lemmas.ConnectionLemmas.{closed_is_not_wanting}
+use Rattle.fe2o3_sasl_negotiation.proofs.lemmas.ConnectionLemmas.{failed_is_not_in_progress}
 use Rattle.connection_laws.specs.Cuts.{IsFunction, HaveOneNonceEach, EndEqually, ServersEndEqually, FunctionsEndEqually, ClientsEndEqually}
 use Rattle.connection_laws.proofs.lemmas.CutStepLemmas.{functions_negotiate_equally, clients_negotiate_equally}
 
@@ -34,7 +34,7 @@ module _ {S : Type 0} where
     sends = sends;
     progress = one ∙ sym two;
     state = is ∙ sym too;
-    waits = λ waits. absurd (closed_is_not_wanting why (sym one ∙ waits));
+    waits = λ waits. absurd (failed_is_not_in_progress why (sym one ∙ waits));
   }
 
   -- a part of a header is no whole one

@@ -410,7 +410,7 @@ module _ (limit : ℕ) (small : limit < 2 ^ 32) where
         same turns pieces others 8 8 state first.events second.events first.replies second.replies first.answer
         second.answer first.tail second.tail last.state end.state last.progress end.progress follow first.frames
         second.frames paired later first.run second.run first.replied second.replied first.ends second.ends in
-        let standings_are : last.progress ≡ end.progress =
+        let progresses_are : last.progress ≡ end.progress =
         one_end second.answer second.tail last.progress end.progress
         (subst (λ (t : List ℕ). EndsIn second.answer t last.progress) tails_are
         (subst (λ (a : SideOutput). EndsIn a first.tail last.progress) answers_are first.ends)) second.ends in (
@@ -418,7 +418,7 @@ module _ (limit : ℕ) (small : limit < 2 ^ 32) where
           replies_are,
           record {
             sends = first.sends ∙ (ap (λ (a : SideOutput). a.sent) answers_are ∙ sym second.sends);
-            progress = standings_are;
+            progress = progresses_are;
             state = states_are;
             waits = λ waits. first.waits waits
                 ∙ ((λ i. record {
@@ -427,7 +427,7 @@ module _ (limit : ℕ) (small : limit < 2 ^ 32) where
                   limit = limit;
                   held = tails_are i;
                   state = states_are i;
-                }) ∙ sym (second.waits (sym standings_are ∙ waits)));
+                }) ∙ sym (second.waits (sym progresses_are ∙ waits)));
           },
         )
       where

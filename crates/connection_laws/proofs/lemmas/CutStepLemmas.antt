@@ -24,7 +24,7 @@ use Rattle.fe2o3_sasl_negotiation.specs.declared.progress.FrameKind.TheVariants 
 use Rattle.fe2o3_sasl_negotiation.specs.ClientNegotiation as of_client
 use Rattle.fe2o3_sasl_negotiation.specs.ServerNegotiation as of_server
 use Rattle.fe2o3_sasl_negotiation.specs.Negotiations.{SideOutput, Sends}
-use Rattle.fe2o3_sasl_negotiation.proofs.lemmas.ConnectionLemmas.{closed_is_not_wanting, logged_in_is_not_wanting}
+use Rattle.fe2o3_sasl_negotiation.proofs.lemmas.ConnectionLemmas.{failed_is_not_in_progress, authenticated_is_not_in_progress}
 use Rattle.fe2o3_sasl_negotiation.proofs.lemmas.KindLemmas.{progress_of, closes_waits_not, sends_goes_on, sends_ends}
 use Rattle.connection_laws.specs.Cuts.{IsFunction, ServersNegotiateEqually, FunctionsNegotiateEqually, ClientsNegotiateEqually}
 use Rattle.connection_laws.proofs.lemmas.CutLemmas.{one_result}
@@ -61,15 +61,15 @@ server_due : (says : ServerSays) (answer : SideOutput) → of_server.ServerOutpu
     → answer.expected ≡ Frame turns.Response
 server_due (Challenged body) answer sends waits = sends_goes_on body turns.Response answer sends waits
 server_due (Concluded outcomes.Ok body) answer sends waits =
-    absurd (sends_ends body Authenticated (Frame turns.Init) answer logged_in_is_not_wanting sends waits)
+    absurd (sends_ends body Authenticated (Frame turns.Init) answer authenticated_is_not_in_progress sends waits)
 server_due (Concluded outcomes.Auth body) answer sends waits =
-    absurd (sends_ends body _ (Frame turns.Init) answer (closed_is_not_wanting (Refused outcomes.Auth)) sends waits)
+    absurd (sends_ends body _ (Frame turns.Init) answer (failed_is_not_in_progress (Refused outcomes.Auth)) sends waits)
 server_due (Concluded outcomes.Sys body) answer sends waits =
-    absurd (sends_ends body _ (Frame turns.Init) answer (closed_is_not_wanting (Refused outcomes.Sys)) sends waits)
+    absurd (sends_ends body _ (Frame turns.Init) answer (failed_is_not_in_progress (Refused outcomes.Sys)) sends waits)
 server_due (Concluded outcomes.SysPerm body) answer sends waits =
-    absurd (sends_ends body _ (Frame turns.Init) answer (closed_is_not_wanting (Refused outcomes.SysPerm)) sends waits)
+    absurd (sends_ends body _ (Frame turns.Init) answer (failed_is_not_in_progress (Refused outcomes.SysPerm)) sends waits)
 server_due (Concluded outcomes.SysTemp body) answer sends waits =
-    absurd (sends_ends body _ (Frame turns.Init) answer (closed_is_not_wanting (Refused outcomes.SysTemp)) sends waits)
+    absurd (sends_ends body _ (Frame turns.Init) answer (failed_is_not_in_progress (Refused outcomes.SysTemp)) sends waits)
 server_due (Failed faults.OutOfMemory) answer never waits = absurd never
 server_due (Failed faults.DecodeError) answer is waits = absurd (closes_waits_not _ _ answer is waits)
 server_due (Failed faults.NotImplemented) answer is waits = absurd (closes_waits_not _ _ answer is waits)
@@ -164,7 +164,7 @@ client_first_due : (says : ClientSays) (answer : SideOutput) → of_client.Clien
 client_first_due (Started body) answer sends waits = sends_goes_on body turns.Challenge answer sends waits
 client_first_due (Answered body) answer is waits = absurd (closes_waits_not _ _ answer is waits)
 client_first_due (Reported outcomes.Ok more) answer is waits =
-    absurd (logged_in_is_not_wanting (sym (progress_of answer _ is) ∙ waits))
+    absurd (authenticated_is_not_in_progress (sym (progress_of answer _ is) ∙ waits))
 client_first_due (Reported outcomes.Auth more) answer is waits = absurd (closes_waits_not _ _ answer is waits)
 client_first_due (Reported outcomes.Sys more) answer is waits = absurd (closes_waits_not _ _ answer is waits)
 client_first_due (Reported outcomes.SysPerm more) answer is waits = absurd (closes_waits_not _ _ answer is waits)
@@ -183,7 +183,7 @@ client_second_due : (says : ClientSays) (answer : SideOutput) → of_client.Clie
 client_second_due (Started body) answer is waits = absurd (closes_waits_not _ _ answer is waits)
 client_second_due (Answered body) answer sends waits = sends_goes_on body turns.Outcome answer sends waits
 client_second_due (Reported outcomes.Ok more) answer is waits =
-    absurd (logged_in_is_not_wanting (sym (progress_of answer _ is) ∙ waits))
+    absurd (authenticated_is_not_in_progress (sym (progress_of answer _ is) ∙ waits))
 client_second_due (Reported outcomes.Auth more) answer is waits = absurd (closes_waits_not _ _ answer is waits)
 client_second_due (Reported outcomes.Sys more) answer is waits = absurd (closes_waits_not _ _ answer is waits)
 client_second_due (Reported outcomes.SysPerm more) answer is waits = absurd (closes_waits_not _ _ answer is waits)

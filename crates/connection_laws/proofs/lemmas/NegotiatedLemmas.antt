@@ -21,7 +21,7 @@ use Rattle.fe2o3_sasl_negotiation.specs.ServerNegotiation as of_server
 use Rattle.fe2o3_sasl_negotiation.specs.Connections.{Piece, frames_of, SpellsTurn, AreFrames, LeftOver, Replied, Negotiated, LastReply, IsOkSent, IsOkReported}
 use Rattle.fe2o3_sasl_negotiation.specs.Framing.{sasl_header, framed, size_of}
 use Rattle.fe2o3_sasl_negotiation.specs.Negotiations.{Side, SideOutput}
-use Rattle.fe2o3_sasl_negotiation.proofs.lemmas.ConnectionLemmas.{logged_in_is_not_wanting, closed_is_not_wanting, closed_is_not_logged_in}
+use Rattle.fe2o3_sasl_negotiation.proofs.lemmas.ConnectionLemmas.{authenticated_is_not_in_progress, failed_is_not_in_progress, closed_is_not_logged_in}
 use Rattle.fe2o3_sasl_negotiation.proofs.lemmas.KindLemmas.{progress_of, closes_waits_not, sends_ends}
 use Rattle.fe2o3_sasl_negotiation.proofs.lemmas.PieceLemmas.{length-frames_of}
 use Rattle.fe2o3_sasl_negotiation.proofs.lemmas.UnitLemmas.{size_of-framed, length-framed, body_of-framed}
@@ -66,12 +66,12 @@ without_header bytes others same =
 
 -- ---- a side that has logged in has taken whole frames only
 
-wanting_is_not_logged_in : InProgress ≢ Authenticated
-wanting_is_not_logged_in same = cc
+in_progress_is_not_authenticated : InProgress ≢ Authenticated
+in_progress_is_not_authenticated same = cc
 
 left_is_not_logged_in : (turn : FrameKind) (limit : ℕ) (tail : List ℕ) (progress : Progress)
     → LeftOver turn limit tail progress → progress ≢ Authenticated
-left_is_not_logged_in turn limit tail progress (inl part) logged = wanting_is_not_logged_in (sym part.1 ∙ logged)
+left_is_not_logged_in turn limit tail progress (inl part) logged = in_progress_is_not_authenticated (sym part.1 ∙ logged)
 left_is_not_logged_in turn limit tail progress (inr (inl size)) logged =
     closed_is_not_logged_in FrameSize (sym size.2 ∙ logged)
 left_is_not_logged_in turn limit tail progress (inr (inr frame)) logged =
@@ -101,7 +101,7 @@ client_first_waits (Started body) answer (inl sent) waits = (body, refl, sent.0,
 client_first_waits (Started body) answer (inr long) waits = absurd (closes_waits_not _ _ answer long.1 waits)
 client_first_waits (Answered body) answer is waits = absurd (closes_waits_not _ _ answer is waits)
 client_first_waits (Reported outcomes.Ok more) answer is waits =
-    absurd (logged_in_is_not_wanting (sym (progress_of answer _ is) ∙ waits))
+    absurd (authenticated_is_not_in_progress (sym (progress_of answer _ is) ∙ waits))
 client_first_waits (Reported outcomes.Auth more) answer is waits = absurd (closes_waits_not _ _ answer is waits)
 client_first_waits (Reported outcomes.Sys more) answer is waits = absurd (closes_waits_not _ _ answer is waits)
 client_first_waits (Reported outcomes.SysPerm more) answer is waits = absurd (closes_waits_not _ _ answer is waits)
@@ -121,7 +121,7 @@ client_next_waits (Answered body) answer (inl sent) waits = (body, refl, sent.0,
 client_next_waits (Answered body) answer (inr long) waits = absurd (closes_waits_not _ _ answer long.1 waits)
 client_next_waits (Started body) answer is waits = absurd (closes_waits_not _ _ answer is waits)
 client_next_waits (Reported outcomes.Ok more) answer is waits =
-    absurd (logged_in_is_not_wanting (sym (progress_of answer _ is) ∙ waits))
+    absurd (authenticated_is_not_in_progress (sym (progress_of answer _ is) ∙ waits))
 client_next_waits (Reported outcomes.Auth more) answer is waits = absurd (closes_waits_not _ _ answer is waits)
 client_next_waits (Reported outcomes.Sys more) answer is waits = absurd (closes_waits_not _ _ answer is waits)
 client_next_waits (Reported outcomes.SysPerm more) answer is waits = absurd (closes_waits_not _ _ answer is waits)
@@ -139,15 +139,15 @@ server_waits : (says : ServerSays) (answer : SideOutput) → of_server.ServerOut
 server_waits (Challenged body) answer (inl sent) waits = (body, refl, sent.0, ap (λ (a : SideOutput). a.sent) sent.1)
 server_waits (Challenged body) answer (inr long) waits = absurd (closes_waits_not _ _ answer long.1 waits)
 server_waits (Concluded outcomes.Ok body) answer sends waits =
-    absurd (sends_ends body Authenticated (Frame turns.Init) answer logged_in_is_not_wanting sends waits)
+    absurd (sends_ends body Authenticated (Frame turns.Init) answer authenticated_is_not_in_progress sends waits)
 server_waits (Concluded outcomes.Auth body) answer sends waits =
-    absurd (sends_ends body _ (Frame turns.Init) answer (closed_is_not_wanting (Refused outcomes.Auth)) sends waits)
+    absurd (sends_ends body _ (Frame turns.Init) answer (failed_is_not_in_progress (Refused outcomes.Auth)) sends waits)
 server_waits (Concluded outcomes.Sys body) answer sends waits =
-    absurd (sends_ends body _ (Frame turns.Init) answer (closed_is_not_wanting (Refused outcomes.Sys)) sends waits)
+    absurd (sends_ends body _ (Frame turns.Init) answer (failed_is_not_in_progress (Refused outcomes.Sys)) sends waits)
 server_waits (Concluded outcomes.SysPerm body) answer sends waits =
-    absurd (sends_ends body _ (Frame turns.Init) answer (closed_is_not_wanting (Refused outcomes.SysPerm)) sends waits)
+    absurd (sends_ends body _ (Frame turns.Init) answer (failed_is_not_in_progress (Refused outcomes.SysPerm)) sends waits)
 server_waits (Concluded outcomes.SysTemp body) answer sends waits =
-    absurd (sends_ends body _ (Frame turns.Init) answer (closed_is_not_wanting (Refused outcomes.SysTemp)) sends waits)
+    absurd (sends_ends body _ (Frame turns.Init) answer (failed_is_not_in_progress (Refused outcomes.SysTemp)) sends waits)
 server_waits (Failed faults.OutOfMemory) answer never waits = absurd never
 server_waits (Failed faults.DecodeError) answer is waits = absurd (closes_waits_not _ _ answer is waits)
 server_waits (Failed faults.NotImplemented) answer is waits = absurd (closes_waits_not _ _ answer is waits)

@@ -114,8 +114,8 @@ client_sends init response more answer (first, rest, said, went, (second, last, 
 module _ {S A : Type 0} (Steps : S → Given → A → S → Type 0) (Says : A → FrameKind → SideOutput → Type 0) (turns : List FrameKind)
     (limit : ℕ) (state : S) (pieces : List Piece) (taken sent : List ℕ) (last : Side S)
     (n : Negotiated Steps Says turns limit state pieces taken sent last) (logged_in : last.progress ≡ Authenticated) where
-  wanting_is_not : InProgress ≢ Authenticated
-  wanting_is_not same = cc
+  in_progress_is_not : InProgress ≢ Authenticated
+  in_progress_is_not same = cc
 
   closed_is_not : (why : CloseReason) → HasFailed why ≢ Authenticated
   closed_is_not why same = cc
@@ -124,7 +124,7 @@ module _ {S A : Type 0} (Steps : S → Given → A → S → Type 0) (Says : A �
   nothing_left = go n.ends
     where
       out : (turn : FrameKind) → ¬ LeftOver turn limit n.tail last.progress
-      out turn (inl part) = wanting_is_not (sym part.1 ∙ logged_in)
+      out turn (inl part) = in_progress_is_not (sym part.1 ∙ logged_in)
       out turn (inr (inl size)) = closed_is_not _ (sym size.2 ∙ logged_in)
       out turn (inr (inr frame)) = closed_is_not frame.2 (sym frame.7 ∙ logged_in)
 

@@ -41,7 +41,7 @@ use Rattle.fe2o3_sasl_negotiation.proofs.lemmas.FrameSizeLemmas.{texts_fit}
 use Rattle.connection_laws.proofs.lemmas.ReplyListLemmas.{arriving}
 use Rattle.connection_laws.proofs.lemmas.ExactSideLemmas.{Exact, ClientMakes, ServerMakes}
 use Rattle.connection_laws.proofs.lemmas.SmallReplyLemmas.{nonce_length, first_length, proof_length, response_length, fits_as, answer_is_small, challenge_is_small, ok_is_small, ok_fits}
-use Rattle.connection_laws.proofs.lemmas.UnalteredSideLemmas.{Case, UpToOk, ClientFine, ServerFine, ClientTakes, ServerTakes, client_memory, server_memory, logged_in_is_not_wanting, ended_rests, first_text, event, exchange_by, met, held, suffices, histories, client_goes_on, client_takes, server_goes_on, server_takes, init_fits, zeroth_fine, starts}
+use Rattle.connection_laws.proofs.lemmas.UnalteredSideLemmas.{Case, UpToOk, ClientFine, ServerFine, ClientTakes, ServerTakes, client_memory, server_memory, authenticated_is_not_in_progress, ended_rests, first_text, event, exchange_by, met, held, suffices, histories, client_goes_on, client_takes, server_goes_on, server_takes, init_fits, zeroth_fine, starts}
 
 module _ (c : Case) where
   -- the server challenges
@@ -290,7 +290,7 @@ module _ (c : Case) where
                 limit = c.joined.server_limit;
                 held = [];
                 state = third.next;
-              }) c.server third.nonces client_ends third.after logged_in_is_not_wanting ends in
+              }) c.server third.nonces client_ends third.after authenticated_is_not_in_progress ends in
               let fourth = client_takes c turns.Outcome second.next second.nonces outcome third.after server_ends
               client_ends (frames.Outcome outcomes.Ok (Some final_sent)) sent_outcome small
               (spells_outcome outcomes.Ok final_sent outcome sent_outcome) tt all waits in

@@ -31,7 +31,7 @@ use Rattle.connection_laws.specs.Unaltered.{BothLogIn}
 use Rattle.connection_laws.proofs.lemmas.ExactSideLemmas.{Exact}
 use Rattle.connection_laws.proofs.lemmas.OneLoginLemmas.{one_login}
 use Rattle.connection_laws.proofs.lemmas.SmallReplyLemmas.{report_is_small}
-use Rattle.connection_laws.proofs.lemmas.UnalteredSideLemmas.{Case, UpToOk, ClientFine, client_memory, logged_in_is_not_wanting, ended_rests, event, exchange_by, met, held, suffices, histories}
+use Rattle.connection_laws.proofs.lemmas.UnalteredSideLemmas.{Case, UpToOk, ClientFine, client_memory, authenticated_is_not_in_progress, ended_rests, event, exchange_by, met, held, suffices, histories}
 
 module _ (c : Case) (u : UpToOk c) where
   abbrev exchange : Exchange
@@ -150,7 +150,7 @@ module _ (c : Case) (u : UpToOk c) where
         limit = c.joined.client_limit;
         held = [];
         state = u.fourth.next;
-      }) c.client u.fourth.nonces u.more u.fourth.after logged_in_is_not_wanting
+      }) c.client u.fourth.nonces u.more u.fourth.after authenticated_is_not_in_progress
       (subst (λ (a : SideOutput). Negotiates (Exact (of_client.ClientSideAnswers c.login.hostname))
       (behind_answer a c.joined.client_limit u.fourth.next) u.fourth.nonces u.more u.fourth.after c.client) ends u.fourth.goes_on)
       in

@@ -66,8 +66,8 @@ server_memory says turn answer said same = subst (λ (s : ServerSays). of_server
 
 -- ---- the machines are asked
 
-pub logged_in_is_not_wanting : Authenticated ≢ InProgress
-logged_in_is_not_wanting same = cc
+pub authenticated_is_not_in_progress : Authenticated ≢ InProgress
+authenticated_is_not_in_progress same = cc
 
 -- a side that has ended takes nothing and sends nothing
 pub ended_rests : {S : Type 0} (Answers : Expected → S → List ℕ → List ℕ → SideOutput → S → Type 0) (side last : Side S)

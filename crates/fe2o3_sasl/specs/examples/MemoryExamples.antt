@@ -1,4 +1,4 @@
--- Worked examples of frames at which no memory is asked for, so that want of memory is no answer to them (AMQP 1.0,
+-- Worked examples of frames at which no memory is asked for, so that running out of memory is no answer to them (AMQP 1.0,
 -- part 5, section 5.3.2).
 use Rattle.std.specs.Prelude.{◌≡◌, ℕ, Bool, Option, Some, None, List, [], ◌∷◌, codes, Ok, Err}
 use Rattle.fe2o3_sasl_wire.specs.declared.amqp_types.SaslCode.{SaslCode}
@@ -55,7 +55,7 @@ OwnedAskForNone = AskForNone FrameAllocates
     × ((user password : List ℕ) (code : SaslCode) (more : Option (List ℕ))
     → ¬ FrameAllocates (PlainProfile user password) (frames.Outcome code more))
 
--- in a server's history it is wanting at no fault of a body, at no list, at no challenge and at no outcome
+-- in a server's history it runs out at no fault of a body, at no list, at no challenge and at no outcome
 abbrev pub ServersWantNone : Type 0
 ServersWantNone = ((fault : Error) → ¬ ServerAllocates (Err fault))
     × ((names : List (List ℕ)) → ¬ ServerAllocates (Ok (frames.Mechanisms names))

@@ -15,7 +15,7 @@ use Rattle.fe2o3_sasl_core.specs.Bodies.{SpellsBody}
 use Rattle.fe2o3_sasl_core.specs.ServerHistory.{Challenging, is_challenge, is_ok}
 use Rattle.fe2o3_sasl.specs.private.Receipts.{ServerReceipt, OfAccepted, Covers, IsOkReceipt, ConcludesAt}
 
--- memory was wanting
+-- memory ran out
 abbrev pub no_memory : ServerSays
 no_memory = Failed faults.OutOfMemory
 

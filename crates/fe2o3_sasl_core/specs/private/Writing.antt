@@ -25,7 +25,7 @@ IsRequest (frames.Init mechanism response hostname) = Unit {0}
 IsRequest (frames.Response text) = Unit {0}
 IsRequest frame = ⊥
 
--- the frame is written in its canonical body, and the reply says so; it has none; or memory is wanting
+-- the frame is written in its canonical body, and the reply says so; it has none; or memory runs out
 abbrev pub Writes : {A X : Type 0} → (X → A) → (List ℕ → A) → Option (List ℕ) → Result X Error → Type 0
 Writes view says body (Ok reply) = (written : List ℕ) × (body ≡ Some written) × (view reply ≡ says written)
 Writes view says body (Err faults.TooLarge) = body ≡ None

@@ -22,7 +22,7 @@ pub enum ProfileError {
 
     /// The server names another salt or another iteration count than the kept keys are of, and the client
     /// has no password, which is needed. Nothing signs that message, so whoever is on the way can bring
-    /// this about: keep the keys until a login by the password was believed.
+    /// this about: keep the keys until a login by the password was verified.
     #[error("The keys are of another salt or iteration count")]
     StaleKeys,
 

@@ -145,7 +145,7 @@ impl<V: OfVersion> SaslScram<V> {
         Self::of(self.client.with_min_iterations(min_iterations))
     }
 
-    /// The keys of the login, once its server was believed, and `None` before (RFC 5802, section 3).
+    /// The keys of the login, once its server was verified, and `None` before (RFC 5802, section 3).
     pub fn keys(&self) -> Option<&CachedKeys>
         ensures { MatchOption result (login_keys self.now.state ≡ None)
             (λ keys. login_keys self.now.state ≡ Some keys.now) }

@@ -102,7 +102,7 @@ pub(super) fn answer(
     }
 }
 
-/// Whether an outcome is believed. One of code Ok is tested for data before the client's state and
+/// Whether an outcome is verified. One of code Ok is tested for data before the client's state and
 /// its own tests; others are not tested.
 pub(super) fn verify(
     client: &mut ScramClient,

@@ -1,5 +1,5 @@
 -- What a client answers.
-use Rattle.std.proofs.Common.{◌≡◌, ℕ, Option, Some, None, List, ◌++◌, drop, refl, sym, ap, subst, inl, inr, Result, Ok, Err, IfOk}
+use Rattle.std.proofs.Common.{◌≡◌, ℕ, Option, List, drop, refl, sym, ap, subst, inl, inr, Result, Ok, Err, IfOk}
 use Rattle.fe2o3_sasl_core.specs.Costs.{ProfileStepCosts}
 use Rattle.fe2o3_sasl_core.specs.Events.{Given, ClientSays, Refused}
 use Rattle.fe2o3_sasl_core.specs.Profiles.{Profile}
@@ -8,10 +8,7 @@ use Rattle.fe2o3_sasl_core.specs.declared.events.ClientReply.{ClientReply}
 use Rattle.fe2o3_sasl_core.specs.declared.sasl_profile.error.ProfileError.{ProfileError}
 use Rattle.fe2o3_sasl_negotiation.specs.declared.framing.Step.{Step}
 use Rattle.fe2o3_sasl_negotiation.specs.declared.progress.CloseReason.{CloseReason}
-use Rattle.fe2o3_sasl_negotiation.specs.declared.progress.Expected.{Expected}
-use Rattle.fe2o3_sasl_negotiation.specs.declared.progress.Expected.TheVariants.{Header, Frame}
-use Rattle.fe2o3_sasl_negotiation.specs.declared.progress.Progress.{Progress}
-use Rattle.fe2o3_sasl_negotiation.specs.declared.progress.Progress.TheVariants.{InProgress}
+use Rattle.fe2o3_sasl_negotiation.specs.declared.progress.Expected.TheVariants.{Frame}
 use Rattle.fe2o3_sasl_negotiation.specs.declared.progress.FrameKind.{FrameKind}
 use Rattle.fe2o3_sasl_negotiation.specs.Negotiations.{Side, closes}
 use Rattle.fe2o3_sasl_negotiation.specs.ClientNegotiation.{ClientOutputs, ClientReplies, ClientReplyCosts, ClientCosts}

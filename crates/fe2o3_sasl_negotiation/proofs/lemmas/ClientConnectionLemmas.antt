@@ -17,7 +17,7 @@ use Rattle.fe2o3_sasl_negotiation.specs.ClientNegotiation.{ClientOpens, ClientOu
 use Rattle.fe2o3_sasl_negotiation.specs.Connections.{Piece, ClientConnection, ClientsConnect, fresh}
 use Rattle.fe2o3_sasl_negotiation.specs.Negotiations.{Side, SideOutput, Receives, ReceivesAt}
 use Rattle.fe2o3_sasl_negotiation.specs.private.Pieces.{NextNonces}
-use Rattle.fe2o3_sasl_negotiation.proofs.lemmas.ConnectionLemmas.{closed_is_not_wanting, logged_in_is_not_wanting, opened, negotiated_call, negotiated_more, rests_there, connected}
+use Rattle.fe2o3_sasl_negotiation.proofs.lemmas.ConnectionLemmas.{failed_is_not_in_progress, authenticated_is_not_in_progress, opened, negotiated_call, negotiated_more, rests_there, connected}
 use Rattle.fe2o3_sasl_negotiation.proofs.lemmas.KindLemmas.{progress_of, closes_waits_not, sends_goes_on}
 use Rattle.fe2o3_sasl_core.specs.declared.sasl_profile.error.ProfileError.TheVariants.{NotImplemented, Scram, StaleKeys, Frame as FrameFault, OutOfMemory}
 
@@ -27,7 +27,7 @@ says_first : (says : ClientSays) (answer : SideOutput) → ClientOutputs says tu
 says_first (Started body) answer sends waits = sends_goes_on body turns.Challenge answer sends waits
 says_first (Answered body) answer is waits = absurd (closes_waits_not _ _ answer is waits)
 says_first (Reported outcomes.Ok more) answer is waits =
-    absurd (logged_in_is_not_wanting (sym (progress_of answer _ is) ∙ waits))
+    absurd (authenticated_is_not_in_progress (sym (progress_of answer _ is) ∙ waits))
 says_first (Reported outcomes.Auth more) answer is waits = absurd (closes_waits_not _ _ answer is waits)
 says_first (Reported outcomes.Sys more) answer is waits = absurd (closes_waits_not _ _ answer is waits)
 says_first (Reported outcomes.SysPerm more) answer is waits = absurd (closes_waits_not _ _ answer is waits)
@@ -43,7 +43,7 @@ says_next : (says : ClientSays) (answer : SideOutput) → ClientOutputs says tur
 says_next (Started body) answer is waits = absurd (closes_waits_not _ _ answer is waits)
 says_next (Answered body) answer sends waits = sends_goes_on body turns.Outcome answer sends waits
 says_next (Reported outcomes.Ok more) answer is waits =
-    absurd (logged_in_is_not_wanting (sym (progress_of answer _ is) ∙ waits))
+    absurd (authenticated_is_not_in_progress (sym (progress_of answer _ is) ∙ waits))
 says_next (Reported outcomes.Auth more) answer is waits = absurd (closes_waits_not _ _ answer is waits)
 says_next (Reported outcomes.Sys more) answer is waits = absurd (closes_waits_not _ _ answer is waits)
 says_next (Reported outcomes.SysPerm more) answer is waits = absurd (closes_waits_not _ _ answer is waits)
@@ -58,7 +58,7 @@ says_last : (says : ClientSays) (answer : SideOutput) → ClientOutputs says tur
 says_last (Started body) answer is waits = closes_waits_not _ _ answer is waits
 says_last (Answered body) answer is waits = closes_waits_not _ _ answer is waits
 says_last (Reported outcomes.Ok more) answer is waits =
-    logged_in_is_not_wanting (sym (progress_of answer _ is) ∙ waits)
+    authenticated_is_not_in_progress (sym (progress_of answer _ is) ∙ waits)
 says_last (Reported outcomes.Auth more) answer is waits = closes_waits_not _ _ answer is waits
 says_last (Reported outcomes.Sys more) answer is waits = closes_waits_not _ _ answer is waits
 says_last (Reported outcomes.SysPerm more) answer is waits = closes_waits_not _ _ answer is waits
@@ -135,7 +135,7 @@ module _ (hostname : Option (List ℕ)) (limit : ℕ) (profile : Profile) (piece
       (header_call taken bytes nonce first k next few
       (subst (λ (s : Side Profile). ReceivesAt InProgress (ClientSideAnswers hostname) s bytes nonce k first next) same receives))
   call_at InProgress taken sent side next bytes nonce first k at (inr (inl other)) are_bytes nonces receives =
-      absurd (closed_is_not_wanting ProtocolHeaderMismatch (sym other.0.2 ∙ at))
+      absurd (failed_is_not_in_progress ProtocolHeaderMismatch (sym other.0.2 ∙ at))
   call_at InProgress taken sent side next bytes nonce first k at (inr (inr negotiated)) are_bytes nonces receives =
       inr (inr (negotiated_call (ClientSideAnswers hostname) (ProfileSteps hostname) ClientOutputs seen
       (says_first, (says_next, says_last)) (λ turn s n nonce unit a h. h) limit profile pieces taken sent side next bytes

@@ -16,7 +16,6 @@ use Rattle.fe2o3_sasl_negotiation.specs.declared.framing.Step.{Step}
 use Rattle.fe2o3_sasl_negotiation.specs.declared.progress.CloseReason.TheVariants.{ProtocolHeaderMismatch, UnexpectedFrame, ReplyTooLarge, MalformedFrame, Refused, Mechanism as ProfileRefused}
 use Rattle.fe2o3_sasl_negotiation.specs.declared.progress.Expected.{Expected}
 use Rattle.fe2o3_sasl_negotiation.specs.declared.progress.Expected.TheVariants.{Header, Frame}
-use Rattle.fe2o3_sasl_negotiation.specs.declared.progress.Progress.{Progress}
 use Rattle.fe2o3_sasl_negotiation.specs.declared.progress.Progress.TheVariants.{InProgress, Authenticated, Failed}
 use Rattle.fe2o3_sasl_negotiation.specs.declared.progress.FrameKind.{FrameKind}
 use Rattle.fe2o3_sasl_negotiation.specs.declared.progress.FrameKind.TheVariants as turns

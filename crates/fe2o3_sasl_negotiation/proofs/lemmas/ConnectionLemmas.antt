@@ -27,11 +27,11 @@ use Rattle.fe2o3_sasl_negotiation.proofs.lemmas.FramingLemmas.{size_of-append, p
 use Rattle.fe2o3_sasl_negotiation.proofs.lemmas.PieceLemmas.{nonce_of_piece, is_framed, frames_of-more, frames_of_more, one_frame_more, IsChain, due_after, one_reply_more, as_many, one_step_more}
 
 -- the three progresses are three
-pub logged_in_is_not_wanting : Authenticated ≢ InProgress
-logged_in_is_not_wanting same = cc
+pub authenticated_is_not_in_progress : Authenticated ≢ InProgress
+authenticated_is_not_in_progress same = cc
 
-pub closed_is_not_wanting : (why : CloseReason) → Failed why ≢ InProgress
-closed_is_not_wanting why same = cc
+pub failed_is_not_in_progress : (why : CloseReason) → Failed why ≢ InProgress
+failed_is_not_in_progress why same = cc
 
 pub closed_is_not_logged_in : (why : CloseReason) → Failed why ≢ Authenticated
 closed_is_not_logged_in why same = cc
@@ -91,7 +91,7 @@ module _ {S A : Type 0} (Answers : Expected → S → List ℕ → List ℕ → 
     closes_here more first next why nothing closed same left =
         subst (λ (l : List ℕ). Goes more l next) (sym nothing)
         (stays more next (subst (λ (s : Progress). LeftOver turn limit (tail ++ more) s) (sym closed) left) same
-        (λ waits. absurd (closed_is_not_wanting why (sym closed ∙ waits))))
+        (λ waits. absurd (failed_is_not_in_progress why (sym closed ∙ waits))))
 
     -- the bytes that complete n of a unit
     completes : (bytes : List ℕ) (n k : ℕ) → length tail ≤ n → k ≡ n - length tail
@@ -263,8 +263,8 @@ module _ {S A : Type 0} (Answers : Expected → S → List ℕ → List ℕ → 
               let (other, same, here) = due_after Says turns (replies ++ says ∷ [])
               (record answer { sent = before.sent ++ answer.sent }) chain more w in
               inl (other, w, same, inl (nothing_is_part (Frame other) limit, progress_is ∙ w))
-          go Authenticated w = inr ((λ waits. logged_in_is_not_wanting (sym w ∙ waits)), progress_is, refl)
-          go (Failed why) w = inr ((λ waits. closed_is_not_wanting why (sym w ∙ waits)), progress_is, refl)
+          go Authenticated w = inr ((λ waits. authenticated_is_not_in_progress (sym w ∙ waits)), progress_is, refl)
+          go (Failed why) w = inr ((λ waits. failed_is_not_in_progress why (sym w ∙ waits)), progress_is, refl)
 
     -- a call
     pub one_call : (bytes nonce first : List ℕ) (k : ℕ) (next : Side S) → IsBytes (tail ++ bytes)
@@ -344,8 +344,8 @@ module _ {S A : Type 0} (Answers : Expected → S → List ℕ → List ℕ → 
           one_call limit state side.state pieces taken sent n.tail n.events n.replies n.answer turn n.carried n.frames
           n.run n.replied n.sends wants expected part.0 bytes nonce first k next left_bytes nonces
           (subst (λ (s : Side S). ReceivesAt InProgress Answers s bytes nonce k first next) (at turn expected) receives)
-      left turn wants expected (inr (inl size)) = absurd (closed_is_not_wanting FrameSize (sym size.2 ∙ waits))
-      left turn wants expected (inr (inr frame)) = absurd (closed_is_not_wanting frame.2 (sym frame.7 ∙ waits))
+      left turn wants expected (inr (inl size)) = absurd (failed_is_not_in_progress FrameSize (sym size.2 ∙ waits))
+      left turn wants expected (inr (inr frame)) = absurd (failed_is_not_in_progress frame.2 (sym frame.7 ∙ waits))
 
       go : ((turn : FrameKind) × (n.answer.progress ≡ InProgress) × (n.answer.expected ≡ Frame turn)
           × LeftOver turn limit n.tail side.progress)

@@ -107,10 +107,10 @@ module _ {S : Type 0} (Answers : Expected → S → List ℕ → List ℕ → Si
   ended_stays side last (nonce ∷ nonces) bytes sent progress is ended
       (taken, first, next, behind, wants, no_part, receives, more, all) = absurd (ended (sym is ∙ wants))
 
-  wanting_receives : (side next : Side S) (bytes nonce sent : List ℕ) (taken : ℕ) → side.progress ≡ InProgress
+  in_progress_receives : (side next : Side S) (bytes nonce sent : List ℕ) (taken : ℕ) → side.progress ≡ InProgress
       → Receives Answers side bytes nonce taken sent next
       → ReceivesAt InProgress Answers side bytes nonce taken sent next
-  wanting_receives side next bytes nonce sent taken wanting receives =
+  in_progress_receives side next bytes nonce sent taken wanting receives =
       subst (λ (s : Progress). ReceivesAt s Answers side bytes nonce taken sent next) wanting receives
 
   -- a call that does not wait ends a unit
@@ -118,7 +118,7 @@ module _ {S : Type 0} (Answers : Expected → S → List ℕ → List ℕ → Si
       → ¬ IsPart side.expected side.limit (side.held ++ bytes) → Receives Answers side bytes nonce taken sent next
       → (n : ℕ) × EndsUnit side (side.held ++ bytes) nonce n taken sent next
   unit_of_call side next bytes nonce sent taken wanting no_part receives =
-      go (wanting_receives side next bytes nonce sent taken wanting receives)
+      go (in_progress_receives side next bytes nonce sent taken wanting receives)
     where
       go : ReceivesAt InProgress Answers side bytes nonce taken sent next
           → (n : ℕ) × EndsUnit side (side.held ++ bytes) nonce n taken sent next

@@ -38,8 +38,8 @@ not_in : (answer : SideOutput) (progress : Progress) (Is : Type 0) → progress 
     → Kind Is answer
 not_in answer progress Is out at other = inr ((λ logged. out (sym at ∙ logged)), other)
 
-wanting_is_not_logged_in : InProgress ≢ Authenticated
-wanting_is_not_logged_in same = cc
+in_progress_is_not_authenticated : InProgress ≢ Authenticated
+in_progress_is_not_authenticated same = cc
 
 -- what is sent and is no Ok
 sends_kind : (body : List ℕ) (progress : Progress) (expected : Expected) (answer : SideOutput) (Is : Type 0) → progress ≢ Authenticated
@@ -65,7 +65,7 @@ fault_is_no_ok fault (other, same, fits) = cc
 challenge_kind : (body : List ℕ) (turn : FrameKind) (answer : SideOutput) → of_server.ServerOutputs (Challenged body) turn answer
     → Kind (IsOkSent (Challenged body)) answer
 challenge_kind body turns.Init answer sends =
-    sends_kind body InProgress (Frame turns.Response) answer _ wanting_is_not_logged_in (challenge_is_no_ok body) sends
+    sends_kind body InProgress (Frame turns.Response) answer _ in_progress_is_not_authenticated (challenge_is_no_ok body) sends
 challenge_kind body turns.Mechanisms answer is = closes_kind UnexpectedFrame _ answer _ (challenge_is_no_ok body) is
 challenge_kind body turns.Challenge answer is = closes_kind UnexpectedFrame _ answer _ (challenge_is_no_ok body) is
 challenge_kind body turns.Response answer is = closes_kind UnexpectedFrame _ answer _ (challenge_is_no_ok body) is
@@ -116,7 +116,7 @@ refused_is_no_ok fault (more, same) = cc
 started_kind : (body : List ℕ) (turn : FrameKind) (answer : SideOutput) → of_client.ClientOutputs (Started body) turn answer
     → Kind (IsOkReported (Started body)) answer
 started_kind body turns.Mechanisms answer sends =
-    sends_kind body InProgress (Frame turns.Challenge) answer _ wanting_is_not_logged_in (started_is_no_ok body) sends
+    sends_kind body InProgress (Frame turns.Challenge) answer _ in_progress_is_not_authenticated (started_is_no_ok body) sends
 started_kind body turns.Init answer is = closes_kind UnexpectedFrame _ answer _ (started_is_no_ok body) is
 started_kind body turns.Challenge answer is = closes_kind UnexpectedFrame _ answer _ (started_is_no_ok body) is
 started_kind body turns.Response answer is = closes_kind UnexpectedFrame _ answer _ (started_is_no_ok body) is
@@ -125,7 +125,7 @@ started_kind body turns.Outcome answer is = closes_kind UnexpectedFrame _ answer
 answered_kind : (body : List ℕ) (turn : FrameKind) (answer : SideOutput) → of_client.ClientOutputs (Answered body) turn answer
     → Kind (IsOkReported (Answered body)) answer
 answered_kind body turns.Challenge answer sends =
-    sends_kind body InProgress (Frame turns.Outcome) answer _ wanting_is_not_logged_in (answered_is_no_ok body) sends
+    sends_kind body InProgress (Frame turns.Outcome) answer _ in_progress_is_not_authenticated (answered_is_no_ok body) sends
 answered_kind body turns.Mechanisms answer is = closes_kind UnexpectedFrame _ answer _ (answered_is_no_ok body) is
 answered_kind body turns.Init answer is = closes_kind UnexpectedFrame _ answer _ (answered_is_no_ok body) is
 answered_kind body turns.Response answer is = closes_kind UnexpectedFrame _ answer _ (answered_is_no_ok body) is
@@ -161,7 +161,7 @@ module _ {S A : Type 0} (Steps : S → Given → A → S → Type 0) (Says : A �
       → (answer.progress ≡ Authenticated) ↔ LastReply Is replies
   by_last [] replies answer replied = absurd replied
   by_last (turn ∷ turns) [] answer replied = (
-    (λ logged. wanting_is_not_logged_in (sym (ap (λ (a : SideOutput). a.progress) replied) ∙ logged)),
+    (λ logged. in_progress_is_not_authenticated (sym (ap (λ (a : SideOutput). a.progress) replied) ∙ logged)),
     (λ none. absurd none),
   )
   by_last (turn ∷ turns) (says ∷ []) answer said = go (kind says turn answer said)
@@ -183,7 +183,7 @@ module _ {S A : Type 0} (Steps : S → Given → A → S → Type 0) (Says : A �
       both = by_last turns n.replies n.answer n.replied
 
       out : (turn : FrameKind) → LeftOver turn limit n.tail last.progress → last.progress ≢ Authenticated
-      out turn (inl part) logged = wanting_is_not_logged_in (sym part.1 ∙ logged)
+      out turn (inl part) logged = in_progress_is_not_authenticated (sym part.1 ∙ logged)
       out turn (inr (inl size)) logged = closed_is_not_logged_in FrameSize (sym size.2 ∙ logged)
       out turn (inr (inr frame)) logged = closed_is_not_logged_in frame.2 (sym frame.7 ∙ logged)
 
@@ -193,7 +193,7 @@ module _ {S A : Type 0} (Steps : S → Given → A → S → Type 0) (Says : A �
           → (last.progress ≡ Authenticated) ↔ LastReply Is n.replies
       go (inl waiting) = (
         (λ logged. absurd (out waiting.0 waiting.3 logged)),
-        (λ ok. absurd (wanting_is_not_logged_in (sym waiting.1 ∙ both.1 ok))),
+        (λ ok. absurd (in_progress_is_not_authenticated (sym waiting.1 ∙ both.1 ok))),
       )
       go (inr ended) = ((λ logged. both.0 (sym ended.1 ∙ logged)), (λ ok. ended.1 ∙ both.1 ok))
 

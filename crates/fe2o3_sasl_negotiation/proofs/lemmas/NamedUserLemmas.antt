@@ -22,7 +22,7 @@ use Rattle.fe2o3_sasl_negotiation.specs.Connections.{Piece, SpellsTurn, AreFrame
 use Rattle.fe2o3_sasl_negotiation.specs.NamedUsers.{PartSteps, AnyMechanismLogsIn, AnyMechanismServersLogIn, AnyMechanismStepsLogIn}
 use Rattle.fe2o3_sasl_negotiation.specs.Negotiations.{SideOutput}
 use Rattle.fe2o3_sasl_negotiation.specs.ServerNegotiation.{ServerOutputs}
-use Rattle.fe2o3_sasl_negotiation.proofs.lemmas.ConnectionLemmas.{closed_is_not_wanting}
+use Rattle.fe2o3_sasl_negotiation.proofs.lemmas.ConnectionLemmas.{failed_is_not_in_progress}
 use Rattle.fe2o3_sasl_negotiation.proofs.lemmas.KindLemmas.{closes_waits_not, sends_ends}
 use Rattle.fe2o3_sasl_negotiation.proofs.lemmas.LoginLemmas.{servers_log_in}
 
@@ -61,7 +61,7 @@ goes_on_is_no_refusal : (says : ServerSays) (answer : SideOutput) → ServerOutp
     → answer.progress ≡ InProgress → ¬ IsRefusal says
 goes_on_is_no_refusal (Challenged body) answer said waits refused = refused
 goes_on_is_no_refusal (Concluded outcomes.Auth body) answer sends waits refused =
-    sends_ends body _ (Frame turns.Init) answer (closed_is_not_wanting (Refused outcomes.Auth)) sends waits
+    sends_ends body _ (Frame turns.Init) answer (failed_is_not_in_progress (Refused outcomes.Auth)) sends waits
 goes_on_is_no_refusal (Concluded outcomes.Ok body) answer said waits refused = refused
 goes_on_is_no_refusal (Concluded outcomes.Sys body) answer said waits refused = refused
 goes_on_is_no_refusal (Concluded outcomes.SysPerm body) answer said waits refused = refused

@@ -19,7 +19,7 @@ use Rattle.fe2o3_sasl_negotiation.specs.Framing.{sasl_header, framed}
 use Rattle.fe2o3_sasl_negotiation.specs.Negotiations.{Side, SideOutput, Receives, ReceivesAt}
 use Rattle.fe2o3_sasl_negotiation.specs.ServerNegotiation.{offer_body, Offers, ServerOpens, ServerOutputs, ServerSideAnswers, ServerReceives}
 use Rattle.fe2o3_sasl_negotiation.specs.private.Pieces.{NextNonces}
-use Rattle.fe2o3_sasl_negotiation.proofs.lemmas.ConnectionLemmas.{closed_is_not_wanting, logged_in_is_not_wanting, opened, negotiated_call, negotiated_more, rests_there, connected}
+use Rattle.fe2o3_sasl_negotiation.proofs.lemmas.ConnectionLemmas.{failed_is_not_in_progress, authenticated_is_not_in_progress, opened, negotiated_call, negotiated_more, rests_there, connected}
 use Rattle.fe2o3_sasl_negotiation.proofs.lemmas.KindLemmas.{progress_of, closes_waits_not, sends_goes_on, sends_ends}
 
 -- a challenge leaves a server waiting for a response, and no other reply leaves it waiting
@@ -27,15 +27,15 @@ says_next : (says : ServerSays) (answer : SideOutput) → ServerOutputs says tur
     → answer.expected ≡ Frame turns.Response
 says_next (Challenged body) answer sends waits = sends_goes_on body turns.Response answer sends waits
 says_next (Concluded outcomes.Ok body) answer sends waits =
-    absurd (sends_ends body Authenticated (Frame turns.Init) answer logged_in_is_not_wanting sends waits)
+    absurd (sends_ends body Authenticated (Frame turns.Init) answer authenticated_is_not_in_progress sends waits)
 says_next (Concluded outcomes.Auth body) answer sends waits =
-    absurd (sends_ends body _ (Frame turns.Init) answer (closed_is_not_wanting (Refused outcomes.Auth)) sends waits)
+    absurd (sends_ends body _ (Frame turns.Init) answer (failed_is_not_in_progress (Refused outcomes.Auth)) sends waits)
 says_next (Concluded outcomes.Sys body) answer sends waits =
-    absurd (sends_ends body _ (Frame turns.Init) answer (closed_is_not_wanting (Refused outcomes.Sys)) sends waits)
+    absurd (sends_ends body _ (Frame turns.Init) answer (failed_is_not_in_progress (Refused outcomes.Sys)) sends waits)
 says_next (Concluded outcomes.SysPerm body) answer sends waits =
-    absurd (sends_ends body _ (Frame turns.Init) answer (closed_is_not_wanting (Refused outcomes.SysPerm)) sends waits)
+    absurd (sends_ends body _ (Frame turns.Init) answer (failed_is_not_in_progress (Refused outcomes.SysPerm)) sends waits)
 says_next (Concluded outcomes.SysTemp body) answer sends waits =
-    absurd (sends_ends body _ (Frame turns.Init) answer (closed_is_not_wanting (Refused outcomes.SysTemp)) sends waits)
+    absurd (sends_ends body _ (Frame turns.Init) answer (failed_is_not_in_progress (Refused outcomes.SysTemp)) sends waits)
 says_next (Failed faults.OutOfMemory) answer never waits = absurd never
 says_next (Failed faults.DecodeError) answer is waits = absurd (closes_waits_not _ _ answer is waits)
 says_next (Failed faults.NotImplemented) answer is waits = absurd (closes_waits_not _ _ answer is waits)
@@ -44,15 +44,15 @@ says_next (Failed faults.TooLarge) answer is waits = absurd (closes_waits_not _ 
 says_last : (says : ServerSays) (answer : SideOutput) → ServerOutputs says turns.Response answer → answer.progress ≢ InProgress
 says_last (Challenged body) answer is waits = closes_waits_not _ _ answer is waits
 says_last (Concluded outcomes.Ok body) answer sends waits =
-    sends_ends body Authenticated (Frame turns.Response) answer logged_in_is_not_wanting sends waits
+    sends_ends body Authenticated (Frame turns.Response) answer authenticated_is_not_in_progress sends waits
 says_last (Concluded outcomes.Auth body) answer sends waits =
-    sends_ends body _ (Frame turns.Response) answer (closed_is_not_wanting (Refused outcomes.Auth)) sends waits
+    sends_ends body _ (Frame turns.Response) answer (failed_is_not_in_progress (Refused outcomes.Auth)) sends waits
 says_last (Concluded outcomes.Sys body) answer sends waits =
-    sends_ends body _ (Frame turns.Response) answer (closed_is_not_wanting (Refused outcomes.Sys)) sends waits
+    sends_ends body _ (Frame turns.Response) answer (failed_is_not_in_progress (Refused outcomes.Sys)) sends waits
 says_last (Concluded outcomes.SysPerm body) answer sends waits =
-    sends_ends body _ (Frame turns.Response) answer (closed_is_not_wanting (Refused outcomes.SysPerm)) sends waits
+    sends_ends body _ (Frame turns.Response) answer (failed_is_not_in_progress (Refused outcomes.SysPerm)) sends waits
 says_last (Concluded outcomes.SysTemp body) answer sends waits =
-    sends_ends body _ (Frame turns.Response) answer (closed_is_not_wanting (Refused outcomes.SysTemp)) sends waits
+    sends_ends body _ (Frame turns.Response) answer (failed_is_not_in_progress (Refused outcomes.SysTemp)) sends waits
 says_last (Failed faults.OutOfMemory) answer never waits = never
 says_last (Failed faults.DecodeError) answer is waits = closes_waits_not _ _ answer is waits
 says_last (Failed faults.NotImplemented) answer is waits = closes_waits_not _ _ answer is waits
@@ -183,9 +183,9 @@ module _ {S : Type 0} (names : S → List (List ℕ)) (machine : S → List ℕ 
       (header_call taken bytes nonce first k next few
       (subst (λ (s : Side S). ReceivesAt InProgress (ServerSideAnswers names machine) s bytes nonce k first next) same receives))
   call_at InProgress taken sent side next bytes nonce first k at (inr (inl other)) are_bytes nonces receives =
-      absurd (closed_is_not_wanting ProtocolHeaderMismatch (sym other.0.2 ∙ at))
+      absurd (failed_is_not_in_progress ProtocolHeaderMismatch (sym other.0.2 ∙ at))
   call_at InProgress taken sent side next bytes nonce first k at (inr (inr (inl none))) are_bytes nonces receives =
-      absurd (closed_is_not_wanting ReplyTooLarge (sym none.3 ∙ at))
+      absurd (failed_is_not_in_progress ReplyTooLarge (sym none.3 ∙ at))
   call_at InProgress taken sent side next bytes nonce first k at
       (inr (inr (inr (offer, out, is, fits, all, negotiated)))) are_bytes nonces receives =
       inr (inr (inr (

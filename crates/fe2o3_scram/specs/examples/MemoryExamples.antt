@@ -1,4 +1,4 @@
--- Worked examples of the words of memory: texts to which want of memory is no answer, since each is refused before a
+-- Worked examples of the words of memory: texts to which running out of memory is no answer, since each is refused before a
 -- call comes to ask for any. The law is `laws::texts_without_memory`.
 use Rattle.std.specs.Prelude.{ℕ, List, [], ◌∷◌, ◌++◌, Bool, Option, codes}
 use Rattle.fe2o3_scram.specs.declared.hmac.ScramVersion.{ScramVersion}

@@ -6,7 +6,7 @@ pub(crate) const GS2_HEADER: &str = "n,,";
 /// The GS2 header in base64, as the channel binding data of that client spell it.
 pub(crate) const GS2_HEADER_BASE64: &str = "biws";
 
-/// The GS2 header of a client that could bind a channel, believes that the server cannot, and acts for
+/// The GS2 header of a client that could bind a channel, assumes that the server cannot, and acts for
 /// itself.
 pub(crate) const UNOFFERED_GS2_HEADER: &str = "y,,";
 

@@ -15,7 +15,7 @@ pub enum ChannelBindingFlag {
     /// `n,,`: the client does not support channel binding.
     NotSupported,
 
-    /// `y,,`: the client supports it, and believes that the server does not, which offered no mechanism
+    /// `y,,`: the client supports it, and assumes that the server does not, which offered no mechanism
     /// with `-PLUS`.
     ClientSupports,
 }

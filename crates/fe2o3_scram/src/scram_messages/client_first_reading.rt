@@ -47,7 +47,7 @@ impl<'a> ClientFirst<'a> {
     }
 
     /// Like `parse`, but with `accept_cbind_flag_y` the GS2 header may be `y,,` too: that of a client which
-    /// supports channel binding and believes that the server does not (RFC 5802, section 6).
+    /// supports channel binding and assumes that the server does not (RFC 5802, section 6).
     pub fn parse_with_cbind_flag_y(
         alloc: Global,
         text: &'a [u8],

@@ -118,7 +118,7 @@ module _ (user : List ℕ) (limits : IterationLimits) (keys : ClientKeys) (passw
   machine_alike state hostname nonce (frames.Outcome code more) reply moved fit is = (state, is.1, (is.0, refl))
   machine_alike state hostname nonce frame reply moved fit is = (state, is.1, (is.0, refl))
 
-  -- where memory may be wanting is the same
+  -- where memory may run out is the same
   allocates_alike : (state : ClientState) (frame : SaslFrame) → StepAllocates (keyed state) frame
       → StepAllocates (twin state) frame
   allocates_alike state (frames.Mechanisms names) has = has

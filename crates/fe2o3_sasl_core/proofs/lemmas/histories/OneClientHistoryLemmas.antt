@@ -1,4 +1,4 @@
--- What is due and what is open have one value, and two client histories without want of memory are one.
+-- What is due and what is open have one value, and two client histories without running out of memory are one.
 use Rattle.std.proofs.Common.{◌≡◌, ℕ, zero, suc, ◌<◌, ◌≤◌, Option, Some, None, List, length, refl, sym, ap, ◌∙◌, subst, arith, ⊎_elim, inl, inr, Result, Ok, Err}
 use Rattle.std.specs.Prelude.{slice_get}
 use Rattle.std.proofs.lemmas.Option.{same_Some}
@@ -260,7 +260,7 @@ open_answer_agrees login events replies others k e =
 
 -- ---- uniqueness
 
--- in a history without want of memory each reply is the table's
+-- in a history without running out of memory each reply is the table's
 said_at : (login : Login) (events : List Given) (replies : List ClientSays) → ClientHistory login events replies
     → ClientComplete replies → (k : ℕ) → k < length events →
     (event : Given) × (says : ClientSays) × (spelled : Result SaslFrame Error) × (slice_get events k ≡ Some event)
@@ -315,7 +315,7 @@ same_below login events replies others h g full too (suc k) l j b =
     ⊎_elim (λ (x : j < k). ih j x) (λ (x : j ≡ k). subst (λ (z : ℕ). slice_get replies z ≡ slice_get others z) (sym x)
     (same_next login events replies others h g full too k (omega arith) ih)) (below_or_at j k b)
 
--- a client history without want of memory is a function of the events
+-- a client history without running out of memory is a function of the events
 pub one_client_history : OneClientHistory
 one_client_history login events replies others h g full too =
     same_list replies others (h.count ∙ sym g.count) (λ k l. same_below login events replies others h g full too

@@ -129,7 +129,7 @@ one_accepted provider events replies n accepted other h k =
 
 -- ---- one history
 
--- what the table says of a reply that is not want of memory
+-- what the table says of a reply that is not running out of memory
 pub answered_at : (provider : Provider) (events : List Given) (replies : List ServerSays)
     → ServerHistory provider events replies → ServerComplete replies → (k : ℕ) → k < length events
     → (event : Given) × (says : ServerSays) × (spelled : Result SaslFrame Error) × (slice_get events k ≡ Some event)

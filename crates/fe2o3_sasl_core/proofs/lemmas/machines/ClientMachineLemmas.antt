@@ -65,7 +65,7 @@ StandsFor login (ClientFinalSent signature keys) due waits =
     (due ≡ None) × ((answer : Answering) × (waits ≡ Some answer) × (signature ≡ (answer_at login answer).signature))
 StandsFor login (Complete keys) due waits = (due ≡ None) × (waits ≡ None)
 
--- what the client's table says where these are due and open, or want of memory
+-- what the client's table says where these are due and open, or running out of memory
 abbrev pub SaysRow : Login → Option (List ℕ) → Option Answering → Given → Result SaslFrame Error → ClientSays → Type 0
 SaysRow login due waits event spelled says = (ClientAllocates login spelled × (says ≡ Refused OutOfMemory))
     ⊎ ClientAnswers login (λ nonce. due ≡ Some nonce) (λ answer. waits ≡ Some answer) event spelled says
@@ -159,7 +159,7 @@ refuses_due login (Complete keys) due waits text kind after stands utf8 h =
 refuses_due login (ClientFirstSent nonce bare) due waits text kind after stands utf8 h =
     (inr (inr (utf8, (nonce, stands.0, h.0))), h.1)
 
--- a server-final message that is believed has an open answer, and then nothing is due
+-- a server-final message that is verified has an open answer, and then nothing is due
 verifies_open : (login : Login) (state : ClientState) (due : Option (List ℕ)) (waits : Option Answering) (text : List ℕ)
     (verified : Unit {0}) (after : ClientSide) → StandsFor login state due waits
     → VerifiesIn state (side_in login state) text (Ok verified) after →
@@ -248,7 +248,7 @@ replied profile moved then reply other says next e n h =
     subst (λ (x : Profile). Replies profile x other says next) n
     (subst (λ (x : Result SaslFrame ProfileError). Replies profile moved x says next) e h)
 
--- the step where memory is not wanting
+-- the step where memory does not run out
 machine_step : (login : Login) (state : ClientState) (due : Option (List ℕ)) (waits : Option Answering) (event : Given)
     (frame : SaslFrame) (reply : Result SaslFrame ProfileError) (moved : Profile) (says : ClientSays) (next : Profile)
     → StandsFor login state due waits →

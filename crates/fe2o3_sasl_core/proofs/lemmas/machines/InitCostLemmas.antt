@@ -51,7 +51,7 @@ module _ (provider : Provider) (state : ServerState) (mechanism text : List ℕ)
       λ n takes. let is = answer_takes answer before after n from costs takes in omega (is, arith),
     )
 
-    -- a refusal, and want of memory
+    -- a refusal, and running out of memory
     rises : (A : Type 0) (kind : ServerScramErrorKind) (before after : ℕ)
         → FirstCosts {A = A} provider text (Err kind) before after → before ≤ after
     rises A OutOfMemory before after costs = costs.0
@@ -76,7 +76,7 @@ module _ (provider : Provider) (state : ServerState) (mechanism text : List ℕ)
     refusal_most A kind before after costs =
         (rises A kind before after costs, λ n takes. refused_most A kind before after n costs takes)
 
-    -- and exactly, where memory is not wanting
+    -- and exactly, where memory does not run out
     unread : (kind : ServerScramErrorKind) (n : ℕ) → ReadsClientFirst provider.cbind_flag_y text (Err kind) → Takes n
         → n ≡ 0
     unread kind n refuses (inl takes) =

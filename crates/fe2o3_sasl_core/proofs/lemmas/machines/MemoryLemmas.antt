@@ -1,4 +1,4 @@
--- Where memory may be wanting.
+-- Where memory may run out.
 use Rattle.std.proofs.Common.{◌≡◌, ◌≢◌, ◌⊎◌, ℕ, Option, Some, None, Bool, true, false, cond, List, refl, sym, ◌∙◌, subst, arith, inl, inr, Result, Ok, Err}
 use Rattle.std.proofs.lemmas.Option.{slice_get_within}
 use Rattle.fe2o3_sasl_wire.specs.declared.amqp_types.SaslCode.{SaslCode}
@@ -23,7 +23,7 @@ use Rattle.fe2o3_sasl_core.specs.declared.sasl_profile.error.ProfileError.TheVar
 
 -- ---- a server
 
--- the fault of a body is not want of memory
+-- the fault of a body is not running out of memory
 pub no_want : (body : List ℕ) → fault_of body ≢ faults.OutOfMemory
 unfolding fault_of
 no_want body = go _ _
@@ -67,7 +67,7 @@ servers_want_memory provider events replies k history is =
 
 -- ---- a SCRAM client
 
--- a refusal of SCRAM is not want of memory
+-- a refusal of SCRAM is not running out of memory
 pub scram_tells : (kind : ScramErrorKind) → scram_fault kind ≢ OutOfMemory
 scram_tells kinds.StaleKeys is = cc
 scram_tells kind is = cc
@@ -75,7 +75,7 @@ scram_tells kind is = cc
 same_refusal : (fault other : ProfileError) → Refused fault ≡ Refused other → fault ≡ other
 same_refusal fault other is = cc
 
--- want of memory is no other reply
+-- running out of memory is no other reply
 not_reported : (code : SaslCode) (more : Option (List ℕ)) → Refused OutOfMemory ≢ Reported code more
 not_reported code more is = absurd (cc)
 
@@ -116,7 +116,7 @@ clients_want_memory login events replies k history is =
 
 -- ---- any profile
 
--- neither a refusal of another kind nor an outcome is want of memory
+-- neither a refusal of another kind nor an outcome is running out of memory
 refused_otherwise : (profile moved next : Profile) (reply : Result SaslFrame ProfileError) (fault : ProfileError)
     → reply ≡ Err fault → Refused OutOfMemory ≢ Refused fault → ¬ Replies profile moved reply (Refused OutOfMemory) next
 refused_otherwise profile moved next reply fault is apart said = apart (subst

@@ -1,5 +1,5 @@
 -- What the answer of a SCRAM acceptor to a response costs.
-use Rattle.std.proofs.Common.{◌≡◌, ◌≢◌, ℕ, ◌+◌, ◌≤◌, Option, Some, None, List, refl, sym, ap, subst, inl, inr, Result, Ok, Err, arith}
+use Rattle.std.proofs.Common.{◌≡◌, ◌≢◌, ℕ, ◌+◌, ◌≤◌, Option, List, refl, sym, ap, subst, Result, Ok, Err, arith}
 use Rattle.std.specs.Prelude.{IfOk, OnOk}
 use Rattle.fe2o3_sasl_wire.specs.SaslFrames as frames
 use Rattle.fe2o3_scram.specs.declared.scram_messages.error.ServerScramErrorKind.{ServerScramErrorKind}
@@ -79,7 +79,7 @@ response_costs Allocates view provider server_states.Initial next text result be
 response_costs Allocates view provider (server_states.ServerFinalSent user) next text result before after gives costs =
     (omega (arith, costs), λ n takes. omega (arith, costs))
 
--- ---- where memory is not wanting
+-- ---- where memory does not run out
 
 -- as many as an answer against the record of the open challenge takes
 exactly_against : {V : Type 0} (Allocates : Type 0) (view : V → Option (List ℕ)) (challenge : ServerChallenge)

@@ -21,7 +21,7 @@ use Rattle.fe2o3_sasl_core.specs.Runs.{AcceptorGives, AcceptorSteps, SendsCanoni
 use Rattle.fe2o3_sasl_core.specs.SaslAcceptor.{acceptor_machine, acceptor_user, Acceptor, ScramAcceptor, ends_with, server_frame}
 use Rattle.fe2o3_scram.specs.ClientFinal.{ReadsClientFinal}
 use Rattle.fe2o3_sasl_core.specs.Bodies.{SpellsBody, carried, server_says, says_frame}
-use Rattle.fe2o3_sasl_core.specs.ServerHistory.{Challenging, Accepted, FitsAsInit, FitsAsResponse, FitsAt, AcceptsUser, Open, ServerAnswers, ServerAllocates, ServerHistory, is_challenge, is_ok, first_message, full_nonce, final_message, server_at}
+use Rattle.fe2o3_sasl_core.specs.ServerHistory.{Challenging, Accepted, FitsAsInit, FitsAsResponse, FitsAt, AcceptsUser, Open, ServerAnswers, ServerAllocates, ServerHistory, is_challenge, is_ok, first_message, final_message, server_at}
 use Rattle.fe2o3_scram.specs.ScramServer.{ServerState, Initial, ServerFirstSent, ServerFinalSent, logged_in, ChallengesFrom, ConcludesFrom}
 use Rattle.fe2o3_scram.proofs.lemmas.messages.ClientFinalLemmas.{one_client_final}
 use Rattle.fe2o3_scram.proofs.lemmas.messages.ClientFirstLemmas.{one_client_first}

@@ -1,4 +1,4 @@
--- Each list of events whose bodies are bytes has a run of either machine in which memory is not wanting, and so a
+-- Each list of events whose bodies are bytes has a run of either machine in which memory does not run out, and so a
 -- history.
 use Rattle.std.proofs.Common.{◌≡◌, ◌≢◌, ℕ, zero, suc, ◌<◌, Option, Some, None, List, [], ◌∷◌, length, refl, sym, ◌∙◌, arith, inl, inr, Result, Ok, Err}
 use Rattle.std.specs.List.{Contains}
@@ -249,7 +249,7 @@ some_verification (client_states.ClientFinalSent signature keys) side text =
     go (Ok verified) reads = (Ok verified, with_state side (client_states.Complete keys), (reads, refl))
     go (Err kind) reads = (Err kind, side, (reads, refl))
 
--- it is not a refusal for want of memory
+-- it is not a refusal for running out of memory
 abbrev pub Told : Result SaslFrame ProfileError → Type 0
 Told (Ok frame) = Unit {0}
 Told (Err fault) = fault ≢ OutOfMemory

@@ -15,9 +15,9 @@ use Rattle.fe2o3_scram.proofs.lemmas.providers.MockLemmas.{mock_alike}
 use Rattle.fe2o3_sasl_core.specs.AnyMechanism.{any_mechanism_machine}
 use Rattle.fe2o3_sasl_core.specs.AnyMechanismLaws.{Machine}
 use Rattle.fe2o3_sasl_core.specs.Costs.{acceptor_hmacs}
-use Rattle.fe2o3_sasl_core.specs.Events.{Given, ServerSays}
+use Rattle.fe2o3_sasl_core.specs.Events.{Given}
 use Rattle.fe2o3_sasl_core.specs.SaslAcceptor.{Acceptor, ScramAcceptor, acceptor_machine, acceptor_names}
-use Rattle.fe2o3_sasl_core.specs.ServerHistory.{Accepted, AcceptsAt, Challenging, FitsAsInit, FitsAsResponse, server_at}
+use Rattle.fe2o3_sasl_core.specs.ServerHistory.{Accepted, Challenging, FitsAsInit, FitsAsResponse, server_at}
 use Rattle.fe2o3_sasl_core.specs.UnknownUsers.{GivesAlike, GivesReplies, SaltTextsDiffer, UnknownCostsAsMock, UnknownIsMock, UnknownIsMockInBoth, MockRecordIsMet, mock_server, with_mock, without_user}
 
 -- both servers are one: each name has one record at both

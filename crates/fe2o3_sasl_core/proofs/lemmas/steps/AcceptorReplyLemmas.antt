@@ -29,7 +29,7 @@ pub init_answered : (provider other : Provider) (state next : ServerState) (nonc
 init_answered provider other state next nonce mechanism text hostname answer reply same name from is =
     inr (name, (answer, next, from, is, moved provider other next same))
 
--- what is replied to one that is refused, where memory is not wanting
+-- what is replied to one that is refused, where memory does not run out
 pub init_refused : {X V E Allocates : Type 0} (sent : X → SaslFrame) (view : V → Option (List ℕ))
     (provider other : Provider) (state next : ServerState) (nonce mechanism text : List ℕ) (hostname : Option (List ℕ))
     (kind : ServerScramErrorKind) (result : Result X E)
@@ -63,7 +63,7 @@ pub response_answered : (provider other : Provider) (state next : ServerState) (
 response_answered provider other state next nonce text answer reply same from is =
     (answer, next, from, is, moved provider other next same)
 
--- what is replied to one that is refused, where memory is not wanting
+-- what is replied to one that is refused, where memory does not run out
 pub response_refused : {X V E Allocates : Type 0} (sent : X → SaslFrame) (view : V → Option (List ℕ))
     (provider other : Provider) (state next : ServerState) (text : List ℕ) (kind : ServerScramErrorKind)
     (result : Result X E)

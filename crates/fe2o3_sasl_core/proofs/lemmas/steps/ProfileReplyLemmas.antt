@@ -21,7 +21,7 @@ use Rattle.fe2o3_sasl_core.specs.private.Writing.{RefusesAlways}
 use Rattle.fe2o3_sasl_core.specs.declared.sasl_profile.error.ProfileError.{ProfileError}
 use Rattle.fe2o3_sasl_core.specs.declared.sasl_profile.error.ProfileError.TheVariants.{NotImplemented, Scram, StaleKeys, Frame, OutOfMemory}
 
--- a challenge that the client refuses: its fault is that of the machine, or want of memory
+-- a challenge that the client refuses: its fault is that of the machine, or running out of memory
 pub challenge_refused : {V : Type 0} (view : V → List ℕ) (client next : ClientSide)
     (hostname : Option (List ℕ)) (nonce text : List ℕ) (kind : ScramErrorKind) → IsUtf8 text → next ≡ client
     → Gives kinds.OutOfMemory (ReachesSaltIn client.state text) view (Err kind)

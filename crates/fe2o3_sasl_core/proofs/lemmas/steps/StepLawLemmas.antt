@@ -198,7 +198,7 @@ other_code profile moved next reply code shown more is apart said =
     let same = (subst (λ (r : Result SaslFrame ProfileError). Reports profile moved r more next) is said).0 in
     apart (cc)
 
--- a verifier that is believed
+-- a verifier that is verified
 verified_is_signed : (client after : ClientSide) (event : Given) (text : List ℕ)
     (answer : Result (Unit {0}) ScramErrorKind) (reply : Result SaslFrame ProfileError) (moved next : Profile)
     (more : Option (List ℕ)) → VerifiesIn client.state client text answer after

@@ -55,7 +55,7 @@ accepted_row provider events replies n accepted says history accepts at =
     (subst (λ (s : Result SaslFrame Error). ServerAnswers provider
     (Open provider events replies n) accepts.0 s says) spelled told)) row.2
 
--- a response that is accepted is answered with its Ok, but for want of memory
+-- a response that is accepted is answered with its Ok, but for running out of memory
 wherever_accepted : (provider : Provider) (events : List Given) (replies : List ServerSays) (n : ℕ)
     (accepted : Accepted) (says : ServerSays)
     → ServerHistory provider events replies → AcceptsAt provider events replies n accepted

@@ -1,4 +1,4 @@
--- What is replied to a body that spells a frame, where memory is not wanting and nothing is too large.
+-- What is replied to a body that spells a frame, where memory does not run out and nothing is too large.
 use Rattle.std.proofs.Common.{◌≡◌, ◌≢◌, ◌⊎◌, ℕ, List, [], ◌∷◌, Option, Some, None, Bool, refl, sym, ap, ◌∙◌, subst, arith, Result, Ok, Err, inl, inr}
 use Rattle.std.specs.Prelude.{slice_get}
 use Rattle.std.proofs.lemmas.Option.{slice_get_within}
@@ -297,7 +297,7 @@ server_accepts provider events replies k event text accepted body history at spe
 
 -- ---- the client reports
 
--- a verifier that is believed is not refused
+-- a verifier that is verified is not refused
 not_refused : (signature text : List ℕ) (kind : ScramErrorKind) → ReadsServerFinal signature text (Ok tt)
     → ReadsServerFinal signature text (Err kind) → ⊥
 not_refused signature text kind reads refuses = differ

@@ -1,4 +1,4 @@
--- Texts to which want of memory is no answer.
+-- Texts to which running out of memory is no answer.
 use Rattle.std.proofs.Common.{◌≡◌, Bool, ◌≢◌, ◌⊎◌, ℕ, List, [], ◌∷◌, ◌++◌, length, get_or, refl, ◌∙◌, ap, subst, arith, codes, inl, inr}
 use Rattle.std.proofs.lemmas.List.{append_cancel_left}
 use Rattle.fe2o3_scram.specs.declared.hmac.ScramVersion.{ScramVersion}

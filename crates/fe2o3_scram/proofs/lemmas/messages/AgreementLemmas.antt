@@ -397,7 +397,7 @@ agree side provider own text its init response client server holds version same 
       count = values.count;
     }
 
--- what a client believed shows the signature of its answer
+-- what a client verified shows the signature of its answer
 shown : (side waiting done : ClientSide) (answer own : Answer) (last : List ℕ) → answer ≡ own
     → waiting ≡ with_state side (ClientFinalSent answer.signature (Some answer.keys))
     → VerifiesIn waiting.state waiting last (Ok tt) done → HasBase64 last 0 (codes "v=") own.signature

@@ -155,7 +155,7 @@ pub invalid_name : (error : UnescapeError) (P Q : Type 0) → error ≡ Invalid
 invalid_name error P Q is (inl found) = found.1
 invalid_name error P Q is (inr other) = let wrong : Invalid ≡ UnescapeOutOfMemory = sym is ∙ other.0 in absurd (cc)
 
--- a text for which memory was wanting
+-- a text for which memory ran out
 pub escaped_name : (error : UnescapeError) (P Q : Type 0) → error ≡ UnescapeOutOfMemory
     → ((error ≡ Invalid) × P) ⊎ ((error ≡ UnescapeOutOfMemory) × Q) → Q
 escaped_name error P Q is (inl other) = let wrong : UnescapeOutOfMemory ≡ Invalid = sym is ∙ other.0 in absurd (cc)

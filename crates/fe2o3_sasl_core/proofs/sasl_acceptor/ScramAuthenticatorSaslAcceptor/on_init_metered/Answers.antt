@@ -7,7 +7,7 @@ use Rattle.fe2o3_scram.specs.MockSettings.{mocking}
 use Rattle.fe2o3_scram.specs.ScramServer.{FirstCosts, served_by, state_in}
 use Rattle.fe2o3_scram.specs.ServerFirst.{ReachesChallenge}
 use Rattle.fe2o3_sasl_core.specs.SaslAcceptor.{ends_with, sent_frame}
-use Rattle.fe2o3_sasl_core.proofs.lemmas.machines.InitCostLemmas.{answer_most, answer_takes, other_takes, refusal_most, refusal_takes}
+use Rattle.fe2o3_sasl_core.proofs.lemmas.machines.InitCostLemmas.{answer_most, answer_takes, refusal_most, refusal_takes}
 use Rattle.fe2o3_sasl_core.proofs.lemmas.steps.AcceptorReplyLemmas.{init_answered, init_refused, init_wants}
 use Rattle.fe2o3_sasl_core.proofs.sasl_acceptor.ScramAuthenticatorSaslAcceptor.on_init_metered.Goals as goal
 
