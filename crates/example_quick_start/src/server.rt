@@ -7,8 +7,8 @@ ghost use Rattle.fe2o3_sasl_core.specs.StepLaws.{BodyLogsIn};
 
 use anyhow::Result;
 use fe2o3_sasl_negotiation::{
-    DEFAULT_SCRAM_ITERATIONS, Event, MultiRecordStore, PasswordServer, PasswordServerBuilder, SaslCode,
-    ScramAuthenticator, ScramVersion, ServerReply, SingleScramCredential, acceptor_step,
+    DEFAULT_SCRAM_ITERATIONS, Event, MultiRecordStore, PasswordServer, PasswordServerBuilder,
+    SaslCode, ScramAuthenticator, ScramVersion, ServerReply, SingleScramCredential, acceptor_step,
 };
 use std::alloc::Global;
 
