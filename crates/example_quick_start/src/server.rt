@@ -1,4 +1,4 @@
-//! Servers of one user and of many, which do not tell which users they know, and a server over frame bodies.
+//! A server over frame bodies, which does not tell which users it knows.
 
 ghost use Rattle.std.specs.Prelude.{◌≡◌, ℕ, List, Some, IfOk};
 ghost use Rattle.fe2o3_sasl_wire.specs.declared.amqp_types.SaslCode.TheVariants.{Ok as OkCode};
@@ -7,8 +7,8 @@ ghost use Rattle.fe2o3_sasl_core.specs.StepLaws.{BodyLogsIn};
 
 use anyhow::Result;
 use fe2o3_sasl_negotiation::{
-    DEFAULT_SCRAM_ITERATIONS, Event, MultiRecordStore, PasswordServer, PasswordServerBuilder,
-    SaslCode, ScramAuthenticator, ScramVersion, ServerReply, SingleScramCredential, acceptor_step,
+    DEFAULT_SCRAM_ITERATIONS, Event, SaslCode, ScramAuthenticator, ScramVersion, ServerReply,
+    SingleScramCredential, acceptor_step,
 };
 use std::alloc::Global;
 
@@ -28,21 +28,6 @@ pub fn new_server(alloc: Global, salt: [u8; 32], secret: [u8; 32]) -> Result<Ser
     let secret = secret.to_vec(alloc)?;
     let server = ScramAuthenticator::new(new_user(alloc, salt)?);
     Ok(server.mock_unknown_users(secret, salt.len(), DEFAULT_SCRAM_ITERATIONS)?)
-}
-
-/// Returns a server of many users for one connection: SCRAM-SHA-512, SCRAM-SHA-256 and, under TLS only,
-/// PLAIN. Every connection shares the records, whose salts have 16 bytes, and the secret.
-pub fn new_password_server(
-    alloc: Global,
-    records: &MultiRecordStore,
-    secret: &[u8; 32],
-    tls: bool,
-) -> Result<PasswordServer> {
-    let server = PasswordServerBuilder::new(records)
-        .mock_unknown_users(secret, 16, 4096)
-        .plain_under_tls(tls)
-        .build(alloc)?;
-    Ok(server)
 }
 
 /// The body to send back, and how the login ended, if it did. After an outcome that is not Ok,
