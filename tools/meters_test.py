@@ -204,12 +204,12 @@ class Meters(unittest.TestCase):
             with self.subTest(export):
                 self.refused([f"{export}: Meter::new x2", f"{export}: answered"], path,
                              first("let mut meter = Meter::new();", step))
-                self.refused(["step: Meter::new", "step: answered x2"], path, first("has_room(out, len)?;", step))
+                self.refused(["step: Meter::new", "step: answered x2"], path, first("has_room(out, out_len)?;", step))
 
     def test_keys_and_passwords_for_c_that_are_stretched_twice(self):
-        again = "let _ = CachedKeys::from_prepared_password(alloc, version, password, salt, iterations," \
+        again = "let _ = CachedKeys::from_password(alloc, version, Password::Prepared(password), salt, iterations," \
                 " &mut Meter::new());\n    "
-        self.refused(["made: Meter::new x2", "made: CachedKeys::from_prepared_password x2"], C_KEYS,
+        self.refused(["compute_keys: Meter::new x2", "compute_keys: CachedKeys::from_password x2"], C_KEYS,
                      first("let mut meter = Meter::new();", again))
         verified = "number(verify(kept, PasswordForm::Typed, password))"
         self.refused(["fe2o3_scram_record_verify: verify x2"], C_RECORDS,

@@ -171,8 +171,11 @@ made config version choice scram all names server known sum named is (records, s
 
     go : ShowsExchange records scram state asked → ServerIsReached config InProgress server × ShowsState scram InProgress server
     go (inl (challenge, opened, stood, last)) = (
-      inr (challenge, is_of config version choice records state (opened_by challenge) asked _ server known sum has all_is stood
-          last),
+      inr (
+        challenge,
+        is_of config version choice records state (opened_by challenge) asked _ server known sum has all_is stood
+            last,
+      ),
       shows_it scram server (Some challenge) (ap open_in all_is ∙ ap open_challenge stood) opened,
     )
     go (inr (none, stood, last)) = (

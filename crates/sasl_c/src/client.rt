@@ -456,8 +456,8 @@ impl Login<'_> {
     {
         match self.secret {
             0 => {
-                let password = Password::Typed(text(self.password)?);
-                client_by(alloc, username, ClientSecret::Password(password), version)
+                let secret = ClientSecret::Password(Password::Typed(text(self.password)?));
+                client_by(alloc, username, secret, version)
             }
             1 => match self.keys(alloc) {
                 Ok(keys) => client_by(alloc, username, ClientSecret::Keys(&keys), version),
@@ -493,8 +493,8 @@ impl Login<'_> {
     {
         match self.secret {
             3 => {
-                let password = Password::Prepared(text(self.password)?);
-                client_by(alloc, username, ClientSecret::Password(password), version)
+                let secret = ClientSecret::Password(Password::Prepared(text(self.password)?));
+                client_by(alloc, username, secret, version)
             }
             4 => {
                 let password = Password::Prepared(text(self.password)?);

@@ -1,4 +1,4 @@
-use Rattle.std.proofs.Common.{inl, inr, sym, ◌∙◌}
+use Rattle.std.proofs.Common.{inl, inr}
 use Rattle.fe2o3_sasl_core.specs.Events.{Refused}
 use Rattle.fe2o3_sasl_core.specs.Runs.{client_reply}
 use Rattle.fe2o3_sasl_core.specs.SaslProfile.{profile_of}
