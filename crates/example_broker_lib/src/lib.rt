@@ -4,8 +4,8 @@
 use anyhow::{Context, Result, bail, ensure};
 use bytes::BytesMut;
 use fe2o3_sasl_negotiation::{
-    CloseReason, Meter, MultiRecordStore, PasswordServer, PasswordServerBuilder, Progress, SaslCode,
-    ServerNegotiation,
+    CloseReason, Meter, MultiRecordStore, PasswordServer, PasswordServerBuilder, Progress,
+    SaslCode, ServerNegotiation,
 };
 use mock_secret::{file_of, secret_of};
 use std::fs;

@@ -5,7 +5,8 @@ use crate::server::{self, Server};
 use anyhow::Result;
 use bytes::BytesMut;
 use fe2o3_sasl_negotiation::{
-    ClientNegotiation, ConnectionSide, Endpoint, Meter, Progress, Role, ServerNegotiation,
+    AuthenticatedUser, ClientNegotiation, ConnectionSide, Endpoint, Meter, Progress, Role,
+    ServerNegotiation,
 };
 use std::alloc::Global;
 use std::random::RandomSource;
@@ -42,10 +43,10 @@ pub fn pass<T: RandomSource, E: Endpoint<R>, R: Role>(
 }
 
 /// Carries bytes between a server and a client, three times each way, which is a login.
-pub fn meet<R: RandomSource>(
+pub fn meet<R: RandomSource, A: AuthenticatedUser>(
     rt: &R,
     alloc: Global,
-    server: &mut ServerNegotiation<Server>,
+    server: &mut ServerNegotiation<A>,
 ) -> Result<()> {
     let mut to_server = BytesMut::new(alloc);
     let mut to_client = BytesMut::new(alloc);

@@ -10,8 +10,8 @@ use crate::server::Service;
 use crate::stop::Stop;
 use bytes::BytesMut;
 use fe2o3_sasl_negotiation::{
-    AuthenticatedUser, ClientNegotiation, CloseReason, ConnectionSide, Endpoint, Meter, Progress, Role,
-    SaslProfile, ServerNegotiation,
+    AuthenticatedUser, ClientNegotiation, CloseReason, ConnectionSide, Endpoint, Meter, Progress,
+    Role, SaslProfile, ServerNegotiation,
 };
 use fe2o3_scram::{OutOfMemory, ScramClient};
 use std::alloc::Global;

@@ -2,11 +2,11 @@
 //! HMAC values an answer takes (RFC 5802, section 3, of a server's record).
 
 use crate::values::{body_of, bytes_of, event, text};
+use fe2o3_sasl::any_mechanism::{AnyMechanism, HasMechanism};
 use fe2o3_sasl::credentials::SingleScramCredential;
 use fe2o3_sasl::external_server::ExternalServer;
 use fe2o3_sasl::hmac::{Meter, ScramVersion};
 use fe2o3_sasl::restrict_mechanisms::{OfferError, RestrictMechanisms};
-use fe2o3_sasl::any_mechanism::{AnyMechanism, HasMechanism};
 use fe2o3_sasl::runs::{Event, acceptor_body_step, acceptor_step};
 use fe2o3_sasl::sasl_acceptor::{
     AuthenticatedUser, SaslAcceptor, SaslAcceptorExt, SaslAnonymousMechanism, SaslPlainMechanism,
@@ -14,9 +14,9 @@ use fe2o3_sasl::sasl_acceptor::{
 };
 use fe2o3_sasl::scram_server::ScramAuthenticator;
 use fe2o3_sasl_wire::{Frame, view_frame};
+use std::process::Abort;
 use test_help_bodies::bodies::*;
 use test_help_bodies::replies::is_server_reply;
-use std::process::Abort;
 
 /// The mechanism EXTERNAL.
 const MECHANISM_EXTERNAL: &str = "02010000005340c00e01e00b01a30845585445524e414c";
@@ -118,7 +118,11 @@ fn replies<R: Abort + AllocGlobal, A: SaslAcceptor + Drop>(rt: &R, acceptor: &A,
 }
 
 /// Sees to it that an acceptor answers the rows.
-fn answers<R: Abort + AllocGlobal, A: AuthenticatedUser + Drop>(rt: &R, mut acceptor: A, rows: &[Row]) {
+fn answers<R: Abort + AllocGlobal, A: AuthenticatedUser + Drop>(
+    rt: &R,
+    mut acceptor: A,
+    rows: &[Row],
+) {
     for row in rows {
         replies(rt, &acceptor, row);
         let &(given, wanted, user, count) = row;
@@ -234,7 +238,11 @@ where
     let asked = if told { both.selected() } else { None };
     let first = both.first().clone().expect(rt, "memory");
     let second = both.second().clone().expect(rt, "memory");
-    answers(rt, AnyMechanism::with_selected(first, second, asked), &[row]);
+    answers(
+        rt,
+        AnyMechanism::with_selected(first, second, asked),
+        &[row],
+    );
 }
 
 #[test]

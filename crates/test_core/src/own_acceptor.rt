@@ -5,11 +5,11 @@ use crate::values::{body_of, bytes_of, event};
 use fe2o3_sasl::runs::{ServerReply, acceptor_step, run_acceptor};
 use fe2o3_sasl::sasl_acceptor::{SaslAcceptor, SaslAcceptorExt};
 use fe2o3_sasl_wire::{Error, Frame, SaslCode};
+use std::process::Abort;
 use test_help_bodies::bodies::{
     CHALLENGE, INIT_ANONYMOUS, INIT_PLAIN, MECHANISM_ANONYMOUS, MECHANISMS, OUTCOME_OK,
     OUTCOME_SYS, RESPONSE,
 };
-use std::process::Abort;
 
 /// Whether a reply is the outcome sys of this body where no fault is wanted, or else this fault.
 fn is_wanted(reply: &Result<ServerReply, Error>, sys: &[u8], wanted: Option<Error>) -> bool {

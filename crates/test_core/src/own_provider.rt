@@ -128,8 +128,10 @@ impl ScramCredentialProvider for Users {
 /// bytes 02, computed with Python's `hashlib` and `hmac`.
 static SERVER_FIRST: &str = "r=AQEBAQEBAQEBAQEBAQEBAQEBAQEBAQEBAQEBAQEBAQE=\
     AgICAgICAgICAgICAgICAgICAgICAgICAgICAgICAgI=,s=AwMDAwMDAwMDAwMDAwMDAwMDAwMDAwMDAwMDAwMDAwM=,i=4096";
+
 static CLIENT_FINAL: &str = "c=biws,r=AQEBAQEBAQEBAQEBAQEBAQEBAQEBAQEBAQEBAQEBAQE=\
     AgICAgICAgICAgICAgICAgICAgICAgICAgICAgICAgI=,p=BCNcOZg0+DjVmOYbquTj+7JaBIvtH0PUtQer0ntwLxQ=";
+
 static SERVER_FINAL: &str = "v=X3wMIzagbJ5+sxd0FRk7lZ5X07UBZA8KFKL41BMrTwo=";
 
 /// The server's answer to a client that proves `user` by a password. A right one has to give the messages of the login.

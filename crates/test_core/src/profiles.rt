@@ -5,8 +5,8 @@ use crate::printed::shows;
 use crate::values::{boxed, bytes_of, text};
 use fe2o3_sasl::sasl_profile::{SaslProfile, SaslScramSha1, SaslScramSha256, SaslScramSha512};
 use fe2o3_sasl_wire::view_frame;
-use test_help_bodies::bodies::{FOUR_MECHANISMS, OUTCOME};
 use std::process::Abort;
+use test_help_bodies::bodies::{FOUR_MECHANISMS, OUTCOME};
 
 /// The profile of a mechanism, in a box: EXTERNAL where it is none of the others.
 fn profile<R: Abort + AllocGlobal>(rt: &R, mechanism: &str) -> Box<SaslProfile> {

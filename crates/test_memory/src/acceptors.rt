@@ -11,10 +11,10 @@ use fe2o3_sasl::sasl_acceptor::{
     SaslAcceptor, SaslAcceptorExt, SaslAnonymousMechanism, SaslPlainMechanism, SaslServerFrame,
 };
 use fe2o3_sasl_wire::{Error, Frame};
-use test_help_bodies::bodies::*;
-use test_help_bodies::replies::{event, is_sent, is_server_reply};
 use std::alloc::Global;
 use std::test::Fail;
+use test_help_bodies::bodies::*;
+use test_help_bodies::replies::{event, is_sent, is_server_reply};
 
 /// A call of an acceptor.
 enum Does {

@@ -9,10 +9,10 @@ use fe2o3_sasl::audit::{
 use fe2o3_sasl::credentials::UserRecord;
 use fe2o3_sasl::hmac::ScramVersion;
 use fe2o3_sasl::runs::Event;
-use test_help_bodies::bodies::*;
-use test_help_bodies::replies::events;
 use std::alloc::Global;
 use std::test::Fail;
+use test_help_bodies::bodies::*;
+use test_help_bodies::replies::events;
 
 const VERSION: ScramVersion = ScramVersion::Sha256;
 

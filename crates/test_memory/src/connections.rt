@@ -8,11 +8,11 @@ use fe2o3_sasl::OutOfMemory;
 use fe2o3_sasl::hmac::Meter;
 use fe2o3_sasl::sasl_profile::{SaslProfile, SaslScramSha256};
 use fe2o3_sasl::scram_server::ScramAuthenticator;
-use fe2o3_sasl_negotiation::{ClientNegotiation, Received, ServerNegotiation, Progress};
-use test_help_bodies::bodies::*;
-use test_help_bodies::replies::bytes_of;
+use fe2o3_sasl_negotiation::{ClientNegotiation, Progress, Received, ServerNegotiation};
 use std::alloc::Global;
 use std::test::Fail;
+use test_help_bodies::bodies::*;
+use test_help_bodies::replies::bytes_of;
 
 /// The header of SASL.
 pub const HEADER: &str = "414d515003010000";

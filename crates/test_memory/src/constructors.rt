@@ -10,9 +10,9 @@ use fe2o3_sasl::sasl_profile::{
 };
 use fe2o3_sasl::scram_messages::ScramErrorKind;
 use fe2o3_sasl_wire::Error;
-use test_help_bodies::bodies::PASSWORD;
 use std::alloc::Global;
 use std::test::Fail;
+use test_help_bodies::bodies::PASSWORD;
 use url::Url;
 
 /// A call that makes something of what it is handed.
@@ -67,7 +67,9 @@ fn profile_is_made(made: &Made, user: String, password: String) -> bool {
 
 /// An acceptor of PLAIN is made of the words, to which nobody has logged in.
 fn acceptor_is_made(user: String, password: String) -> bool {
-    SaslPlainMechanism::new(user, password).authenticated_user().is_none()
+    SaslPlainMechanism::new(user, password)
+        .authenticated_user()
+        .is_none()
 }
 
 /// Whether something is made of the words.

@@ -2,10 +2,10 @@
 
 use crate::calls::{Answer, Call, right, stand, take_none, want};
 use fe2o3_sasl::runs::{Event, EventError};
-use test_help_bodies::bodies::INIT;
-use test_help_bodies::replies::bytes_of;
 use std::alloc::Global;
 use std::test::Fail;
+use test_help_bodies::bodies::INIT;
+use test_help_bodies::replies::bytes_of;
 
 /// Digits of a nonce.
 const NONCE: &str = "000102030405060708090a0b0c0d0e0f101112131415161718191a1b1c1d1e1f";

@@ -5,9 +5,11 @@ use fe2o3_sasl::OutOfMemory;
 use fe2o3_sasl::runs::{ClientReply, Event, ServerReply};
 use fe2o3_sasl::sasl_profile::ProfileError;
 use fe2o3_sasl_wire::{Error, Frame};
-use test_help_bodies::replies::{bytes_of, events, frame, is_client_reply, is_server_reply, two_frames};
 use std::alloc::Global;
 use std::test::Fail;
+use test_help_bodies::replies::{
+    bytes_of, events, frame, is_client_reply, is_server_reply, two_frames,
+};
 
 /// Bodies that are given and those of the replies.
 #[derive(Drop)]

@@ -5,8 +5,7 @@ use crate::scram_values::*;
 use bytes::Bytes;
 use fe2o3_scram::cached_keys::CachedKeys;
 use fe2o3_scram::credentials::{
-    ScramCredentialProvider, ScramRecord, SingleScramCredential, StoredPassword,
-    UserRecord,
+    ScramCredentialProvider, ScramRecord, SingleScramCredential, StoredPassword, UserRecord,
 };
 use fe2o3_scram::scram_messages::{
     ClientAnswer, ClientFinal, ClientFirst, ServerFinal, ServerFirst, ServerFirstMessage,

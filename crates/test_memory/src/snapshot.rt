@@ -6,10 +6,12 @@ use crate::users::stored;
 use bytes::BytesMut;
 use fe2o3_sasl::hmac::Meter;
 use fe2o3_sasl::scram_server::ScramAuthenticator;
-use fe2o3_sasl_negotiation::{Expected, ServerNegotiation, Snapshot, Progress, RestoreError, FrameKind};
-use test_help_bodies::bodies::{CHALLENGE, INIT, MECHANISMS, OUTCOME, RESPONSE};
+use fe2o3_sasl_negotiation::{
+    Expected, FrameKind, Progress, RestoreError, ServerNegotiation, Snapshot,
+};
 use std::alloc::Global;
 use std::test::Fail;
+use test_help_bodies::bodies::{CHALLENGE, INIT, MECHANISMS, OUTCOME, RESPONSE};
 
 /// Another side with what this one keeps.
 fn another(

@@ -1,9 +1,9 @@
 //! The user of the logins, as what a server keeps of the password.
 
 use fe2o3_scram::credentials::{ScramRecord, UserRecord};
-use test_help_bodies::bodies::{RECORD, USER};
 use std::alloc::Global;
 use std::test::Fail;
+use test_help_bodies::bodies::{RECORD, USER};
 
 /// The record of the password.
 pub fn record(alloc: Global) -> Result<ScramRecord, Fail> {

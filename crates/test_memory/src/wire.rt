@@ -8,10 +8,10 @@ use fe2o3_sasl_wire::{
     Array, Binary, Error, Frame, FrameCodec, ProtocolHeader, ProtocolHeaderCodec, SaslMechanisms,
     Symbol, SymbolError, view_frame,
 };
-use test_help_bodies::bodies::{INIT_ANONYMOUS_WITH_HOSTNAME, MECHANISM_ANONYMOUS, OUTCOME_OK};
-use test_help_bodies::replies::{bytes_of, frame, two_frames};
 use std::alloc::{AllocError, Global};
 use std::test::Fail;
+use test_help_bodies::bodies::{INIT_ANONYMOUS_WITH_HOSTNAME, MECHANISM_ANONYMOUS, OUTCOME_OK};
+use test_help_bodies::replies::{bytes_of, frame, two_frames};
 
 /// What stands in a buffer before something is written to it: as much as fills a block of the allocator,
 /// so that the buffer has to grow.

@@ -7,9 +7,9 @@ use fe2o3_sasl_wire::{
     Error, FrameCodec, FrameView, NegotiationError, ProtocolHeader, ProtocolHeaderCodec,
     ProtocolId, SaslCode, Symbol, SymbolError, SymbolsView, view_frame,
 };
-use test_help_bodies::replies::bytes_of;
 use std::alloc::{AllocError, Global};
 use std::test::Fail;
+use test_help_bodies::replies::bytes_of;
 
 /// What is no header.
 const NO_HEADER: [u8; 8] = *b"AMQP\x01\x01\x00\x00";

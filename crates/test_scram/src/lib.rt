@@ -8,6 +8,8 @@
 #[cfg(test)]
 mod broker;
 #[cfg(test)]
+mod cbind_flag_y;
+#[cfg(test)]
 mod clients;
 #[cfg(test)]
 mod debug_texts;
@@ -29,7 +31,5 @@ mod prepared;
 mod published;
 #[cfg(test)]
 mod stores;
-#[cfg(test)]
-mod cbind_flag_y;
 #[cfg(test)]
 mod values;

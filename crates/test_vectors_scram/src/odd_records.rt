@@ -2,9 +2,7 @@
 
 use crate::logins::say_served;
 use crate::rows::Row;
-use fe2o3_scram::credentials::{
-    ScramCredentialProvider, RecordStore, ScramRecord, UserRecord,
-};
+use fe2o3_scram::credentials::{RecordStore, ScramCredentialProvider, ScramRecord, UserRecord};
 use fe2o3_scram::hmac::ScramVersion;
 use fe2o3_scram::scram_client::ScramClient;
 use fe2o3_scram::scram_server::ScramAuthenticator;
@@ -17,12 +15,7 @@ pub fn odd_record(row: &mut Row<'_>) {
     let (version, name) = (row.version(), row.text());
     let (mut many, mut shared) = (row.again(), row.again());
     let (user, record) = (row.own(&name), record_of(row, version));
-    log_in(
-        row,
-        version,
-        &name,
-        UserRecord::new(user, record),
-    );
+    log_in(row, version, &name, UserRecord::new(user, record));
     let users = users_of(&mut many, version, &name);
     log_in(&mut many, version, &name, users);
     row.compare(&many);
