@@ -332,7 +332,7 @@ pub fn manual<'a>(alloc: Global) -> Result<Command<'a>, AllocError> {
     let mut commands = commands(alloc, &COMMANDS)?;
     commands.push(users(alloc)?)?;
     above(alloc, "scram", ABOUT)
-        .version("0.2.0")
+        .version("0.3.0")
         .after_help(NOTES)
         .subcommands(commands)
 }
