@@ -44,7 +44,7 @@ server_fits (Failed ProtocolHeaderMismatch) (Frame turn) = false
 server_fits (Failed (MalformedFrame faults.OutOfMemory)) expected = false
 server_fits (Failed (Refused outcomes.Ok)) expected = false
 server_fits (Failed (ProfileRefused fault)) expected = false
-server_fits progress expected = server_awaits expected
+server_fits other expected = server_awaits expected
 
 -- a frame is expected to a client: the mechanisms, a challenge or an outcome
 abbrev pub client_awaits : Expected → Bool
