@@ -4,7 +4,7 @@
 use anyhow::{Context, Result, bail, ensure};
 use bytes::BytesMut;
 use fe2o3_sasl_negotiation::{
-    CloseReason, Meter, MultiRecordStore, PasswordServer, PasswordServerBuilder, Progress,
+    AuthenticatedUser, CloseReason, Meter, MultiRecordStore, PasswordServerBuilder, Progress,
     SaslCode, ServerNegotiation,
 };
 use mock_secret::{file_of, secret_of};
@@ -63,7 +63,7 @@ impl<R: RandomSource + AllocGlobal, I: BufRead, O: Write> Broker<'_, R, I, O> {
     }
 
     /// Serves one to its end, each call of the server with a fresh nonce.
-    fn carry(&mut self, acceptor: PasswordServer) -> Result<Option<String>> {
+    fn carry<A: AuthenticatedUser + Drop>(&mut self, acceptor: A) -> Result<Option<String>> {
         let (alloc, mut nonce) = (self.rt.alloc(), [0; 32]);
         let mut server = ServerNegotiation::new(alloc, acceptor);
         let mut sent = BytesMut::new(alloc);

@@ -5,8 +5,7 @@ use crate::server::{self, Server};
 use anyhow::Result;
 use bytes::BytesMut;
 use fe2o3_sasl_negotiation::{
-    AuthenticatedUser, ClientNegotiation, ConnectionSide, Endpoint, Meter, Progress, Role,
-    ServerNegotiation,
+    ClientNegotiation, ConnectionSide, Endpoint, Meter, Progress, Role, ServerNegotiation,
 };
 use std::alloc::Global;
 use std::random::RandomSource;
@@ -43,10 +42,10 @@ pub fn pass<T: RandomSource, E: Endpoint<R>, R: Role>(
 }
 
 /// Carries bytes between a server and a client, three times each way, which is a login.
-pub fn meet<R: RandomSource, A: AuthenticatedUser>(
+pub fn meet<R: RandomSource>(
     rt: &R,
     alloc: Global,
-    server: &mut ServerNegotiation<A>,
+    server: &mut ServerNegotiation<Server>,
 ) -> Result<()> {
     let mut to_server = BytesMut::new(alloc);
     let mut to_client = BytesMut::new(alloc);

@@ -1,13 +1,12 @@
 //! Logins with SCRAM-SHA-256, each of a client and a server in one program: over the bytes of a
 //! connection, over frame bodies, with what stands around them, and over SCRAM's texts; by whole lists of
-//! bodies, from a store of the caller's own, and from the records of many users.
+//! bodies, and from a store of the caller's own.
 #![tactic(auto)]
 
 mod client;
 mod connection;
 mod login;
 mod own_store;
-mod passwords;
 mod runs;
 mod scram_client;
 mod scram_server;
@@ -142,7 +141,6 @@ fn main(rt: HostRuntime) -> Result<()> {
     over_texts(&rt, rt.alloc(), &mut output)?;
     over_bytes(&rt, rt.alloc(), &mut output)?;
     over_connection(&rt, rt.alloc(), &mut output)?;
-    passwords::report_all(&rt, rt.alloc(), &mut output)?;
     let given = over_frames(&rt, rt.alloc(), &mut output)?;
     over_lists(rt.alloc(), &given, &mut output)?;
     own_store::report_all(&rt, rt.alloc(), &mut output)
