@@ -81,9 +81,9 @@ enum fe2o3_secret {
 
 /* What fe2o3_saslprep does with code points that Unicode 3.2 does not assign. */
 enum fe2o3_unassigned {
-    /* It returns FE2O3_UNASSIGNED_CODE_POINT. */
+    /* Rejects unassigned code points: the call returns FE2O3_UNASSIGNED_CODE_POINT. */
     FE2O3_UNASSIGNED_REFUSED = 0,
-    /* It leaves them as they are. */
+    /* Allows unassigned code points, and leaves them unchanged. */
     FE2O3_UNASSIGNED_ALLOWED = 1
 };
 
@@ -129,11 +129,11 @@ enum fe2o3_expected {
 
 /* How far the exchange of a SCRAM client is. Other values count as FE2O3_SCRAM_CLIENT_INITIAL. */
 enum fe2o3_scram_client_state {
-    /* It has sent nothing. */
+    /* The client has sent nothing. */
     FE2O3_SCRAM_CLIENT_INITIAL = 0,
-    /* It has sent the client-first message. */
+    /* The client has sent the client-first message. */
     FE2O3_SCRAM_CLIENT_FIRST_SENT = 1,
-    /* It has sent the client-final message, and expects the server's signature. */
+    /* The client has sent the client-final message, and expects the server's signature. */
     FE2O3_SCRAM_CLIENT_FINAL_SENT = 2,
     /* The login is complete, and the server authenticated. */
     FE2O3_SCRAM_CLIENT_COMPLETE = 3

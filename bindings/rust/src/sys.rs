@@ -259,10 +259,10 @@ pub const BY_PREPARED: u32 = 3;
 /// `secret`: The keys if they are of the server's salt and iteration count, otherwise the prepared password.
 pub const BY_PREPARED_AND_KEYS: u32 = 4;
 
-/// `unassigned`: It returns UNASSIGNED_CODE_POINT.
+/// `unassigned`: Rejects unassigned code points: the call returns UNASSIGNED_CODE_POINT.
 pub const UNASSIGNED_REFUSED: u32 = 0;
 
-/// `unassigned`: It leaves them as they are.
+/// `unassigned`: Allows unassigned code points, and leaves them unchanged.
 pub const UNASSIGNED_ALLOWED: u32 = 1;
 
 /// `offer`: SCRAM with the hash of the configuration.
@@ -307,13 +307,13 @@ pub const EXPECTED_RESPONSE: u32 = 4;
 /// `expected`: The outcome.
 pub const EXPECTED_OUTCOME: u32 = 5;
 
-/// `scram_client_state`: It has sent nothing.
+/// `scram_client_state`: The client has sent nothing.
 pub const SCRAM_CLIENT_INITIAL: u32 = 0;
 
-/// `scram_client_state`: It has sent the client-first message.
+/// `scram_client_state`: The client has sent the client-first message.
 pub const SCRAM_CLIENT_FIRST_SENT: u32 = 1;
 
-/// `scram_client_state`: It has sent the client-final message, and expects the server's signature.
+/// `scram_client_state`: The client has sent the client-final message, and expects the server's signature.
 pub const SCRAM_CLIENT_FINAL_SENT: u32 = 2;
 
 /// `scram_client_state`: The login is complete, and the server authenticated.
