@@ -1,0 +1,243 @@
+#!/usr/bin/env python3
+"""Writes docs/PROMISES.md from the sources: what each public call promises, clause by clause, and the wrong bodies.
+
+    python3 tools/generate/promises.py write     writes the page
+    python3 tools/generate/promises.py check     writes nothing; ends with status 1 if the page is stale
+
+A call is a public function, a public method of a public type, a function of a public trait, or an exported function
+of the C library. Its row has the first sentence of its comment, the names of its clauses, the definitions of specs/
+that each clause cites, and the wrong bodies that are planted in it. A table for each crate lists all its wrong bodies:
+the first sentence of the edit, the function that it turns, and the clause that refuses it.
+"""
+import re
+import sys
+from dataclasses import dataclass
+from pathlib import Path
+
+HERE = Path(__file__).resolve().parent
+sys.path[:0] = [str(HERE), str(HERE.parent)]
+
+import signatures
+
+# (the exported functions of the C library are items too)
+signatures.ITEM = re.compile(signatures.ITEM.pattern.replace("(?:const )?", '(?:const )?(?:extern "C" )?'))
+
+CRATES = signatures.CRATES
+PAGE = CRATES.parent / "docs" / "PROMISES.md"
+# The crates whose calls are listed, with those that a program or a proof calls first.
+WITH_CALLS = ("fe2o3_sasl_negotiation", "fe2o3_sasl_core", "fe2o3_scram", "fe2o3_sasl", "connection_laws",
+              "fe2o3_sasl_wire", "saslprep", "sasl_c")
+WIDTH = 400
+USE = re.compile(r"ghost use Rattle\.(\w+)\.specs\.(?!declared)(?:\w+\.)*\{(.*)\};")
+INTRODUCTION = """# Promises
+
+Each public call with its contract: what it does, its clauses, the definitions that they cite, and the wrong bodies that
+the check rejects in it. `python3 tools/generate/promises.py write` writes this page from the sources.
+
+- A clause is an `ensures` of the call, in the file of the bold row above it. It is shown by its name and, in parentheses,
+  by definitions that it cites, which are in `specs/` of the crates. [THEOREMS.md](THEOREMS.md) explains the main ones.
+- A call with no clause is proved to return, and to keep the conditions of the calls that it makes.
+- A wrong body is an edit of a function. The gate plants each of them and fails unless a clause rejects it. Most are in
+  private functions: these are only in the tables at the end of each crate."""
+
+
+@dataclass
+class Call:
+    """A call: its type or trait, its name, the first sentence of its comment, and its clauses."""
+    owner: str
+    name: str
+    sentence: str
+    clauses: list
+
+    def __str__(self):
+        return f"{self.owner}::{self.name}" if self.owner else self.name
+
+
+@dataclass
+class WrongBody:
+    """An edit: its name, its first sentence, what refuses it, and the file and the function that it turns."""
+    name: str
+    sentence: str
+    refused: str
+    file: str
+    function: str
+
+
+def file_of(crate, path):
+    base = CRATES / crate / "src"
+    return base.joinpath(*path).with_suffix(".rt") if path else base / "lib.rt"
+
+
+def cited(text):
+    """The names that a file imports from the specs of this project's crates."""
+    found = set()
+    for crate, names in USE.findall(text):
+        if (CRATES / crate).is_dir():
+            found |= {name.split(" as ")[-1].strip() for name in names.split(",")}
+    return found
+
+
+def head_of(block):
+    """The lines of a function before its body."""
+    indent = re.match(r"\s*", block[0])[0]
+    for at, line in enumerate(block):
+        if line in (indent + "{", indent + "{}"):
+            return block[:at]
+        if at and line.startswith(indent) and line[len(indent):len(indent) + 1] not in (" ", ")", "") and (
+                line.strip() != "where"):
+            return block[:at]
+        if at == 0 and line.endswith("{") or line.startswith(indent + ")") and line.endswith("{"):
+            return block[:at + 1]
+        if line.endswith(";"):
+            return block[:at + 1]
+    return block
+
+
+def clauses(block, names):
+    """The clauses of a function: the name of each, and the definitions that it cites, predicates first."""
+    text = "\n".join(head_of(block))
+    found = []
+    for clause in re.finditer(r"^\s+ensures (\w+ )?\{", text, re.M):
+        end, depth = clause.end(), 1
+        while depth and end < len(text):
+            depth += {"{": 1, "}": -1}.get(text[end], 0)
+            end += 1
+        words = dict.fromkeys(re.findall(r"[\w-]+", text[clause.end():end]))
+        mine = [word for word in words if word in names and word not in ("record",)]
+        found.append(((clause[1] or "").strip(), sorted(mine, key=lambda word: not word[0].isupper())))
+    return found
+
+
+def methods(block, opening, owner, names):
+    """The calls of an impl or of a trait whose lines begin with one of these."""
+    found, comment = [], []
+    for at, line in enumerate(block):
+        if line.startswith("    ///"):
+            comment.append(line.strip()[3:])
+        elif line.startswith(opening):
+            name = re.search(r"fn (\w+)", line)[1]
+            found.append(Call(owner, name, signatures.first_sentence(comment), clauses(block[at:], names)))
+            comment = []
+        elif line.strip() and not line.startswith("    #["):
+            comment = []
+    return found
+
+
+def calls_of(crate):
+    """The public calls of a crate, by file."""
+    library = signatures.Library(crate)
+    public = {name for _, name in library.places}
+    found = {}
+    for module in library.modules.values():
+        file = file_of(crate, module.path)
+        names = cited(file.read_text(encoding="utf-8"))
+        mine = found.setdefault(file, [])
+        for name, item in module.items.items():
+            exported = item.lines[0].startswith('pub extern "C"')
+            if (module.path, name) not in library.places and not exported:
+                continue
+            if item.kind == "fn":
+                mine.append(Call("", name, item.sentence, clauses(item.lines, names)))
+            elif item.kind == "trait":
+                mine += methods(item.lines, "    fn ", name, names)
+        for block in module.impls:
+            if owner := re.match(r"impl(?:<.*?>)? (\w+)(?!.* for )", block[0]):
+                if owner[1] in public:
+                    mine += methods(block, ("    pub fn ", "    pub const fn "), owner[1], names)
+    return {file: calls for file, calls in found.items() if calls}
+
+
+def function_at(text, at):
+    """The function whose body has this place: a method by its type."""
+    heads = [it for it in re.finditer(r"^( *)(?:pub(?:\(\w+\))? )?(?:const )?(?:extern \"C\" )?fn (\w+)", text, re.M)
+             if it.start() <= at]
+    if not heads:
+        return ""
+    owners = [it for it in re.finditer(r"^(?:impl(?:<.*?>)? (?:[^{\n]* for )?|pub trait )(\w+)", text, re.M)
+              if it.start() < heads[-1].start()]
+    return f"{owners[-1][1]}::{heads[-1][2]}" if heads[-1][1] and owners else heads[-1][2]
+
+
+def wrong_bodies(crate):
+    found = []
+    for edit in sorted((CRATES / crate / "wrong-bodies").glob("*.edit")):
+        lines = edit.read_text(encoding="utf-8").splitlines()
+        start = next(at for at, line in enumerate(lines) if line.startswith("file:"))
+        text = " ".join(line.strip() for line in lines[:start])
+        refused = re.search(r"(?:Refused|Rejected) by (.*?)(?:[:,](?= )|\.(?= |$)|$)", text)
+        old = next(line for line in lines if line.startswith("old: ")).removeprefix("old: ")
+        file = next(line for line in lines[start:]).removeprefix("file:").strip()
+        source = (CRATES / crate / file).read_text(encoding="utf-8")
+        found.append(WrongBody(edit.stem, signatures.first_sentence([text]), refused[1] if refused else "",
+                               file, function_at(source, source.find(old))))
+    return found
+
+
+def shown(call, most, places):
+    """The clauses of a call, of the first of them with at most so many definitions for each."""
+    parts = []
+    for at, (name, cites) in enumerate(call.clauses):
+        words = ", ".join(f"`{word}`" for word in cites[:most if at < places else 0])
+        parts.append(f"{f'`{name}`' if name else ''}{f' ({words})' if words else ''}".strip() or "unnamed")
+    return ", ".join(parts) or "none"
+
+
+def row_of(call, planted):
+    """A row, with as many definitions as its width permits, and else with a shorter sentence."""
+    bodies = ", ".join(f"`{name}`" for name in planted)
+    tries = [(3, 99), (2, 99), (1, 99), *((1, places) for places in range(len(call.clauses), -1, -1))]
+    for sentence in (call.sentence, call.sentence.split(": ")[0] + ".", call.sentence[:160].rpartition(" ")[0] + " .."):
+        for most, places in tries:
+            row = f"| `{call}` | {sentence} | {shown(call, most, places)} | {bodies} |"
+            if len(row) <= WIDTH:
+                return row
+    return row
+
+
+def section(crate, with_calls):
+    bodies = wrong_bodies(crate)
+    out = ["", f"## `{crate}`"]
+    calls = calls_of(crate) if with_calls else {}
+    if calls:
+        out += ["", "| Call | First sentence | Clauses | Wrong bodies |", "|---|---|---|---|"]
+    for file, mine in calls.items():
+        path = file.relative_to(CRATES / crate).as_posix()
+        out.append(f"| **[{path.removeprefix('src/')}](../crates/{crate}/{path})** | | | |")
+        for call in mine:
+            out.append(row_of(call, [body.name for body in bodies if body.file == path and body.function == str(call)]))
+    if bodies:
+        out += ["", f"Wrong bodies of `{crate}`:", "", "| Edit | What is wrong | Function | Rejected by |", "|---|---|---|---|"]
+        for body in bodies:
+            link = f"[{body.name}](../crates/{crate}/wrong-bodies/{body.name}.edit)"
+            out.append(f"| {link} | {body.sentence} | `{body.function}` | {body.refused or 'its clause'} |")
+    return out
+
+
+def page():
+    others = sorted({path.parent.parent.name for path in CRATES.glob("*/wrong-bodies/*.edit")} - set(WITH_CALLS))
+    out = [INTRODUCTION]
+    for crate in WITH_CALLS:
+        out += section(crate, True)
+    for crate in others:
+        out += section(crate, False)
+    return "\n".join(out) + "\n"
+
+
+def main():
+    if sys.argv[1:] not in (["write"], ["check"]):
+        sys.exit(__doc__)
+    text = page()
+    if sys.argv[1] == "write":
+        PAGE.write_text(text, encoding="utf-8")
+    elif not PAGE.exists() or PAGE.read_text(encoding="utf-8") != text:
+        sys.exit("promises: docs/PROMISES.md is stale: python3 tools/generate/promises.py write")
+    else:
+        print("promises: docs/PROMISES.md is as the sources say")
+    long = [line for line in text.splitlines() if len(line) > WIDTH]
+    for line in long:
+        print(f"promises: {len(line)} characters: {line[:80]} ..", file=sys.stderr)
+    sys.exit(1 if long else 0)
+
+
+if __name__ == "__main__":
+    main()
