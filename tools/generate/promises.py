@@ -7,7 +7,8 @@
 A call is a public function, a public method of a public type, a function of a public trait, or an exported function
 of the C library. Its row has the first sentence of its comment, the names of its clauses, the definitions of specs/
 that each clause cites, and the wrong bodies that are planted in it. A table for each crate lists all its wrong bodies:
-the first sentence of the edit, the function that it turns, and the clause that refuses it.
+the first sentence of the edit, the function that it turns, and the clause that refuses it. Last come the definitions
+that the headline theorem rests on, as tools/believed.py counts them.
 """
 import re
 import sys
@@ -15,8 +16,10 @@ from dataclasses import dataclass
 from pathlib import Path
 
 HERE = Path(__file__).resolve().parent
+# (signatures.py is beside this file, believed.py one folder up)
 sys.path[:0] = [str(HERE), str(HERE.parent)]
 
+import believed
 import signatures
 
 # (the exported functions of the C library are items too)
@@ -213,6 +216,40 @@ def section(crate, with_calls):
     return out
 
 
+# The laws of connections whose definitions are counted.
+LAWS = ("fe2o3_sasl_negotiation::server_connections", "fe2o3_sasl_negotiation::client_connections",
+        "fe2o3_sasl_negotiation::users_of_any_mechanism", "connection_laws::any_mechanism",
+        "connection_laws::restrict_mechanisms", "connection_laws::external", "connection_laws::plain")
+
+
+def counted(name, words):
+    """How much the statements of these words rest on, as a row."""
+    starts, arguments = believed.statements(words)
+    reached, more = believed.rest_on(starts), believed.rest_on(starts + arguments)
+    lines, more_lines = believed.lines_of(reached), believed.lines_of(more)
+    return f"| {name} | {len(reached)} | {lines} | {len(more)} | {more_lines} |"
+
+
+def definitions():
+    """The definitions that the headline rests on: of each statement how many, and those over frames by file."""
+    out = ["", "## Definitions of the headline", "",
+           "What the statements rest on: definitions, and their lines with comments. The last two columns add the arguments",
+           "of the clauses. Not counted: definitions of the kit, and types that code declares (`tools/believed.py`).", "",
+           "| Statement | Definitions | Lines | With arguments | Lines |", "|---|---|---|---|---|",
+           counted("the headline over frame bodies (`Headline`)", [believed.HEADLINE])]
+    out += [counted(f"`{law.split('::')[1]}`", [law]) for law in LAWS]
+    out += [counted("`server_connections` and `client_connections`", LAWS[:2]), "",
+            "The headline over frame bodies, by file:", "", "| Crate | File | Definitions | Lines |", "|---|---|---|---|"]
+    reached = believed.rest_on(believed.whole(believed.HEADLINE))
+    for module, (_, _, _, all_of) in sorted(believed.FILES.items()):
+        mine = [all_of[place][2] for at, place in reached if at == module]
+        if mine:
+            crate, name = re.match(r"Rattle\.(\w+)\.specs\.(.*)", module).groups()
+            link = f"[{name}](../crates/{crate}/specs/{name.replace('.', '/')}.antt)"
+            out.append(f"| `{crate}` | {link} | {len(mine)} of {len(all_of)} | {sum(mine)} |")
+    return out
+
+
 def page():
     others = sorted({path.parent.parent.name for path in CRATES.glob("*/wrong-bodies/*.edit")} - set(WITH_CALLS))
     out = [INTRODUCTION]
@@ -220,7 +257,7 @@ def page():
         out += section(crate, True)
     for crate in others:
         out += section(crate, False)
-    return "\n".join(out) + "\n"
+    return "\n".join(out + definitions()) + "\n"
 
 
 def main():
