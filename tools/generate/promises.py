@@ -2,7 +2,8 @@
 """Writes docs/PROMISES.md from the sources: what each public call promises, clause by clause, and the wrong bodies.
 
     python3 tools/generate/promises.py write     writes the page
-    python3 tools/generate/promises.py check     writes nothing; ends with status 1 if the page is stale
+    python3 tools/generate/promises.py check     writes nothing; ends with status 1 if the page is stale, or if a page
+                                                 for auditors has a name in backticks that no source has
 
 A call is a public function, a public method of a public type, a function of a public trait, or an exported function
 of the C library. Its row has the first sentence of its comment, the names of its clauses, the definitions of specs/
@@ -31,6 +32,10 @@ PAGE = CRATES.parent / "docs" / "PROMISES.md"
 WITH_CALLS = ("fe2o3_sasl_negotiation", "fe2o3_sasl_core", "fe2o3_scram", "fe2o3_sasl", "connection_laws",
               "fe2o3_sasl_wire", "saslprep", "sasl_c")
 WIDTH = 400
+# The pages written by hand whose names are looked for in the sources.
+BY_HAND = ("docs/THEOREMS.md", "docs/SPECIFICATION.md")
+# A name of code or of a definition: with an underscore or a capital, or a file.
+NAME = re.compile(r"(?=\w*[A-Z_.])[A-Za-z]\w*(?:(?:::|\.)\w+)*")
 USE = re.compile(r"ghost use Rattle\.(\w+)\.specs\.(?!declared)(?:\w+\.)*\{(.*)\};")
 INTRODUCTION = """# Promises
 
@@ -260,20 +265,37 @@ def page():
     return "\n".join(out + definitions()) + "\n"
 
 
+def unknown_names():
+    """The names in backticks of the pages written by hand that no source has, each with its place."""
+    top = CRATES.parent
+    files = [path for path in CRATES.glob("*/*/**/*") if path.suffix in (".rt", ".antt") and "out" not in path.parts]
+    known = {path.name for path in files} | {path.name for path in top.iterdir()} | {path.name for path in CRATES.iterdir()}
+    for path in files:
+        known |= set(re.findall(r"\w+", path.read_text(encoding="utf-8")))
+    for page in BY_HAND:
+        for at, line in enumerate((top / page).read_text(encoding="utf-8").splitlines(), 1):
+            for name in re.findall(r"`([^` ]+)`", line):
+                parts = [name] if name.endswith((".antt", ".rt")) else re.split(r"::|\.", name)
+                if NAME.fullmatch(name) and not known.issuperset(parts):
+                    yield f"{page}:{at}: no source has `{name}`"
+
+
 def main():
     if sys.argv[1:] not in (["write"], ["check"]):
         sys.exit(__doc__)
-    text = page()
+    text, wrong = page(), []
     if sys.argv[1] == "write":
         PAGE.write_text(text, encoding="utf-8")
-    elif not PAGE.exists() or PAGE.read_text(encoding="utf-8") != text:
-        sys.exit("promises: docs/PROMISES.md is stale: python3 tools/generate/promises.py write")
     else:
-        print("promises: docs/PROMISES.md is as the sources say")
-    long = [line for line in text.splitlines() if len(line) > WIDTH]
-    for line in long:
-        print(f"promises: {len(line)} characters: {line[:80]} ..", file=sys.stderr)
-    sys.exit(1 if long else 0)
+        wrong += unknown_names()
+        if not PAGE.exists() or PAGE.read_text(encoding="utf-8") != text:
+            wrong.append("docs/PROMISES.md is stale: python3 tools/generate/promises.py write")
+    wrong += [f"{len(line)} characters: {line[:80]} .." for line in text.splitlines() if len(line) > WIDTH]
+    for line in wrong:
+        print(f"promises: {line}", file=sys.stderr)
+    if not wrong and sys.argv[1] == "check":
+        print("promises: docs/PROMISES.md is as the sources say, and every name of the pages for auditors exists")
+    sys.exit(1 if wrong else 0)
 
 
 if __name__ == "__main__":
