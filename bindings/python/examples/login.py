@@ -9,8 +9,7 @@ from fe2o3_sasl import SHA_256, Client, ClientConnection, Progress, Record, Serv
 
 
 def log_in(sock: socket.socket) -> bytes:
-    """Logs in as `user`. Returns the received bytes that belong to AMQP. Raises unless the server is authenticated
-    too."""
+    """Logs in as `user`. Returns the received bytes that belong to AMQP. Raises unless both sides are authenticated."""
     client = Client(SHA_256, "user", "pencil", min_iterations=4096, max_iterations=100_000)
     side = ClientConnection(client, hostname="broker.example")
     sock.sendall(side.open())
