@@ -17,7 +17,8 @@ def log_in(sock: socket.socket) -> bytes:
 
 
 def serve(sock: socket.socket, record_of: Callable[[str], Optional[Record]]) -> tuple[Optional[str], bytes]:
-    """Serves one login. Returns the authenticated user, and the received bytes that belong to AMQP."""
+    """Serves one login. `record_of` returns the record of a name, or `Record.mock(..)`. Returns the authenticated user,
+    and the received bytes that belong to AMQP."""
     side = ServerConnection(record_of)
     rest = finish(side, sock)
     return side.authenticated_user(), rest
