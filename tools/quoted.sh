@@ -1,8 +1,9 @@
 #!/bin/sh
-# Checks that README.md and the README.md of each crate quote the sources word for word. A block names its file in
-# its first line, as `// crates/example_quick_start/src/client.rt` or `# crates.txt`; what follows has to stand
-# there, line after line, whatever the indentation. A line of the comment's mark and two dots leaves
-# lines out. Every block of Rust and of antt has to name its file.
+# Checks that README.md, docs/GUIDE.md and the pages of crates, bindings and plugins quote the sources word for word. A
+# block names its file in its first line, for example `// crates/example_quick_start/src/client.rt`,
+# `# bindings/python/examples/login.py` or `# crates.txt`. The lines after it have to be in that file, one after another,
+# whatever the indentation. A line of the comment's mark and two dots leaves lines out. Every block of Rust, antt, Python
+# and C has to name its file.
 set -eu
 cd "$(dirname "$0")/.."
 
@@ -65,7 +66,7 @@ function find(page, first, last, start, count,    at, best, k) {
 # Compares the block with its file.
 function compare(page, opened, lines,    count, first, k, next_line) {
     if (named == "") {
-        if (kind ~ /^(rust|antt)$/) {
+        if (kind ~ /^(rust|antt|python|c)$/) {
             complain(page, opened, "a block of " kind " that names no file")
         }
         return
@@ -112,7 +113,7 @@ FNR == 1 {
     next
 }
 
-inside && FNR == opened + 1 && /^(\/\/|--|#) (crates\/[^ ]*|crates\.txt)$/ {
+inside && FNR == opened + 1 && /^(\/\/|--|#) ((crates|bindings|plugins)\/[^ ]*|crates\.txt)$/ {
     mark = $1
     named = $2
     next
@@ -134,4 +135,4 @@ END {
         exit 1
     }
     printf "quoted: %d blocks stand in their files\n", blocks
-}' README.md crates/*/README.md
+}' README.md docs/GUIDE.md crates/*/README.md bindings/README.md bindings/rust/README.md plugins/cyrus/README.md

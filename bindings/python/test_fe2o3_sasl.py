@@ -9,16 +9,19 @@ import hmac
 import os
 import random
 import re
+import socket
 import stringprep
 import struct
 import threading
 import unicodedata
 import unittest
+from concurrent.futures import ThreadPoolExecutor
 from pathlib import Path
 from typing import Any, Callable, Optional
 from unittest import mock
 
 import fe2o3_sasl
+from examples.login import log_in, serve
 from fe2o3_sasl import SHA_1, SHA_256, SHA_512, Client, ClientConnection, Keys, Record, Refused, Server, Progress, Status
 from fe2o3_sasl import ClientSteps, Offer, ServerConnection, ServerSteps
 from peers import (
@@ -1310,6 +1313,45 @@ class RandomStructs(Case):
         for name, statuses in self.answers.items():
             self.assertIn(Status.OK, statuses, name)
             self.assertGreater(len(statuses), 1, name)
+
+
+class Examples(Case):
+    """Runs `examples/login.py`, which the pages quote."""
+
+    def setUp(self) -> None:
+        self.client, self.server = socket.socketpair()
+        self.addCleanup(self.client.close)
+        self.addCleanup(self.server.close)
+
+    def test_a_login(self) -> None:
+        record = Record.make(SHA_256, "pencil")
+        with ThreadPoolExecutor() as pool:
+            served = pool.submit(serve, self.server, {"user": record}.get)
+            self.assertEqual(log_in(self.client), b"")
+            self.assertEqual(served.result(), ("user", b""))
+
+    def test_a_wrong_password(self) -> None:
+        record = Record.make(SHA_256, "crayon")
+        with ThreadPoolExecutor() as pool:
+            served = pool.submit(serve, self.server, {"user": record}.get)
+            self.refused(Status.REFUSED_AUTH, log_in, self.client)
+            self.refused(Status.REFUSED_AUTH, served.result)
+
+    def test_few_iterations(self) -> None:
+        record = Record.make(SHA_256, "pencil", iterations=4095)
+        with ThreadPoolExecutor() as pool:
+            served = pool.submit(serve, self.server, {"user": record}.get)
+            self.refused(Status.CLIENT_ITERATION_COUNT_TOO_SMALL, log_in, self.client)
+            self.client.close()
+            self.assertRaises(ConnectionError, served.result)
+
+    def test_a_server_that_closes(self) -> None:
+        self.server.shutdown(socket.SHUT_WR)
+        self.assertRaises(ConnectionError, log_in, self.client)
+
+    def test_a_client_that_closes(self) -> None:
+        self.client.shutdown(socket.SHUT_WR)
+        self.assertRaises(ConnectionError, serve, self.server, {}.get)
 
 
 class Declarations(Case):

@@ -1,0 +1,1 @@
+"""Callers that the pages quote and the tests run."""
