@@ -161,9 +161,9 @@ pub struct Finding {
 }
 
 /// Audits two lists of bodies, of the client of this user and the server of these credentials. Returns a finding for
-/// each verifier that the client took and the server gave, and then one for each proof that the client showed and the
-/// server accepted, each by the client's position and then by the server's. The client accepts every iteration count
-/// from 1 on.
+/// each verifier that the client took and the server gave. A finding for each proof that the client showed and the
+/// server accepted follows. Both are ordered by the client's position and then by the server's. The client accepts
+/// every iteration count from 1 on.
 ///
 /// The only error is `OutOfMemory`, and nothing is done then.
 pub fn audit<C: ScramCredentialProvider>(

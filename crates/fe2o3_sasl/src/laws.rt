@@ -105,12 +105,11 @@ pub fn any_mechanism_users<A: HasMechanism, B: HasMechanism>()
     ensures offered { OfferedNamesUsers A.names B.names A.machine B.machine }
 {}
 
-/// Unknown users as a law of pairs. A server with mock authentication that has no record of a name gives the same
-/// replies to the same events as one that has the mock record of that name, in every state, with as many HMAC values
-/// for each. A server of two mechanisms, each over its own store, gives the same replies too. A stranger can thus learn
-/// of a name no more than whether its record is the mock record: a salt and two keys that are HMAC values under the
-/// server's secret, and the mock count. The salts of two mechanisms, or of two names, are HMAC values of two different
-/// texts.
+/// States what a server with mock authentication shows of an unknown user. Without a record of a name it gives the same
+/// replies to the same events as with the mock record of that name, in every state, with as many HMAC values for each.
+/// A server of two mechanisms, each over its own store, gives the same replies too. A stranger can thus learn of a name
+/// no more than whether its record is the mock record: a salt and two keys that are HMAC values under the server's
+/// secret, and the mock count. The salts of two mechanisms, or of two names, are HMAC values of two different texts.
 ///
 /// A server with mock authentication is a SCRAM server like any other: its provider has a record for each name, and
 /// every law of SCRAM servers holds of it. It accepts an unknown user only by a proof whose key has the mock StoredKey
@@ -168,9 +167,9 @@ pub fn one_audit_each()
     ensures { OneAuditEach }
 {}
 
-/// Among agreed findings of one kind, an Ok of a server is matched with two positions of a client only if the client's
-/// nonce was repeated, and a position of a client with two Oks of a server, both to an init of two parts, only if the
-/// server's was.
+/// States when a position is matched twice. Among agreed findings of one kind, an Ok of a server is matched with two
+/// positions of a client only if the client's nonce was repeated. A position of a client is matched with two Oks of a
+/// server, both to an init of two parts, only if the server's nonce was.
 pub fn repeated_nonces()
     ensures client { RepeatedClientPositions }
     ensures server { RepeatedServerPositions }
@@ -184,10 +183,13 @@ pub fn repeated_findings()
     ensures server { RepeatedServerFindings }
 {}
 
-/// A client logs in if no body is altered on the way, its secret opens the record that the server holds (a password
-/// that is printable ASCII or was passed as prepared, the keys of the record's password, salt and count, or such a
-/// password beside keys of another salt or count), the count is from 1 on and within the client's limits, no allocation
-/// fails, and no frame is too large. An audit of it has exactly two findings, and in both the sides agree.
+/// States when a login succeeds. The client logs in if
+/// - no body is altered on the way, no allocation fails, and no frame is too large;
+/// - its secret opens the server's record: a password that is printable ASCII or was passed as prepared, the keys of
+///   the record's password, salt and count, or such a password beside stale keys;
+/// - the count is from 1 on and within the client's limits.
+///
+/// An audit of it has exactly two findings, and in both the sides agree.
 pub fn unaltered_runs()
     ensures client { ClientsLogIn }
     ensures server { ServersLogIn }

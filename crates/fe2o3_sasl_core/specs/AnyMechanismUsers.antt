@@ -26,8 +26,8 @@ AsksPart names others part parts event = (mechanism : List ℕ) × (response hos
     × SpellsBody event.body (Ok (frames.Init mechanism response hostname))
     × (part_for names others parts (frames.Init mechanism response hostname) ≡ Some part)
 
--- a server that no init has reached, and that names a user after a run, names the user of the part asked last, by an
--- init of the run with a mechanism of that part
+-- a server that no init had reached before a run names after it only the user of the part asked last, by an init of the
+-- run with a mechanism of that part
 abbrev pub AnyMechanismNamesUsers : {S T : Type 0} → (S → List (List ℕ)) → (T → List (List ℕ)) → Machine S → Machine T → Type 0
 AnyMechanismNamesUsers {S} {T} names others machine other = (user : S → Option (List ℕ)) (other_user : T → Option (List ℕ))
     (parts last : BothStates S T) (events : List Given) (replies : List ServerSays) (name : List ℕ)
@@ -46,8 +46,8 @@ AsksOffered {S} {T} names others part offering event = (mechanism : List ℕ) ×
     × (is_passed_on (λ (parts : BothStates S T). both_names (names parts.first) (others parts.second)) offering
     (frames.Init mechanism response hostname) ≡ true)
 
--- a server that offers only some names, and that names a user after a run, names the user of the part asked last, by an
--- init of the run with an offered mechanism of that part
+-- a server that offers only some names, and that no init had reached before a run, names after it only the user of the
+-- part asked last, by an init of the run with an offered mechanism of that part
 abbrev pub OfferedNamesUsers : {S T : Type 0} → (S → List (List ℕ)) → (T → List (List ℕ)) → Machine S → Machine T
     → Type 0
 OfferedNamesUsers {S} {T} names others machine other = (user : S → Option (List ℕ))

@@ -103,7 +103,7 @@ impl ClientPolicy {
         Self { limits, ..self }
     }
 
-    /// Allows EXTERNAL too, if nothing stronger is offered.
+    /// Allows EXTERNAL too, if nothing stronger can be selected.
     pub fn or_external(self) -> Self
         ensures { result ≡ record self { external = true } }
     {
@@ -113,7 +113,7 @@ impl ClientPolicy {
         }
     }
 
-    /// Allows PLAIN too, if nothing stronger is offered. It shows the password to anyone who reads the connection:
+    /// Allows PLAIN too, if nothing stronger can be selected. It shows the password to anyone who reads the connection:
     /// allow it only under TLS.
     pub fn allow_plain(self) -> Self
         ensures { result ≡ record self { plain = true } }
@@ -124,7 +124,7 @@ impl ClientPolicy {
         }
     }
 
-    /// Allows ANONYMOUS too, if nothing stronger is offered.
+    /// Allows ANONYMOUS too, if nothing stronger can be selected.
     pub fn or_anonymous(self) -> Self
         ensures { result ≡ record self { anonymous = true } }
     {

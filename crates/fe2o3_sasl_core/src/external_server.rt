@@ -49,8 +49,8 @@ impl ExternalServer {
         })
     }
 
-    /// Returns this acceptor as a login of its user leaves it: it names that user. The caller vouches that the user
-    /// with the name from the transport has logged in, since no message is checked.
+    /// Returns this acceptor in the state after a login of its user, whom it then names. The caller vouches that the
+    /// user with the name from the transport has logged in, since no message is checked.
     pub fn restore_authenticated(self) -> Self
         ensures { external_of result ≡ record { user = (external_of self).user; accepted = true } }
     {

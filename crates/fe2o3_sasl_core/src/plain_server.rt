@@ -31,11 +31,14 @@ const NO_SALT: [u8; 16] = [0; 16];
 /// An acceptor of PLAIN for the users of a store, which tests the password against the user's SCRAM record. PLAIN sends
 /// the password itself, so offer it only under TLS.
 ///
-/// An init logs a user in if its message is UTF-8 in three parts with zero bytes between them, if the first part, the
-/// identity to act as, is empty or the user's name, and if the password is that of the user's record, printable ASCII
-/// of 1 to 1024 bytes. Every other init is answered by Auth and changes nothing, and so is a response. A password that
-/// is to be tested is hashed for an unknown user too, with the server's own iteration count, and takes as many HMAC
-/// values as the record of a known user with that count.
+/// An init logs a user in if
+/// - its message is UTF-8 in three parts with zero bytes between them;
+/// - the first part, the identity to act as, is empty or the user's name;
+/// - the password is that of the user's record, printable ASCII of 1 to 1024 bytes.
+///
+/// Every other init is answered by Auth and changes nothing, and so is a response. An unknown user's password is hashed
+/// too, with the server's own iteration count. That takes as many HMAC values as the record of a known user with this
+/// count.
 #[derive(Drop)]
 pub struct PlainServer<C: ScramCredentialProvider> {
     credentials: C,
@@ -63,9 +66,9 @@ impl<C: ScramCredentialProvider> PlainServer<C> {
         &self.credentials
     }
 
-    /// Returns this acceptor as a login of this user leaves it: it names that user. The caller vouches for the name,
-    /// since no message is checked. Pass the name that `authenticated_user` returned when the server was saved. No
-    /// password and no record is needed.
+    /// Returns this acceptor in the state after a login of this user, whom it then names. The caller vouches for the
+    /// name, since no message is checked. Pass the name that `authenticated_user` returned when the server was saved.
+    /// No password and no record is needed.
     ///
     /// The only error is `OutOfMemory`.
     pub fn restore_authenticated(self, alloc: Global, username: &str) -> Result<Self, OutOfMemory>

@@ -43,8 +43,8 @@ impl<T: Drop> From<AllocFailed<T>> for OfferError {
     }
 }
 
-/// An acceptor that offers only those of its names that it may. An init of another mechanism is answered by Auth and
-/// changes nothing; every other frame is answered by the inner acceptor. A clone shares the names.
+/// An acceptor that offers only the allowed names of an inner acceptor. An init of another mechanism is answered by
+/// Auth and changes nothing; every other frame is answered by the inner acceptor. A clone shares the names.
 #[derive(Drop)]
 pub struct RestrictMechanisms<A> {
     acceptor: A,

@@ -80,7 +80,7 @@ pub trait SaslAcceptor: Clone {
         ensures memory { IfErr result (λ _. allocates (state self.old) (response_frame response)) }
         ensures err { OnErr result (state self.new ≡ state self.old) };
 
-    /// Like `on_init`. The meter, of at most 2^63, counts the HMAC values, also of an error. An acceptor that makes
+    /// Like `on_init`; the meter, of at most 2^63, counts the HMAC values, also of an error. An acceptor that makes
     /// none keeps this default.
     fn on_init_metered(
         &mut self,
@@ -120,7 +120,7 @@ pub trait SaslAcceptor: Clone {
     ghost clone_keeps: { (acceptor copy : Self) → Self.is_clone acceptor copy → state copy ≡ state acceptor };
 }
 
-/// The offer of every acceptor.
+/// The frame that every acceptor offers.
 pub trait SaslAcceptorExt: SaslAcceptor {
     /// Returns the frame of the acceptor's mechanisms: only ANONYMOUS if it names none.
     fn sasl_mechanisms(&self, alloc: Global) -> Result<SaslMechanisms, OutOfMemory>
@@ -212,8 +212,8 @@ impl SaslPlainMechanism {
         }
     }
 
-    /// Returns this acceptor as a login of its user leaves it: it names that user. The caller vouches that the user has
-    /// logged in, since no message is checked. The password is not saved: the acceptor has it.
+    /// Returns this acceptor in the state after a login of its user, whom it then names. The caller vouches that the
+    /// user has logged in, since no message is checked. The password is not saved: the acceptor has it.
     pub fn restore_authenticated(self) -> Self
         ensures { plain_acceptor result ≡ PlainAcceptor (string_bytes self.username) (string_bytes self.password) true }
     {

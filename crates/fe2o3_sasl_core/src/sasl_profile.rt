@@ -284,7 +284,7 @@ impl SaslProfile {
         self.on_frame_metered(alloc, frame, hostname, nonce, &mut Meter::new())
     }
 
-    /// Like `on_frame`. The meter, of at most 2^63, counts the HMAC values. SCRAM's answer to a challenge makes two by
+    /// Like `on_frame`; the meter, of at most 2^63, counts the HMAC values. SCRAM's answer to a challenge makes two by
     /// keys, by the password four more than the iterations, and none for an error; other frames make none.
     pub fn on_frame_metered(
         &mut self,

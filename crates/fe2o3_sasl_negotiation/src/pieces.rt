@@ -114,8 +114,8 @@ pub fn server_connection<A: AuthenticatedUser + Drop>(
 }
 
 /// Like [`server_connection`], for a SCRAM server over these credentials that no connection has used: the headline
-/// theorem over bytes. It has logged a client in exactly if it sent an Ok, which it answers only to a response that
-/// fits its open challenge and whose proof meets the stored key, and it names the user of that challenge.
+/// theorem over bytes. It has logged a client in exactly if it sent an Ok, and it names the user of the challenge. It
+/// answers Ok only to a response that fits its open challenge and whose proof meets the stored key.
 pub fn scram_server_connection<C: ScramCredentialProvider>(
     alloc: Global,
     credentials: &C,

@@ -121,9 +121,12 @@ impl FrameCodec {
     }
 
     /// Reads one frame from the front of a buffer and takes its bytes; later bytes stay. Errors, in this order:
-    /// DecodeError for fewer than four bytes, NotImplemented for another type than 1 or data offset than 2, DecodeError
-    /// for any other bytes that begin with no frame, and OutOfMemory if allocation fails. An error leaves the buffer
-    /// unchanged. Each frame's symbols are ASCII and its hostname is UTF-8.
+    /// - DecodeError for fewer than four bytes;
+    /// - NotImplemented for another type than 1 or data offset than 2;
+    /// - DecodeError for any other bytes that begin with no frame;
+    /// - OutOfMemory if allocation fails.
+    ///
+    /// An error leaves the buffer unchanged. Each frame's symbols are ASCII and its hostname is UTF-8.
     pub fn decode(&mut self, alloc: Global, src: &mut BytesMut) -> Result<Frame, Error>
         ensures ok { IfOk result (λ frame. TakesFrame src.old.items src.new.items (owned_frame frame)) }
         ensures texts { IfOk result (λ frame. HasTexts (owned_frame frame)) }

@@ -10,8 +10,8 @@ use Rattle.fe2o3_scram.specs.ScramServer.{ServerState, ServerFirstSent, ServerFi
 use Rattle.fe2o3_scram.specs.ServerFinal.{ReadsServerFinal}
 use Rattle.fe2o3_scram.specs.ServerFirst.{ServerChallenge}
 
--- the text logs this user in: a challenge to this user is open, and the text is a client-final message to it that passes
--- every test, the last being that its proof meets the stored key of the record that the challenge was made with
+-- the text logs this user in: a challenge to this user is open, and the text is a client-final message to it that
+-- passes every test; the last is that its proof meets the stored key of the challenge's record
 pub record TextLogsIn (version : ScramVersion) (state : ServerState) (text user : List ℕ) : Type 0 where
   pub challenge : ServerChallenge
   pub stored : Record

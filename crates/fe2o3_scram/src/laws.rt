@@ -143,9 +143,9 @@ pub fn texts_without_memory()
     ensures commas { CommasTakeNone }
 {}
 
-/// States what the state of a server is. Two servers with one open challenge, one record that it was made
-/// with and one user who has logged in are in one state, so `open_challenge`, the record and
-/// `authenticated_user` are enough to restore a server.
+/// States what the state of a server is. Two servers with the same open challenge, record of that challenge and
+/// logged-in user are in one state. So `open_challenge`, the record and `authenticated_user` are enough to restore a
+/// server.
 pub fn saved_servers()
     ensures { StatesAreReported }
 {}

@@ -65,7 +65,7 @@ impl ScramVersion {
         self.h_i_metered(alloc, password, salt, iterations, &mut Meter::new())
     }
 
-    /// Like `h_i`. The meter, of at most 2^63, counts the HMAC values, one for each iteration.
+    /// Like `h_i`; the meter, of at most 2^63, counts the HMAC values, one for each iteration.
     ///
     /// If `OutOfMemory` is returned the meter shows from 0 to `iterations` more than before.
     pub fn h_i_metered(

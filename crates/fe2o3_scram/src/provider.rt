@@ -8,7 +8,7 @@ use crate::hmac::ScramVersion;
 use std::fmt;
 use std::rc::Rc;
 
-/// What is kept of a password, borrowed from a provider.
+/// The record of a password, borrowed from a provider.
 #[derive(Drop)]
 pub struct StoredPassword<'a> {
     /// The salt, of any length.
@@ -35,11 +35,10 @@ impl fmt::Debug for StoredPassword<'_> {
     }
 }
 
-/// A store of credentials: a version, and a finite map from user names to what is kept of their
-/// passwords. User names are plain, and not escaped.
+/// A store of credentials: a version, and a finite map from user names to records. User names are plain, not escaped.
 ///
-/// A store of a caller's own means its entries in their order, as `records_in` of `specs/Stores.antt`
-/// says it, and shows its look-up by a lemma of `proofs/lemmas/providers/LookUpLemmas.antt`:
+/// The meaning of a caller-owned store is its entries in order, by `records_in` of `specs/Stores.antt`. Its look-up is
+/// proved by a lemma of `proofs/lemmas/providers/LookUpLemmas.antt`:
 /// `slice_looked_up` for the first of a name in a slice, `hash_map_looked_up` and
 /// `btree_map_looked_up` for `get` of a map, `looked_up` for any test of names. With a map from names
 /// to records the look-up is a function of one line, and its proof one line besides the imports:

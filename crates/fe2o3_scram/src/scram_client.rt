@@ -241,7 +241,7 @@ impl ScramClient {
         self.compute_client_final_message_metered(alloc, server_first, &mut Meter::new())
     }
 
-    /// Like `compute_client_final_message`. The meter, of at most 2^63, counts the HMAC values: two by keys, by the
+    /// Like `compute_client_final_message`; the meter, of at most 2^63, counts the HMAC values: two by keys, by the
     /// password four more than the iterations, and none for an error.
     pub fn compute_client_final_message_metered(
         &mut self,

@@ -240,7 +240,7 @@ impl<C: ScramCredentialProvider> ScramAuthenticator<C> {
         )
     }
 
-    /// Like `compute_server_first_message`. The meter, of at most 2^63, counts the HMAC values. There are none without
+    /// Like `compute_server_first_message`; the meter, of at most 2^63, counts the HMAC values. There are none without
     /// mock authentication. With it there are three if the message is read, for a known user too, none if it is
     /// rejected, and at most three if the call runs out of memory.
     pub fn compute_server_first_message_metered(
@@ -307,7 +307,7 @@ impl<C: ScramCredentialProvider> ScramAuthenticator<C> {
         self.compute_server_final_message_metered(alloc, client_final_message, &mut Meter::new())
     }
 
-    /// Like `compute_server_final_message`. The meter, of at most 2^63, counts the HMAC values, also of an error.
+    /// Like `compute_server_final_message`; the meter, of at most 2^63, counts the HMAC values, also of an error.
     pub fn compute_server_final_message_metered(
         &mut self,
         alloc: Global,

@@ -209,7 +209,7 @@ shifted =
       response = binds nonce;
     }
 
--- the two lists are histories, the client takes the server's verifier and shows it the proof that it accepts, and both
+-- the two lists are histories; the client takes the server's verifier and shows it the proof that it accepts; and both
 -- are judged to agree on user name and client nonce, and on nothing more: the init has five parts, and the sides mean
 -- two nonces
 pub record IsShifted (sides : Sides) (answer : Answering) (accepted : Accepted) : Type 0 where

@@ -70,7 +70,7 @@ impl ScramRecord {
         )
     }
 
-    /// Like `mock`. The meter, of at most 2^63, counts three HMAC values, also if the call runs out of memory.
+    /// Like `mock`; the meter, of at most 2^63, counts three HMAC values, also if the call runs out of memory.
     pub fn mock_metered(
         alloc: Global,
         scram_version: ScramVersion,

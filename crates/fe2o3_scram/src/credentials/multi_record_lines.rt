@@ -61,8 +61,8 @@ impl MultiRecordStore {
     ///
     /// Users that `parse_lines` has read are written as the text that it read.
     ///
-    /// The errors are `UserNotWritable`, exactly if a user's name has a line feed or a record has the count 0 or a key
-    /// that is not as long as a digest, and `OutOfMemory`, only if there is a user.
+    /// The errors are `UserNotWritable`, exactly if a name has a line feed, a count is 0, or a key is not as long as a
+    /// digest, and `OutOfMemory`, only if there is a user.
     pub fn to_lines(&self, alloc: Global) -> Result<Vec<u8>, WriteLinesError>
         ensures ok { IfOk result (λ text. text.items ≡ mixed_text self.now) }
         ensures refused { (result ≡ Err WriteLinesError.UserNotWritable)

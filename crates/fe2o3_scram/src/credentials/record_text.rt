@@ -70,9 +70,13 @@ impl ScramRecord {
     /// sign, the count in decimal, a colon, the salt, a dollar sign, the stored key, a colon and the server key. Salt
     /// and keys are base64, and there are no spaces.
     ///
-    /// The errors are, in this order: `PartsMismatch` if the text does not have these five fields, `UnknownMechanism`,
-    /// `IterationCountParseError` (also for a count of 0 or with a sign or a leading zero), `Base64DecodeError` for the
-    /// salt, the stored key or the server key, and `KeyLengthMismatch` if a key is not as long as a digest.
+    /// The errors are, in this order:
+    /// - `PartsMismatch` if the text does not have these five fields;
+    /// - `UnknownMechanism`;
+    /// - `IterationCountParseError`, also for a count of 0 or with a sign or a leading zero;
+    /// - `Base64DecodeError` for the salt, the stored key or the server key;
+    /// - `KeyLengthMismatch` if a key is not as long as a digest.
+    ///
     /// `OutOfMemory` is returned only if none of the first three applies.
     pub fn parse(alloc: Global, text: &str) -> Result<Self, RecordTextError>
         ensures { Gives RecordTextError.OutOfMemory (ReachesValues text.now) (λ (read : VersionedRecord). read) result

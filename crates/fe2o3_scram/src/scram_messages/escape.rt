@@ -73,8 +73,10 @@ pub(crate) fn escaped_len(username: &[u8]) -> usize {
 /// Returns the user name that the text spells (RFC 5802, section 5.1, `saslname`), borrowed if the text has no equals
 /// sign. The text is what follows `n=` in a client-first message.
 ///
-/// The errors are `Invalid`, for a text with a comma, or with an equals sign that neither `2C` nor `3D` follows in
-/// these very letters (`=2c` is invalid), and `OutOfMemory`, only for a text that spells a name and has an equals sign.
+/// The errors are
+/// - `Invalid`, for a text with a comma, or with an equals sign that neither `2C` nor `3D` follows in these very
+///   letters (`=2c` is invalid);
+/// - `OutOfMemory`, only for a text that spells a name and has an equals sign.
 #[tactic(auto, using(crate::proofs::lemmas::texts::EscapingLemmas::names))]
 pub fn unescape_username(alloc: Global, text: &str) -> Result<CowStr<'_>, UnescapeError>
     ensures ok { IfOk result (λ name. escaped (cow_str_bytes name) ≡ text.now) }

@@ -60,7 +60,7 @@ impl ScramVersion {
         )
     }
 
-    /// Like `compute_server_final_message`. The meter, of at most 2^63, counts the HMAC values, also of an error.
+    /// Like `compute_server_final_message`; the meter, of at most 2^63, counts the HMAC values, also of an error.
     pub fn compute_server_final_message_metered(
         &self,
         alloc: Global,

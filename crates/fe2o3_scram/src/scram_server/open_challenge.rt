@@ -103,9 +103,9 @@ impl<C: ScramCredentialProvider> ScramAuthenticator<C> {
         })
     }
 
-    /// Returns this server as a login of this user leaves it: it names that user. The caller vouches for
-    /// the name, since no message is checked. Pass the name that `authenticated_user` returned when the server was
-    /// saved. No password, key or record is needed beside it.
+    /// Returns this server in the state after a login of this user, whom it then names. The caller vouches for the
+    /// name, since no message is checked. Pass the name that `authenticated_user` returned when the server was saved.
+    /// No password, key or record is needed.
     ///
     /// The only error is `OutOfMemory`.
     pub fn restore_authenticated(self, alloc: Global, username: &str) -> Result<Self, OutOfMemory>
