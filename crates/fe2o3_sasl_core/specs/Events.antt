@@ -15,7 +15,7 @@ use Rattle.fe2o3_scram.specs.ClientKeys.{AreSized}
 use Rattle.fe2o3_scram.specs.ClientSecret.{Secret, Password, Keys, Both}
 use Rattle.fe2o3_scram.specs.Credentials.{Record}
 
--- an event: the body of a frame as received, and the 32 bytes of a nonce, if the answer needs one
+-- an event: the body of a frame as received, and 32 bytes, the nonce of an answer that needs one
 pub record Given : Type 0 where
   pub body : List ℕ
   pub nonce : List ℕ

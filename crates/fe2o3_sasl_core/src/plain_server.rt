@@ -36,9 +36,9 @@ const NO_SALT: [u8; 16] = [0; 16];
 /// - the first part, the identity to act as, is empty or the user's name;
 /// - the password is that of the user's record, printable ASCII of 1 to 1024 bytes.
 ///
-/// Every other init is answered by Auth and changes nothing, and so is a response. An unknown user's password is hashed
-/// too, with the server's own iteration count. That takes as many HMAC values as the record of a known user with this
-/// count.
+/// Every other init is answered by Auth and changes nothing, and so is a response. A password that is to be tested is
+/// hashed for an unknown user too, with the server's own iteration count. That takes as many HMAC values as the record
+/// of a known user with this count.
 #[derive(Drop)]
 pub struct PlainServer<C: ScramCredentialProvider> {
     credentials: C,
