@@ -246,23 +246,22 @@ enum fe2o3_status {
     FE2O3_CLIENT_BASE64_DECODE_ERROR = 26,
     /* The third part of the server-first message does not begin with `i=`. */
     FE2O3_CLIENT_ITERATION_COUNT_NOT_FOUND = 27,
-    /* The iteration count is no number from 1 to 4294967295. */
+    /* The iteration count is not a number from 1 to 4294967295. */
     FE2O3_CLIENT_ITERATION_COUNT_PARSE_ERROR = 28,
-    /* The iteration count is below the least that the client accepts. */
+    /* The iteration count is below the client's minimum. */
     FE2O3_CLIENT_ITERATION_COUNT_TOO_SMALL = 29,
-    /* The iteration count is above the client's limit. */
+    /* The iteration count is above the client's maximum. */
     FE2O3_CLIENT_ITERATION_COUNT_TOO_LARGE = 30,
     /* The password is not printable ASCII. */
     FE2O3_CLIENT_NORMALIZE_ERROR = 31,
-    /* The message names another salt or another iteration count than the client's keys are of, and the
-     * client has no password. Whoever is on the way can bring this about: it is no reason to forget the
-     * keys. */
+    /* The client has only keys, and the message names another salt or iteration count than theirs. A man in the middle
+     * can cause this: it is no reason to forget the keys. */
     FE2O3_CLIENT_STALE_KEYS = 32,
-    /* Never answered, since HMAC takes keys of every length. */
+    /* Never returned, since HMAC takes keys of every length. */
     FE2O3_CLIENT_HMAC_ERROR_INVALID_LENGTH = 33,
-    /* Never answered by the client, whose texts of an exclusive or are digests of one hash. */
+    /* Never returned by the client, which XORs only digests of one hash. */
     FE2O3_CLIENT_XOR_LENGTH_MISMATCH = 34,
-    /* The message does not come in this state of the client. */
+    /* The client does not expect the message in this state. */
     FE2O3_CLIENT_ILLEGAL_CLIENT_STATE = 35,
     /* The server-final message does not begin with `v=`, or has another signature. */
     FE2O3_CLIENT_SERVER_SIGNATURE_MISMATCH = 36,
@@ -270,12 +269,12 @@ enum fe2o3_status {
     FE2O3_SERVER_UTF8_ERROR = 40,
     /* The client-first message does not begin with `n,,`. */
     FE2O3_SERVER_CANNOT_PARSE_GS2_HEADER = 41,
-    /* The client-first message does not name a user: the first part behind the header does not
-     * begin with `n=`, or goes on with a text that no user name is escaped to. */
+    /* The client-first message does not name a user: the first part after the header does not begin with `n=`, or goes
+     * on with a text that escapes no user name. */
     FE2O3_SERVER_CANNOT_PARSE_USERNAME = 42,
     /* The second part of the client-first message is absent or does not begin with `r=`. */
     FE2O3_SERVER_CANNOT_PARSE_CLIENT_NONCE = 43,
-    /* Never answered, since HMAC takes keys of every length. */
+    /* Never returned, since HMAC takes keys of every length. */
     FE2O3_SERVER_HMAC_ERROR_INVALID_LENGTH = 44,
     /* The proof is not as long as a digest. */
     FE2O3_SERVER_XOR_LENGTH_MISMATCH = 45,
@@ -298,9 +297,9 @@ enum fe2o3_status {
     FE2O3_SERVER_ILLEGAL_AUTHENTICATOR_STATE = 53,
     /* The text does not have five fields: parts are missing or left over. */
     FE2O3_RECORD_PARTS_MISMATCH = 60,
-    /* The first field is the name of no mechanism that is known here. */
+    /* The first field is not the name of a known mechanism. */
     FE2O3_RECORD_UNKNOWN_MECHANISM = 61,
-    /* The second field is no number from 1 to 4294967295 in decimal without a sign or leading zeros. */
+    /* The second field is not a number from 1 to 4294967295 in decimal without a sign or leading zeros. */
     FE2O3_RECORD_ITERATION_COUNT_PARSE_ERROR = 62,
     /* The salt or a key is not base64. */
     FE2O3_RECORD_BASE64_DECODE_ERROR = 63,

@@ -73,29 +73,29 @@ pub const CLIENT_BASE64_DECODE_ERROR: u32 = 26;
 /// The third part of the server-first message does not begin with `i=`.
 pub const CLIENT_ITERATION_COUNT_NOT_FOUND: u32 = 27;
 
-/// The iteration count is no number from 1 to 4294967295.
+/// The iteration count is not a number from 1 to 4294967295.
 pub const CLIENT_ITERATION_COUNT_PARSE_ERROR: u32 = 28;
 
-/// The iteration count is below the least that the client accepts.
+/// The iteration count is below the client's minimum.
 pub const CLIENT_ITERATION_COUNT_TOO_SMALL: u32 = 29;
 
-/// The iteration count is above the client's limit.
+/// The iteration count is above the client's maximum.
 pub const CLIENT_ITERATION_COUNT_TOO_LARGE: u32 = 30;
 
 /// The password is not printable ASCII.
 pub const CLIENT_NORMALIZE_ERROR: u32 = 31;
 
-/// The message names another salt or another iteration count than the client's keys are of, and the client has no
-/// password. Whoever is on the way can bring this about: it is no reason to forget the keys.
+/// The client has only keys, and the message names another salt or iteration count than theirs. A man in the middle can
+/// cause this: it is no reason to forget the keys.
 pub const CLIENT_STALE_KEYS: u32 = 32;
 
-/// Never answered, since HMAC takes keys of every length.
+/// Never returned, since HMAC takes keys of every length.
 pub const CLIENT_HMAC_ERROR_INVALID_LENGTH: u32 = 33;
 
-/// Never answered by the client, whose texts of an exclusive or are digests of one hash.
+/// Never returned by the client, which XORs only digests of one hash.
 pub const CLIENT_XOR_LENGTH_MISMATCH: u32 = 34;
 
-/// The message does not come in this state of the client.
+/// The client does not expect the message in this state.
 pub const CLIENT_ILLEGAL_CLIENT_STATE: u32 = 35;
 
 /// The server-final message does not begin with `v=`, or has another signature.
@@ -107,14 +107,14 @@ pub const SERVER_UTF8_ERROR: u32 = 40;
 /// The client-first message does not begin with `n,,`.
 pub const SERVER_CANNOT_PARSE_GS2_HEADER: u32 = 41;
 
-/// The client-first message does not name a user: the first part behind the header does not begin with `n=`, or goes on
-/// with a text that no user name is escaped to.
+/// The client-first message does not name a user: the first part after the header does not begin with `n=`, or goes on
+/// with a text that escapes no user name.
 pub const SERVER_CANNOT_PARSE_USERNAME: u32 = 42;
 
 /// The second part of the client-first message is absent or does not begin with `r=`.
 pub const SERVER_CANNOT_PARSE_CLIENT_NONCE: u32 = 43;
 
-/// Never answered, since HMAC takes keys of every length.
+/// Never returned, since HMAC takes keys of every length.
 pub const SERVER_HMAC_ERROR_INVALID_LENGTH: u32 = 44;
 
 /// The proof is not as long as a digest.
@@ -147,10 +147,10 @@ pub const SERVER_ILLEGAL_AUTHENTICATOR_STATE: u32 = 53;
 /// The text does not have five fields: parts are missing or left over.
 pub const RECORD_PARTS_MISMATCH: u32 = 60;
 
-/// The first field is the name of no mechanism that is known here.
+/// The first field is not the name of a known mechanism.
 pub const RECORD_UNKNOWN_MECHANISM: u32 = 61;
 
-/// The second field is no number from 1 to 4294967295 in decimal without a sign or leading zeros.
+/// The second field is not a number from 1 to 4294967295 in decimal without a sign or leading zeros.
 pub const RECORD_ITERATION_COUNT_PARSE_ERROR: u32 = 62;
 
 /// The salt or a key is not base64.

@@ -14,7 +14,7 @@ use Rattle.fe2o3_sasl_negotiation.specs.Laws.{Call, Calls}
 use Rattle.fe2o3_sasl_negotiation.specs.Negotiations.{Side, SideOutput, Receives}
 use Rattle.fe2o3_sasl_negotiation.specs.ServerNegotiation.{ServerSideAnswers}
 
--- the machine has one reply at most to each frame, and one state after it
+-- the machine has at most one reply to each frame, and one state after it
 abbrev pub IsFunction : {S : Type 0} → Machine S → Type 0
 IsFunction {S} machine = (state : S) (nonce : List ℕ) (frame reply other : SaslFrame) (next last : S)
     → machine state nonce frame reply next → machine state nonce frame other last → (reply ≡ other) × (next ≡ last)
@@ -50,11 +50,11 @@ ServersNegotiateEqually {S} machine = (limit : ℕ) (state : S) (pieces others :
     → HaveOneNonceEach pieces others taken
     → (first.events ≡ second.events) × (first.replies ≡ second.replies) × EndEqually sent out last end
 
--- every two of a server whose machine is a function
+-- every two connections of a server whose machine is a function negotiate equally
 abbrev pub FunctionsNegotiateEqually : {S : Type 0} → Machine S → Type 0
 FunctionsNegotiateEqually machine = IsFunction machine → ServersNegotiateEqually machine
 
--- and every two connections of clients, after the server's header
+-- every two connections of clients from one state over the same bytes, after the server's header, negotiate equally
 abbrev pub ClientsNegotiateEqually : Type 0
 ClientsNegotiateEqually = (hostname : Option (List ℕ)) (limit : ℕ) (profile : Profile) (pieces others : List Piece)
     (taken sent out : List ℕ) (last end : Side Profile) → limit < 2 ^ 32
@@ -73,11 +73,11 @@ ServersEndEqually {S} names machine = (limit : ℕ) (state : S) (pieces others :
     → ServerConnection names machine limit state others taken out end → HaveOneNonceEach pieces others taken
     → EndEqually sent out last end
 
--- every two of a server whose machine is a function
+-- every two connections of a server whose machine is a function end equally
 abbrev pub FunctionsEndEqually : {S : Type 0} → (S → List (List ℕ)) → Machine S → Type 0
 FunctionsEndEqually names machine = IsFunction machine → ServersEndEqually names machine
 
--- and every two connections of clients
+-- every two connections of clients end equally
 abbrev pub ClientsEndEqually : Type 0
 ClientsEndEqually = (hostname : Option (List ℕ)) (limit : ℕ) (profile : Profile) (pieces others : List Piece)
     (taken sent out : List ℕ) (last end : Side Profile) → limit < 2 ^ 32
@@ -105,7 +105,7 @@ taken_pieces Answers side (call ∷ calls) stream sent last rest (taken, first, 
     record { bytes = take taken (take call.handed stream); nonce = call.nonce }
     ∷ taken_pieces Answers next calls (drop taken stream) later last rest made
 
--- likewise of such calls
+-- the bytes that each of such calls took, with its nonce
 abbrev pub pieces_of : {S : Type 0} (Answers : Expected → S → List ℕ → List ℕ → SideOutput → S → Type 0) (side : Side S)
     (stream : List ℕ) → CallsOver Answers side stream → List Piece
 pieces_of Answers side stream over =
@@ -136,15 +136,15 @@ CallsEndEqually {S} Answers state = (limit : ℕ) (stream : List ℕ) → limit 
     (pieces_of Answers (fresh limit state) stream second) stream
     → HaveOneResult first second
 
--- those of a server, from each state
+-- the calls of a server end equally, from each state
 abbrev pub ServerCallsEndEqually : {S : Type 0} → (S → List (List ℕ)) → Machine S → Type 0
 ServerCallsEndEqually {S} names machine = (state : S) → CallsEndEqually (ServerSideAnswers names machine) state
 
--- of every server whose machine is a function
+-- the calls of every server whose machine is a function end equally
 abbrev pub FunctionCallsEndEqually : {S : Type 0} → (S → List (List ℕ)) → Machine S → Type 0
 FunctionCallsEndEqually names machine = IsFunction machine → ServerCallsEndEqually names machine
 
--- and those of a client
+-- the calls of a client end equally
 abbrev pub ClientCallsEndEqually : Type 0
 ClientCallsEndEqually = (hostname : Option (List ℕ)) (profile : Profile)
     → CallsEndEqually (ClientSideAnswers hostname) profile

@@ -1,5 +1,5 @@
--- Connections that there are not. Each definition is what a wrong implementation would do, or what a weak reading of the
--- laws of connections would allow (AMQP 1.0, part 5, section 5.3.2). `hostile::none` states that nothing is so.
+-- Connections that do not exist. Each definition is what a wrong implementation would do, or what a weak reading of the
+-- laws of connections would allow (AMQP 1.0, part 5, section 5.3.2). `hostile::none` states that there are none.
 use Rattle.std.specs.Prelude.{◌≡◌, ◌≢◌, ℕ, ◌+◌, ◌<◌, ◌≤◌, ◌^◌, true, Option, Some, None, List, [], ◌∷◌, ◌++◌, length, flat_map, slice_get, Ok}
 use Rattle.std.specs.List.{AllByRecursion}
 use Rattle.fe2o3_sasl_wire.specs.SaslFrames as frames
@@ -40,7 +40,7 @@ IgnoresResponse machine = (init : List ℕ) × (body : List ℕ) × (more : List
     × Fits served.limit (length body + 4) × SpellsTurn turns.Response body × (served.negotiated.events ≡ event ∷ [])
     × (served.negotiated.replies ≡ Challenged challenge ∷ []) × (length challenge + 4 ≤ 512)
 
--- a frame arrives first, and the first answered body is another: a server that answers what nobody sent
+-- a frame arrives first, and the first answered body is another: a server that answers what was not sent
 abbrev pub AnswersOther : {S : Type 0} → Machine S → Type 0
 AnswersOther machine = (body : List ℕ) × (more : List ℕ) × (event : Given) × (events : List Given)
     × (served : ServedOver machine (framed body ++ more)) × Fits served.limit (length body + 4)
@@ -103,7 +103,7 @@ SendsBeyondOffer {S} names machine = (limit : ℕ) × (state : S) × (pieces : L
     × ServerConnection names machine limit state pieces sasl_header sent last
     × (offer_body (names state) ≡ Some offer) × (sent ≡ sasl_header ++ (framed offer ++ more)) × (more ≢ [])
 
--- the bodies of a server's replies, in order. A fault has none
+-- the bodies of a server's replies, in order. An error has none
 abbrev pub said : List ServerSays → List (List ℕ)
 said [] = []
 said (Challenged body ∷ replies) = body ∷ said replies

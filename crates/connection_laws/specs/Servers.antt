@@ -40,8 +40,8 @@ AnyMechanismServersSplit {S} {T} names others machine other = (state : BothState
     → (marks : List (Option Selected))
     × Splits names others machine other state server.connection.events server.connection.replies server.last.state marks
 
--- every run of this machine from its first state serves as a SCRAM server. What went to a SCRAM acceptor is one, by
--- `Splits`, and what was passed on to it, by `PassesOn`
+-- every run of this machine from its first state serves as a SCRAM server. This applies to what went to a SCRAM
+-- acceptor, by `Splits`, and to what was passed on to it, by `PassesOn`
 abbrev pub ScramRunsServe : {S : Type 0} → Machine S → (Provider → S) → (S → Option (List ℕ)) → Type 0
 ScramRunsServe {S} machine start named = (provider : Provider) (events : List Given) (replies : List ServerSays)
     (last : S) → Runs (AcceptorSteps machine) (start provider) events replies last
@@ -63,8 +63,9 @@ offering_both {S} {T} names others machine other =
     offering_machine (λ (parts : BothStates S T). both_names (names parts.first) (others parts.second))
     (any_mechanism_machine names others machine other)
 
--- where such a server, which nobody had asked, names a user by these names of its acceptors, that is the name by the
--- acceptor asked last, and an init of the negotiation asked it, by a mechanism of that acceptor that was offered
+-- a server of two acceptors that offers only some of their names, and that no init had reached, names after a
+-- negotiation only the user of the acceptor asked last; an init of the negotiation asked it, by an offered mechanism of
+-- that acceptor
 abbrev pub OfferingServersNameUsers : {S T : Type 0} → (S → List (List ℕ)) → (T → List (List ℕ)) → Machine S
     → Machine T → Type 0
 OfferingServersNameUsers {S} {T} names others machine other = (user : S → Option (List ℕ))
@@ -96,7 +97,7 @@ NegotiatesAs whole state server machine begin end =
     (own : ServerNegotiated machine server.limit begin server.pieces server.taken server.sent (side_with end server.last))
     × (own.events ≡ server.connection.events) × (own.replies ≡ server.connection.replies)
 
--- and one of this part of a server of two acceptors
+-- the bytes are a negotiation of this part of a server of two acceptors too
 abbrev pub PartNegotiates : {S T : Type 0} (whole : Machine (BothStates S T)) (state : BothStates S T)
     → ServerBy whole state → Machine S → Machine T → Selected → Type 0
 PartNegotiates whole state server machine other First =
@@ -112,7 +113,8 @@ AnyMechanismServersActAsPart {S} {T} names others machine other = (state : BothS
     → (part : Selected) × (server.last.state.selected ≡ Some part)
     × PartNegotiates (any_mechanism_machine names others machine other) state server machine other part
 
--- and one that offers only some of its names is a server of its acceptor
+-- a server that offers only some of its names, and has logged its client in, is, byte for byte, a server of its
+-- acceptor
 abbrev pub OfferingServersActAsInner : {S : Type 0} → (S → List (List ℕ)) → Machine S → Type 0
 OfferingServersActAsInner {S} names machine = (state : Offering S)
     (server : ServerBy (offering_machine names machine) state) → server.last.progress ≡ Authenticated
@@ -120,7 +122,7 @@ OfferingServersActAsInner {S} names machine = (state : Offering S)
 
 -- ---- who has not logged in
 
--- the acceptor of a server that has not logged its client in is as it was, so that it names nobody new
+-- the acceptor of a server that has not logged its client in is unchanged, so that it names nobody new
 abbrev pub ServersStay : {S : Type 0} → Machine S → Type 0
 ServersStay {S} machine = (state : S) (server : ServerBy machine state) → server.last.progress ≢ Authenticated
     → server.last.state ≡ state
@@ -139,7 +141,7 @@ pub record ExternalLogsIn (user : List ℕ) (events : List Given) (last : Extern
   pub asks : IsInitOf user mechanism response
   pub named : external_user last ≡ Some user
 
--- every server of EXTERNAL
+-- every server of EXTERNAL that has logged its client in has `ExternalLogsIn`
 abbrev pub ExternalServersLogIn : Type 0
 ExternalServersLogIn = (state : External) (server : ServerBy external_machine state) → server.last.progress ≡ Authenticated
     → ExternalLogsIn state.user server.connection.events server.last.state
@@ -157,7 +159,7 @@ pub record PlainServes (provider : Store) (events : List Given) (last : PlainSta
   pub logs_in : PlainLogsIn provider frame user
   pub named : last.user ≡ Some user
 
--- every server of PLAIN over records
+-- every server of PLAIN over records that has logged its client in has `PlainServes`
 abbrev pub PlainServersLogIn : Type 0
 PlainServersLogIn = (state : PlainState) (server : ServerBy plain_machine state) → server.last.progress ≡ Authenticated
     → PlainServes state.provider server.connection.events server.last.state

@@ -1,4 +1,4 @@
-//! Connections that there are not: what wrong servers would do, and what weak readings of the laws would allow.
+//! Connections that do not exist: what wrong servers would do, and what weak readings of the laws would allow.
 
 ghost use Rattle.connection_laws.specs.Hostile.{IgnoresInit, IgnoresResponse, AnswersOther, AnswersHeader, HasShortFrame, MarksNothing, HasTwoNonces, ReusesNonce, HidesOffer, SendsBeyondOffer, SendsOther};
 

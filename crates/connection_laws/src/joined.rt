@@ -1,4 +1,4 @@
-//! That two sides that receive each other's bytes unaltered exist.
+//! Two sides that receive each other's bytes unaltered exist.
 
 ghost use Rattle.connection_laws.specs.JoinedSides.{JoinedSidesExist, UserLogsIn};
 

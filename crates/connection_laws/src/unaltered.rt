@@ -1,4 +1,4 @@
-//! What holds of two sides that receive each other's bytes unaltered.
+//! Laws of two sides that receive each other's bytes unaltered.
 
 ghost use Rattle.connection_laws.specs.Unaltered.{UnalteredSidesLogIn, NegotiationsAgree};
 

@@ -1,5 +1,5 @@
-//! The example of RFC 7677, section 3: a client's answer to the server, and the server-final message
-//! that it then waits for.
+//! The example of RFC 7677, section 3: a client's answer to the server, and the server-final message that it then waits
+//! for.
 #![tactic(auto)]
 
 use anyhow::Result;

@@ -1,10 +1,9 @@
 //! What two lists of frame bodies, one of a client and one of a server, say of the two sides.
 //!
-//! Both lists are run afresh, with memory for each step and with the limit that is given; what the
-//! real sides replied is not told. A finding is a position of the client and a position of the server
-//! that belong together: an Ok that the client reported on the verifier of an Ok of the server, or a
-//! response of the client whose proof the server accepted. Its verdict says whether both sides mean
-//! one login, and, where not, which texts or keys of theirs collide.
+//! Both lists are replayed, with enough memory for each step and with the limit that is passed; the replies of the real
+//! sides are not used. A finding is a position of the client and a position of the server that belong together: an Ok
+//! that the client reported on the verifier of an Ok of the server, or a response of the client whose proof the server
+//! accepted. Its verdict says whether both sides mean one login, and, if not, which texts or keys of theirs collide.
 
 ghost use Rattle.std.specs.Prelude.{◌≡◌, IfOk, map, false};
 ghost use Rattle.fe2o3_scram.specs.Credentials.{serving};
@@ -30,11 +29,10 @@ use std::alloc::{AllocError, Global};
 use std::fmt;
 use thiserror::Error;
 
-/// Why there is no audit. It says nothing of the lists.
+/// Why an audit fails. The error says nothing of the lists.
 #[derive(Clone, Copy, Debug, PartialEq, Eq, Error)]
 pub enum AuditError {
-    /// A request for memory was refused, be it inside a step of one of the two runs. The call can be
-    /// made again.
+    /// An allocation failed, also inside a step of one of the two runs. The call can be repeated.
     #[error("OutOfMemory")]
     OutOfMemory,
 }
@@ -47,7 +45,7 @@ impl From<AllocError> for AuditError {
     }
 }
 
-/// What else both sides agree on.
+/// The further values that both sides agree on.
 #[derive(Debug, Drop)]
 pub struct Parameters {
     /// The nonce of both sides.
@@ -60,10 +58,10 @@ pub struct Parameters {
     pub iterations: u32,
 }
 
-/// How the two sides of a finding stand.
+/// The relation of the two sides of a finding.
 #[derive(Drop)]
 pub enum Verdict {
-    /// Both sides mean one login, of which these are the values.
+    /// Both sides mean one login, with these values.
     Agreed {
         /// The user, plain.
         username: String,
@@ -71,8 +69,8 @@ pub enum Verdict {
         /// The client's nonce.
         client_nonce: String,
 
-        /// What else they agree on: given exactly where the client's first message had no part but
-        /// the user name and the nonce.
+        /// The further values that they agree on: given exactly if the client's first message had no part but the user
+        /// name and the nonce.
         parameters: Option<Parameters>,
     },
 
@@ -105,7 +103,7 @@ pub enum Verdict {
 }
 
 impl fmt::Debug for Verdict {
-    /// The user and the parameters; of keys and messages their lengths.
+    /// Writes the user and the parameters; of keys and messages only the lengths.
     fn fmt<W: fmt::Write>(&self, f: &mut fmt::Formatter<W>) -> fmt::Result {
         match self {
             Verdict::Agreed {
@@ -136,7 +134,7 @@ impl fmt::Debug for Verdict {
     }
 }
 
-/// What a finding is about.
+/// The subject of a finding.
 #[derive(Clone, Copy, Debug, PartialEq, Eq)]
 pub enum FindingKind {
     /// A verifier of the server that the client took.
@@ -149,7 +147,7 @@ pub enum FindingKind {
 /// A position of the client and a position of the server that belong together.
 #[derive(Debug, Drop)]
 pub struct Finding {
-    /// What the finding is about.
+    /// The subject of the finding.
     pub kind: FindingKind,
 
     /// The position in the client's list, from 0.
@@ -158,16 +156,16 @@ pub struct Finding {
     /// The position in the server's list, from 0.
     pub server: usize,
 
-    /// How the two sides stand.
+    /// The verdict on the two sides.
     pub verdict: Verdict,
 }
 
-/// What the two lists of bodies say of the client of this user and the server of these credentials:
-/// a finding for each verifier that the client took and the server gave, and then one for each proof
-/// that the client showed and the server accepted, each by the client's position and then by the
-/// server's. The client accepts every iteration count from 1 on.
+/// Audits two lists of bodies, of the client of this user and the server of these credentials. Returns a finding for
+/// each verifier that the client took and the server gave. A finding for each proof that the client showed and the
+/// server accepted follows. Both are ordered by the client's position and then by the server's. The client accepts
+/// every iteration count from 1 on.
 ///
-/// The one refusal is `OutOfMemory`, and nothing was done.
+/// The only error is `OutOfMemory`, and nothing is done then.
 pub fn audit<C: ScramCredentialProvider>(
     alloc: Global,
     user: &str,
@@ -193,7 +191,7 @@ pub fn audit<C: ScramCredentialProvider>(
     )
 }
 
-/// As `audit`, of a client that refuses an iteration count above the limit.
+/// Like `audit`, but the client rejects an iteration count above the limit.
 pub fn audit_limited<C: ScramCredentialProvider>(
     alloc: Global,
     user: &str,
@@ -221,8 +219,8 @@ pub fn audit_limited<C: ScramCredentialProvider>(
     )
 }
 
-/// As `audit_limited`, of a server that takes a client whose GS2 header is `y,,` too where
-/// `accept_cbind_flag_y` says so (`ScramAuthenticator::accept_cbind_flag_y`).
+/// Like `audit_limited`, but with `accept_cbind_flag_y` the server accepts a client with the GS2 header `y,,` too
+/// (`ScramAuthenticator::accept_cbind_flag_y`).
 pub fn audit_with_cbind_flag_y<C: ScramCredentialProvider>(
     alloc: Global,
     user: &str,

@@ -1,5 +1,5 @@
-//! Laws of the definitions. A function with an empty body says nothing but its contract: a
-//! statement about every list of bytes, which the check has proved.
+//! Laws of the definitions. Each function has an empty body and states only its contract, about every list of bytes,
+//! which the check has proved.
 
 ghost use Rattle.fe2o3_sasl_core.specs.Hex.{OneBytesOfHex, HexIsReadAgain};
 ghost use Rattle.fe2o3_sasl_core.specs.MechanismLaws.{OneAcceptorReply, OneProfileReply, SomeAcceptorReply, SomeProfileReply, PlainRunsNameUsers, OffersAgree, PlainLetsIn, PlainRefuses, AnonymousLetsIn, SomethingIsOffered, NamesDiffer};
@@ -22,13 +22,12 @@ pub use fe2o3_scram::laws::{
     texts_without_memory, unaltered_exchanges, users_texts,
 };
 
-/// The headline theorem. Over every list of frame bodies, a SCRAM server answers Ok exactly when a
-/// response fits its open challenge and its proof meets the stored key, which closes the challenge;
-/// a SCRAM client reports Ok exactly on the signature of its open answered challenge; and if that
-/// verifier is one that a server issued, both agree on user name and client nonce, or their own differing
-/// AuthMessages share one HMAC value. Where the init had two parts, or one side received no attribute of RFC
-/// 5802 in the place of an extension, they also agree on full nonce, salt and count, and in the second case on
-/// the header.
+/// The headline theorem. Over every list of frame bodies, a SCRAM server answers Ok exactly when a response fits its
+/// open challenge and its proof meets the stored key, which closes the challenge; a SCRAM client reports Ok exactly on
+/// the signature of its open answered challenge; and if that verifier is one that a server issued, both agree on user
+/// name and client nonce, or their own differing AuthMessages share one HMAC value. If the init had two parts, or one
+/// side received no attribute of RFC 5802 in the place of an extension, they also agree on full nonce, salt and count,
+/// and in the second case on the header.
 pub fn headline()
     ensures server { EveryServer AnswersOkExactly }
     ensures client { EveryClient ReportsOkExactly }
@@ -41,26 +40,25 @@ pub fn one_history_each()
     ensures client { OneClientHistory }
 {}
 
-/// A run of the SCRAM acceptor's machine over any list of bodies is a server history, and a run of a
-/// SCRAM profile's machine a client history.
+/// A run of the SCRAM acceptor's machine over any list of bodies is a server history, and a run of a SCRAM profile's
+/// machine a client history.
 pub fn runs_are_histories()
     ensures acceptor { AcceptorRunsAreHistories }
     ensures profile { ProfileRunsAreHistories }
 {}
 
-/// What one step means to its caller: a SCRAM acceptor answers Ok only where a challenge is open and the
-/// body is a response to it whose proof meets the record of its user, whom the acceptor then names; one of
-/// PLAIN over records only where the body is an init with the password of its user's record; and a SCRAM
-/// profile reports Ok only on the signature of the answer that it waits on. A caller's own proof cites them as
-/// `oks_log_in`, `plain_oks_log_in` and `reported_oks_are_signed` of
-/// `proofs/lemmas/steps/StepLawLemmas.antt` of `fe2o3_sasl_core`.
+/// States what one step means to its caller: a SCRAM acceptor answers Ok only if a challenge is open and the body is a
+/// response to it whose proof meets the record of its user, whom the acceptor then names; one of PLAIN over records
+/// only if the body is an init with the password of its user's record; and a SCRAM profile reports Ok only on the
+/// signature of the answer that it waits on. A caller's own proof cites them as `oks_log_in`, `plain_oks_log_in` and
+/// `reported_oks_are_signed` of `proofs/lemmas/steps/StepLawLemmas.antt` of `fe2o3_sasl_core`.
 pub fn steps()
     ensures server { OksLogIn }
     ensures plain { PlainOksLogIn }
     ensures client { ReportedOksAreSigned }
 {}
 
-/// What a run costs if its steps share one meter: no more HMAC values than the sum over its bodies. A SCRAM
+/// Bounds what a run costs if its steps share one meter: no more HMAC values than the sum over its bodies. A SCRAM
 /// acceptor computes two for each response. A SCRAM profile computes as many as its limit and four more for each
 /// challenge. The contract of a step says what that step costs.
 pub fn run_costs()
@@ -68,10 +66,10 @@ pub fn run_costs()
     ensures client { ClientRunsCost }
 {}
 
-/// Who logged in, after a run over any list of bodies. A SCRAM acceptor names a user exactly where the run has an
-/// accepted response with no challenge after it: the user of the init that this response answered. The acceptor of
-/// PLAIN names its user exactly where some body of the run was answered Ok. The user of an agreed finding of an
-/// audit is named after its Ok.
+/// States which user is logged in after a run over any list of bodies. A SCRAM acceptor names a user exactly if the run
+/// has an accepted response with no challenge after it: the user of the init that this response answered. The acceptor
+/// of PLAIN names its user exactly if some body of the run was answered Ok. The user of an agreed finding of an audit
+/// is named after its Ok.
 pub fn users()
     ensures runs { AcceptorRunsNameUsers }
     ensures plain { PlainRunsNameUsers }
@@ -87,7 +85,7 @@ pub fn any_mechanism<A: HasMechanism, B: HasMechanism>()
 {}
 
 /// A SCRAM acceptor in a server of several mechanisms, over the bodies that go to it: it answers Ok exactly as the
-/// headline says and names exactly who has logged in, whatever the other acceptor is.
+/// headline says and names exactly the user who has logged in, for any other acceptor.
 pub fn scram_in_any_mechanism<A: HasMechanism>()
     ensures first { ScramFirstAnswersOkExactly A.names A.machine }
     ensures second { ScramSecondAnswersOkExactly A.names A.machine }
@@ -99,24 +97,23 @@ pub fn restrict_mechanisms<A: HasMechanism>()
     ensures { OfferingRunsPassOn A.names A.machine }
 {}
 
-/// Who has logged in at a server of several mechanisms. Where it names a user after a run, that is the name by the
-/// acceptor that was asked last, and an init of the run asked it, by a mechanism of that acceptor. Where the server
-/// offers only some of its names, that mechanism was offered. The run of that acceptor is in `any_mechanism`.
+/// States which user a server of several mechanisms names after a run. The name is that by the acceptor that was asked
+/// last, and an init of the run asked it, by a mechanism of that acceptor. If the server offers only some of its names,
+/// that mechanism was offered. The run of that acceptor is in `any_mechanism`.
 pub fn any_mechanism_users<A: HasMechanism, B: HasMechanism>()
     ensures named { AnyMechanismNamesUsers A.names B.names A.machine B.machine }
     ensures offered { OfferedNamesUsers A.names B.names A.machine B.machine }
 {}
 
-/// Unknown users as a law of pairs. A server with mock authentication that has no record of a name gives the same
-/// replies to the same events as one that has the mock record of that name, in every state, with as many HMAC
-/// values for each. A server of two mechanisms, each over its own store, gives the same replies too. What a
-/// stranger can tell of a name is thus no more than whether its record is the mock record: a salt and two keys
-/// that are HMAC values under the server's secret, and the mock count. The salts of two mechanisms, or of two
-/// names, are HMAC values of two different texts.
+/// States what a server with mock authentication shows of an unknown user. Without a record of a name it gives the same
+/// replies to the same events as with the mock record of that name, in every state, with as many HMAC values for each.
+/// A server of two mechanisms, each over its own store, gives the same replies too. A stranger can thus learn of a name
+/// no more than whether its record is the mock record: a salt and two keys that are HMAC values under the server's
+/// secret, and the mock count. The salts of two mechanisms, or of two names, are HMAC values of two different texts.
 ///
-/// A server with mock authentication is a SCRAM server like any other: its provider has a record for each name,
-/// and every law of SCRAM servers holds of it. Such a server accepts an unknown user only by a proof whose key has
-/// the mock StoredKey as its digest.
+/// A server with mock authentication is a SCRAM server like any other: its provider has a record for each name, and
+/// every law of SCRAM servers holds of it. It accepts an unknown user only by a proof whose key has the mock StoredKey
+/// as its digest.
 pub fn unknown_users()
     ensures one { UnknownIsMock }
     ensures cost { UnknownCostsAsMock }
@@ -125,32 +122,32 @@ pub fn unknown_users()
     ensures met { MockRecordIsMet }
 {}
 
-/// A client that keeps the keys of a password runs as the client with the password, as long as servers
-/// name the salt and the count that the keys are of; so its run is a client history of that login too.
+/// A client with the keys of a password runs like the client with the password, as long as servers name the salt and
+/// the count of the keys; so its run is a client history of that login too.
 pub fn keyed_runs()
     ensures runs { KeyedRunsAreRuns }
     ensures histories { KeyedRunsAreHistories }
 {}
 
-/// What users of a server rely on, whatever it receives. It never accepts more often than it challenges. An accepted
-/// response that is repeated before a new challenge is rejected. One response text under two challenges means one
-/// full nonce.
+/// States what users of a server rely on, whatever it receives. It never accepts more often than it challenges. An
+/// accepted response that is repeated before a new challenge is rejected. One response text under two challenges means
+/// one full nonce.
 pub fn servers()
     ensures oks { OksWithinChallenges }
     ensures repeated { RepeatedResponsesAreRefused }
     ensures one_nonce { OneResponseOneNonce }
 {}
 
-/// What holds of any list of replies by the definition of "last open". Two Oks of a server never have one open
-/// challenge, two reported Oks of a client never one answer, and two answers never one start. A rejection leaves
+/// States what follows from the definition of "last open" for any list of replies. Two Oks of a server never have one
+/// open challenge, two reported Oks of a client never one answer, and two answers never one start. A rejection leaves
 /// open what was open.
 pub fn positions()
     ensures used_once { PositionsAreUsedOnce }
     ensures left_open { RefusalsLeaveOpen }
 {}
 
-/// Where a client and a server meet and their AuthMessages are equal, they mean one login, and the
-/// init had not three parts and not four.
+/// If a client and a server meet and their AuthMessages are equal, they mean one login, and the init had neither three
+/// nor four parts.
 pub fn equal_messages()
     ensures agree { EqualMessagesAgree }
     ensures no_short_extensions { NoShortExtensions }
@@ -165,33 +162,34 @@ pub fn verdicts()
     ensures one { OneVerdictEach }
 {}
 
-/// An audit lists the same findings of the same login, provider and lists of events, whatever replies
-/// it speaks of.
+/// An audit lists the same findings of the same login, provider and lists of events, for any replies.
 pub fn one_audit_each()
     ensures { OneAuditEach }
 {}
 
-/// Among agreed findings of one kind, an Ok of a server is matched with two positions of a client only
-/// where the client's nonce was repeated, and a position of a client with two Oks of a server, both
-/// to an init of two parts, only where the server's was.
+/// States when a position is matched twice. Among agreed findings of one kind, an Ok of a server is matched with two
+/// positions of a client only if the client's nonce was repeated. A position of a client is matched with two Oks of a
+/// server, both to an init of two parts, only if the server's nonce was.
 pub fn repeated_nonces()
     ensures client { RepeatedClientPositions }
     ensures server { RepeatedServerPositions }
 {}
 
-/// Repeated positions in the list of an audit. Agreed findings of one kind repeat a position of the server only where
-/// a nonce of the client was repeated. With parameters they repeat a position of the client only where a nonce of
-/// the server was repeated.
+/// States when an audit's list repeats positions. Agreed findings of one kind repeat a position of the server only if a
+/// nonce of the client was repeated. With parameters they repeat a position of the client only if a nonce of the server
+/// was repeated.
 pub fn repeated_findings()
     ensures client { RepeatedClientFindings }
     ensures server { RepeatedServerFindings }
 {}
 
-/// A client logs in where no body is altered on the way, its secret opens the record that the server holds
-/// (a password that is printable ASCII or was passed as prepared, the keys of the record's password, salt and
-/// count, or such a password beside keys of another salt or count), the count is from 1 on and within the
-/// client's limits, no allocation fails, and no frame is too large. An audit of it has exactly two findings, and in
-/// both the sides agree.
+/// States when a login succeeds. The client logs in if
+/// - no body is altered on the way, no allocation fails, and no frame is too large;
+/// - its secret opens the server's record: a password that is printable ASCII or was passed as prepared, the keys of
+///   the record's password, salt and count, or such a password beside stale keys;
+/// - the count is from 1 on and within the client's limits.
+///
+/// An audit of it has exactly two findings, and in both the sides agree.
 pub fn unaltered_runs()
     ensures client { ClientsLogIn }
     ensures server { ServersLogIn }
@@ -212,11 +210,10 @@ pub fn worked_clients()
     ensures stale_keys { StaleKeysLogInLater }
 {}
 
-/// What holds of every mechanism: each acceptor and each profile has at most one reply to a frame; a
-/// server offers what a profile asks for exactly where both are of one mechanism; PLAIN lets in the
-/// same user with the same password and rejects all others, in words without zero bytes (RFC 4616,
-/// section 2); ANONYMOUS lets in each client that asks for it; a server always offers something; and the six
-/// profiles have six names.
+/// Laws of every mechanism: each acceptor and each profile has at most one reply to a frame; a server offers what a
+/// profile asks for exactly if both are of one mechanism; PLAIN lets in the same user with the same password and
+/// rejects all others, in words without zero bytes (RFC 4616, section 2); ANONYMOUS lets in each client that asks for
+/// it; a server always offers something; and the six profiles have six names.
 pub fn mechanisms()
     ensures one_acceptor_reply { OneAcceptorReply }
     ensures one_profile_reply { OneProfileReply }
@@ -249,19 +246,19 @@ pub fn histories_exist()
     ensures client { SomeClientHistory }
 {}
 
-/// Where an allocation may fail: at an init and at a response of a server; at a list with the name, at a challenge
-/// and at an outcome with data of a SCRAM client; at such a list and at such an outcome of any profile; and nowhere
-/// else. All other replies are determined: `one_history_each`, `mechanisms`.
+/// States where an allocation may fail: at an init and at a response of a server; at a list with the name, at a
+/// challenge and at an outcome with data of a SCRAM client; at such a list and at such an outcome of any profile; and
+/// nowhere else. All other replies are determined: `one_history_each`, `mechanisms`.
 pub fn want_of_memory()
     ensures server { ServersWantMemory }
     ensures client { ClientsWantMemory }
     ensures profile { ProfilesWantMemory }
 {}
 
-/// Worked examples of frames at which no memory is requested, so that out of memory is no answer to them. An acceptor
-/// requests none at an init of another mechanism and at a response that is not due, and that of PLAIN never. A
-/// profile requests none at a list without its name, a challenge that is not UTF-8, not due or not for SCRAM, an
-/// outcome without data, and one of code Ok for SCRAM that is not UTF-8 or not due. Histories have the like.
+/// Worked examples of frames at which nothing is allocated, so that the answer is never out of memory. An acceptor
+/// allocates nothing at an init of another mechanism and at a response that is not expected, and that of PLAIN never. A
+/// profile allocates nothing at a list without its name, a challenge that is not UTF-8, not expected or not for SCRAM,
+/// an outcome without data, and one of code Ok for SCRAM that is not UTF-8 or not expected. Histories have the like.
 pub fn no_want_of_memory()
     ensures acceptors { AcceptorsAskForNone }
     ensures owned { OwnedAskForNone }

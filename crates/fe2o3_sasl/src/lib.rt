@@ -1,15 +1,13 @@
 //! SASL for AMQP 1.0, after the authentication layer of `fe2o3-amqp` 0.18.4: SCRAM and frames joined.
 //!
-//! A client takes a [`SaslProfile`], a server a [`SaslAcceptor`]. Whoever negotiates a connection hands
-//! the body of each frame that comes in to [`profile_step`] or to [`acceptor_step`], and sends the body
-//! of the reply. [`run_profile`] and [`run_acceptor`] do so for a list of bodies, and
-//! [`scram_client_run`] and [`scram_server_run`] say what every login over SCRAM has, whatever the
-//! bodies are.
+//! A client uses a [`SaslProfile`], a server a [`SaslAcceptor`]. To negotiate a connection, pass the body of each frame
+//! that arrives to [`profile_step`] or to [`acceptor_step`], and send the body of the reply. [`run_profile`] and
+//! [`run_acceptor`] do so for a list of bodies. The contracts of [`scram_client_run`] and [`scram_server_run`] state
+//! the headline theorem of every login over SCRAM, for any bodies.
 //!
-//! The modules of `fe2o3_sasl_core` and of `fe2o3_scram` stand here under their own names, events, steps
-//! and whole runs in [`runs`], so that whoever speaks SCRAM over AMQP names this crate alone. Its own are
-//! [`audit`], what two lists of bodies say of the two sides, and [`laws`], what holds of every list of
-//! frame bodies.
+//! The modules of `fe2o3_sasl_core` and of `fe2o3_scram` are re-exported under their own names, and events, steps and
+//! whole runs in [`runs`], so that code for SCRAM over AMQP names only this crate. Its own are [`audit`], what two
+//! lists of bodies say of the two sides, and [`laws`], what holds of every list of frame bodies.
 #![tactic(auto)]
 
 pub mod audit;

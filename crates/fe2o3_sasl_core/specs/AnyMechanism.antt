@@ -9,35 +9,35 @@ use Rattle.fe2o3_sasl_core.specs.SaslAcceptor.{ends_with}
 use Rattle.fe2o3_sasl_core.specs.declared.any_mechanism.Selected.{Selected}
 use Rattle.fe2o3_sasl_core.specs.declared.any_mechanism.Selected.TheVariants.{First, Second}
 
--- whether a name stands in a list
+-- whether a name is in a list
 abbrev pub has_name : List (List ℕ) → List ℕ → Bool
 has_name [] name = false
 has_name (other ∷ names) name = if pointwise nat_eq other name then true else has_name names name
 
 -- ---- one server of two acceptors
 
--- the names of both: those of the first, and behind them those that only the second has
+-- the names of both: those of the first, followed by those that only the second has
 abbrev pub both_names : List (List ℕ) → List (List ℕ) → List (List ℕ)
 both_names names others = names ++ filter (λ name. not (has_name names name)) others
 
--- the two in their states, and the one that the last init went to
+-- the two acceptors in their states, and the one that the last init went to
 pub record BothStates (S T : Type 0) : Type 0 where
   pub first : S
   pub second : T
   pub selected : Option Selected
 
--- the first of them that has this mechanism
+-- the first acceptor that has this mechanism
 abbrev pub part_with : List (List ℕ) → List (List ℕ) → List ℕ → Option Selected
 part_with names others mechanism =
     if has_name names mechanism then Some First else if has_name others mechanism then Some Second else None
 
--- the one that a frame goes to: an init by its mechanism, a response to the one that the last init went to
+-- the acceptor that a frame goes to: an init by its mechanism, a response to the one that the last init went to
 abbrev pub part_for : {S T : Type 0} → (S → List (List ℕ)) → (T → List (List ℕ)) → BothStates S T → SaslFrame → Option Selected
 part_for names others parts (frames.Init mechanism response hostname) =
     part_with (names parts.first) (others parts.second) mechanism
 part_for names others parts frame = parts.selected
 
--- the reply is that of this part, and the other stays as it is; what goes to neither is Auth
+-- the reply is that of this part, and the other is unchanged; what goes to neither is Auth
 abbrev pub PartReplies : {S T : Type 0} → (S → List ℕ → SaslFrame → SaslFrame → S → Type 0)
     → (T → List ℕ → SaslFrame → SaslFrame → T → Type 0) → BothStates S T → Option Selected → List ℕ → SaslFrame → SaslFrame
     → BothStates S T → Type 0
@@ -49,40 +49,41 @@ PartReplies {S} {T} machine other parts (Some Second) nonce frame reply next =
     (moved : T) × other parts.second nonce frame reply moved
     × (next ≡ record { first = parts.first; second = moved; selected = Some Second })
 
--- the machine of both
+-- the machine of a server of two acceptors
 abbrev pub any_mechanism_machine : {S T : Type 0} → (S → List (List ℕ)) → (T → List (List ℕ))
     → (S → List ℕ → SaslFrame → SaslFrame → S → Type 0) → (T → List ℕ → SaslFrame → SaslFrame → T → Type 0)
     → BothStates S T → List ℕ → SaslFrame → SaslFrame → BothStates S T → Type 0
 any_mechanism_machine names others machine other parts nonce frame reply next =
     PartReplies machine other parts (part_for names others parts frame) nonce frame reply next
 
--- this part asks for memory; none does for what goes to neither
+-- this part allocates; none does for what goes to neither
 abbrev pub PartAllocates : {S T : Type 0} → (S → SaslFrame → Type 0) → (T → SaslFrame → Type 0) → BothStates S T
     → Option Selected → SaslFrame → Type 0
 PartAllocates allocates other parts None frame = ⊥
 PartAllocates allocates other parts (Some First) frame = allocates parts.first frame
 PartAllocates allocates other parts (Some Second) frame = other parts.second frame
 
--- where both together ask for memory: where the part does that the frame goes to
+-- where a server of two acceptors allocates: where the part does that the frame goes to
 abbrev pub any_mechanism_allocates : {S T : Type 0} → (S → List (List ℕ)) → (T → List (List ℕ)) → (S → SaslFrame → Type 0)
     → (T → SaslFrame → Type 0) → BothStates S T → SaslFrame → Type 0
 any_mechanism_allocates names others allocates other parts frame =
     PartAllocates allocates other parts (part_for names others parts frame) frame
 
--- this part makes so many HMAC values, and none are made for what goes to neither
+-- this part makes that many HMAC values, and none are made for what goes to neither
 abbrev pub PartTakes : {S T : Type 0} → (S → SaslFrame → ℕ → Type 0) → (T → SaslFrame → ℕ → Type 0) → BothStates S T
     → Option Selected → SaslFrame → ℕ → Type 0
 PartTakes hmacs other parts None frame n = n ≡ 0
 PartTakes hmacs other parts (Some First) frame n = hmacs parts.first frame n
 PartTakes hmacs other parts (Some Second) frame n = other parts.second frame n
 
--- how many both together make (RFC 5802, section 3): as many as the part does that the frame goes to
+-- how many HMAC values a server of two acceptors makes (RFC 5802, section 3): as many as the part that the frame goes
+-- to
 abbrev pub any_mechanism_hmacs : {S T : Type 0} → (S → List (List ℕ)) → (T → List (List ℕ)) → (S → SaslFrame → ℕ → Type 0)
     → (T → SaslFrame → ℕ → Type 0) → BothStates S T → SaslFrame → ℕ → Type 0
 any_mechanism_hmacs names others hmacs other parts frame n =
     PartTakes hmacs other parts (part_for names others parts frame) frame n
 
--- who has logged in: whom the part that the last init went to names
+-- the user of a server of two acceptors: that of the part that the last init went to
 abbrev pub part_names : Option Selected → Option (List ℕ) → Option (List ℕ) → Option (List ℕ)
 part_names None user other = None
 part_names (Some First) user other = user

@@ -1,4 +1,4 @@
--- What holds of a server of several mechanisms, over any list of bodies. Each is the contract of a clause of
+-- Laws of a server of several mechanisms, over any list of bodies. Each is the contract of a clause of
 -- `laws::any_mechanism`, `laws::scram_in_any_mechanism` or `laws::restrict_mechanisms`.
 use Rattle.std.specs.Prelude.{◌≡◌, ◌↔◌, ℕ, Bool, true, false, not, cond, Option, Some, None, List, [], ◌∷◌, length, zip, Result, Ok}
 use Rattle.std.specs.List.{AllByRecursion}
@@ -25,7 +25,7 @@ Machine S = S → List ℕ → SaslFrame → SaslFrame → S → Type 0
 
 -- ---- runs with a mark for each body
 
--- the mark of a body in a state: that of its frame where it spells an init or a response, which alone reach a machine
+-- the mark of a body in a state: that of its frame if it spells an init or a response, since only they reach a machine
 -- (AMQP 1.0, part 5, section 5.3.2), and `none` for every other body
 abbrev pub mark_of : {S M : Type 0} → M → (S → SaslFrame → M) → S → Result SaslFrame Error → M
 mark_of none mark state (Ok (frames.Init mechanism response hostname)) =
@@ -45,7 +45,7 @@ pub record MarkedRuns {S M : Type 0} (machine : Machine S) (none : M) (mark : S 
   pub count : length marks ≡ length events
   pub steps : Runs (MarkedSteps machine none mark) state events (zip marks replies) last
 
--- of a list with a mark for each element, those whose marks pass
+-- the elements of a list whose marks pass, with a mark for each element
 abbrev pub those : {M X : Type 0} → (M → Bool) → List M → List X → List X
 those passes [] xs = []
 those passes (mark ∷ marks) [] = []
@@ -66,14 +66,14 @@ abbrev pub to_neither : Option Selected → Bool
 to_neither None = true
 to_neither mark = false
 
--- an outcome Auth, or a fault
+-- an outcome Auth, or an error
 abbrev pub IsRefusal : ServerSays → Type 0
 IsRefusal (Concluded outcomes.Auth body) = Unit {0}
 IsRefusal (Failed fault) = Unit {0}
 IsRefusal says = ⊥
 
 -- each body went where `part_for` sends it in the state before it: what went to a part is a run of that part by itself,
--- and what went to neither is refused
+-- and what went to neither is rejected
 pub record Splits {S T : Type 0} (names : S → List (List ℕ)) (others : T → List (List ℕ)) (machine : Machine S)
     (other : Machine T) (parts : BothStates S T) (events : List Given) (replies : List ServerSays) (last : BothStates S T)
     (marks : List (Option Selected)) : Type 0 where
@@ -85,7 +85,7 @@ pub record Splits {S T : Type 0} (names : S → List (List ℕ)) (others : T →
       last.second
   pub neither : AllByRecursion IsRefusal (those to_neither marks replies)
 
--- a run of both, over any list of bodies, is so split
+-- a run of a server of two acceptors, over any list of bodies, splits into runs of the two
 abbrev pub AnyMechanismRunsAreSplit : {S T : Type 0} → (S → List (List ℕ)) → (T → List (List ℕ)) → Machine S → Machine T
     → Type 0
 AnyMechanismRunsAreSplit {S} {T} names others machine other =
@@ -94,14 +94,14 @@ AnyMechanismRunsAreSplit {S} {T} names others machine other =
     → (marks : List (Option Selected)) × Splits names others machine other parts events replies last marks
 
 -- SCRAM over these bodies, from its first state to this one: it answers Ok exactly as the headline says, and names
--- exactly who has logged in
+-- exactly the user who has logged in
 pub record AnswersAsScram (provider : Provider) (events : List Given) (replies : List ServerSays) (last : Acceptor)
     : Type 0 where
   pub exactly : AnswersOkExactly provider events replies
   pub names : (user : List ℕ)
       → (acceptor_user last ≡ Some user) ↔ LoggedIn provider events replies (length replies) user
 
--- SCRAM that is the first of two does so with the bodies that went to it
+-- SCRAM as the first of two acceptors answers as SCRAM over the bodies that went to it
 abbrev pub ScramFirstAnswersOkExactly : {T : Type 0} → (T → List (List ℕ)) → Machine T → Type 0
 ScramFirstAnswersOkExactly {T} others other = (provider : Provider) (second : T) (last : BothStates Acceptor T)
     (events : List Given) (replies : List ServerSays)
@@ -113,7 +113,7 @@ ScramFirstAnswersOkExactly {T} others other = (provider : Provider) (second : T)
     marks
     × AnswersAsScram provider (those to_first marks events) (those to_first marks replies) last.first
 
--- and so does SCRAM that is the second
+-- SCRAM as the second of two acceptors answers as SCRAM over the bodies that went to it
 abbrev pub ScramSecondAnswersOkExactly : {S : Type 0} → (S → List (List ℕ)) → Machine S → Type 0
 ScramSecondAnswersOkExactly {S} names machine = (provider : Provider) (first : S) (last : BothStates S Acceptor)
     (events : List Given) (replies : List ServerSays)
@@ -128,7 +128,7 @@ ScramSecondAnswersOkExactly {S} names machine = (provider : Provider) (first : S
 -- ---- one that offers only some of its names
 
 -- each body was passed on or not, as `is_passed_on` says in the state before it: what was passed on is a run of the
--- acceptor by itself, and the rest is refused
+-- acceptor by itself, and the rest is rejected
 pub record PassesOn {S : Type 0} (names : S → List (List ℕ)) (machine : Machine S) (offering : Offering S)
     (events : List Given) (replies : List ServerSays) (last : Offering S) (marks : List Bool) : Type 0 where
   pub marked : MarkedRuns (offering_machine names machine) false (is_passed_on names) offering events replies last marks
@@ -136,7 +136,7 @@ pub record PassesOn {S : Type 0} (names : S → List (List ℕ)) (machine : Mach
       (those (λ mark. mark) marks replies) last.inner
   pub rest : AllByRecursion IsRefusal (those not marks replies)
 
--- a run of an acceptor that offers only some names, over any list of bodies, is such
+-- a run of an acceptor that offers only some names, over any list of bodies, passes bodies on
 abbrev pub OfferingRunsPassOn : {S : Type 0} → (S → List (List ℕ)) → Machine S → Type 0
 OfferingRunsPassOn {S} names machine = (offering last : Offering S) (events : List Given) (replies : List ServerSays)
     → Runs (AcceptorSteps (offering_machine names machine)) offering events replies last

@@ -1,4 +1,4 @@
--- The acceptors that the code's values are, where there are several.
+-- The acceptors that the code's values are, if there are several.
 use Rattle.fe2o3_sasl_core.specs.declared.any_mechanism.AnyMechanism.{AnyMechanism}
 use Rattle.fe2o3_sasl_core.specs.AnyMechanism.{BothStates}
 

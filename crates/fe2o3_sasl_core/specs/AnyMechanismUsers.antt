@@ -1,5 +1,5 @@
--- Who has logged in at a server of several mechanisms (AMQP 1.0, part 5, section 5.3.3.2: the init names the mechanism).
--- Each is the contract of a clause of `laws::any_mechanism_users`.
+-- The user who has logged in at a server of several mechanisms (AMQP 1.0, part 5, section 5.3.3.2: the init names the
+-- mechanism). Each is the contract of a clause of `laws::any_mechanism_users`.
 use Rattle.std.specs.Prelude.{◌≡◌, ℕ, true, Option, Some, None, List, Ok, slice_get, take}
 use Rattle.fe2o3_sasl_wire.specs.SaslFrames as frames
 use Rattle.fe2o3_sasl_core.specs.Bodies.{SpellsBody}
@@ -10,7 +10,7 @@ use Rattle.fe2o3_sasl_core.specs.AnyMechanismLaws.{Machine}
 use Rattle.fe2o3_sasl_core.specs.Runs.{Runs, AcceptorSteps}
 use Rattle.fe2o3_sasl_core.specs.declared.any_mechanism.Selected.{Selected}
 
--- of some event of a run, and of the state before it, this holds
+-- this holds of some event of a run, and of the state before it
 pub record SomeEvent {S A : Type 0} (Step : S → Given → A → S → Type 0) (state : S) (events : List Given)
     (replies : List A) (Holds : S → Given → Type 0) : Type 0 where
   pub at : ℕ
@@ -26,8 +26,8 @@ AsksPart names others part parts event = (mechanism : List ℕ) × (response hos
     × SpellsBody event.body (Ok (frames.Init mechanism response hostname))
     × (part_for names others parts (frames.Init mechanism response hostname) ≡ Some part)
 
--- where a server that nobody had asked names a user after a run, that is the name by the part asked last, by an init
--- of the run with a mechanism of that part
+-- a server that no init had reached before a run names after it only the user of the part asked last, by an init of the
+-- run with a mechanism of that part
 abbrev pub AnyMechanismNamesUsers : {S T : Type 0} → (S → List (List ℕ)) → (T → List (List ℕ)) → Machine S → Machine T → Type 0
 AnyMechanismNamesUsers {S} {T} names others machine other = (user : S → Option (List ℕ)) (other_user : T → Option (List ℕ))
     (parts last : BothStates S T) (events : List Given) (replies : List ServerSays) (name : List ℕ)
@@ -37,7 +37,7 @@ AnyMechanismNamesUsers {S} {T} names others machine other = (user : S → Option
     → (part : Selected) × (part_names (Some part) (user last.first) (other_user last.second) ≡ Some name)
     × (last.selected ≡ Some part) × SomeEvent Step parts events replies (AsksPart names others part)
 
--- such an init of a server that offers only some of its names, of a mechanism that is offered
+-- the body is an init of a mechanism of this part, which a server that offers only some names offers
 abbrev pub AsksOffered : {S T : Type 0} → (S → List (List ℕ)) → (T → List (List ℕ)) → Selected → Offering (BothStates S T)
     → Given → Type 0
 AsksOffered {S} {T} names others part offering event = (mechanism : List ℕ) × (response hostname : Option (List ℕ))
@@ -46,8 +46,8 @@ AsksOffered {S} {T} names others part offering event = (mechanism : List ℕ) ×
     × (is_passed_on (λ (parts : BothStates S T). both_names (names parts.first) (others parts.second)) offering
     (frames.Init mechanism response hostname) ≡ true)
 
--- where it names a user after a run, that is the name by the part asked last, by an init of the run with a mechanism of
--- that part that was offered
+-- a server that offers only some names, and that no init had reached before a run, names after it only the user of the
+-- part asked last, by an init of the run with an offered mechanism of that part
 abbrev pub OfferedNamesUsers : {S T : Type 0} → (S → List (List ℕ)) → (T → List (List ℕ)) → Machine S → Machine T
     → Type 0
 OfferedNamesUsers {S} {T} names others machine other = (user : S → Option (List ℕ))

@@ -1,5 +1,5 @@
--- What a SCRAM client answers to a list of frame bodies (RFC 5802, section 5; AMQP 1.0, part 5, section 5.3.2).
--- Nothing here is a state: what is due and what is open are positions in the list.
+-- What a SCRAM client answers to a list of frame bodies (RFC 5802, section 5; AMQP 1.0, part 5, section 5.3.2). Nothing
+-- here is a state: what is expected and what is open are positions in the list.
 use Rattle.std.specs.Prelude.{◌≡◌, ◌⊎◌, ℕ, Bool, true, false, Option, Some, None, List, length, slice_get, Result, Ok, Err}
 use Rattle.std.specs.List.{Contains}
 use Rattle.std.specs.Str.{IsUtf8}
@@ -21,13 +21,13 @@ use Rattle.fe2o3_scram.specs.ServerFirst.{ServerFirst, ReadsServerFirst}
 use Rattle.fe2o3_sasl_core.specs.Bodies.{carried, SpellsBody}
 use Rattle.fe2o3_sasl_core.specs.declared.sasl_profile.error.ProfileError.TheVariants.{NotImplemented, Frame, OutOfMemory}
 
--- an answer: the client's nonce, the server-first message, and what that names
+-- what an answer is made of: the client's nonce, the server-first message, and the values that it names
 pub record Answering : Type 0 where
   pub nonce : List ℕ
   pub text : List ℕ
   pub first : ServerFirst
 
--- its answer
+-- the answer of a client to a server-first message (RFC 5802, section 5)
 abbrev pub answer_at : Login → Answering → Answer
 answer_at login answer = answer_of login.version login.secret
     (client_first_bare login.user answer.nonce) answer.text answer.first
@@ -44,7 +44,8 @@ abbrev pub says_answer : Login → Answering → ClientSays
 says_answer login answer = carried (Refused (Frame faults.TooLarge)) (λ body. Answered body)
     (canonical (frames.Response (answer_at login answer).message))
 
--- a challenge is read in this order: it is UTF-8, a challenge is due, and then every test of a server-first message
+-- a challenge is read in this order: it is UTF-8, a challenge is expected, and then every test of a server-first
+-- message
 abbrev pub ReadsChallenge : Login → (List ℕ → Type 0) → List ℕ → Result Answering ScramErrorKind → Type 0
 ReadsChallenge login Due text (Ok answer) = IsUtf8 text × (answer.text ≡ text) × Due answer.nonce
     × ReadsServerFirst answer.nonce login.secret login.limits text (Ok answer.first)
@@ -64,7 +65,7 @@ ReadsOutcome login IsOpen (Some text) (Err kind) =
     (((answer : Answering) → ¬ IsOpen answer) × (kind ≡ IllegalClientState))
     ⊎ ((answer : Answering) × IsOpen answer × ReadsServerFinal (answer_at login answer).signature text (Err kind))
 
--- the reply to a body that spells this, where a challenge is due for these nonces and these answers are open
+-- the reply to a body that spells this, where a challenge is expected for these nonces and these answers are open
 abbrev pub ClientAnswers : Login → (List ℕ → Type 0) → (Answering → Type 0) → Given → Result SaslFrame Error
     → ClientSays → Type 0
 ClientAnswers login Due IsOpen event (Err fault) says = says ≡ Refused (Frame fault)
@@ -80,8 +81,8 @@ ClientAnswers login Due IsOpen event (Ok (frames.Outcome outcomes.Ok more)) says
 ClientAnswers login Due IsOpen event (Ok (frames.Outcome code more)) says = says ≡ Reported code more
 ClientAnswers login Due IsOpen event (Ok frame) says = says ≡ Refused NotImplemented
 
--- the replies that memory may run out for: those to a mechanisms list with the name, to a challenge in UTF-8, and
--- to an outcome with data, which in one of code Ok are UTF-8
+-- the replies at which the client may run out of memory: those to a mechanisms list with the name, to a challenge in
+-- UTF-8, and to an outcome with data, which in one of code Ok are UTF-8
 abbrev pub ClientAllocates : Login → Result SaslFrame Error → Type 0
 ClientAllocates login (Ok (frames.Mechanisms names)) = Contains names (mechanism_name login.version)
 ClientAllocates login (Ok (frames.Challenge text)) = IsUtf8 text
@@ -89,17 +90,17 @@ ClientAllocates login (Ok (frames.Outcome outcomes.Ok (Some text))) = IsUtf8 tex
 ClientAllocates login (Ok (frames.Outcome code (Some text))) = Unit {0}
 ClientAllocates login spelled = ⊥
 
--- a start
+-- whether a reply is a start
 abbrev pub is_start : ClientSays → Bool
 is_start (Started body) = true
 is_start says = false
 
--- an answer
+-- whether a reply is an answer
 abbrev pub is_answer : ClientSays → Bool
 is_answer (Answered body) = true
 is_answer says = false
 
--- a new start, or a reported outcome of code Ok
+-- whether a reply is a new start, or a reported outcome of code Ok
 abbrev pub ends_answer : ClientSays → Bool
 ends_answer (Started body) = true
 ends_answer (Reported outcomes.Ok more) = true
@@ -109,7 +110,7 @@ ends_answer says = false
 abbrev pub NonceAt : List Given → ℕ → List ℕ → Type 0
 NonceAt events k nonce = (event : Given) × (slice_get events k ≡ Some event) × (nonce ≡ base64_text event.nonce)
 
--- a challenge at k is due for this nonce: that of the last start before k, where no answer stands between
+-- a challenge at k is expected for this nonce: that of the last start before k, if no answer is between
 abbrev pub IsDue : List Given → List ClientSays → ℕ → List ℕ → Type 0
 IsDue events replies k nonce = OpenBy is_start is_answer (NonceAt events) replies k nonce
 
@@ -120,12 +121,12 @@ AnswersAt login events replies k answer =
     × SpellsBody event.body (Ok (frames.Challenge text))
     × ReadsChallenge login (IsDue events replies k) text (Ok answer)
 
--- the answer that is open at k: the last one before k, where neither a start nor a reported Ok stands between
+-- the answer that is open at k: the last one before k, if neither a start nor a reported Ok is between
 abbrev pub OpenAnswer : Login → List Given → List ClientSays → ℕ → Answering → Type 0
 OpenAnswer login events replies k answer = OpenBy is_answer ends_answer
     (AnswersAt login events replies) replies k answer
 
--- a reply for each event: the one that the table gives, or running out of memory where memory may run out
+-- a reply for each event: that of the table, or running out of memory where that may happen
 pub record ClientHistory (login : Login) (events : List Given) (replies : List ClientSays) : Type 0 where
   pub count : length replies ≡ length events
   pub each : (k : ℕ) (event : Given) (says : ClientSays) → slice_get events k ≡ Some event

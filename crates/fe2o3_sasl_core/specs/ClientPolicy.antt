@@ -1,4 +1,4 @@
--- Which mechanism a client takes of those that a server offers (AMQP 1.0, part 5, section 5.3.3.2: the client chooses).
+-- Which mechanism a client selects from a server's offer (AMQP 1.0, part 5, section 5.3.3.2: the client chooses).
 use Rattle.std.specs.Prelude.{◌≡◌, ◌≢◌, ℕ, Bool, true, false, Option, Some, None, List, [], ◌∷◌, take, slice_get, codes}
 use Rattle.std.specs.List.{AllByRecursion, Contains}
 use Rattle.fe2o3_scram.specs.declared.hmac.ScramVersion.{ScramVersion}
@@ -13,7 +13,7 @@ use Rattle.fe2o3_sasl_core.specs.declared.client_policy.ClientPolicy.{ClientPoli
 use Rattle.fe2o3_sasl_core.specs.declared.client_policy.Mechanism.{Mechanism}
 use Rattle.fe2o3_sasl_core.specs.declared.client_policy.Mechanism.TheVariants.{ScramSha512, ScramSha256, ScramSha1, External, Plain, Anonymous}
 
--- the mechanisms of clients, the strongest first: no standard orders them all, so this order is this library's own
+-- the mechanisms of clients, the strongest first: no standard orders them all, so this order is this library's
 abbrev pub by_strength : List Mechanism
 by_strength = ScramSha512 ∷ ScramSha256 ∷ ScramSha1 ∷ External ∷ Plain ∷ Anonymous ∷ []
 
@@ -26,7 +26,7 @@ policy_name External = codes "EXTERNAL"
 policy_name Plain = codes "PLAIN"
 policy_name Anonymous = codes "ANONYMOUS"
 
--- SCRAM by hashes that are no weaker than this one's; it is asked of SCRAM alone
+-- SCRAM with a hash that is no weaker than this one; it is asked only of SCRAM
 abbrev pub is_allowed_from : ScramVersion → Mechanism → Bool
 is_allowed_from Sha1 mechanism = true
 is_allowed_from Sha256 ScramSha1 = false
@@ -34,33 +34,33 @@ is_allowed_from Sha256 mechanism = true
 is_allowed_from Sha512 ScramSha512 = true
 is_allowed_from Sha512 mechanism = false
 
--- whether a policy allows it: SCRAM from its floor on, and the others where it says so
+-- whether a policy allows a mechanism: SCRAM from its floor on, and the others if it says so
 abbrev pub is_allowed : ClientPolicy → Mechanism → Bool
 is_allowed policy External = policy.external
 is_allowed policy Plain = policy.plain
 is_allowed policy Anonymous = policy.anonymous
 is_allowed policy mechanism = is_allowed_from policy.floor mechanism
 
--- the one or the other, by whether keys of the second version are of the first
+-- the first or the second secret, by whether keys of the second version are of the first
 abbrev pub keys_for_version : ScramVersion → ScramVersion → Option Secret → Option Secret → Option Secret
 keys_for_version Sha1 Sha1 same other = same
 keys_for_version Sha256 Sha256 same other = same
 keys_for_version Sha512 Sha512 same other = same
 keys_for_version version of same other = other
 
--- what a secret is for SCRAM of a version (RFC 5802, section 3): keys serve only for the version that they are of
+-- what a secret is for SCRAM of a version (RFC 5802, section 3): keys serve only for their own version
 abbrev pub secret_for : ScramVersion → Secret → Option Secret
 secret_for version (Password password) = Some (Password password)
 secret_for version (Keys keys) = keys_for_version version keys.version (Some (Keys keys)) None
 secret_for version (Both password keys) =
     keys_for_version version keys.version (Some (Both password keys)) (Some (Password password))
 
--- the profile of the user by such a secret within these limits, if there is one
+-- the user's profile for SCRAM with this secret, if there is one, within these limits
 abbrev pub scram_by : IterationLimits → List ℕ → ScramVersion → Option Secret → Option Profile
 scram_by limits user version None = None
 scram_by limits user version (Some secret) = Some (ScramProfile (with_limits (fresh_client user version secret) limits))
 
--- and by PLAIN (RFC 4616, section 2), which sends the password
+-- the user's profile for PLAIN (RFC 4616, section 2), which sends the password
 abbrev pub plain_by : List ℕ → Secret → Option Profile
 plain_by user (Password password) = Some (PlainProfile user (password_bytes password))
 plain_by user (Keys keys) = None
@@ -75,12 +75,12 @@ profile_by limits user secret External = Some ExternalProfile
 profile_by limits user secret Plain = plain_by user secret
 profile_by limits user secret Anonymous = Some AnonymousProfile
 
--- a mechanism can be taken: the policy allows it, the secret serves for it, and it is offered
+-- a mechanism can be selected: the policy allows it, the secret serves for it, and it is offered
 abbrev pub CanTake : ClientPolicy → List ℕ → Secret → List (List ℕ) → Mechanism → Type 0
 CanTake policy user secret names mechanism = (is_allowed policy mechanism ≡ true)
     × (profile_by policy.limits user secret mechanism ≢ None) × Contains names (policy_name mechanism)
 
--- of a list of mechanisms it is the first that can be taken
+-- the first mechanism of a list that can be selected
 abbrev pub IsFirstTaken : ClientPolicy → List ℕ → Secret → List (List ℕ) → List Mechanism → Mechanism → Type 0
 IsFirstTaken policy user secret names mechanisms mechanism = (k : ℕ) × (slice_get mechanisms k ≡ Some mechanism)
     × CanTake policy user secret names mechanism

@@ -19,7 +19,7 @@ abbrev pub MeteredAcceptorSteps : Acceptor × ℕ → Given → ServerSays → A
 MeteredAcceptorSteps at event says next = AcceptorSteps acceptor_machine at.0 event says next.0
     × AcceptorStepCosts acceptor_hmacs at.0 event at.1 next.1
 
--- whether a client's reply is an answer, as its cost asks
+-- whether a client's reply is an answer, in the form that its cost needs
 abbrev pub reply_of : ClientSays → Result (Unit {0}) ProfileError
 reply_of (Refused fault) = Err fault
 reply_of says = Ok tt
@@ -29,14 +29,15 @@ abbrev pub MeteredProfileSteps : Option (List ℕ) → Profile × ℕ → Given 
 MeteredProfileSteps hostname at event says next = ProfileSteps hostname at.0 event says next.0
     × ProfileStepCosts at.0 event (reply_of says) at.1 next.1
 
--- the HMAC values that a body costs a server at most (RFC 5802, section 3): those of a look-up where it is an init, and two
--- where it is a response
+-- the maximum of HMAC values that a body costs a server (RFC 5802, section 3): those of a look-up for an init, and two
+-- for a response
 abbrev pub server_most : Provider → Result SaslFrame Error → ℕ
 server_most provider (Ok (frames.Init mechanism response hostname)) = provider.look_up_cost
 server_most provider (Ok (frames.Response text)) = 2
 server_most provider spelled = 0
 
--- and a client with this limit: where it is a challenge, as many as the limit and four more
+-- the maximum of HMAC values that a body costs a client with this limit: for a challenge, as many as the limit and four
+-- more
 abbrev pub client_most : ℕ → Result SaslFrame Error → ℕ
 client_most limit (Ok (frames.Challenge text)) = limit + 4
 client_most limit spelled = 0
@@ -54,7 +55,7 @@ ServerRunsCost = (provider : Provider) (state : ServerState) (events : List Give
     → Runs MeteredAcceptorSteps (ScramAcceptor provider state, before) events replies (last, after)
     → SumsUp (server_most provider) events sum → (before ≤ after) × (after ≤ before + sum)
 
--- likewise a run of a SCRAM profile
+-- a run of a SCRAM profile over any list of bodies, from any state, costs no more than the sum over its bodies
 abbrev pub ClientRunsCost : Type 0
 ClientRunsCost = (hostname : Option (List ℕ)) (client : ClientSide) (events : List Given) (replies : List ClientSays)
     (before after sum : ℕ) (last : Profile)

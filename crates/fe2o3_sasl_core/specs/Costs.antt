@@ -17,13 +17,13 @@ use Rattle.fe2o3_sasl_core.specs.SaslAcceptor.{Acceptor, ScramAcceptor}
 
 -- ---- acceptors
 
--- the init names the mechanism, and its client-first message is read, so that its user is looked up
+-- the init names the mechanism, and its client-first message is parsed, so that its user is looked up
 abbrev pub ReachesLookUp : Provider → List ℕ → List ℕ → Type 0
 ReachesLookUp provider mechanism text = (mechanism ≡ mechanism_name provider.version)
     × ((client : ClientFirst) × ReadsClientFirst provider.cbind_flag_y text (Ok client))
 
--- how many an acceptor takes for its answer to a frame: SCRAM for an init those of the look-up, and for a response those
--- of its proof and its signature, two where it is accepted and one where the proof alone is refused; for all else none
+-- how many HMAC values an acceptor makes for its answer to a frame: SCRAM for an init those of the look-up, and for a
+-- response two if it is accepted and one if only the proof is rejected; otherwise none
 abbrev pub acceptor_hmacs : Acceptor → SaslFrame → ℕ → Type 0
 acceptor_hmacs (ScramAcceptor provider state) (frames.Init mechanism (Some text) hostname) n =
     (ReachesLookUp provider mechanism text × (n ≡ provider.look_up_cost))
@@ -33,35 +33,36 @@ acceptor_hmacs (ScramAcceptor provider state) (frames.Response text) n =
     × ConcludesFrom state provider.version text answer after × FinalCostsFrom state provider.version text answer 0 n
 acceptor_hmacs acceptor frame n = n ≡ 0
 
--- no more were made than an answer takes, also where memory ran out
+-- no more HMAC values were made than an answer takes, also if memory ran out
 abbrev pub CostsAtMost : {S : Type 0} → (S → SaslFrame → ℕ → Type 0) → S → SaslFrame → ℕ → ℕ → Type 0
 CostsAtMost hmacs state frame before after =
     (before ≤ after) × ((n : ℕ) → hmacs state frame n → after ≤ before + n)
 
--- the same of a body that spells this: one that spells no frame takes none
+-- the HMAC values of an acceptor for a body that spells this: one that spells no frame takes none
 abbrev pub AcceptorCostsOf : {S : Type 0} → (S → SaslFrame → ℕ → Type 0) → S → Result SaslFrame Error → ℕ → ℕ → Type 0
 AcceptorCostsOf hmacs state (Ok frame) before after = CostsAtMost hmacs state frame before after
 AcceptorCostsOf hmacs state (Err fault) before after = after ≡ before
 
--- and of an acceptor's step over one event
+-- the HMAC values of an acceptor's step over one event
 abbrev pub AcceptorStepCosts : {S : Type 0} → (S → SaslFrame → ℕ → Type 0) → S → Given → ℕ → ℕ → Type 0
 AcceptorStepCosts hmacs state event before after = (spelled : Result SaslFrame Error) × SpellsBody event.body spelled
     × AcceptorCostsOf hmacs state spelled before after
 
 -- ---- profiles
 
--- those of a profile's answer to a frame: to a challenge in UTF-8 SCRAM makes those of its answer; for all else none
+-- the HMAC values of a profile's answer to a frame: to a challenge in UTF-8 SCRAM makes those of its answer; otherwise
+-- none
 abbrev pub ProfileCosts : {A F : Type 0} → SaslFrame → Profile → Result A F → ℕ → ℕ → Type 0
 ProfileCosts (frames.Challenge text) (ScramProfile client) result before after =
     (¬ IsUtf8 text → after ≡ before) × (IsUtf8 text → AnswerCostsIn client.state client text result before after)
 ProfileCosts frame profile result before after = after ≡ before
 
--- the same of a body that spells this: one that spells no frame takes none
+-- the HMAC values of a profile for a body that spells this: one that spells no frame takes none
 abbrev pub ProfileCostsOf : {A F : Type 0} → Result SaslFrame Error → Profile → Result A F → ℕ → ℕ → Type 0
 ProfileCostsOf (Ok frame) profile result before after = ProfileCosts frame profile result before after
 ProfileCostsOf (Err fault) profile result before after = after ≡ before
 
--- and of a profile's step over one event
+-- the HMAC values of a profile's step over one event
 abbrev pub ProfileStepCosts : {A F : Type 0} → Profile → Given → Result A F → ℕ → ℕ → Type 0
 ProfileStepCosts profile event result before after = (spelled : Result SaslFrame Error)
     × SpellsBody event.body spelled × ProfileCostsOf spelled profile result before after

@@ -1,5 +1,5 @@
--- What the two sides are given and what they answer, as plain data (AMQP 1.0, part 5, section 5.3), and what
--- the code always holds of it.
+-- What the two sides receive and answer, as plain data (AMQP 1.0, part 5, section 5.3), and what the code always holds
+-- of it.
 use Rattle.std.specs.Prelude.{◌≡◌, ℕ, ◌<◌, ◌^◌, List, length, slice_get, Option, Some}
 use Rattle.std.specs.Str.{IsUtf8}
 use Rattle.fe2o3_sasl_wire.specs.SaslFrames.{IsBytes}
@@ -15,7 +15,7 @@ use Rattle.fe2o3_scram.specs.ClientKeys.{AreSized}
 use Rattle.fe2o3_scram.specs.ClientSecret.{Secret, Password, Keys, Both}
 use Rattle.fe2o3_scram.specs.Credentials.{Record}
 
--- an event: the body of a frame as it came, and the 32 bytes that the answer takes where it takes a nonce
+-- an event: the body of a frame as received, and 32 bytes, the nonce of an answer that needs one
 pub record Given : Type 0 where
   pub body : List ℕ
   pub nonce : List ℕ
@@ -29,20 +29,19 @@ pub record Login : Type 0 where
   pub limits : IterationLimits
   pub hostname : Option (List ℕ)
 
--- a reply of a server: the body of a challenge, the code and the body of an outcome, or a fault
+-- a reply of a server: the body of a challenge, the code and the body of an outcome, or an error
 pub data ServerSays : Type 0 where
   Challenged : (body : List ℕ) → ServerSays
   Concluded : (code : SaslCode) → (body : List ℕ) → ServerSays
   Failed : (fault : Error) → ServerSays
 
--- the fault for a refusal of a SCRAM client
+-- the error for an error of a SCRAM client
 abbrev pub scram_fault : ScramErrorKind → ProfileError
 scram_fault kinds.StaleKeys = StaleKeys
 scram_fault kind = Scram kind
 
--- a reply of a client: the body of an init, the body of a response, an outcome that it reports, or a fault: a frame that
--- it does not expect, a refusal of SCRAM, kept keys that are of another salt or another count, a body that is not read
--- or not written, no memory
+-- a reply of a client: the body of an init, the body of a response, an outcome that it reports, or an error: a frame
+-- that it does not expect, an error of SCRAM, stale keys, a body that is not read or not written, no memory
 pub data ClientSays : Type 0 where
   Started : (body : List ℕ) → ClientSays
   Answered : (body : List ℕ) → ClientSays

@@ -1,5 +1,5 @@
--- What a server answers to EXTERNAL (RFC 4422, appendix A), by which a client logs in as whom the transport has
--- authenticated.
+-- What a server answers to EXTERNAL (RFC 4422, appendix A), by which a client logs in as the user that the transport
+-- has authenticated.
 use Rattle.std.specs.Prelude.{◌≡◌, ◌⊎◌, ℕ, Bool, true, false, Option, Some, None, List, [], codes, string_bytes}
 use Rattle.fe2o3_sasl_wire.specs.declared.amqp_types.SaslCode.TheVariants as outcomes
 use Rattle.fe2o3_sasl_wire.specs.SaslFrames as frames
@@ -21,7 +21,7 @@ AsksFor user (Some identity) = (identity ≡ []) ⊎ (identity ≡ user)
 abbrev pub IsInitOf : List ℕ → List ℕ → Option (List ℕ) → Type 0
 IsInitOf user mechanism response = (mechanism ≡ codes "EXTERNAL") × AsksFor user response
 
--- its machine
+-- the machine of an acceptor of EXTERNAL
 abbrev pub external_machine : External → List ℕ → SaslFrame → SaslFrame → External → Type 0
 external_machine external nonce (frames.Init mechanism response hostname) reply next =
     (IsInitOf external.user mechanism response × (reply ≡ ends_with outcomes.Ok)
@@ -31,12 +31,12 @@ external_machine external nonce (frames.Response text) reply next =
     (reply ≡ ends_with outcomes.Auth) × (next ≡ external)
 external_machine external nonce frame reply next = ⊥
 
--- this name where it is so, and else none
+-- some name if the flag is set, otherwise none
 abbrev pub named_where : Bool → List ℕ → Option (List ℕ)
 named_where true user = Some user
 named_where false user = None
 
--- who has logged in: the name, once an init was accepted
+-- the user who has logged in: the name, once an init was accepted
 abbrev pub external_user : External → Option (List ℕ)
 external_user external = named_where external.accepted external.user
 

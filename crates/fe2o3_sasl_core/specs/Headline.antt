@@ -1,5 +1,5 @@
--- The headline theorem, over every list of frame bodies: what every history has. Every run of `scram_server_run` and
--- of `scram_client_run` has it by contract, and `headline` in `laws` of `fe2o3_sasl` has it of the definitions.
+-- The headline theorem, over every list of frame bodies: what every history has. Every run of `scram_server_run` and of
+-- `scram_client_run` has it by contract. `headline` in `laws` of `fe2o3_sasl` states it of the definitions.
 use Rattle.std.specs.Prelude.{◌≡◌, ◌≢◌, ℕ, ◌<◌, Option, Some, List, slice_get, Ok}
 use Rattle.fe2o3_sasl_wire.specs.declared.amqp_types.SaslCode.TheVariants as outcomes
 use Rattle.fe2o3_sasl_wire.specs.declared.sasl_frames.error.Error.TheVariants as faults
@@ -16,14 +16,14 @@ use Rattle.fe2o3_sasl_core.specs.declared.sasl_profile.error.ProfileError.TheVar
 
 -- what a server answers Ok to, exactly
 pub record AnswersOkExactly (provider : Provider) (events : List Given) (replies : List ServerSays) : Type 0 where
-  -- only a response that fits its open challenge, and whose proof meets the stored key
+  -- Ok answers only a response that fits its open challenge, and whose proof meets the stored key
   pub only : (n : ℕ) (body : List ℕ) → slice_get replies n ≡ Some (Concluded outcomes.Ok body)
       → (accepted : Accepted) × AcceptsAt provider events replies n accepted
       × (Concluded outcomes.Ok body ≡ says_ok provider accepted)
-  -- that closes the challenge: no later position finds it open, by the definition of what is open
+  -- an Ok closes the challenge: no later position finds it open, by the definition of what is open
   pub closes : (n j k : ℕ) (body : List ℕ) → slice_get replies n ≡ Some (Concluded outcomes.Ok body)
       → IsLastOpen is_challenge is_ok replies n j → n < k → ¬ IsLastOpen is_challenge is_ok replies k j
-  -- and every such response, but for running out of memory and an outcome that is too large, as `says_ok` says
+  -- every such response is answered by Ok, except if memory runs out or the outcome is too large, as `says_ok` says
   pub wherever : (n : ℕ) (accepted : Accepted) (says : ServerSays) → AcceptsAt provider events replies n accepted
       → slice_get replies n ≡ Some says → says ≢ Failed faults.OutOfMemory → says ≡ says_ok provider accepted
 
@@ -35,15 +35,15 @@ SignedAt login events replies m text = (event : Given) × (answer : Answering) �
 
 -- what a client reports Ok on, exactly
 pub record ReportsOkExactly (login : Login) (events : List Given) (replies : List ClientSays) : Type 0 where
-  -- only the signature of its open answered challenge
+  -- Ok is reported only on the signature of the open answered challenge
   pub only : (m : ℕ) (more : Option (List ℕ)) → slice_get replies m ≡ Some (Reported outcomes.Ok more)
       → (text : List ℕ) × (more ≡ Some text) × SignedAt login events replies m text
-  -- and every such signature, but for running out of memory
+  -- every such signature is reported, except if memory runs out
   pub wherever : (m : ℕ) (text : List ℕ) (says : ClientSays) → SignedAt login events replies m text
       → slice_get replies m ≡ Some says → says ≢ Refused OutOfMemory → says ≡ Reported outcomes.Ok (Some text)
 
--- of a verifier that the client took at m: both sides agree where their AuthMessages are equal, and where these
--- differ they share one HMAC value under the two sides' own server keys
+-- of a verifier that the client took at m: both sides agree if their AuthMessages are equal, and otherwise these share
+-- one HMAC value under the two sides' own server keys
 pub record VerifierAgrees (sides : Sides) (m : ℕ) (accepted : Accepted) : Type 0 where
   pub answer : Answering
   pub opened : OpenAnswer sides.login sides.client_events sides.client_replies m answer
@@ -52,7 +52,7 @@ pub record VerifierAgrees (sides : Sides) (m : ℕ) (accepted : Accepted) : Type
   pub collides : client_message sides.login answer ≢ server_message accepted → MessagesCollide sides answer accepted
       (keys_at sides.login answer).server_key accepted.challenge.stored.server_key
 
--- of the verifiers that the client took: each that a server issued, of whatever provider and history
+-- of the verifiers that the client took: each that a server issued, of any provider and history
 abbrev pub TakenVerifiersAgree : Login → List Given → List ClientSays → Type 0
 TakenVerifiersAgree login events replies = (sides : Sides) (m n : ℕ) (accepted : Accepted) → sides.login ≡ login
     → sides.client_events ≡ events → sides.client_replies ≡ replies

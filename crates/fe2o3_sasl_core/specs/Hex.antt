@@ -1,4 +1,4 @@
--- Bytes in text, as events are given from outside: base16 (RFC 4648, section 8), with digits of either case.
+-- Bytes in text, for events from outside: base16 (RFC 4648, section 8), with digits of either case.
 use Rattle.std.specs.Prelude.{◌≡◌, ◌⊎◌, ◌+◌, ◌*◌, ℕ, List, [], ◌∷◌, Some, codes, slice_get}
 use Rattle.hex.specs.Hex.{encode_lower, encode_upper, IsBytes}
 

@@ -1,4 +1,4 @@
--- What holds of every history, and of every two. Each is the contract of a function of `laws` of `fe2o3_sasl`.
+-- Laws of every history, and of every two. Each is the contract of a function of `laws` of `fe2o3_sasl`.
 use Rattle.std.specs.Prelude.{◌≡◌, ◌≢◌, ◌↔◌, ◌⊎◌, ℕ, suc, ◌<◌, ◌≤◌, Bool, true, false, Option, Some, None, List, length, take, slice_get, Ok}
 use Rattle.std.specs.List.{Contains, filter}
 use Rattle.fe2o3_sasl_wire.specs.declared.amqp_types.SaslCode.TheVariants as outcomes
@@ -26,23 +26,23 @@ use Rattle.fe2o3_sasl_core.specs.Verdicts.{Parameters, Verdict, Agreed, JudgesVe
 use Rattle.fe2o3_sasl_core.specs.Complete.{ClientComplete, ServerComplete}
 use Rattle.fe2o3_sasl_core.specs.declared.sasl_profile.error.ProfileError.TheVariants.{StaleKeys, OutOfMemory}
 
--- every server history has this
+-- this holds of every server history
 abbrev pub EveryServer : (Provider → List Given → List ServerSays → Type 0) → Type 0
 EveryServer Has = (provider : Provider) (events : List Given) (replies : List ServerSays)
     → ServerHistory provider events replies → Has provider events replies
 
--- every client history has this
+-- this holds of every client history
 abbrev pub EveryClient : (Login → List Given → List ClientSays → Type 0) → Type 0
 EveryClient Has = (login : Login) (events : List Given) (replies : List ClientSays)
     → ClientHistory login events replies → Has login events replies
 
--- a history without running out of memory is a function of the events
+-- a server history without running out of memory is a function of the events
 abbrev pub OneServerHistory : Type 0
 OneServerHistory = (provider : Provider) (events : List Given) (replies others : List ServerSays)
     → ServerHistory provider events replies → ServerHistory provider events others
     → ServerComplete replies → ServerComplete others → replies ≡ others
 
--- likewise of a client
+-- a client history without running out of memory is a function of the events
 abbrev pub OneClientHistory : Type 0
 OneClientHistory = (login : Login) (events : List Given) (replies others : List ClientSays)
     → ClientHistory login events replies → ClientHistory login events others
@@ -54,7 +54,7 @@ AcceptorRunsAreHistories = (provider : Provider) (events : List Given) (replies 
     → Runs (AcceptorSteps acceptor_machine) (ScramAcceptor provider server_states.Initial) events replies last
     → ServerHistory provider events replies
 
--- and behind it the acceptor names who has logged in by that history
+-- after a run from its first state, the acceptor names the user who has logged in by that history
 abbrev pub AcceptorRunsNameUsers : Type 0
 AcceptorRunsNameUsers = (provider : Provider) (events : List Given) (replies : List ServerSays) (last : Acceptor)
     (user : List ℕ)
@@ -66,12 +66,12 @@ abbrev pub ProfileRunsAreHistories : Type 0
 ProfileRunsAreHistories = (login : Login) (events : List Given) (replies : List ClientSays) (last : Profile)
     → Runs (ProfileSteps login.hostname) (scram_profile login) events replies last → ClientHistory login events replies
 
--- no reply says that kept keys (RFC 5802, section 3) are of another salt or another count
+-- no reply is the error for stale keys (RFC 5802, section 3)
 abbrev pub KeysFit : List ClientSays → Type 0
 KeysFit replies = (k : ℕ) → slice_get replies k ≢ Some (Refused StaleKeys)
 
--- where they are never, a run of a SCRAM profile with the keys of a password is a run of the profile with the password
--- (RFC 5802, section 3)
+-- a run of a SCRAM profile with the keys of a password, in which they are never stale, is a run of the profile with the
+-- password (RFC 5802, section 3)
 abbrev pub KeyedRunsAreRuns : Type 0
 KeyedRunsAreRuns = (login : Login) (keys : ClientKeys) (password : PasswordText) (events : List Given)
     (replies : List ClientSays) (last : Profile) → keys.version ≡ login.version → IsNormal password
@@ -82,7 +82,8 @@ KeyedRunsAreRuns = (login : Login) (keys : ClientKeys) (password : PasswordText)
     × Runs (ProfileSteps login.hostname) (scram_profile (record login { secret = Password password })) events replies
     after
 
--- and so (RFC 5802, section 3) a client history of the login with the password
+-- a run of a SCRAM profile with the keys of a password, in which they are never stale, is a client history of the login
+-- with the password (RFC 5802, section 3)
 abbrev pub KeyedRunsAreHistories : Type 0
 KeyedRunsAreHistories = (login : Login) (keys : ClientKeys) (password : PasswordText) (events : List Given)
     (replies : List ClientSays) (last : Profile) → keys.version ≡ login.version → IsNormal password
@@ -96,7 +97,7 @@ OksWithinChallenges = (provider : Provider) (events : List Given) (replies : Lis
     → ServerHistory provider events replies
     → length (filter is_ok (take k replies)) ≤ length (filter is_challenge (take k replies))
 
--- after an Ok at n every response is refused, the accepted one among them, until there is a challenge again
+-- after an Ok at n every response is rejected, the accepted one included, until there is a challenge again
 abbrev pub RepeatedResponsesAreRefused : Type 0
 RepeatedResponsesAreRefused = (provider : Provider) (events : List Given) (replies : List ServerSays) (n k : ℕ)
     (body : List ℕ) (event : Given) (text : List ℕ) (says : ServerSays)
@@ -115,7 +116,7 @@ OneResponseOneNonce = (provider : Provider) (events : List Given) (replies : Lis
     → AcceptsAt provider events replies n accepted → AcceptsAt provider events replies k other
     → full_nonce accepted.challenge ≡ full_nonce other.challenge
 
--- a reply that is neither a challenge nor an Ok leaves open what was open
+-- a reply that is neither a challenge nor an Ok leaves what was open unchanged
 abbrev pub RefusalsLeaveOpen : Type 0
 RefusalsLeaveOpen = (provider : Provider) (events : List Given) (replies : List ServerSays) (k : ℕ)
     (challenge : Challenging) → test_at is_challenge (slice_get replies k) ≡ false
@@ -123,7 +124,7 @@ RefusalsLeaveOpen = (provider : Provider) (events : List Given) (replies : List 
     → (Open provider events replies k challenge → Open provider events replies (suc k) challenge)
     × (Open provider events replies (suc k) challenge → Open provider events replies k challenge)
 
--- two positions that close have not the same one open
+-- two positions that close never have the same one open
 abbrev pub CloseApart : {A : Type 0} → (A → Bool) → (A → Bool) → Type 0
 CloseApart {A} opens closes = (replies : List A) (j m n : ℕ) → IsLastOpen opens closes replies m j
     → IsLastOpen opens closes replies n j
@@ -139,7 +140,7 @@ AreMatched sides answer accepted =
     ((m n : ℕ) × Takes sides m n accepted × OpenAnswer sides.login sides.client_events sides.client_replies m answer)
     ⊎ ((k n : ℕ) × Shows sides k n answer accepted)
 
--- two histories that are so matched, over a secret and a record that the code holds, with equal AuthMessages
+-- two matched histories, over a secret and a record that the code holds, with equal AuthMessages
 pub record MatchEqually (sides : Sides) (answer : Answering) (accepted : Accepted) : Type 0 where
   pub histories : Histories sides
   pub secret : IsSecret sides.login.secret
@@ -152,7 +153,7 @@ abbrev pub EqualMessagesAgree : Type 0
 EqualMessagesAgree = (sides : Sides) (answer : Answering) (accepted : Accepted) → MatchEqually sides answer accepted
     → Agree sides.login sides.provider answer accepted
 
--- and the init had not three parts, and not four
+-- the init of equal AuthMessages did not have three parts, nor four
 abbrev pub NoShortExtensions : Type 0
 NoShortExtensions = (sides : Sides) (answer : Answering) (accepted : Accepted) → MatchEqually sides answer accepted
     → ¬ HasParts accepted.challenge.client.bare 3 × ¬ HasParts accepted.challenge.client.bare 4
@@ -170,19 +171,19 @@ ShownProofsAreJudged = (sides : Sides) (k n : ℕ) (answer : Answering) (accepte
     → IsSecret sides.login.secret → IsRecord accepted.challenge.stored
     → Shows sides k n answer accepted → (verdict : Verdict) × JudgesProof sides answer accepted verdict
 
--- and no other verdict
+-- a matched verifier or proof has only one verdict
 abbrev pub OneVerdictEach : Type 0
 OneVerdictEach = (sides : Sides) (answer : Answering) (accepted : Accepted) (verdict other : Verdict)
     → (JudgesVerifier sides answer accepted verdict → JudgesVerifier sides answer accepted other → verdict ≡ other)
     × (JudgesProof sides answer accepted verdict → JudgesProof sides answer accepted other → verdict ≡ other)
 
--- an audit has one answer, whatever replies it speaks of
+-- an audit has one answer, for any replies
 abbrev pub OneAuditEach : Type 0
 OneAuditEach = (login : Login) (client_events : List Given) (provider : Provider) (server_events : List Given)
     (findings others : List Finding) → AuditsEvents login client_events provider server_events findings
     → AuditsEvents login client_events provider server_events others → findings ≡ others
 
--- the user of an agreed finding has logged in behind its Ok
+-- the user of an agreed finding has logged in after its Ok
 abbrev pub AgreedUsersAreNamed : Type 0
 AgreedUsersAreNamed = (sides : Sides) (findings : List Finding) (finding : Finding) (user nonce : List ℕ)
     (parameters : Option Parameters) → Audits sides findings → Contains findings finding
@@ -251,7 +252,7 @@ abbrev pub IsAgreed : Finding → Type 0
 IsAgreed finding = (user nonce : List ℕ) × (parameters : Option Parameters)
     × (finding.verdict ≡ Agreed user nonce parameters)
 
--- and its parameters are given
+-- the parameters of this finding are given
 abbrev pub HasParameters : Finding → Type 0
 HasParameters finding = (user nonce : List ℕ) × (parameters : Parameters)
     × (finding.verdict ≡ Agreed user nonce (Some parameters))
@@ -288,7 +289,7 @@ abbrev pub SomeServerHistory : Type 0
 SomeServerHistory = (provider : Provider) (events : List Given) → BodiesAreBytes events
     → (replies : List ServerSays) × ServerHistory provider events replies × ServerComplete replies
 
--- likewise a client history
+-- events whose bodies are bytes have a client history without running out of memory
 abbrev pub SomeClientHistory : Type 0
 SomeClientHistory = (login : Login) (events : List Given) → BodiesAreBytes events
     → (replies : List ClientSays) × ClientHistory login events replies × ClientComplete replies
@@ -297,32 +298,32 @@ SomeClientHistory = (login : Login) (events : List Given) → BodiesAreBytes eve
 abbrev pub ClientsLogIn : Type 0
 ClientsLogIn = EveryClient (λ login events replies. IsLogin login → ClientLogsIn login events replies)
 
--- and what it gives every history of a server
+-- unaltered runs log in: what that gives every history of a server
 abbrev pub ServersLogIn : Type 0
 ServersLogIn = EveryServer ServerLogsIn
 
--- a frame at which memory may run out for a server's reply: an init or a response
+-- a frame at which a server may run out of memory for its reply: an init or a response
 abbrev pub WantsAtServer : SaslFrame → Type 0
 WantsAtServer frame =
     ((mechanism : List ℕ) × (response : Option (List ℕ)) × (hostname : Option (List ℕ))
     × (frame ≡ frames.Init mechanism response hostname))
     ⊎ ((text : List ℕ) × (frame ≡ frames.Response text))
 
--- running out of memory stands at no other frame of a server's history, and at no body that spells none
+-- a server's history runs out of memory only at an init or a response
 abbrev pub ServersWantMemory : Type 0
 ServersWantMemory = (provider : Provider) (events : List Given) (replies : List ServerSays) (k : ℕ)
     → ServerHistory provider events replies → slice_get replies k ≡ Some (Failed faults.OutOfMemory)
     → (event : Given) × (frame : SaslFrame) × (slice_get events k ≡ Some event) × SpellsBody event.body (Ok frame)
     × WantsAtServer frame
 
--- likewise of a client's history: it stands only where memory is asked for
+-- a client's history runs out of memory only where it allocates
 abbrev pub ClientsWantMemory : Type 0
 ClientsWantMemory = (login : Login) (events : List Given) (replies : List ClientSays) (k : ℕ)
     → ClientHistory login events replies → slice_get replies k ≡ Some (Refused OutOfMemory)
     → (event : Given) × (frame : SaslFrame) × (slice_get events k ≡ Some event) × SpellsBody event.body (Ok frame)
     × ClientAllocates login (Ok frame)
 
--- and of what any profile replies
+-- the replies of any profile run out of memory only where it allocates
 abbrev pub ProfilesWantMemory : Type 0
 ProfilesWantMemory = (hostname : Option (List ℕ)) (profile next : Profile) (nonce : List ℕ) (frame : SaslFrame)
     → ProfileReplies hostname profile nonce frame (Refused OutOfMemory) next → StepAllocates profile frame

@@ -1,5 +1,5 @@
--- What holds of every acceptor and every profile, of SCRAM and of the other mechanisms. Each is the contract of a
--- clause of `laws::mechanisms`, `laws::replies` or `laws::users`.
+-- Laws of every acceptor and every profile, of SCRAM and of the other mechanisms. Each is the contract of a clause of
+-- `laws::mechanisms`, `laws::replies` or `laws::users`.
 use Rattle.std.specs.Prelude.{◌≡◌, ◌≢◌, ◌⊎◌, ℕ, Bool, true, false, Option, Some, None, List, [], ◌∷◌, ◌++◌, map, slice_get, Result, Ok}
 use Rattle.std.specs.List.{AllByRecursion, Contains}
 use Rattle.fe2o3_sasl_wire.specs.declared.amqp_types.SaslCode.{SaslCode}
@@ -13,13 +13,13 @@ use Rattle.fe2o3_sasl_core.specs.SaslAcceptor.{Acceptor, ScramAcceptor, PlainAcc
 use Rattle.fe2o3_sasl_core.specs.Profiles.{Profile, ScramProfile, PlainProfile, AnonymousProfile, ExternalProfile, profile_machine, profile_name, scram_profile}
 use Rattle.fe2o3_sasl_core.specs.declared.sasl_profile.error.ProfileError.{ProfileError}
 
--- an acceptor has one reply at most to each frame, and one acceptor after it
+-- an acceptor has at most one reply to each frame, and one acceptor after it
 abbrev pub OneAcceptorReply : Type 0
 OneAcceptorReply = (acceptor : Acceptor) (nonce : List ℕ) (frame reply other : SaslFrame) (next last : Acceptor)
     → acceptor_machine acceptor nonce frame reply next → acceptor_machine acceptor nonce frame other last
     → (reply ≡ other) × (next ≡ last)
 
--- likewise a profile
+-- a profile has at most one reply to each frame, and one profile after it
 abbrev pub OneProfileReply : Type 0
 OneProfileReply = (profile : Profile) (hostname : Option (List ℕ)) (nonce : List ℕ) (frame : SaslFrame)
     (reply other : Result SaslFrame ProfileError) (next last : Profile)
@@ -32,12 +32,12 @@ IsSentToServers (frames.Init mechanism response hostname) = Unit {0}
 IsSentToServers (frames.Response text) = Unit {0}
 IsSentToServers frame = ⊥
 
--- an acceptor has a reply to each of them, in each state and with each nonce
+-- an acceptor has a reply to each init and response, in each state and with each nonce
 abbrev pub SomeAcceptorReply : Type 0
 SomeAcceptorReply = (acceptor : Acceptor) (nonce : List ℕ) (frame : SaslFrame) → IsSentToServers frame
     → (reply : SaslFrame) × (next : Acceptor) × acceptor_machine acceptor nonce frame reply next
 
--- a profile has one to every frame, also to those that only a server is sent
+-- a profile has a reply to every frame, also to those that only a server receives
 abbrev pub SomeProfileReply : Type 0
 SomeProfileReply = (profile : Profile) (hostname : Option (List ℕ)) (nonce : List ℕ) (frame : SaslFrame)
     → (reply : Result SaslFrame ProfileError) × (next : Profile)
@@ -47,15 +47,15 @@ SomeProfileReply = (profile : Profile) (hostname : Option (List ℕ)) (nonce : L
 abbrev pub SaysOk : List ServerSays → Type 0
 SaysOk replies = (k : ℕ) × (body : List ℕ) × (slice_get replies k ≡ Some (Concluded outcomes.Ok body))
 
--- behind a run of PLAIN's acceptor from its first state, over any list of bodies, its user has logged in where some
--- reply is an outcome Ok, and nobody has where none is (RFC 4616, section 2)
+-- after a run of PLAIN's acceptor from its first state, over any list of bodies, its user has logged in if some reply
+-- is an outcome Ok, and otherwise nobody has (RFC 4616, section 2)
 abbrev pub PlainRunsNameUsers : Type 0
 PlainRunsNameUsers = (user password : List ℕ) (events : List Given) (replies : List ServerSays) (last : Acceptor)
     → Runs (AcceptorSteps acceptor_machine) (PlainAcceptor user password false) events replies last
     → (SaysOk replies × (acceptor_user last ≡ Some user)) ⊎ (¬ SaysOk replies × (acceptor_user last ≡ None))
 
--- the profile answers the names that the acceptor offers with an init, and the acceptor this init with an outcome
--- of this code; the profile stays as it is, and this is the acceptor behind it
+-- the profile answers the names that the acceptor offers with an init, and the acceptor this init with an outcome of
+-- this code; the profile is unchanged, and this is the acceptor after it
 abbrev pub EndsWith : Acceptor → Profile → SaslCode → Acceptor → Type 0
 EndsWith acceptor profile code next = (hostname : Option (List ℕ)) (client_nonce server_nonce : List ℕ)
     → (init : SaslFrame)
@@ -69,14 +69,14 @@ PlainLetsIn = (user password : List ℕ) (accepted : Bool) → NoZero user → N
     → EndsWith (PlainAcceptor user password accepted) (PlainProfile user password) outcomes.Ok
     (PlainAcceptor user password true)
 
--- and refuses every other user and password in such words
+-- PLAIN rejects every other user and password, in words without zero bytes (RFC 4616, section 2)
 abbrev pub PlainRefuses : Type 0
 PlainRefuses = (user password other secret : List ℕ) (accepted : Bool) → NoZero other → NoZero secret
     → ¬ ((user ≡ other) × (password ≡ secret))
     → EndsWith (PlainAcceptor user password accepted) (PlainProfile other secret) outcomes.Auth
     (PlainAcceptor user password accepted)
 
--- ANONYMOUS lets in whoever asks for it (RFC 4505, section 2)
+-- ANONYMOUS lets in every client that asks for it (RFC 4505, section 2)
 abbrev pub AnonymousLetsIn : Type 0
 AnonymousLetsIn = EndsWith AnonymousAcceptor AnonymousProfile outcomes.Ok AnonymousAcceptor
 
@@ -87,17 +87,17 @@ AreOfOneMechanism (PlainAcceptor user password accepted) (PlainProfile other sec
 AreOfOneMechanism AnonymousAcceptor AnonymousProfile = Unit {0}
 AreOfOneMechanism acceptor profile = ⊥
 
--- an acceptor offers what a profile asks for exactly where both are of one mechanism
+-- an acceptor offers what a profile asks for exactly if both are of one mechanism
 abbrev pub OffersAgree : Type 0
 OffersAgree = (acceptor : Acceptor) (profile : Profile)
     → (Contains (offered (acceptor_names acceptor)) (profile_name profile) → AreOfOneMechanism acceptor profile)
     × (AreOfOneMechanism acceptor profile → Contains (offered (acceptor_names acceptor)) (profile_name profile))
 
--- what is offered is never nothing, and a list with a name in it is offered as it is
+-- an offer is never empty, and a list that is not empty is offered unchanged
 abbrev pub SomethingIsOffered : Type 0
 SomethingIsOffered = (names : List (List ℕ)) → (offered names ≢ []) × (names ≢ [] → offered names ≡ names)
 
--- each is another than all later ones
+-- each name differs from all later ones
 abbrev pub Differ : List (List ℕ) → Type 0
 Differ [] = Unit {0}
 Differ (name ∷ names) = AllByRecursion (λ other. name ≢ other) names × Differ names
@@ -108,6 +108,6 @@ six_profiles login password =
     map (λ version. scram_profile (record login { version = version })) (Sha1 ∷ Sha256 ∷ Sha512 ∷ [])
     ++ PlainProfile login.user password ∷ AnonymousProfile ∷ ExternalProfile ∷ []
 
--- their names are six
+-- the names of the six profiles differ
 abbrev pub NamesDiffer : Type 0
 NamesDiffer = (login : Login) (password : List ℕ) → Differ (map profile_name (six_profiles login password))

@@ -12,7 +12,7 @@ use Rattle.fe2o3_sasl_core.specs.SaslAcceptor.{ends_with}
 use Rattle.fe2o3_sasl_core.specs.declared.plain_server.PlainServer.{PlainServer}
 use Rattle.fe2o3_sasl_core.specs.declared.plain_server.PlainMessage.{PlainMessage}
 
--- such a server: its provider, the iteration count that it takes for an unknown user, and who has logged in
+-- a server of PLAIN over records: its provider, its iteration count for an unknown user, and the user who has logged in
 pub record PlainState : Type 0 where
   pub provider : Store
   pub count : ℕ
@@ -29,18 +29,18 @@ abbrev pub SpellsPlain : PlainParts → List ℕ → Type 0
 SpellsPlain message text = IsUtf8 text × Without 0 message.identity × Without 0 message.user
     × Without 0 message.password × (text ≡ message.identity ++ 0 ∷ (message.user ++ 0 ∷ message.password))
 
--- a message that is taken: of some user, to act as nobody else, with a password of 1 to 1024 bytes
+-- a message that is accepted for a test: of some user, to act as nobody else, with a password of 1 to 1024 bytes
 abbrev pub IsTaken : PlainParts → Type 0
 IsTaken message = ((message.identity ≡ []) ⊎ (message.identity ≡ message.user)) × (message.user ≢ [])
     × (message.password ≢ []) × (length message.password ≤ 1024)
 
--- the frame is an init of PLAIN with this message, which is taken
+-- the frame is an init of PLAIN with this message, which is accepted for a test
 abbrev pub AsksPlain : SaslFrame → PlainParts → Type 0
 AsksPlain (frames.Init mechanism (Some text) hostname) message =
     (mechanism ≡ codes "PLAIN") × SpellsPlain message text × IsTaken message
 AsksPlain frame message = ⊥
 
--- the user has a record, and the password is that of it (RFC 5802, section 3)
+-- the user has a record, and the password meets it (RFC 5802, section 3)
 abbrev pub HasPassword : Store → PlainParts → Type 0
 HasPassword provider message = (stored : Record) × (record_at provider.records message.user ≡ Some stored)
     × MeetsRecord provider.version (Typed message.password) stored
@@ -50,7 +50,7 @@ abbrev pub PlainLogsIn : Store → SaslFrame → List ℕ → Type 0
 PlainLogsIn provider frame user =
     (message : PlainParts) × AsksPlain frame message × HasPassword provider message × (user ≡ message.user)
 
--- its machine: a frame that logs a user in is answered by Ok, and every other by Auth
+-- the machine of a server of PLAIN: a frame that logs a user in is answered by Ok, and every other by Auth
 abbrev pub plain_machine : PlainState → List ℕ → SaslFrame → SaslFrame → PlainState → Type 0
 plain_machine server nonce frame reply next =
     ((user : List ℕ) × PlainLogsIn server.provider frame user × (reply ≡ ends_with outcomes.Ok)
@@ -58,30 +58,30 @@ plain_machine server nonce frame reply next =
     ⊎ (((user : List ℕ) → ¬ PlainLogsIn server.provider frame user) × (reply ≡ ends_with outcomes.Auth)
     × (next ≡ server))
 
--- where it asks for memory: to keep the name of who logs in
+-- where a server of PLAIN allocates: to keep the name of the user who logs in
 abbrev pub plain_allocates : PlainState → SaslFrame → Type 0
 plain_allocates server frame = (user : List ℕ) × PlainLogsIn server.provider frame user
 
--- the iteration count of the record, and of none this one
+-- the iteration count of the record, or this one if there is none
 abbrev pub count_or : ℕ → Option Record → ℕ
 count_or count (Some stored) = stored.count
 count_or count None = count
 
--- the frame comes to the test of a password, against a record with this count
+-- the frame reaches the test of a password, against a record with this count
 abbrev pub TestsPassword : PlainState → SaslFrame → ℕ → Type 0
 TestsPassword server frame count = (message : PlainParts) × AsksPlain frame message
     × (count ≡ count_or server.count (record_at server.provider.records message.user))
     × NoneHolds (making_tests (Typed message.password) count)
 
--- how many HMAC values it makes (RFC 5802, section 3): to test a password those of making its record, of an unknown
--- user too, and else none
+-- how many HMAC values a server of PLAIN makes (RFC 5802, section 3): to test a password those of making its record, of
+-- an unknown user too, and otherwise none
 abbrev pub plain_hmacs : PlainState → SaslFrame → ℕ → Type 0
 plain_hmacs server frame n = ((count : ℕ) × TestsPassword server frame count × (n ≡ count + 2))
     ⊎ (((count : ℕ) → ¬ TestsPassword server frame count) × (n ≡ 0))
 
 -- ---- the code's values
 
--- the server that a value is, where stores mean this
+-- the server that a value is, for this meaning of its store
 abbrev pub plain_state : {C : Type 0} → (C → Store) → PlainServer C → PlainState
 plain_state meaning plain = record {
   provider = meaning plain.credentials;

@@ -1,11 +1,10 @@
--- What is open at a position of a list of replies. Positions count from 0. These words are the project's own;
--- they take the place of the states of RFC 5802, section 5.
--- Of any list, by these definitions alone: at most one position is open at a time; a position that was closed is
--- open at no later one, so two that close never have the same one open; and a reply that neither opens nor closes
--- leaves open what was open (`positions` in `laws`).
+-- What is open at a position of a list of replies. Positions count from 0. These terms are the project's; they replace
+-- the states of RFC 5802, section 5. By these definitions alone, of any list: at most one position is open at a time; a
+-- position that was closed is open at no later one, so two that close never have the same one open; and a reply that
+-- neither opens nor closes leaves open what was open (`positions` in `laws`).
 use Rattle.std.specs.Prelude.{◌≡◌, ℕ, ◌<◌, Bool, true, false, Option, Some, None, List, slice_get}
 
--- there is a reply, and it passes the test
+-- the reply exists, and passes the test
 abbrev pub test_at : {A : Type 0} → (A → Bool) → Option A → Bool
 test_at test None = false
 test_at test (Some reply) = test reply
@@ -17,6 +16,6 @@ pub record IsLastOpen {A : Type 0} (opens closes : A → Bool) (replies : List A
   pub last : (i : ℕ) → j < i → i < k → test_at opens (slice_get replies i) ≡ false
   pub kept : (i : ℕ) → j < i → i < k → test_at closes (slice_get replies i) ≡ false
 
--- the value stands at the position that is open at k
+-- the value is at the position that is open at k
 abbrev pub OpenBy : {A X : Type 0} → (A → Bool) → (A → Bool) → (ℕ → X → Type 0) → List A → ℕ → X → Type 0
 OpenBy opens closes At replies k value = (j : ℕ) × IsLastOpen opens closes replies k j × At j value

@@ -24,19 +24,19 @@ pub data Profile : Type 0 where
   AnonymousProfile : Profile
   ExternalProfile : Profile
 
--- whether it is of SCRAM
+-- whether a profile is of SCRAM
 abbrev pub is_scram : Profile → Bool
 is_scram (ScramProfile client) = true
 is_scram profile = false
 
--- the name of its mechanism
+-- the name of a profile's mechanism
 abbrev pub profile_name : Profile → List ℕ
 profile_name (ScramProfile client) = mechanism_name client.version
 profile_name (PlainProfile user password) = codes "PLAIN"
 profile_name AnonymousProfile = codes "ANONYMOUS"
 profile_name ExternalProfile = codes "EXTERNAL"
 
--- its initial response, with this nonce
+-- the initial response of a profile, with this nonce
 abbrev pub initial_response : Profile → List ℕ → Option (List ℕ)
 initial_response (ScramProfile client) nonce = Some (client_first client.user (base64_text nonce))
 initial_response (PlainProfile user password) nonce = Some (0 ∷ user ++ 0 ∷ password)
@@ -47,7 +47,7 @@ abbrev pub after_init : Profile → List ℕ → Profile
 after_init (ScramProfile client) nonce = ScramProfile (started client nonce)
 after_init profile nonce = profile
 
--- the frame of what a SCRAM client answers, or its refusal
+-- the frame of a SCRAM client's answer, or its error
 abbrev pub client_frame : {A : Type 0} → (A → SaslFrame) → Result A ScramErrorKind → Result SaslFrame ProfileError
 client_frame frame (Ok answer) = Ok (frame answer)
 client_frame frame (Err kind) = Err (scram_fault kind)
@@ -76,25 +76,25 @@ profile_machine profile hostname nonce (frames.Outcome code more) reply next =
     (reply ≡ Ok (frames.Outcome code more)) × (next ≡ profile)
 profile_machine profile hostname nonce frame reply next = (reply ≡ Err NotImplemented) × (next ≡ profile)
 
--- where a profile comes to ask for memory before it has its answer to a frame: for an init; for the response to a
--- challenge in UTF-8 that comes to its salt; and for the signature of an outcome Ok
+-- where a profile allocates before it has its answer to a frame: for an init; for the response to a challenge in UTF-8
+-- if it reaches the salt; and for the signature of an outcome Ok
 abbrev pub FrameAllocates : Profile → SaslFrame → Type 0
 FrameAllocates profile (frames.Mechanisms names) = Contains names (profile_name profile)
 FrameAllocates (ScramProfile client) (frames.Challenge text) = IsUtf8 text × ReachesSaltIn client.state text
 FrameAllocates (ScramProfile client) (frames.Outcome outcomes.Ok (Some text)) = ReachesVerifierIn client.state text
 FrameAllocates profile frame = ⊥
 
--- a client in this state has sent its first message, so that a challenge is due (RFC 5802, section 5)
+-- a client in this state has sent its first message, so a challenge is expected (RFC 5802, section 5)
 abbrev pub IsStarted : ClientState → Type 0
 IsStarted state = (nonce : List ℕ) × (bare : List ℕ) × (state ≡ client_states.ClientFirstSent nonce bare)
 
--- a client in this state waits for a signature, so that an outcome is due (RFC 5802, section 5)
+-- a client in this state waits for a signature, so an outcome is expected (RFC 5802, section 5)
 abbrev pub IsAnswered : ClientState → Type 0
 IsAnswered state = (signature : List ℕ) × (keys : Option ClientKeys)
     × (state ≡ client_states.ClientFinalSent signature keys)
 
--- the same where the frame is a view: the data of an outcome are copied, of one that SCRAM reads where they are UTF-8
--- and due
+-- where a profile allocates for a frame that is a view: the data of an outcome are copied, of one that SCRAM reads if
+-- they are UTF-8 and expected
 abbrev pub ViewAllocates : Profile → SaslFrame → Type 0
 ViewAllocates profile (frames.Mechanisms names) = Contains names (profile_name profile)
 ViewAllocates (ScramProfile client) (frames.Challenge text) = IsUtf8 text × ReachesSaltIn client.state text
@@ -102,7 +102,7 @@ ViewAllocates (ScramProfile client) (frames.Outcome outcomes.Ok (Some text)) = I
 ViewAllocates profile (frames.Outcome code (Some text)) = Unit {0}
 ViewAllocates profile frame = ⊥
 
--- the same of a step: a profile to which a challenge in UTF-8 is due is copied
+-- where a step of a profile allocates: a profile that expects a challenge in UTF-8 is copied
 abbrev pub StepAllocates : Profile → SaslFrame → Type 0
 StepAllocates profile (frames.Mechanisms names) = Contains names (profile_name profile)
 StepAllocates (ScramProfile client) (frames.Challenge text) = IsUtf8 text × IsStarted client.state
@@ -120,17 +120,17 @@ scram_profile login = ScramProfile (record {
   state = client_states.ClientInitial;
 })
 
--- the state of its client; a profile that is not of SCRAM has sent no message of SCRAM
+-- the state of a profile's client; a profile of another mechanism has sent no message of SCRAM
 abbrev pub profile_state : Profile → ClientState
 profile_state (ScramProfile client) = client.state
 profile_state profile = client_states.ClientInitial
 
--- the same profile with its client in this state; one that is not of SCRAM stays as it is
+-- a profile with its client in this state; one of another mechanism is unchanged
 abbrev pub in_state : Profile → ClientState → Profile
 in_state (ScramProfile client) state = ScramProfile (with_state client state)
 in_state profile state = profile
 
--- what a profile answers to a frame: what its machine replies, or running out of memory, where the profile stays
+-- what a profile answers to a frame: what its machine replies, or running out of memory, where the profile is unchanged
 abbrev pub ProfileAnswers : (Profile → SaslFrame → Type 0) → Profile → Option (List ℕ) → List ℕ → SaslFrame
     → Result SaslFrame ProfileError → Profile → Type 0
 ProfileAnswers Allocates profile hostname nonce frame (Err OutOfMemory) next =

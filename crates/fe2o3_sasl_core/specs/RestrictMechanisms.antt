@@ -12,7 +12,7 @@ pub record Offering (S : Type 0) : Type 0 where
   pub inner : S
   pub allowed : List (List ℕ)
 
--- the names that it offers: of its own those that it may offer, in its order
+-- the names that a server offers: those of its own that it may offer, in its order
 abbrev pub offering_names : {S : Type 0} → (S → List (List ℕ)) → Offering S → List (List ℕ)
 offering_names names offering = filter (has_name offering.allowed) (names offering.inner)
 
@@ -22,7 +22,7 @@ is_passed_on names offering (frames.Init mechanism response hostname) =
     has_name (offering_names names offering) mechanism
 is_passed_on names offering frame = true
 
--- a frame that is passed on is answered by the acceptor, and else by Auth
+-- a frame that is passed on is answered by the acceptor, and otherwise by Auth
 abbrev pub OfferingReplies : {S : Type 0} → (S → List ℕ → SaslFrame → SaslFrame → S → Type 0) → Offering S → Bool
     → List ℕ → SaslFrame → SaslFrame → Offering S → Type 0
 OfferingReplies machine offering false nonce frame reply next =
@@ -30,24 +30,25 @@ OfferingReplies machine offering false nonce frame reply next =
 OfferingReplies {S} machine offering true nonce frame reply next =
     (moved : S) × machine offering.inner nonce frame reply moved × (next ≡ record offering { inner = moved })
 
--- its machine
+-- the machine of a server that offers only some of its mechanisms
 abbrev pub offering_machine : {S : Type 0} → (S → List (List ℕ)) → (S → List ℕ → SaslFrame → SaslFrame → S → Type 0)
     → Offering S → List ℕ → SaslFrame → SaslFrame → Offering S → Type 0
 offering_machine names machine offering nonce frame reply next =
     OfferingReplies machine offering (is_passed_on names offering frame) nonce frame reply next
 
--- where it asks for memory: as the acceptor does with what is passed on
+-- where a server that offers only some of its mechanisms allocates: where the acceptor does for what is passed on
 abbrev pub offering_allocates : {S : Type 0} → (S → List (List ℕ)) → (S → SaslFrame → Type 0) → Offering S → SaslFrame
     → Type 0
 offering_allocates names allocates offering frame =
     (is_passed_on names offering frame ≡ true) × allocates offering.inner frame
 
--- so many where it is so, and else none
+-- this many HMAC values if the flag is set, otherwise none
 abbrev pub TakesWhere : Bool → (ℕ → Type 0) → ℕ → Type 0
 TakesWhere true takes n = takes n
 TakesWhere false takes n = n ≡ 0
 
--- how many HMAC values it makes (RFC 5802, section 3): as many as the acceptor does with what is passed on
+-- how many HMAC values a server makes that offers only some of its mechanisms (RFC 5802, section 3): as many as the
+-- acceptor for what is passed on
 abbrev pub offering_hmacs : {S : Type 0} → (S → List (List ℕ)) → (S → SaslFrame → ℕ → Type 0) → Offering S → SaslFrame
     → ℕ → Type 0
 offering_hmacs names hmacs offering frame n =

@@ -27,7 +27,8 @@ abbrev pub SendsCanonical : {S A : Type 0} → A → (List ℕ → A) → Option
 SendsCanonical too_large says body state moved reply next =
     (reply ≡ carried too_large says body) × (next ≡ carried state (λ _. moved) body)
 
--- what a machine of an acceptor answers to a frame that it takes: its reply, or running out of memory, where the state stays
+-- what a machine of an acceptor answers to a frame that it accepts: its reply, or running out of memory, where the
+-- state is unchanged
 abbrev pub AcceptorAnswers : {S : Type 0} → (S → List ℕ → SaslFrame → SaslFrame → S → Type 0) → S → List ℕ → SaslFrame
     → ServerSays → S → Type 0
 AcceptorAnswers {S} machine state nonce frame says next =
@@ -35,7 +36,7 @@ AcceptorAnswers {S} machine state nonce frame says next =
     ⊎ ((reply : SaslFrame) × (moved : S) × machine state nonce frame reply moved
     × SendsCanonical (Failed faults.TooLarge) (server_says reply) (canonical reply) state moved says next)
 
--- what it does with a body that spells this: it takes inits and responses
+-- what an acceptor does with a body that spells this: it accepts inits and responses
 abbrev pub AcceptorGives : {S : Type 0} → (S → List ℕ → SaslFrame → SaslFrame → S → Type 0) → S → Given
     → Result SaslFrame Error → ServerSays → S → Type 0
 AcceptorGives machine state event (Err fault) says next = (says ≡ Failed fault) × (next ≡ state)
@@ -47,13 +48,13 @@ AcceptorGives machine state event (Ok (frames.Outcome code more)) says next =
     (says ≡ Failed faults.NotImplemented) × (next ≡ state)
 AcceptorGives machine state event (Ok frame) says next = AcceptorAnswers machine state event.nonce frame says next
 
--- its step over one event
+-- an acceptor's step over one event
 abbrev pub AcceptorSteps : {S : Type 0} → (S → List ℕ → SaslFrame → SaslFrame → S → Type 0) → S → Given → ServerSays → S
     → Type 0
 AcceptorSteps machine state event says next = (spelled : Result SaslFrame Error) × SpellsBody event.body spelled
     × AcceptorGives machine state event spelled says next
 
--- what a client says with a reply: an init and a response in their bodies
+-- a client's reply: an init and a response in their bodies
 abbrev pub Replies : Profile → Profile → Result SaslFrame ProfileError → ClientSays → Profile → Type 0
 Replies profile moved (Err fault) says next = (says ≡ Refused fault) × (next ≡ moved)
 Replies profile moved (Ok (frames.Init mechanism response hostname)) says next =
@@ -63,19 +64,19 @@ Replies profile moved (Ok (frames.Outcome code more)) says next = (says ≡ Repo
 Replies profile moved (Ok frame) says next = SendsCanonical (Refused (Frame faults.TooLarge)) (λ body. Answered body)
     (canonical frame) profile moved says next
 
--- what a profile replies to a frame: what its machine says, or running out of memory, where the profile stays
+-- what a profile replies to a frame: what its machine says, or running out of memory, where the profile is unchanged
 abbrev pub ProfileReplies : Option (List ℕ) → Profile → List ℕ → SaslFrame → ClientSays → Profile → Type 0
 ProfileReplies hostname profile nonce frame says next =
     (StepAllocates profile frame × (says ≡ Refused OutOfMemory) × (next ≡ profile))
     ⊎ ((reply : Result SaslFrame ProfileError) × (moved : Profile)
     × profile_machine profile hostname nonce frame reply moved × Replies profile moved reply says next)
 
--- what it does with a body that spells this
+-- what a profile does with a body that spells this
 abbrev pub ProfileGives : Option (List ℕ) → Profile → Given → Result SaslFrame Error → ClientSays → Profile → Type 0
 ProfileGives hostname profile event (Err fault) says next = (says ≡ Refused (Frame fault)) × (next ≡ profile)
 ProfileGives hostname profile event (Ok frame) says next = ProfileReplies hostname profile event.nonce frame says next
 
--- its step over one event
+-- a profile's step over one event
 abbrev pub ProfileSteps : Option (List ℕ) → Profile → Given → ClientSays → Profile → Type 0
 ProfileSteps hostname profile event says next = (spelled : Result SaslFrame Error) × SpellsBody event.body spelled
     × ProfileGives hostname profile event spelled says next
@@ -101,34 +102,34 @@ given event = record { body = event.body.items; nonce = event.nonce }
 abbrev pub SpellsEvent : List ℕ → List ℕ → Given → Type 0
 SpellsEvent nonce body event = (length event.nonce ≡ 32) × SpellsHex nonce event.nonce × SpellsHex body event.body
 
--- why two texts give no event: they spell none; or there is no memory for the body, and then they spell one
+-- why two texts spell no event: they spell none; or the body cannot be allocated, and then they spell one
 abbrev pub RefusesHex : List ℕ → List ℕ → EventError → Type 0
 RefusesHex nonce body event_faults.Invalid = (event : Given) → ¬ SpellsEvent nonce body event
 RefusesHex nonce body event_faults.OutOfMemory = (event : Given) × SpellsEvent nonce body event
 
--- what a server says with a reply
+-- the reply of a server that a value is
 abbrev pub server_reply : ServerReply → ServerSays
 server_reply (server_replies.Challenge body) = Challenged body.items
 server_reply (server_replies.Outcome code body) = Concluded code body.items
 
--- and with what a step answered
+-- the reply of a server that a step's result is
 abbrev pub server_answer : Result ServerReply Error → ServerSays
 server_answer (Ok reply) = server_reply reply
 server_answer (Err fault) = Failed fault
 
--- what a client says with a reply
+-- the reply of a client that a value is
 abbrev pub client_reply : ClientReply → ClientSays
 client_reply (client_replies.Init body) = Started body.items
 client_reply (client_replies.Response body) = Answered body.items
 client_reply (client_replies.Outcome outcome) =
     Reported outcome.code (option_map binary_bytes outcome.additional_data)
 
--- and with what a step answered
+-- the reply of a client that a step's result is
 abbrev pub client_answer : Result ClientReply ProfileError → ClientSays
 client_answer (Ok reply) = client_reply reply
 client_answer (Err fault) = Refused fault
 
--- the login of these words, the password as it is typed, without a hostname
+-- the login of these words, with the password as typed, without a hostname
 abbrev pub login_of : ScramVersion → List ℕ → List ℕ → ℕ → Login
 login_of version user password limit =
     let secret = Password (Typed password) in

@@ -15,27 +15,27 @@ use Rattle.fe2o3_scram.specs.Hmac.{mechanism_name}
 use Rattle.fe2o3_scram.specs.ScramServer.{ServerState, logged_in, ChallengesFrom, ConcludesFrom, ReachesBase64In}
 use Rattle.fe2o3_scram.specs.ServerFirst.{ReachesChallenge}
 
--- the acceptors, each with all that its answers depend on: SCRAM over a provider, in a state; PLAIN for one
--- user, which also knows whether it has accepted; and ANONYMOUS, which keeps nothing
+-- the acceptors, each with all that its answers depend on: SCRAM over a provider, in a state; PLAIN for one user, with
+-- whether it has accepted; and ANONYMOUS, which keeps nothing
 pub data Acceptor : Type 0 where
   ScramAcceptor : (provider : Provider) → (state : ServerState) → Acceptor
   PlainAcceptor : (user password : List ℕ) → (accepted : Bool) → Acceptor
   AnonymousAcceptor : Acceptor
 
--- who has logged in, from an outcome Ok on and up to the next challenge (AMQP 1.0, part 5, sections 5.3.2 and
+-- the user who has logged in, from an outcome Ok on and up to the next challenge (AMQP 1.0, part 5, sections 5.3.2 and
 -- 5.3.3.5; RFC 5802, section 5; RFC 4616, section 2); ANONYMOUS does not ask (RFC 4505, section 2)
 abbrev pub acceptor_user : Acceptor → Option (List ℕ)
 acceptor_user (ScramAcceptor provider state) = logged_in state
 acceptor_user (PlainAcceptor user password true) = Some user
 acceptor_user acceptor = None
 
--- the names of its mechanisms
+-- the names of an acceptor's mechanisms
 abbrev pub acceptor_names : Acceptor → List (List ℕ)
 acceptor_names (ScramAcceptor provider state) = mechanism_name provider.version ∷ []
 acceptor_names (PlainAcceptor user password accepted) = codes "PLAIN" ∷ []
 acceptor_names AnonymousAcceptor = codes "ANONYMOUS" ∷ []
 
--- the names that a server offers: ANONYMOUS where it has none (AMQP 1.0, part 5, section 5.3.3.1)
+-- the names that a server offers: ANONYMOUS if it has none (AMQP 1.0, part 5, section 5.3.3.1)
 abbrev pub offered : List (List ℕ) → List (List ℕ)
 offered [] = codes "ANONYMOUS" ∷ []
 offered names = names
@@ -44,13 +44,13 @@ offered names = names
 abbrev pub NoZero : List ℕ → Type 0
 NoZero text = AllByRecursion (λ byte. byte ≢ 0) text
 
--- cut at its zero bytes, the text has this part at place k, counted from 0
+-- split at its zero bytes, the text has this part at place k, counted from 0
 abbrev pub ZeroPart : List ℕ → ℕ → List ℕ → Type 0
 ZeroPart text k part = (parts : List (List ℕ)) × AllByRecursion NoZero parts × (join_with_byte 0 parts ≡ text)
     × (slice_get parts k ≡ Some part)
 
--- a message of PLAIN (RFC 4616, section 2) names this user and this password; its first part and those after
--- the third say nothing
+-- a message of PLAIN (RFC 4616, section 2) names this user and this password; its first part and those after the third
+-- are ignored
 abbrev pub NamesPlain : List ℕ → List ℕ → List ℕ → Type 0
 NamesPlain user password text = ZeroPart text 1 user × ZeroPart text 2 password
 
@@ -58,7 +58,7 @@ NamesPlain user password text = ZeroPart text 1 user × ZeroPart text 2 password
 abbrev pub ends_with : SaslCode → SaslFrame
 ends_with code = frames.Outcome code None
 
--- the frame of what a SCRAM server answers: but for a message it is Auth
+-- the frame of a SCRAM server's answer: Auth unless it is a message
 abbrev pub server_frame : (List ℕ → SaslFrame) → Result (Option (List ℕ)) ServerScramErrorKind → SaslFrame
 server_frame frame (Ok (Some message)) = frame message
 server_frame frame answer = ends_with outcomes.Auth
@@ -91,9 +91,9 @@ acceptor_machine acceptor nonce (frames.Init mechanism None hostname) reply next
     (reply ≡ ends_with outcomes.Auth) × (next ≡ acceptor)
 acceptor_machine acceptor nonce frame reply next = ⊥
 
--- where an acceptor comes to ask for memory before it has its reply to a frame (AMQP 1.0, part 5, section 5.3.2):
--- SCRAM at an init with its own name where it comes to an escaped user name or to a user with a record (RFC 5802, section 5.1),
--- and at a response where it comes to a base64 text (RFC 5802, section 7); the others never
+-- where an acceptor allocates before it has its reply to a frame (AMQP 1.0, part 5, section 5.3.2): SCRAM at an init
+-- with its own name if it reaches an escaped user name or a user with a record (RFC 5802, section 5.1), and at a
+-- response if it reaches a base64 text (RFC 5802, section 7); the others never
 abbrev pub acceptor_allocates : Acceptor → SaslFrame → Type 0
 acceptor_allocates (ScramAcceptor provider state) (frames.Init mechanism (Some text) hostname) =
     (mechanism ≡ mechanism_name provider.version) × ReachesChallenge provider text

@@ -39,7 +39,7 @@ negotiated_frame (negotiations.Outcome outcome) = outcome_frame outcome
 abbrev pub HasCredentials : Parts → Type 0
 HasCredentials url = (url.username ≢ []) × (url.password ≢ [])
 
--- why an address gives no profile: it does not name both; or there is no memory, and then it does
+-- why an address gives no profile: it does not name both; or allocation fails, and then it does
 abbrev pub RefusesUrl : Parts → UrlError → Type 0
 RefusesUrl url url_faults.NoCredentials = ¬ HasCredentials url
 RefusesUrl url url_faults.OutOfMemory = HasCredentials url

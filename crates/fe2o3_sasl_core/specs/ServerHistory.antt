@@ -24,15 +24,15 @@ pub record Challenging : Type 0 where
   pub nonce : List ℕ
   pub stored : Record
 
--- its nonce of both sides
+-- the nonce of both sides of a challenge
 abbrev pub full_nonce : Challenging → List ℕ
 full_nonce challenge = challenge.client.nonce ++ challenge.nonce
 
--- its server-first message
+-- the server-first message of a challenge
 abbrev pub first_message : Challenging → List ℕ
 first_message challenge = server_first_of (full_nonce challenge) challenge.stored
 
--- what a response to it is read against
+-- what the server knows when it reads a response to a challenge
 abbrev pub server_at : Provider → Challenging → Server
 server_at provider challenge = record {
   version = provider.version;
@@ -43,8 +43,8 @@ server_at provider challenge = record {
   stored = challenge.stored;
 }
 
--- the frame, with the event's nonce, fits as init: it names the mechanism, and its response is a client-first
--- message of a user who has a record
+-- the frame, with the event's nonce, fits as init: it names the mechanism, and its response is a client-first message
+-- of a user who has a record
 abbrev pub FitsAsInit : Provider → Given → SaslFrame → Challenging → Type 0
 FitsAsInit provider event (frames.Init mechanism (Some text) hostname) challenge =
     (mechanism ≡ mechanism_name provider.version) × ReadsClientFirst provider.cbind_flag_y text (Ok challenge.client)
@@ -63,7 +63,7 @@ FitsAsResponse provider IsOpen (frames.Response text) accepted =
     IsOpen accepted.challenge × ReadsClientFinal (server_at provider accepted.challenge) text (Ok accepted.final)
 FitsAsResponse provider IsOpen frame accepted = ⊥
 
--- the server-final message
+-- the server-final message to an accepted response
 abbrev pub final_message : Provider → Accepted → List ℕ
 final_message provider accepted = server_final_of (server_at provider accepted.challenge) accepted.final
 
@@ -84,18 +84,18 @@ ServerAnswers provider IsOpen event (Ok (frames.Response text)) says =
     ⊎ (((accepted : Accepted) → ¬ Fits accepted) × (says ≡ says_frame (frames.Outcome outcomes.Auth None)))
 ServerAnswers provider IsOpen event (Ok frame) says = says ≡ Failed faults.NotImplemented
 
--- the replies that memory may run out for: those to an init and to a response
+-- the replies at which the server may run out of memory: those to an init and to a response
 abbrev pub ServerAllocates : Result SaslFrame Error → Type 0
 ServerAllocates (Ok (frames.Init mechanism response hostname)) = Unit {0}
 ServerAllocates (Ok (frames.Response text)) = Unit {0}
 ServerAllocates spelled = ⊥
 
--- a challenge
+-- whether a reply is a challenge
 abbrev pub is_challenge : ServerSays → Bool
 is_challenge (Challenged body) = true
 is_challenge says = false
 
--- an outcome of code Ok
+-- whether a reply is an outcome of code Ok
 abbrev pub is_ok : ServerSays → Bool
 is_ok (Concluded outcomes.Ok body) = true
 is_ok says = false
@@ -105,7 +105,7 @@ abbrev pub FitsAt : Provider → List Given → ℕ → Challenging → Type 0
 FitsAt provider events k challenge = (event : Given) × (frame : SaslFrame) × (slice_get events k ≡ Some event)
     × SpellsBody event.body (Ok frame) × FitsAsInit provider event frame challenge
 
--- the challenge that is open at k: that of the last challenge before k, where no outcome Ok stands between
+-- the challenge that is open at k: that of the last challenge before k, if no outcome Ok is between
 abbrev pub Open : Provider → List Given → List ServerSays → ℕ → Challenging → Type 0
 Open provider events replies k challenge = OpenBy is_challenge is_ok (FitsAt provider events) replies k challenge
 
@@ -120,12 +120,12 @@ abbrev pub AcceptsUser : Provider → List Given → List ServerSays → ℕ →
 AcceptsUser provider events replies n user =
     (accepted : Accepted) × AcceptsAt provider events replies n accepted × (user ≡ accepted.challenge.client.user)
 
--- who has logged in at k (RFC 5802, section 5; AMQP 1.0, part 5, section 5.3.3.5): the user of the last outcome Ok
--- before k, where no challenge stands between
+-- the user who has logged in at k (RFC 5802, section 5; AMQP 1.0, part 5, section 5.3.3.5): that of the last outcome Ok
+-- before k, if no challenge is between
 abbrev pub LoggedIn : Provider → List Given → List ServerSays → ℕ → List ℕ → Type 0
 LoggedIn provider events replies k user = OpenBy is_ok is_challenge (AcceptsUser provider events replies) replies k user
 
--- a reply for each event: the one that the table gives, or running out of memory where memory may run out
+-- a reply for each event: that of the table, or running out of memory where that may happen
 pub record ServerHistory (provider : Provider) (events : List Given) (replies : List ServerSays) : Type 0 where
   pub count : length replies ≡ length events
   pub each : (k : ℕ) (event : Given) (says : ServerSays) → slice_get events k ≡ Some event

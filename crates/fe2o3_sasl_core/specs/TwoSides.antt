@@ -1,5 +1,4 @@
--- What a client and a server have in common, read off their two lists (RFC 5802, section 3, for keys, proofs
--- and signatures).
+-- What a client and a server have in common, by their two lists (RFC 5802, section 3, for keys, proofs and signatures).
 use Rattle.std.specs.Prelude.{◌≡◌, ◌≢◌, ◌⊎◌, ℕ, Some, List, length, slice_get}
 use Rattle.fe2o3_sasl_wire.specs.declared.amqp_types.SaslCode.TheVariants as outcomes
 use Rattle.fe2o3_scram.specs.ClientFinal.{keys_for, without_proof}
@@ -15,12 +14,12 @@ use Rattle.fe2o3_scram.specs.Keys.{auth_message, client_proof}
 use Rattle.fe2o3_sasl_core.specs.ServerHistory.{Accepted, AcceptsAt, ServerHistory, first_message, full_nonce, final_message}
 use Rattle.fe2o3_scram.specs.Texts.{Part, Parts}
 
--- AuthMessage, of the messages as the client has them
+-- AuthMessage of the messages as the client has them (RFC 5802, section 3)
 abbrev pub client_message : Login → Answering → List ℕ
 client_message login answer = auth_message (client_first_bare login.user answer.nonce) answer.text
     (without_proof answer.first.nonce)
 
--- AuthMessage, of the messages as the server has them
+-- AuthMessage of the messages as the server has them (RFC 5802, section 3)
 abbrev pub server_message : Accepted → List ℕ
 server_message accepted = auth_message accepted.challenge.client.bare
     (first_message accepted.challenge) accepted.final.without
@@ -30,12 +29,12 @@ server_message accepted = auth_message accepted.challenge.client.bare
 abbrev pub keys_at : Login → Answering → ClientKeys
 keys_at login answer = keys_for login.version login.secret answer.first
 
--- its ClientProof
+-- the ClientProof of an answer
 abbrev pub proof_at : Login → Answering → List ℕ
 proof_at login answer =
     client_proof (keys_at login answer).version (keys_at login answer).client_key (client_message login answer)
 
--- a login, what a client was given and said, a provider, and what a server was given and said
+-- a login, what a client received and replied, a provider, and what a server received and replied
 pub record Sides : Type 0 where
   pub login : Login
   pub client_events : List Given
@@ -44,7 +43,7 @@ pub record Sides : Type 0 where
   pub server_events : List Given
   pub server_replies : List ServerSays
 
--- the same, of what either side has
+-- two sides of these lists
 abbrev pub sides_of : Login → List Given → List ClientSays → Provider → List Given → List ServerSays → Sides
 sides_of login client_events client_replies provider server_events server_replies = record {
   login = login;
@@ -55,7 +54,7 @@ sides_of login client_events client_replies provider server_events server_replie
   server_replies = server_replies;
 }
 
--- what either side said is a history
+-- the replies of both sides are histories
 pub record Histories (sides : Sides) : Type 0 where
   pub client : ClientHistory sides.login sides.client_events sides.client_replies
   pub server : ServerHistory sides.provider sides.server_events sides.server_replies

@@ -16,25 +16,25 @@ use Rattle.fe2o3_sasl_core.specs.Verdicts.{Verdict, Agreed, Finding, OfVerifier,
 use Rattle.fe2o3_sasl_core.specs.Complete.{ClientComplete, ServerComplete}
 use Rattle.fe2o3_sasl_core.specs.declared.sasl_profile.error.ProfileError.TheVariants.{Frame}
 
--- the body that a reply sends
+-- the body that a client's reply sends
 abbrev pub client_body : Option ClientSays → Option (List ℕ)
 client_body (Some (Started body)) = Some body
 client_body (Some (Answered body)) = Some body
 client_body says = None
 
--- likewise of a server
+-- the body that a server's reply sends
 abbrev pub server_body : Option ServerSays → Option (List ℕ)
 server_body (Some (Challenged body)) = Some body
 server_body (Some (Concluded code body)) = Some body
 server_body says = None
 
--- what the other side sent, if it sent a body, arrives as it was sent
+-- the body of the other side, if it sent one, arrives as it was sent
 abbrev pub Arrives : Option (List ℕ) → List ℕ → Type 0
 Arrives None body = Unit {0}
 Arrives (Some sent) body = body ≡ sent
 
--- three events of the client and two of the server: the list of the one mechanism, and from then on what the
--- other side sent, where it sent a body
+-- three events of the client and two of the server: the list of the one mechanism, and from then on what the other side
+-- sent, if it sent a body
 pub record UnalteredRun (sides : Sides) : Type 0 where
   pub offer : Given
   pub challenge : Given
@@ -49,7 +49,7 @@ pub record UnalteredRun (sides : Sides) : Type 0 where
   pub answered : Arrives (client_body (slice_get sides.client_replies 1)) response.body
   pub concluded : Arrives (server_body (slice_get sides.server_replies 1)) outcome.body
 
--- memory does not run out, and nothing is too large
+-- no allocation fails, and nothing is too large
 pub record Suffices (sides : Sides) : Type 0 where
   pub client : ClientComplete sides.client_replies
   pub server : ServerComplete sides.server_replies
@@ -91,19 +91,19 @@ pub record LogsIn {sides : Sides} (run : UnalteredRun sides) (salt : List ℕ) (
       ≡ Challenged run.challenge.body ∷ Concluded outcomes.Ok run.outcome.body ∷ []
   pub audit : Audits sides (agreed_findings run salt count)
 
--- an unaltered run against a record that the client's secret opens logs in, whatever the nonces, where memory suffices
--- and nothing is too large
+-- an unaltered run against a record that the client's secret opens logs in, for all nonces, if no allocation fails and
+-- nothing is too large
 abbrev pub LogsInUnaltered : Sides → Type 0
 LogsInUnaltered sides = (password salt : List ℕ) (count : ℕ) (run : UnalteredRun sides)
     → HoldsLogin sides password salt count → Suffices sides → LogsIn run salt count
 
--- what that gives a client's history: it logs in with every server
+-- what an unaltered run gives a client's history: it logs in with every server
 abbrev pub ClientLogsIn : Login → List Given → List ClientSays → Type 0
 ClientLogsIn login events replies = (provider : Provider) (server_events : List Given)
     (server_replies : List ServerSays) → ServerHistory provider server_events server_replies
     → LogsInUnaltered (sides_of login events replies provider server_events server_replies)
 
--- what it gives a server's history: every client logs in
+-- what an unaltered run gives a server's history: every client logs in
 abbrev pub ServerLogsIn : Provider → List Given → List ServerSays → Type 0
 ServerLogsIn provider events replies = (login : Login) (client_events : List Given)
     (client_replies : List ClientSays) → IsLogin login → ClientHistory login client_events client_replies

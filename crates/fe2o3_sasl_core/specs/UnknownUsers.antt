@@ -27,7 +27,7 @@ GivesReplies {S} machine state events replies = (last : S) × Runs (AcceptorStep
 abbrev pub without_user : Store → List ℕ → Store
 without_user store name = record { version = store.version; records = records_without store.records name }
 
--- the store with the mock record of a name in the place of the record that it has of that name
+-- the store with the mock record of a name in place of its record of that name
 abbrev pub with_mock : Store → MockSettings → List ℕ → Store
 with_mock store mock name =
     record { version = store.version; records = records_with store.records name (mock_record mock name) }
@@ -36,7 +36,7 @@ with_mock store mock name =
 abbrev pub mock_server : Bool → MockSettings → Store → ServerState → Acceptor
 mock_server cbind_flag_y mock store state = ScramAcceptor (mocking (Some mock) (serving cbind_flag_y store)) state
 
--- of each mock record the salt is an HMAC value (RFC 2104, section 2), cut to its length, of a text that no other
+-- the salt of each mock record is an HMAC value (RFC 2104, section 2), cut to its length, of a text that no other
 -- mechanism and no other name has: so one secret serves several mechanisms
 abbrev pub SaltTextsDiffer : Type 0
 SaltTextsDiffer = (text : ScramVersion → List ℕ → List ℕ)
@@ -45,25 +45,25 @@ SaltTextsDiffer = (text : ScramVersion → List ℕ → List ℕ)
     × ((version other : ScramVersion) (name other_name : List ℕ) → text version name ≡ text other other_name
     → (version ≡ other) × (name ≡ other_name))
 
--- both give the same replies to the same events
+-- two servers give the same replies to the same events
 abbrev pub GivesAlike : {S : Type 0} → Machine S → S → S → Type 0
 GivesAlike machine state other = (events : List Given) (replies : List ServerSays)
     → GivesReplies machine state events replies ↔ GivesReplies machine other events replies
 
--- an unknown user is answered as a user whose record is the mock record of the name
+-- an unknown user is answered like a user whose record is the mock record of the name
 abbrev pub UnknownIsMock : Type 0
 UnknownIsMock = (cbind_flag_y : Bool) (mock : MockSettings) (store : Store) (name : List ℕ) (state : ServerState)
     → GivesAlike acceptor_machine (mock_server cbind_flag_y mock (without_user store name) state)
     (mock_server cbind_flag_y mock (with_mock store mock name) state)
 
--- and its answer to a frame takes as many HMAC values (RFC 5802, section 3)
+-- the answer to an unknown user takes as many HMAC values as that to a user with the mock record (RFC 5802, section 3)
 abbrev pub UnknownCostsAsMock : Type 0
 UnknownCostsAsMock = (cbind_flag_y : Bool) (mock : MockSettings) (store : Store) (name : List ℕ) (state : ServerState)
     (frame : SaslFrame) (n : ℕ) → acceptor_hmacs (mock_server cbind_flag_y mock (without_user store name) state) frame n
     ↔ acceptor_hmacs (mock_server cbind_flag_y mock (with_mock store mock name) state) frame n
 
--- likewise by a server of two mechanisms, each over its own store: one that has the name in neither store gives the
--- replies of one that has its mock records
+-- a server of two mechanisms, each over its own store, that has the name in neither store gives the replies of one that
+-- has its mock records
 abbrev pub UnknownIsMockInBoth : Type 0
 UnknownIsMockInBoth = (cbind_flag_y other_flag : Bool) (mock other_mock : MockSettings) (store other : Store)
     (name : List ℕ) (state other_state : ServerState) (asked : Option Selected)
@@ -79,8 +79,8 @@ UnknownIsMockInBoth = (cbind_flag_y other_flag : Bool) (mock other_mock : MockSe
       selected = asked;
     })
 
--- a user who is unknown is accepted only by a proof whose key has the mock StoredKey as its digest, the HMAC value of
--- the name after a label
+-- an unknown user is accepted only by a proof whose key has the mock StoredKey as its digest, the HMAC value of the
+-- name after a label
 abbrev pub MockRecordIsMet : Type 0
 MockRecordIsMet = (provider : Provider) (mock : MockSettings) (events : List Given) (replies : List ServerSays) (n : ℕ)
     (accepted : Accepted) → let server = mocking (Some mock) provider in

@@ -1,5 +1,5 @@
--- What is found on two lists of frame bodies, and how each finding is judged: the project's own words, over the
--- keys of RFC 5802, section 3.
+-- The findings of two lists of frame bodies, and their verdicts: the project's own terms, over the keys of RFC 5802,
+-- section 3.
 use Rattle.std.specs.Prelude.{◌≡◌, ◌≢◌, ◌⊎◌, ℕ, ◌<◌, Option, Some, None, List, [], ◌∷◌, ◌++◌, map}
 use Rattle.std.specs.List.{AllByRecursion, Contains}
 use Rattle.fe2o3_sasl_core.specs.ClientHistory.{Answering, OpenAnswer}
@@ -26,7 +26,7 @@ pub data Verdict : Type 0 where
   SameHash : (client_key recovered : List ℕ) → Verdict
   OtherKey : Verdict
 
--- the parameters are given exactly where the init was plain
+-- the parameters are given exactly if the init was plain
 abbrev pub AreParameters : Accepted → Option Parameters → Type 0
 AreParameters accepted None = ¬ IsPlainInit accepted
 AreParameters accepted (Some parameters) =
@@ -66,8 +66,8 @@ IsStoredKey sides answer accepted =
     let keys = keys_at sides.login answer in
     digest keys.version keys.client_key ≡ accepted.challenge.stored.stored_key
 
--- the verdict on a proof that the server accepted: the key was another; or both agree; or the client's key and
--- the recovered one collide; or the AuthMessages do under the stored key
+-- the verdict on a proof that the server accepted: the key was another; or both agree; or the client's key and the
+-- recovered one collide; or the AuthMessages do under the stored key
 abbrev pub JudgesProof : Sides → Answering → Accepted → Verdict → Type 0
 JudgesProof sides answer accepted OtherKey = ¬ IsStoredKey sides answer accepted
 JudgesProof sides answer accepted (Agreed user nonce parameters) =
@@ -96,11 +96,11 @@ pub record Finding : Type 0 where
   pub server : ℕ
   pub verdict : Verdict
 
--- its two positions
+-- the two positions of a finding
 abbrev pub place_of : Finding → ℕ × ℕ
 place_of finding = (finding.client, finding.server)
 
--- by the first position, and then by the second
+-- the order by the first position, and then by the second
 abbrev pub Before : ℕ × ℕ → ℕ × ℕ → Type 0
 Before left right = (left.0 < right.0) ⊎ ((left.0 ≡ right.0) × (left.1 < right.1))
 

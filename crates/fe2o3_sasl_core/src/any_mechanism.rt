@@ -1,5 +1,5 @@
-//! One server of several mechanisms: the init of a client names the one that it has chosen (AMQP 1.0,
-//! part 5, section 5.3.3.2).
+//! One server of several mechanisms: the client's init names the one that it has chosen (AMQP 1.0, part 5, section
+//! 5.3.3.2).
 
 ghost use Rattle.std.specs.Prelude.{◌≡◌, ◌≢◌, ◌≤◌, ◌^◌, ◌++◌, ℕ, List, Option, Some, None, IfOk, IfErr, OnErr, OnOk, not, filter, take};
 ghost use Rattle.fe2o3_sasl_core.specs.AnyMechanism.{BothStates, has_name, both_names, part_with, any_mechanism_machine, any_mechanism_allocates, any_mechanism_hmacs, part_names};
@@ -18,9 +18,9 @@ use fe2o3_scram::hmac::Meter;
 use fe2o3_scram::scram_server::ScramAuthenticator;
 use std::alloc::{AllocError, Global};
 
-/// An acceptor that tells whether it has a mechanism, without a list of its names.
+/// An acceptor that reports whether it has a mechanism, without a list of its names.
 pub trait HasMechanism: AuthenticatedUser {
-    /// Whether it has a mechanism of this name.
+    /// Returns whether the acceptor has a mechanism of this name.
     fn has_mechanism(&self, name: &str) -> bool
         ensures { result ≡ has_name (Self.names (Self.state self.now)) name.now };
 }
@@ -43,22 +43,21 @@ impl<C: ScramCredentialProvider> HasMechanism for ScramAuthenticator<C> {
     }
 }
 
-/// One of the two acceptors of a `AnyMechanism`.
+/// One of the two acceptors of an `AnyMechanism`.
 #[derive(Debug, Clone, Copy, PartialEq, Eq)]
 pub enum Selected {
-    /// The one that was given first.
+    /// The first acceptor.
     First,
 
-    /// The other.
+    /// The second acceptor.
     Second,
 }
 
-/// One server of two acceptors, and of more where one of the two is a `AnyMechanism` itself. It offers the names
-/// of the first, and behind them those that only the second has. An init goes to the first that has its
-/// mechanism, and a response to the one that the last init went to, whatever that answered. The other
-/// stays as it is. Auth is the answer to an init of a mechanism that neither has, which changes nothing,
-/// and to a response before any init. The user, the HMAC values and the memory are those of the one that
-/// answers.
+/// One server of two acceptors, or of more if one of them is an `AnyMechanism` itself. It offers the names of the
+/// first, followed by those that only the second has. An init goes to the first that has its mechanism, and a response
+/// to the one that the last init went to, whatever that answered. The other is unchanged. An init of a mechanism that
+/// neither has, and a response before any init, are answered by Auth and change nothing. The user, the HMAC values and
+/// the allocations are those of the one that answers.
 #[derive(Drop)]
 pub struct AnyMechanism<A, B> {
     first: A,
@@ -69,7 +68,7 @@ pub struct AnyMechanism<A, B> {
 impl<A: HasMechanism, B: HasMechanism> AnyMechanism<A, B> {
     ghost use Rattle.fe2o3_sasl_core.specs.AnyMechanismSides.{both_states};
 
-    /// A server of both, which nobody has asked.
+    /// Makes a server of both acceptors, which has received no init.
     pub fn new(first: A, second: B) -> Self
         ensures { both_states A.state B.state result
             ≡ record { first = A.state first; second = B.state second; selected = None } }
@@ -81,8 +80,8 @@ impl<A: HasMechanism, B: HasMechanism> AnyMechanism<A, B> {
         }
     }
 
-    /// Restores a server of both, of which the last init went to this one, as `asked` returned it when the server was
-    /// saved between two calls. Pass each acceptor in the state in which it was.
+    /// Restores a server of both acceptors, of which the last init went to this one, as `selected` returned it when the
+    /// server was saved between two calls. Pass each acceptor in its saved state.
     pub fn with_selected(first: A, second: B, selected: Option<Selected>) -> Self
         ensures { both_states A.state B.state result
             ≡ record { first = A.state first; second = B.state second; selected = selected } }
@@ -94,28 +93,28 @@ impl<A: HasMechanism, B: HasMechanism> AnyMechanism<A, B> {
         }
     }
 
-    /// The acceptor that was given first.
+    /// Returns the first acceptor.
     pub fn first(&self) -> &A
         ensures { A.state result.now ≡ (both_states A.state B.state self.now).first }
     {
         &self.first
     }
 
-    /// The other acceptor.
+    /// Returns the second acceptor.
     pub fn second(&self) -> &B
         ensures { B.state result.now ≡ (both_states A.state B.state self.now).second }
     {
         &self.second
     }
 
-    /// The one that the last init went to, and `None` where none went to either.
+    /// Returns the acceptor that the last init went to, or `None` if none went to either.
     pub fn selected(&self) -> Option<Selected>
         ensures { result ≡ (both_states A.state B.state self.now).selected }
     {
         self.selected
     }
 
-    /// The first that has this mechanism.
+    /// Returns the first acceptor that has this mechanism.
     fn part_with(&self, mechanism: &str) -> Option<Selected>
         ensures { result ≡ part_with (A.names (A.state self.now.first)) (B.names (B.state self.now.second))
             mechanism.now }

@@ -1,4 +1,4 @@
-//! Which mechanism a client takes of those that a server offers (AMQP 1.0, part 5, section 5.3.3.2).
+//! Selects a mechanism that a client accepts of a server's offer (AMQP 1.0, part 5, section 5.3.3.2).
 
 ghost use Rattle.std.specs.Prelude.{◌≡◌, ◌≢◌, ◌↔◌, true, false, Some, IfOk, IfErr, OnOk, MatchBool, MatchOption, List, ℕ, option_map, is_some};
 ghost use Rattle.std.specs.List.{AllByRecursion, Contains};
@@ -50,7 +50,7 @@ const BY_STRENGTH: [Mechanism; 6] = [
 ];
 
 impl Mechanism {
-    /// Its name.
+    /// Returns the mechanism's name.
     pub fn name(self) -> &'static str
         ensures { result.now ≡ policy_name self }
     {
@@ -65,8 +65,8 @@ impl Mechanism {
     }
 }
 
-/// Which mechanisms a client may log in by. An offer can be altered on its way, but whatever it says, the
-/// client takes nothing that is not allowed here.
+/// Which mechanisms a client may log in by. An attacker can alter an offer on its way, but the client selects nothing
+/// that is not allowed here.
 #[derive(Clone, Copy, Debug, PartialEq, Eq)]
 pub struct ClientPolicy {
     floor: ScramVersion,
@@ -77,7 +77,7 @@ pub struct ClientPolicy {
 }
 
 impl ClientPolicy {
-    /// SCRAM by the hash of this version and by stronger ones (SHA-1, SHA-256, SHA-512), and nothing else.
+    /// Allows SCRAM with the hash of this version and stronger ones (SHA-1, SHA-256, SHA-512), and nothing else.
     pub fn scram_from(floor: ScramVersion) -> Self
         ensures { result ≡ record {
           floor = floor;
@@ -96,14 +96,14 @@ impl ClientPolicy {
         }
     }
 
-    /// SCRAM by iteration counts within these limits alone. RFC 7677, section 4, asks for 4096 at least.
+    /// Limits the iteration counts of SCRAM. RFC 7677, section 4, asks for at least 4096.
     pub fn with_iteration_limits(self, limits: IterationLimits) -> Self
         ensures { result ≡ record self { limits = limits } }
     {
         Self { limits, ..self }
     }
 
-    /// EXTERNAL too, where none of what is stronger is offered.
+    /// Allows EXTERNAL too, if nothing stronger can be selected.
     pub fn or_external(self) -> Self
         ensures { result ≡ record self { external = true } }
     {
@@ -113,8 +113,8 @@ impl ClientPolicy {
         }
     }
 
-    /// PLAIN too, where nothing stronger is offered. It shows the password to whoever reads the connection:
-    /// allow it under TLS alone.
+    /// Allows PLAIN too, if nothing stronger can be selected. It shows the password to anyone who reads the connection:
+    /// allow it only under TLS.
     pub fn allow_plain(self) -> Self
         ensures { result ≡ record self { plain = true } }
     {
@@ -124,7 +124,7 @@ impl ClientPolicy {
         }
     }
 
-    /// ANONYMOUS too, where nothing else is offered.
+    /// Allows ANONYMOUS too, if nothing stronger can be selected.
     pub fn or_anonymous(self) -> Self
         ensures { result ≡ record self { anonymous = true } }
     {
@@ -134,7 +134,7 @@ impl ClientPolicy {
         }
     }
 
-    /// Whether it allows the mechanism.
+    /// Returns whether the policy allows the mechanism.
     pub fn allows(&self, mechanism: Mechanism) -> bool
         ensures { result ≡ is_allowed self.now mechanism }
     {
@@ -149,14 +149,14 @@ impl ClientPolicy {
     }
 }
 
-/// Why a client takes no mechanism.
+/// Why a client selects no mechanism.
 #[derive(Clone, Copy, Debug, PartialEq, Eq, Error)]
 pub enum ChoiceError {
     /// The offer has no mechanism that the policy allows and the secret serves for.
     #[error("No mechanism to take")]
     NoAcceptableMechanism,
 
-    /// A request for memory was refused.
+    /// An allocation failed.
     #[error("Out of memory")]
     OutOfMemory,
 }
@@ -193,7 +193,7 @@ fn secret_for<'a>(secret: &ClientSecret<'a>, version: ScramVersion) -> Option<Cl
     }
 }
 
-/// Whether the secret serves for the mechanism.
+/// Returns whether the secret serves for the mechanism.
 fn serves(secret: &ClientSecret<'_>, mechanism: Mechanism) -> bool
     ensures { (limits : IterationLimits) (user : List ℕ)
         → result ≡ is_some (profile_by limits user (secret_of secret.now) mechanism) }
@@ -207,7 +207,7 @@ fn serves(secret: &ClientSecret<'_>, mechanism: Mechanism) -> bool
     }
 }
 
-/// Whether the mechanism can be taken.
+/// Returns whether the mechanism can be selected.
 #[tactic(auto, using(crate::proofs::lemmas::machines::PolicyLemmas::taking))]
 fn can_take(
     mechanism: Mechanism,
@@ -221,7 +221,7 @@ fn can_take(
     policy.allows(mechanism) && serves(secret, mechanism) && offer.contains(mechanism.name())
 }
 
-/// The first of the mechanisms that can be taken.
+/// Returns the first of the mechanisms that can be selected.
 fn first_taken(
     mechanisms: &[Mechanism],
     offer: &SymbolsView<'_>,
@@ -240,7 +240,7 @@ fn first_taken(
     None
 }
 
-/// The profile of the user by SCRAM of this version, if the secret serves for it.
+/// Returns the user's profile for SCRAM of this version, if the secret serves for it.
 fn scram_profile(
     alloc: Global,
     username: &str,
@@ -266,7 +266,7 @@ fn scram_profile(
     }
 }
 
-/// The profile of a user by PLAIN, if the secret has a password.
+/// Returns the user's profile for PLAIN, if the secret has a password.
 fn plain_profile(
     alloc: Global,
     username: &str,
@@ -286,7 +286,7 @@ fn plain_profile(
     )))
 }
 
-/// The profile of a user with this secret by the mechanism, if the secret serves for it.
+/// Returns the user's profile for the mechanism, if the secret serves for it.
 fn profile_by_mechanism(
     alloc: Global,
     username: &str,
@@ -313,10 +313,10 @@ fn profile_by_mechanism(
     }
 }
 
-/// The profile by the strongest mechanism that is offered, that the policy allows and for which the secret
-/// serves: SCRAM-SHA-512, SCRAM-SHA-256, SCRAM-SHA-1, EXTERNAL, PLAIN, ANONYMOUS, in this order. Keys serve for
-/// SCRAM of their own version; of a password with keys, other versions and PLAIN take the password. The profile
-/// has sent nothing; `NoAcceptableMechanism` where there is no such mechanism, and else `OutOfMemory`.
+/// Returns the profile for the strongest mechanism that is offered, that the policy allows and for which the secret
+/// serves. The order is SCRAM-SHA-512, SCRAM-SHA-256, SCRAM-SHA-1, EXTERNAL, PLAIN, ANONYMOUS. Keys serve for SCRAM of
+/// their own version; of a password with keys, other versions and PLAIN use the password. The profile has sent nothing.
+/// Errors: `NoAcceptableMechanism` if there is no such mechanism, and otherwise `OutOfMemory`.
 pub fn select_mechanism(
     alloc: Global,
     offer: &SymbolsView<'_>,

@@ -1,4 +1,4 @@
-//! What the runs are given and what they answer, with the bodies of the frames.
+//! What the runs are passed and what they return, with the bodies of the frames.
 
 ghost use Rattle.std.specs.Prelude.{◌≡◌, ◌↔◌, IfOk, IfErr, IsTrue};
 ghost use Rattle.std.specs.Char.{is_ascii_hexdigit};
@@ -10,7 +10,7 @@ use hex::{FromHex, FromHexError};
 use std::alloc::Global;
 use std::fmt;
 
-/// A body as it came, and a nonce for the answer where it takes one.
+/// A body as received, and a nonce for an answer that needs one.
 #[derive(Drop)]
 pub struct Event {
     /// The body of the frame, without its four-byte size.
@@ -20,21 +20,21 @@ pub struct Event {
     pub nonce: [u8; 32],
 }
 
-/// Why two texts give no event.
+/// Why two texts spell no event.
 #[derive(Clone, Copy, Debug, PartialEq, Eq, thiserror::Error)]
 pub enum EventError {
     /// The nonce is not 64 hexadecimal digits, or the body not pairs of them.
     #[error("Invalid")]
     Invalid,
 
-    /// There was no memory for the body that the texts spell. The call can be made again.
+    /// An allocation failed. The call can be repeated.
     #[error("OutOfMemory")]
     OutOfMemory,
 }
 
 impl Event {
-    /// The event that two texts spell in hexadecimal digits of either case. Invalid exactly where
-    /// they spell none: memory is asked for once both have passed, for the body.
+    /// Reads an event from two texts in hexadecimal digits of either case. Invalid exactly if they spell none: only the
+    /// body of a valid event is allocated.
     pub fn from_hex(alloc: Global, nonce: &str, body: &str) -> Result<Event, EventError>
         ensures ok { IfOk result (λ event. SpellsEvent nonce.now body.now (given event)) }
         ensures err { IfErr result (λ fault. RefusesHex nonce.now body.now fault) }
@@ -53,7 +53,7 @@ impl Event {
     }
 }
 
-/// Whether each byte is a hexadecimal digit.
+/// Returns whether each byte is a hexadecimal digit.
 fn are_digits(text: &[u8]) -> bool
     ensures { IsTrue result ↔ AllPass is_ascii_hexdigit text.now }
 {
@@ -61,14 +61,14 @@ fn are_digits(text: &[u8]) -> bool
 }
 
 impl fmt::Debug for Event {
-    /// The length of the body, which can hold a password.
+    /// Writes only the length of the body, which can hold a password.
     fn fmt<W: fmt::Write>(&self, f: &mut fmt::Formatter<W>) -> fmt::Result {
         let len = self.body.len();
         write!(f, "Event {{ body: {len} bytes, .. }}")
     }
 }
 
-/// What a server answers.
+/// A server's reply.
 #[derive(Debug, Drop)]
 pub enum ServerReply {
     /// A challenge.
@@ -87,7 +87,7 @@ pub enum ServerReply {
     },
 }
 
-/// What a client answers.
+/// A client's reply.
 #[derive(Drop)]
 pub enum ClientReply {
     /// An init.
@@ -102,12 +102,12 @@ pub enum ClientReply {
         body: Vec<u8>,
     },
 
-    /// The outcome that the server told, which ends the negotiation.
+    /// The outcome that the server sent, which ends the negotiation.
     Outcome(SaslOutcome),
 }
 
 impl fmt::Debug for ClientReply {
-    /// The lengths of bodies, which can hold a password, and the code of an outcome.
+    /// Writes the lengths of bodies, which can hold a password, and the code of an outcome.
     fn fmt<W: fmt::Write>(&self, f: &mut fmt::Formatter<W>) -> fmt::Result {
         match self {
             ClientReply::Init { body } => {

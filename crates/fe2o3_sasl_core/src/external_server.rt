@@ -13,15 +13,15 @@ use fe2o3_sasl_wire::{Array, Binary, SaslCode, SaslInit, SaslResponse, Symbol};
 use std::alloc::{AllocError, Global};
 use thiserror::Error;
 
-/// Reports that the client has no identity outside SASL: the name from the transport is empty. EXTERNAL then
-/// has to fail (RFC 4422, appendix A.1).
+/// Reports that the client has no identity outside SASL: the name from the transport is empty. EXTERNAL then has to
+/// fail (RFC 4422, appendix A.1).
 #[derive(Debug, Clone, Copy, PartialEq, Eq, Error)]
 #[error("The transport authenticated no one: the external name is empty")]
 pub struct NoExternalIdentity;
 
 /// An acceptor of EXTERNAL for the name that the transport authenticated, such as the subject of a client's TLS
-/// certificate. The name is never empty. An init that asks for no identity, the empty one or this name is
-/// accepted, and every other init is rejected with Auth. Replies allocate no memory.
+/// certificate. The name is never empty. An init that asks for no identity, the empty one or this name is accepted, and
+/// every other init is rejected with Auth. Replies allocate nothing.
 #[derive(Debug, Drop)]
 pub struct ExternalServer {
     username: String,
@@ -32,8 +32,8 @@ pub struct ExternalServer {
 impl ExternalServer {
     ghost use Rattle.fe2o3_sasl_core.specs.ExternalServer.{AsksFor, external_of};
 
-    /// Returns an acceptor of the name that the transport authenticated, or `NoExternalIdentity` where the name
-    /// is empty: then the transport authenticated no one, and EXTERNAL must not be offered.
+    /// Returns an acceptor for the name that the transport authenticated, or `NoExternalIdentity` if the name is empty:
+    /// then the transport authenticated no one, and EXTERNAL must not be offered.
     pub fn new(username: String) -> Result<Self, NoExternalIdentity>
         ensures ok { IfOk result (λ acceptor. external_of acceptor
             ≡ record { user = string_bytes username; accepted = false }) }
@@ -49,8 +49,8 @@ impl ExternalServer {
         })
     }
 
-    /// Returns this acceptor as a login of its user leaves it: it names that user. The caller vouches that
-    /// the user with the name from the transport has logged in, since no message is checked.
+    /// Returns this acceptor in the state after a login of its user, whom it then names. The caller vouches that the
+    /// user with the name from the transport has logged in, since no message is checked.
     pub fn restore_authenticated(self) -> Self
         ensures { external_of result ≡ record { user = (external_of self).user; accepted = true } }
     {
@@ -60,7 +60,7 @@ impl ExternalServer {
         }
     }
 
-    /// Whether the initial response asks for the name.
+    /// Returns whether the initial response asks for the name.
     fn is_asked_for(&self, identity: &Option<Binary>) -> bool
         ensures { result ≡ true
             ↔ AsksFor (external_of self.now).user (option_map binary_bytes identity.now) }

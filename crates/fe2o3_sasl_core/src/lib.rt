@@ -1,8 +1,8 @@
-//! Logins by SASL over lists of frame bodies, for AMQP 1.0: the crate below `fe2o3_sasl`, which has all
-//! of this under its own name. Who only speaks SASL names that crate.
+//! Logins by SASL over lists of frame bodies, for AMQP 1.0: the crate below `fe2o3_sasl`, which re-exports all of this.
+//! Code that only uses SASL names that crate.
 //!
-//! A client takes a [`SaslProfile`], a server a [`SaslAcceptor`]. [`steps`] answer one body each, and
-//! [`whole_runs`] a list of them; the contracts of these state the headline theorem.
+//! A client uses a [`SaslProfile`], a server a [`SaslAcceptor`]. [`steps`] answers one body each, and [`whole_runs`] a
+//! list of them; the contracts of these state the headline theorem.
 #![tactic(auto)]
 
 pub mod any_mechanism;

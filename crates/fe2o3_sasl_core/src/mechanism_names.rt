@@ -16,7 +16,7 @@ pub(crate) const PLAIN: &str = "PLAIN";
 /// The name of EXTERNAL (RFC 4422, appendix A).
 pub(crate) const EXTERNAL: &str = "EXTERNAL";
 
-/// The symbol of an ASCII name.
+/// Returns the symbol of an ASCII name.
 pub(crate) fn symbol_of(alloc: Global, name: &str) -> Result<Symbol, OutOfMemory>
     requires { IsAscii name.now }
     ensures { IfOk result (λ symbol. symbol ≡ name.now) }

@@ -1,4 +1,4 @@
-//! The server's side of PLAIN over the records that SCRAM keeps (RFC 4616).
+//! The server's side of PLAIN over the records of SCRAM (RFC 4616).
 
 ghost use Rattle.std.specs.Prelude.{◌≡◌, ◌≤◌, ◌+◌, ◌^◌, ◌↔◌, ℕ, List, [], ◌∷◌, None, Some, IsTrue, IfOk, IfErr, MatchOption, OnErr, OnOk, codes, option_map, string_bytes};
 ghost use Rattle.std.proofs.Common.{ap};
@@ -22,20 +22,23 @@ use fe2o3_scram::provider::StoredPassword;
 use std::alloc::{AllocError, Global};
 use std::fmt;
 
-/// The longest password that is tested, in bytes. RFC 4616 asks a server to take at least 255.
+/// The maximum length of a password that is tested, in bytes. RFC 4616 asks a server to accept at least 255.
 pub const MAX_PASSWORD_LEN: usize = 1024;
 
 /// The salt with which the password of an unknown user is hashed.
 const NO_SALT: [u8; 16] = [0; 16];
 
-/// An acceptor of PLAIN for the users of a store, which tests the password against the record that SCRAM
-/// keeps of it. PLAIN sends the password itself, so offer it under TLS alone.
+/// An acceptor of PLAIN for the users of a store, which tests the password against the user's SCRAM record. PLAIN sends
+/// the password itself, so offer it only under TLS.
 ///
-/// An init logs a user in whose message is UTF-8 in three parts with zero bytes between them, of which the
-/// first, the identity to act as, is empty or the user's name, and whose password is that of the user's record,
-/// printable ASCII of 1 to 1024 bytes. Every other init is Auth and changes nothing, and so is a response. A
-/// password that comes to be tested is hashed for an unknown user too, with an iteration count of the
-/// server's own, and takes as many HMAC values as the record of a known user with that count.
+/// An init logs a user in if
+/// - its message is UTF-8 in three parts with zero bytes between them;
+/// - the first part, the identity to act as, is empty or the user's name;
+/// - the password is that of the user's record, printable ASCII of 1 to 1024 bytes.
+///
+/// Every other init is answered by Auth and changes nothing, and so is a response. A password that is to be tested is
+/// hashed for an unknown user too, with the server's own iteration count. That takes as many HMAC values as the record
+/// of a known user with this count.
 #[derive(Drop)]
 pub struct PlainServer<C: ScramCredentialProvider> {
     credentials: C,
@@ -44,7 +47,7 @@ pub struct PlainServer<C: ScramCredentialProvider> {
 }
 
 impl<C: ScramCredentialProvider> PlainServer<C> {
-    /// An acceptor of the users of this store, whose records have this iteration count.
+    /// Makes an acceptor for the users of this store, whose records have this iteration count.
     pub fn new(credentials: C, iterations: u32) -> Self
         ensures { plain_state C.meaning result
             ≡ record { provider = C.meaning credentials; count = iterations; user = None } }
@@ -56,18 +59,18 @@ impl<C: ScramCredentialProvider> PlainServer<C> {
         }
     }
 
-    /// The store of credentials.
+    /// Returns the store of credentials.
     pub fn credentials(&self) -> &C
         ensures { C.meaning result.now ≡ (plain_state C.meaning self.now).provider }
     {
         &self.credentials
     }
 
-    /// Returns this acceptor as a login of this user leaves it: it names that user. The caller vouches for
-    /// the name, since no message is checked. Pass the name that `user` returned when the server was
-    /// saved. No password and no record is needed beside it.
+    /// Returns this acceptor in the state after a login of this user, whom it then names. The caller vouches for the
+    /// name, since no message is checked. Pass the name that `authenticated_user` returned when the server was saved.
+    /// No password and no record is needed.
     ///
-    /// `OutOfMemory` is the only error.
+    /// The only error is `OutOfMemory`.
     pub fn restore_authenticated(self, alloc: Global, username: &str) -> Result<Self, OutOfMemory>
         ensures { IfOk result (λ plain. plain_state C.meaning plain
             ≡ record (plain_state C.meaning self) { user = Some username.now }) }
@@ -79,7 +82,7 @@ impl<C: ScramCredentialProvider> PlainServer<C> {
         })
     }
 
-    /// The user whom the init logs in. The meter counts the HMAC values.
+    /// Returns the user whom the init logs in. The meter counts the HMAC values.
     fn logged_in<'a>(&self, init: &'a SaslInit, meter: &mut Meter) -> Option<&'a str>
         requires { meter.old ≤ 2 ^ 63 }
         ensures user { MatchOption result
@@ -98,7 +101,7 @@ impl<C: ScramCredentialProvider> PlainServer<C> {
         }
     }
 
-    /// Whether the message has the password of its user. The meter counts the HMAC values.
+    /// Returns whether the message has the password of its user. The meter counts the HMAC values.
     fn has_password(&self, message: &PlainMessage<'_>, meter: &mut Meter) -> bool
         requires { meter.old ≤ 2 ^ 63 }
         ensures verdict { IsTrue result ↔ HasPassword (C.meaning self.now.credentials) (parts_of message.now) }
@@ -118,8 +121,8 @@ impl<C: ScramCredentialProvider> PlainServer<C> {
     }
 }
 
-/// The message by which an init asks to log in, or `None` where it is of another mechanism, or carries none that
-/// is taken.
+/// Returns the message by which an init asks to log in, or `None` if it is of another mechanism, or carries none that
+/// is accepted.
 fn asked(init: &SaslInit) -> Option<PlainMessage<'_>>
     ensures { MatchOption result ((parts : PlainParts) → ¬ AsksPlain (init_frame init.now) parts)
         (λ message. AsksPlain (init_frame init.now) (parts_of message)) }
@@ -133,8 +136,8 @@ fn asked(init: &SaslInit) -> Option<PlainMessage<'_>>
     PlainMessage::read_taken(&response.0)
 }
 
-/// The user of a message of PLAIN that is taken (RFC 4616, section 2), whose record is to be fetched, or `None` where
-/// the bytes are none. Nothing says yet that the password is that of the user.
+/// Returns the user of a message of PLAIN (RFC 4616, section 2), whose record you fetch, or `None` if the bytes are no
+/// acceptable message. The name is only claimed: the password is not tested yet.
 pub fn plain_user(message: &[u8]) -> Option<&str>
     ensures { MatchOption result ((parts : PlainParts) → SpellsPlain parts message.now → ¬ IsTaken parts)
         (λ user. (parts : PlainParts) × SpellsPlain parts message.now × IsTaken parts × (user.now ≡ parts.user)) }
@@ -145,7 +148,7 @@ pub fn plain_user(message: &[u8]) -> Option<&str>
     }
 }
 
-/// What stands for the record of an unknown user. It has no keys, so no password is that of it.
+/// Returns a mock record for an unknown user. It has no keys, so no password meets it.
 fn mock(iterations: u32) -> StoredPassword<'static>
     ensures count { result.iterations ≡ iterations }
     ensures keyless { result.stored_key.now ≡ [] }
@@ -167,7 +170,7 @@ struct PlainMessage<'a> {
 }
 
 impl<'a> PlainMessage<'a> {
-    /// The message that the bytes are, or `None` where they are none that is taken.
+    /// Reads the message, or returns `None` if the bytes are none that is accepted.
     fn read_taken(bytes: &'a [u8]) -> Option<PlainMessage<'a>>
         ensures { MatchOption result ((parts : PlainParts) → SpellsPlain parts bytes.now → ¬ IsTaken parts)
             (λ message. SpellsPlain (parts_of message) bytes.now × IsTaken (parts_of message)) }
@@ -180,7 +183,7 @@ impl<'a> PlainMessage<'a> {
         }
     }
 
-    /// The message that the bytes are, or `None` where they are none.
+    /// Reads the message, or returns `None` if the bytes are none.
     fn read(bytes: &'a [u8]) -> Option<PlainMessage<'a>>
         ensures { MatchOption result ((parts : PlainParts) → ¬ SpellsPlain parts bytes.now)
             (λ message. SpellsPlain (parts_of message) bytes.now) }
@@ -191,7 +194,7 @@ impl<'a> PlainMessage<'a> {
         }
     }
 
-    /// The message that the text is, or `None` where it is none.
+    /// Parses the message, or returns `None` if the text is none.
     fn parse(text: &'a str) -> Option<PlainMessage<'a>>
         ensures { MatchOption result ((parts : PlainParts) → ¬ SpellsPlain parts text.now)
             (λ message. SpellsPlain (parts_of message) text.now) }
@@ -208,7 +211,7 @@ impl<'a> PlainMessage<'a> {
         }
     }
 
-    /// Whether it names a user, with a password, and nobody else to act as.
+    /// Returns whether the message names a user, with a password, and nobody else to act as.
     fn is_taken(&self) -> bool
         ensures { IsTrue result ↔ IsTaken (parts_of self.now) }
     {
@@ -222,7 +225,7 @@ impl<'a> PlainMessage<'a> {
     }
 }
 
-/// What stands before the first zero byte, and what follows it.
+/// Splits the text at its first zero byte.
 fn cut_at_zero(text: &str) -> Option<(&str, &str)>
     ensures { MatchOption result ((before rest : List ℕ) → ¬ Cut 0 text.now before rest)
         (λ both. Cut 0 text.now both.0.now both.1.now) }
@@ -231,7 +234,7 @@ fn cut_at_zero(text: &str) -> Option<(&str, &str)>
 }
 
 impl<C: ScramCredentialProvider> fmt::Debug for PlainServer<C> {
-    /// The iteration count and who has logged in, without the store of credentials.
+    /// Writes the iteration count and the user who has logged in, without the store of credentials.
     fn fmt<W: fmt::Write>(&self, f: &mut fmt::Formatter<W>) -> fmt::Result {
         write!(
             f,

@@ -1,5 +1,5 @@
-//! A server that offers only some of its mechanisms (AMQP 1.0, part 5, section 5.3.3.1), as where PLAIN
-//! is left out of a connection without TLS.
+//! A server that offers only some of its mechanisms (AMQP 1.0, part 5, section 5.3.3.1), for example all but PLAIN on a
+//! connection without TLS.
 
 ghost use Rattle.std.specs.Prelude.{◌≡◌, ◌≢◌, [], IfOk, IfErr, MatchBool, filter, map, string_bytes};
 ghost use Rattle.fe2o3_sasl_core.specs.AnyMechanism.{has_name};
@@ -15,14 +15,14 @@ use std::alloc::{AllocError, AllocFailed, Global};
 use std::sync::Arc;
 use thiserror::Error;
 
-/// Why an offer is not cut down.
+/// Why an offer is not restricted.
 #[derive(Clone, Copy, Debug, PartialEq, Eq, Error)]
 pub enum OfferError {
-    /// Nothing would be left of the offer, in place of which a server offers ANONYMOUS.
+    /// No name would be left of the offer, in place of which a server offers ANONYMOUS.
     #[error("Nothing offered")]
     NoMechanismLeft,
 
-    /// A request for memory was refused.
+    /// An allocation failed.
     #[error("Out of memory")]
     OutOfMemory,
 }
@@ -43,15 +43,15 @@ impl<T: Drop> From<AllocFailed<T>> for OfferError {
     }
 }
 
-/// An acceptor that offers of its names only those that it may. An init of another mechanism is Auth and
-/// changes nothing; all else is answered by the acceptor. A clone shares the names.
+/// An acceptor that offers only the allowed names of an inner acceptor. An init of another mechanism is answered by
+/// Auth and changes nothing; every other frame is answered by the inner acceptor. A clone shares the names.
 #[derive(Drop)]
 pub struct RestrictMechanisms<A> {
     acceptor: A,
     allowed: Arc<Vec<String>>,
 }
 
-/// Whether the name is one of these.
+/// Returns whether the name is one of these.
 fn is_one_of(names: &[String], name: &str) -> bool
     ensures { result ≡ has_name (map string_bytes names.now) name.now }
 {
@@ -64,8 +64,8 @@ fn is_one_of(names: &[String], name: &str) -> bool
 }
 
 impl<A: HasMechanism> RestrictMechanisms<A> {
-    /// The acceptor, which offers of its names only these, whatever their order. `NoMechanismLeft` where it
-    /// has none of them, and else `OutOfMemory`.
+    /// Restricts the acceptor to these of its names, in any order. Errors: `NoMechanismLeft` if it has none of them,
+    /// and otherwise `OutOfMemory`.
     pub fn new(alloc: Global, acceptor: A, names: &[&str]) -> Result<Self, OfferError>
         ensures ok { IfOk result (λ offering. offering_of A.state offering
             ≡ record { inner = A.state acceptor; allowed = map (λ name. name.now) names.now }) }
@@ -84,14 +84,14 @@ impl<A: HasMechanism> RestrictMechanisms<A> {
         })
     }
 
-    /// The acceptor.
+    /// Returns the inner acceptor.
     pub fn acceptor(&self) -> &A
         ensures { A.state result.now ≡ (offering_of A.state self.now).inner }
     {
         &self.acceptor
     }
 
-    /// Whether it may offer this name.
+    /// Returns whether the acceptor may offer this name.
     fn may_offer(&self, name: &str) -> bool
         ensures { result ≡ has_name (offering_of A.state self.now).allowed name.now }
     {
@@ -99,7 +99,7 @@ impl<A: HasMechanism> RestrictMechanisms<A> {
     }
 }
 
-/// Whether the acceptor has a mechanism of one of these names.
+/// Returns whether the acceptor has a mechanism of one of these names.
 fn has_one<A: HasMechanism>(acceptor: &A, names: &[&str]) -> bool
     ensures { MatchBool result
         (filter (has_name (map (λ name. name.now) names.now)) (A.names (A.state acceptor.now)) ≢ [])
@@ -113,7 +113,7 @@ fn has_one<A: HasMechanism>(acceptor: &A, names: &[&str]) -> bool
     false
 }
 
-/// Copies of the names.
+/// Copies the names.
 fn copies(alloc: Global, names: &[&str]) -> Result<Vec<String>, OutOfMemory>
     ensures { IfOk result (λ copies. map string_bytes copies.items ≡ map (λ name. name.now) names.now) }
 {

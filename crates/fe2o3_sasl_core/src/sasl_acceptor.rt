@@ -26,7 +26,7 @@ use fe2o3_scram::scram_server::ScramAuthenticator;
 use std::alloc::{AllocError, Global};
 use std::fmt;
 
-/// What a server sends after its mechanisms.
+/// A frame that a server sends after its mechanisms.
 #[derive(Debug, Drop)]
 pub enum SaslServerFrame {
     /// A challenge.
@@ -36,10 +36,10 @@ pub enum SaslServerFrame {
     Outcome(SaslOutcome),
 }
 
-/// The server's side of a negotiation. An implementation says what its state is, in which all stands
-/// that its answers depend on, the names of its mechanisms in that state, its machine: the replies to
-/// an init and to a response, and the state after each; to which of them it comes to ask for memory;
-/// and how many HMAC values each takes. A call that finds no memory leaves the state as it was.
+/// The server's side of a negotiation. An implementation specifies its state, on which alone its answers depend; the
+/// names of its mechanisms in that state; its machine: the replies to an init and to a response, and the state after
+/// each; at which of them it allocates; and how many HMAC values each takes. A call that runs out of memory leaves the
+/// state unchanged.
 pub trait SaslAcceptor: Clone {
     ghost State: { Type 0 };
 
@@ -53,11 +53,11 @@ pub trait SaslAcceptor: Clone {
 
     ghost hmacs: { State → SaslFrame → ℕ → Type 0 };
 
-    /// The names of its mechanisms.
+    /// Returns the names of the acceptor's mechanisms.
     fn mechanisms(&self, alloc: Global) -> Result<Array<Symbol>, OutOfMemory>
         ensures { IfOk result (λ array. array.0.items ≡ names (state self.now)) };
 
-    /// Answers an init. A reply that needs a nonce takes this one, of 32 bytes.
+    /// Answers an init. A reply that needs a nonce uses this one, of 32 bytes.
     fn on_init(
         &mut self,
         alloc: Global,
@@ -69,7 +69,7 @@ pub trait SaslAcceptor: Clone {
         ensures memory { IfErr result (λ _. allocates (state self.old) (init_frame init)) }
         ensures err { OnErr result (state self.new ≡ state self.old) };
 
-    /// Answers a response, for which no nonce counts.
+    /// Answers a response, which needs no nonce.
     fn on_response(
         &mut self,
         alloc: Global,
@@ -80,8 +80,8 @@ pub trait SaslAcceptor: Clone {
         ensures memory { IfErr result (λ _. allocates (state self.old) (response_frame response)) }
         ensures err { OnErr result (state self.new ≡ state self.old) };
 
-    /// As `on_init`. The meter, of at most 2^63, counts the HMAC values, also of a refusal. An acceptor
-    /// that makes none leaves it as it is written here.
+    /// Like `on_init`; the meter, of at most 2^63, counts the HMAC values, also of an error. An acceptor that makes
+    /// none keeps this default.
     fn on_init_metered(
         &mut self,
         alloc: Global,
@@ -99,7 +99,7 @@ pub trait SaslAcceptor: Clone {
         self.on_init(alloc, init, nonce)
     }
 
-    /// As `on_response`, with a meter as that of `on_init_metered`.
+    /// Like `on_response`, with a meter like that of `on_init_metered`.
     fn on_response_metered(
         &mut self,
         alloc: Global,
@@ -120,9 +120,9 @@ pub trait SaslAcceptor: Clone {
     ghost clone_keeps: { (acceptor copy : Self) → Self.is_clone acceptor copy → state copy ≡ state acceptor };
 }
 
-/// What every acceptor offers.
+/// The frame that every acceptor offers.
 pub trait SaslAcceptorExt: SaslAcceptor {
-    /// The frame of its mechanisms: ANONYMOUS alone where it names none.
+    /// Returns the frame of the acceptor's mechanisms: only ANONYMOUS if it names none.
     fn sasl_mechanisms(&self, alloc: Global) -> Result<SaslMechanisms, OutOfMemory>
         ensures { IfOk result (λ mechanisms.
             mechanisms_frame mechanisms ≡ Mechanisms (offered (Self.names (Self.state self.now)))) }
@@ -140,21 +140,21 @@ pub trait SaslAcceptorExt: SaslAcceptor {
 
 impl<T: SaslAcceptor> SaslAcceptorExt for T {}
 
-/// An acceptor that tells who has logged in.
+/// An acceptor that names the user who has logged in.
 pub trait AuthenticatedUser: SaslAcceptor {
     ghost named: { Self → Option (List ℕ) };
 
-    /// The name of the user of its last Ok, and `None` before it, from the next challenge on, and where
-    /// its mechanism names nobody. A refusal leaves it as it was: read it at the Ok.
+    /// Returns the name of the user of the last Ok, and `None` before it, from the next challenge on, and if the
+    /// mechanism names no user. An error leaves it unchanged: read it at the Ok.
     fn authenticated_user(&self) -> Option<&str>
         ensures { option_map (λ user. user.now) result ≡ named self.now };
 
-    /// It is told by its state.
+    /// The user depends only on the state.
     ghost named_by_state: { (acceptor other : Self) → Self.state other ≡ Self.state acceptor
         → named other ≡ named acceptor };
 }
 
-/// The list of one ASCII name.
+/// Returns a list of one ASCII name.
 pub(crate) fn one_name(alloc: Global, name: &str) -> Result<Array<Symbol>, OutOfMemory>
     requires { IsAscii name.now }
     ensures { IfOk result (λ array. array.0.items ≡ name.now ∷ []) }
@@ -164,7 +164,7 @@ pub(crate) fn one_name(alloc: Global, name: &str) -> Result<Array<Symbol>, OutOf
     Ok(Array(names))
 }
 
-/// An outcome without data.
+/// Returns an outcome without data.
 pub(crate) fn outcome(code: SaslCode) -> SaslServerFrame
     ensures { sent_frame result ≡ ends_with code }
 {
@@ -174,7 +174,7 @@ pub(crate) fn outcome(code: SaslCode) -> SaslServerFrame
     })
 }
 
-/// The part at place `k`, counted from 0, of bytes that are cut at each zero.
+/// Returns the part at index `k`, from 0, of bytes that are split at each zero.
 fn zero_part(bytes: &[u8], k: usize) -> Option<&[u8]>
     ensures { MatchOption result ((part : List ℕ) → ¬ ZeroPart bytes.now k part)
         (λ part. ZeroPart bytes.now k part.now) }
@@ -182,7 +182,7 @@ fn zero_part(bytes: &[u8], k: usize) -> Option<&[u8]>
     bytes.split(|byte| *byte == 0).nth(k)
 }
 
-/// Whether this is the part at place `k`.
+/// Returns whether this is the part at index `k`.
 fn has_zero_part(bytes: &[u8], k: usize, wanted: &[u8]) -> bool
     ensures { result ≡ true ↔ ZeroPart bytes.now k wanted.now }
 {
@@ -192,7 +192,7 @@ fn has_zero_part(bytes: &[u8], k: usize, wanted: &[u8]) -> bool
     }
 }
 
-/// An acceptor of PLAIN for one user (RFC 4616). It takes no memory to answer.
+/// An acceptor of PLAIN for one user (RFC 4616). Its answers allocate nothing.
 #[derive(Drop)]
 pub struct SaslPlainMechanism {
     username: String,
@@ -201,7 +201,7 @@ pub struct SaslPlainMechanism {
 }
 
 impl SaslPlainMechanism {
-    /// An acceptor of this user with this password.
+    /// Makes an acceptor of this user with this password.
     pub fn new(username: String, password: String) -> Self
         ensures { plain_acceptor result ≡ PlainAcceptor (string_bytes username) (string_bytes password) false }
     {
@@ -212,9 +212,8 @@ impl SaslPlainMechanism {
         }
     }
 
-    /// Returns this acceptor as a login of its user leaves it: it names that user. The caller vouches that
-    /// the user has logged in, since no message is checked. The password is the acceptor's own, and is not
-    /// saved.
+    /// Returns this acceptor in the state after a login of its user, whom it then names. The caller vouches that the
+    /// user has logged in, since no message is checked. The password is not saved: the acceptor has it.
     pub fn restore_authenticated(self) -> Self
         ensures { plain_acceptor result ≡ PlainAcceptor (string_bytes self.username) (string_bytes self.password) true }
     {
@@ -225,7 +224,7 @@ impl SaslPlainMechanism {
         }
     }
 
-    /// The user's name, once an init was answered Ok.
+    /// Returns the user's name, once an init was answered by Ok.
     pub fn authenticated_user(&self) -> Option<&str>
         ensures { option_map (λ user. user.now) result ≡ acceptor_user (plain_acceptor self.now) }
     {
@@ -236,7 +235,7 @@ impl SaslPlainMechanism {
         }
     }
 
-    /// Whether the message names the user and the password.
+    /// Returns whether the message names the user and the password.
     fn is_named_by(&self, message: &[u8]) -> bool
         ensures { result ≡ true
             ↔ NamesPlain (string_bytes self.now.username) (string_bytes self.now.password) message.now }
@@ -247,7 +246,7 @@ impl SaslPlainMechanism {
 }
 
 impl fmt::Debug for SaslPlainMechanism {
-    /// The user name, without the password.
+    /// Writes the user name, without the password.
     fn fmt<W: fmt::Write>(&self, f: &mut fmt::Formatter<W>) -> fmt::Result {
         write!(
             f,
@@ -332,12 +331,12 @@ impl AuthenticatedUser for SaslPlainMechanism {
     }
 }
 
-/// An acceptor of ANONYMOUS, which lets everyone in (RFC 4505). It takes no memory to answer.
+/// An acceptor of ANONYMOUS, which lets everyone in (RFC 4505). Its answers allocate nothing.
 #[derive(Debug, Drop)]
 pub struct SaslAnonymousMechanism {}
 
 impl SaslAnonymousMechanism {
-    /// An acceptor of everyone.
+    /// Makes an acceptor of everyone.
     pub fn new() -> Self {
         Self {}
     }
@@ -527,7 +526,7 @@ impl<C: ScramCredentialProvider> AuthenticatedUser for ScramAuthenticator<C> {
     }
 }
 
-/// The frame of a server-first message. Without one the user is unknown.
+/// Returns the frame of a server-first message, or the outcome for an unknown user if there is none.
 fn challenge(answer: Option<Vec<u8>>) -> SaslServerFrame
     ensures { sent_frame result
         ≡ server_frame (λ message. Challenge message) (Ok (option_map (λ message. message.items) answer)) }
@@ -540,7 +539,7 @@ fn challenge(answer: Option<Vec<u8>>) -> SaslServerFrame
     }
 }
 
-/// The frame of a server-final message.
+/// Returns the frame of a server-final message.
 fn conclusion(answer: Option<Vec<u8>>) -> SaslServerFrame
     ensures { sent_frame result ≡ server_frame (λ message. Outcome OkCode (Some message))
         (Ok (option_map (λ message. message.items) answer)) }
@@ -554,7 +553,7 @@ fn conclusion(answer: Option<Vec<u8>>) -> SaslServerFrame
     }
 }
 
-/// A refusal is Auth. Want of memory is none.
+/// Maps every SCRAM error to the outcome Auth, except `OutOfMemory`, which is returned as an error.
 fn refusal(kind: ServerScramErrorKind) -> Result<SaslServerFrame, OutOfMemory>
     ensures auth { IfOk result (λ frame. (kind ≢ ScramOutOfMemory) × (sent_frame frame ≡ ends_with Auth)) }
     ensures memory { IfErr result (λ _. kind ≡ ScramOutOfMemory) }

@@ -37,7 +37,7 @@ use std::alloc::{AllocError, Global};
 use std::fmt;
 use url::Url;
 
-/// What a client logs in with.
+/// The profile that a client logs in with.
 #[derive(Drop)]
 pub enum SaslProfile {
     /// ANONYMOUS (RFC 4505).
@@ -65,7 +65,7 @@ pub enum SaslProfile {
     ScramSha512(SaslScramSha512),
 }
 
-/// What a profile answers with.
+/// A profile's answer.
 #[derive(Drop)]
 pub enum Negotiation {
     /// An init, to the mechanisms of the server.
@@ -74,23 +74,22 @@ pub enum Negotiation {
     /// A response, to a challenge.
     Response(SaslResponse),
 
-    /// The outcome that the server told, which ends the negotiation.
+    /// The outcome that the server sent, which ends the negotiation.
     Outcome(SaslOutcome),
 }
 
 impl SaslProfile {
-    /// PLAIN for this user with this password. The words go out as they are: no empty word is refused,
-    /// and no zero byte, at which the message is cut by its reader (RFC 4616, section 2, has neither).
+    /// Makes a PLAIN profile for this user with this password. The words are sent unchanged: an empty word is not
+    /// rejected, nor a zero byte, at which the reader splits the message (RFC 4616, section 2, allows neither).
     pub fn plain(username: String, password: String) -> SaslProfile
         ensures { profile_of result ≡ PlainProfile (string_bytes username) (string_bytes password) }
     {
         SaslProfile::Plain { username, password }
     }
 
-    /// PLAIN for the user name and the password of an address, as `url` spells them. It turns blanks,
-    /// controls, some signs and what is not ASCII into percent escapes, and nothing turns an escape back.
-    /// The scheme is not looked at, so `amqp` sends the password as `amqps` does. NoCredentials where
-    /// one of the two is empty or absent.
+    /// Makes a PLAIN profile for the user name and the password of an address, in the spelling of `url`. That escapes
+    /// blanks, controls, some signs and non-ASCII with percent signs, and no escape is decoded. The scheme is ignored,
+    /// so `amqp` sends the password like `amqps` does. NoCredentials if one of the two is empty or absent.
     pub fn from_url(alloc: Global, url: &Url) -> Result<SaslProfile, UrlError>
         ensures ok { IfOk result (λ profile. profile_of profile ≡ PlainProfile url.now.username url.now.password) }
         ensures both { IfOk result (λ _. HasCredentials url.now) }
@@ -109,7 +108,7 @@ impl SaslProfile {
         })
     }
 
-    /// SCRAM of this version that has sent nothing, and refuses an iteration count above the limit.
+    /// Returns a SCRAM profile of this version that has sent nothing, and rejects an iteration count above the limit.
     pub(crate) fn scram(
         username: String,
         password: String,
@@ -142,9 +141,9 @@ impl SaslProfile {
         }
     }
 
-    /// The keys of the login of SCRAM, once its server was verified, and `None` before and of another
-    /// profile. The next login by them takes two HMAC values, as long as the server keeps its salt and its
-    /// iteration count (RFC 5802, section 3).
+    /// Returns the keys of the SCRAM login, once its server is verified, and `None` before that and for another
+    /// profile. The next login by them takes two HMAC values, as long as the server keeps its salt and iteration count
+    /// (RFC 5802, section 3).
     pub fn keys(&self) -> Option<&CachedKeys>
         ensures { MatchOption result (login_keys (profile_state (profile_of self.now)) ≡ None)
             (λ keys. login_keys (profile_state (profile_of self.now)) ≡ Some keys.now) }
@@ -152,8 +151,8 @@ impl SaslProfile {
         self.scram_client()?.keys()
     }
 
-    /// The nonce of the client-first message of SCRAM, where that is what the client sent last. A client
-    /// that is saved here is restored by `initial_response` with it.
+    /// Returns the nonce of SCRAM's client-first message, if the client has sent that last. Restore a client that is
+    /// saved here by `initial_response` with this nonce.
     pub fn nonce(&self) -> Option<&[u8; 32]>
         ensures { MatchOption result
             ((nonce bare : List ℕ) → profile_state (profile_of self.now) ≢ ClientFirstSent nonce bare)
@@ -163,8 +162,8 @@ impl SaslProfile {
         self.scram_client()?.nonce()
     }
 
-    /// The signature that a client of SCRAM waits for, where it has sent its client-final message last. A
-    /// client that is saved here is restored by `restore_client_final_sent`.
+    /// Returns the signature that a SCRAM client waits for, if it has sent its client-final message last. Restore a
+    /// client that is saved here by `restore_client_final_sent`.
     pub fn server_signature(&self) -> Option<&[u8]>
         ensures { MatchOption result ((signature : List ℕ) (keys : Option ClientKeys)
             → profile_state (profile_of self.now) ≢ ClientFinalSent signature keys)
@@ -174,9 +173,8 @@ impl SaslProfile {
         self.scram_client()?.server_signature()
     }
 
-    /// The keys of the answer for which a client of SCRAM waits for a signature. They are for a client that
-    /// is saved: until the server is verified anybody may have named their salt, so do not keep them for
-    /// another login.
+    /// Returns the keys of the answer for which a SCRAM client waits for a signature. Use them only to save the client:
+    /// until the server is verified anybody may have named their salt, so do not keep them for another login.
     pub fn answer_keys(&self) -> Option<&CachedKeys>
         ensures { MatchOption result (answer_keys (profile_state (profile_of self.now)) ≡ None)
             (λ keys. answer_keys (profile_state (profile_of self.now)) ≡ Some keys.now) }
@@ -184,9 +182,9 @@ impl SaslProfile {
         self.scram_client()?.answer_keys()
     }
 
-    /// Returns this profile in the state after the client-final message of SCRAM, in which it waits for this
-    /// signature. With the keys of that answer it returns them by `keys` once the server is verified. A
-    /// profile that is not of SCRAM is returned unchanged.
+    /// Returns this profile in the state after SCRAM's client-final message, in which it waits for this signature. With
+    /// the keys of that answer it returns them by `keys` once the server is verified. A profile of another mechanism is
+    /// returned unchanged.
     pub fn restore_client_final_sent(
         self,
         server_signature: Vec<u8>,
@@ -217,7 +215,7 @@ impl SaslProfile {
         }
     }
 
-    /// The name of the mechanism.
+    /// Returns the name of the mechanism.
     pub(crate) fn name(&self) -> &'static str
         ensures name { result.now ≡ profile_name (profile_of self.now) }
         ensures ascii { IsAscii result.now }
@@ -232,15 +230,15 @@ impl SaslProfile {
         }
     }
 
-    /// The name of the mechanism, as a symbol.
+    /// Returns the name of the mechanism, as a symbol.
     pub fn mechanism(&self, alloc: Global) -> Result<Symbol, OutOfMemory>
         ensures { IfOk result (λ symbol. symbol ≡ profile_name (profile_of self.now)) }
     {
         symbol_of(alloc, self.name())
     }
 
-    /// What the init says first: nothing for ANONYMOUS and EXTERNAL, the message of PLAIN, and for SCRAM the
-    /// client-first message of a fresh start, with a nonce of 32 bytes. A refusal leaves the profile as it was.
+    /// Returns the initial response: nothing for ANONYMOUS and EXTERNAL, the message of PLAIN, and for SCRAM the
+    /// client-first message of a restart, with a nonce of 32 bytes. An error leaves the profile unchanged.
     pub fn initial_response(
         &mut self,
         alloc: Global,
@@ -268,10 +266,10 @@ impl SaslProfile {
         }
     }
 
-    /// Answers a frame of the server: mechanisms with the profile's name by an init with this hostname, a challenge
-    /// by a response, an outcome by itself. NotImplemented for mechanisms without the name, for a challenge to a
-    /// profile other than SCRAM, and for an init or a response; else what SCRAM refuses. A refusal leaves the profile
-    /// as it was.
+    /// Answers a frame of the server: mechanisms with the profile's name by an init with this hostname, a challenge by
+    /// a response, an outcome by itself. Errors: NotImplemented for mechanisms without the name, for a challenge to a
+    /// profile other than SCRAM, and for an init or a response; otherwise those of SCRAM. An error leaves the profile
+    /// unchanged.
     pub fn on_frame(
         &mut self,
         alloc: Global,
@@ -286,8 +284,8 @@ impl SaslProfile {
         self.on_frame_metered(alloc, frame, hostname, nonce, &mut Meter::new())
     }
 
-    /// As `on_frame`. The meter, of at most 2^63, counts the HMAC values: of SCRAM's answer to a challenge two by
-    /// keys, by the password four and those of the iteration count, and none for a refusal; none for any other frame.
+    /// Like `on_frame`; the meter, of at most 2^63, counts the HMAC values. SCRAM's answer to a challenge makes two by
+    /// keys, by the password four more than the iterations, and none for an error; other frames make none.
     pub fn on_frame_metered(
         &mut self,
         alloc: Global,
@@ -323,7 +321,7 @@ impl SaslProfile {
         }
     }
 
-    /// Answers a frame that is read where it stands, as `on_frame` answers the frame that it shows.
+    /// Answers a frame that is read in place, like `on_frame` answers the frame that it shows.
     pub fn on_view(
         &mut self,
         alloc: Global,
@@ -338,7 +336,7 @@ impl SaslProfile {
         self.on_view_metered(alloc, view, hostname, nonce, &mut Meter::new())
     }
 
-    /// As `on_view`, with a meter as that of `on_frame_metered`.
+    /// Like `on_view`, with a meter like that of `on_frame_metered`.
     #[tactic(auto, using(crate::proofs::lemmas::steps::ProfileReplyLemmas::view_refuses))]
     pub fn on_view_metered(
         &mut self,
@@ -384,7 +382,7 @@ impl SaslProfile {
         }
     }
 
-    /// The init for a server that has the mechanism.
+    /// Returns the init for a server that has the mechanism.
     pub(crate) fn start(
         &mut self,
         alloc: Global,
@@ -409,8 +407,8 @@ impl SaslProfile {
         })
     }
 
-    /// Why a challenge is refused before a part of it is read: the profile is not of SCRAM, or the text
-    /// is not UTF-8, or it is not due.
+    /// Returns why a challenge is rejected before a part of it is read: the profile is not of SCRAM, or the text is not
+    /// UTF-8, or it is not expected.
     pub(crate) fn refusal_unread(&self, challenge: &[u8]) -> Option<ProfileError>
         ensures { MatchOption result (StepAllocates (profile_of self.now) (Challenge challenge.now))
             (λ fault. RefusesAlways (profile_of self.now) (Challenge challenge.now) fault) }
@@ -421,7 +419,8 @@ impl SaslProfile {
         }
     }
 
-    /// Why an outcome is refused before its data are copied: SCRAM reads them, and they are not due, or not UTF-8.
+    /// Returns why an outcome is rejected before its data are copied: SCRAM reads them, and they are not expected, or
+    /// not UTF-8.
     pub(crate) fn outcome_refusal_unread(
         &self,
         code: SaslCode,
@@ -437,7 +436,7 @@ impl SaslProfile {
         }
     }
 
-    /// The response to a challenge.
+    /// Returns the response to a challenge.
     pub(crate) fn respond(
         &mut self,
         alloc: Global,
@@ -460,7 +459,7 @@ impl SaslProfile {
         }
     }
 
-    /// Whether the outcome is reported.
+    /// Returns whether the outcome is reported.
     pub(crate) fn conclude(
         &mut self,
         alloc: Global,
@@ -531,7 +530,7 @@ impl From<SaslScramSha512> for SaslProfile {
 }
 
 impl fmt::Debug for SaslProfile {
-    /// The mechanism and the user name, without the password.
+    /// Writes the mechanism and the user name, without the password.
     fn fmt<W: fmt::Write>(&self, f: &mut fmt::Formatter<W>) -> fmt::Result {
         match self {
             SaslProfile::Anonymous => f.write_str("Anonymous"),
@@ -547,7 +546,7 @@ impl fmt::Debug for SaslProfile {
 }
 
 impl fmt::Debug for Negotiation {
-    /// The mechanism of an init and the code of an outcome, without what the mechanism says.
+    /// Writes the mechanism of an init and the code of an outcome, without the mechanism's messages.
     fn fmt<W: fmt::Write>(&self, f: &mut fmt::Formatter<W>) -> fmt::Result {
         match self {
             Negotiation::Init(init) => {
@@ -563,8 +562,8 @@ impl fmt::Debug for Negotiation {
     }
 }
 
-/// The message of PLAIN: no authorization identity, the user name and the password, the last two
-/// each behind a zero byte (RFC 4616, section 2).
+/// Returns the message of PLAIN: no authorization identity, a zero byte, the user name, a zero byte and the password
+/// (RFC 4616, section 2).
 fn plain_message(alloc: Global, username: &str, password: &str) -> Result<Binary, OutOfMemory>
     ensures { IfOk result (λ message. binary_bytes message ≡ 0 ∷ username.now ++ 0 ∷ password.now) }
 {
@@ -580,7 +579,7 @@ fn plain_message(alloc: Global, username: &str, password: &str) -> Result<Binary
     Ok(Binary(message))
 }
 
-/// Whether the name stands among the mechanisms.
+/// Returns whether the name is among the mechanisms.
 fn has_name(mechanisms: &SaslMechanisms, name: &str) -> bool
     ensures { IsTrue result ↔ Contains mechanisms.now.sasl_server_mechanisms.0.items name.now }
 {
@@ -592,7 +591,7 @@ fn has_name(mechanisms: &SaslMechanisms, name: &str) -> bool
     false
 }
 
-/// An outcome with a copy of its data.
+/// Returns an outcome with a copy of its data.
 pub(crate) fn outcome_of(
     alloc: Global,
     code: SaslCode,

@@ -1,4 +1,4 @@
-//! Steps over bodies of frames. Each works on a copy of the state, writes the answer, and keeps the new state last.
+//! Steps over bodies of frames. Each works on a copy of the state, writes the answer, and commits the new state last.
 
 ghost use Rattle.std.specs.Prelude.{◌≡◌, ◌↔◌, ◌≤◌, ◌^◌, true, ℕ, List, Option, Some, Ok, IfOk, IfErr, OnErr};
 ghost use Rattle.fe2o3_sasl_core.specs.Bodies.{SpellsBody, server_says};
@@ -22,7 +22,7 @@ use fe2o3_sasl_wire::{Error, Frame, FrameCodec, FrameView, SaslCode, SymbolsView
 use fe2o3_scram::hmac::Meter;
 use std::alloc::Global;
 
-/// The canonical body of a frame.
+/// Returns the canonical body of a frame.
 fn body_of(alloc: Global, frame: Frame) -> Result<Vec<u8>, Error>
     ensures ok { IfOk result (λ body. canonical (owned_frame frame) ≡ Some body.items) }
     ensures err { IfErr result (λ fault. RefusesFrame (owned_frame frame) fault) }
@@ -32,7 +32,7 @@ fn body_of(alloc: Global, frame: Frame) -> Result<Vec<u8>, Error>
     Ok(body.into_vec()?)
 }
 
-/// The reply that an acceptor's frame is.
+/// Writes an acceptor's frame as a reply.
 fn write_reply(alloc: Global, frame: SaslServerFrame) -> Result<ServerReply, Error>
     ensures { Writes server_reply (server_says (sent_frame frame)) (canonical (sent_frame frame)) result }
 {
@@ -47,7 +47,7 @@ fn write_reply(alloc: Global, frame: SaslServerFrame) -> Result<ServerReply, Err
     }
 }
 
-/// Whether the frame is an init or a response.
+/// Returns whether the frame is an init or a response.
 fn is_request(view: &FrameView<'_>) -> bool
     ensures { result ≡ true ↔ IsRequest (viewed_frame view.now) }
 {
@@ -59,9 +59,9 @@ fn is_request(view: &FrameView<'_>) -> bool
 
 /// Answers a body by an acceptor. Bytes after the frame are ignored.
 ///
-/// Errors: the fault of a body that is not read; `NotImplemented` for a frame that is no init and no response;
-/// `OutOfMemory`, only for an init or a response; and `TooLarge` where the reply has no body. An error leaves the
-/// acceptor as it was.
+/// Errors: that of a body that is not read; `NotImplemented` for a frame that is neither an init nor a response;
+/// `OutOfMemory`, only for an init or a response; and `TooLarge` if the reply has no body. An error leaves the acceptor
+/// unchanged.
 pub fn acceptor_step<A: SaslAcceptor>(
     alloc: Global,
     acceptor: &mut A,
@@ -79,9 +79,9 @@ pub fn acceptor_step<A: SaslAcceptor>(
     )
 }
 
-/// Like [`acceptor_step`], of a body and a nonce that are no event. The meter, of at most 2^63, counts the HMAC
-/// values, also of a refusal: no more than the acceptor says of the frame, and none for a body that is not read. SCRAM
-/// makes two for a response that it accepts, one where only the proof is refused, and none otherwise.
+/// Like [`acceptor_step`], with a body and a nonce instead of an event. The meter, of at most 2^63, counts the HMAC
+/// values, also of an error: no more than the acceptor's bound for the frame, and none for a body that is not read.
+/// SCRAM makes two for a response that it accepts, one if only the proof is rejected, and none otherwise.
 pub fn acceptor_body_step<A: SaslAcceptor>(
     alloc: Global,
     acceptor: &mut A,
@@ -101,7 +101,7 @@ pub fn acceptor_body_step<A: SaslAcceptor>(
     }
 }
 
-/// Like [`acceptor_body_step`], of a frame that `view_frame` has read from a body.
+/// Like [`acceptor_body_step`], with a frame that `view_frame` has read from a body.
 pub fn acceptor_frame_step<A: SaslAcceptor>(
     alloc: Global,
     acceptor: &mut A,
@@ -123,7 +123,7 @@ pub fn acceptor_frame_step<A: SaslAcceptor>(
     }
 }
 
-/// The answer to an init or a response, which is written before the acceptor has the next state.
+/// Answers an init or a response. The answer is written before the acceptor has the next state.
 fn answer<A: SaslAcceptor>(
     alloc: Global,
     acceptor: &mut A,
@@ -148,7 +148,7 @@ fn answer<A: SaslAcceptor>(
     }
 }
 
-/// What the acceptor replies.
+/// Returns the acceptor's reply.
 fn ask<A: SaslAcceptor>(
     alloc: Global,
     acceptor: &mut A,
@@ -170,12 +170,12 @@ fn ask<A: SaslAcceptor>(
     }
 }
 
-/// Answers a body by a profile, with the hostname that its init names. Bytes after the frame are ignored.
+/// Answers a body by a profile, with the hostname that its init carries. Bytes after the frame are ignored.
 ///
-/// Errors: `Frame` with the fault of a body that is not read; `NotImplemented` for a list of mechanisms without the
-/// profile's name, for a challenge to a profile other than SCRAM, and for an init or a response; `Scram` with what SCRAM
-/// refuses; `StaleKeys`; `OutOfMemory`; and `Frame` with `TooLarge` where the answer has no body. An error leaves the
-/// profile as it was. A body that is not read, and one that is not implemented, asks for no memory.
+/// Errors: `Frame` with the error of a body that is not read; `NotImplemented` for a list of mechanisms without the
+/// profile's name, for a challenge to a profile other than SCRAM, and for an init or a response; `Scram` with SCRAM's
+/// error; `StaleKeys`; `OutOfMemory`; and `Frame` with `TooLarge` if the answer has no body. An error leaves the
+/// profile unchanged. A body that is not read, or not implemented, allocates nothing.
 pub fn profile_step(
     alloc: Global,
     profile: &mut SaslProfile,
@@ -196,9 +196,9 @@ pub fn profile_step(
     )
 }
 
-/// Like [`profile_step`], of a body and a nonce that are no event. The meter, of at most 2^63, counts the HMAC values:
-/// of SCRAM's answer to a challenge two by keys, by the password four and those of the iteration count, no more where
-/// the answer is not sent, and none for a challenge that is refused; none for any other body.
+/// Like [`profile_step`], with a body and a nonce instead of an event. The meter, of at most 2^63, counts the HMAC
+/// values. SCRAM's answer to a challenge makes two by keys, by the password four more than the iterations, and at most
+/// that many if it is not sent. A rejected challenge, and any other body, make none.
 pub fn profile_body_step(
     alloc: Global,
     profile: &mut SaslProfile,
@@ -220,7 +220,7 @@ pub fn profile_body_step(
     profile_frame_step(alloc, profile, view, nonce, hostname, meter)
 }
 
-/// Like [`profile_body_step`], of a frame that `view_frame` has read from a body.
+/// Like [`profile_body_step`], with a frame that `view_frame` has read from a body.
 pub fn profile_frame_step(
     alloc: Global,
     profile: &mut SaslProfile,
@@ -256,7 +256,7 @@ pub fn profile_frame_step(
     }
 }
 
-/// The init of a profile whose name the server has, which is written before the profile is started.
+/// Returns the init of a profile whose name the server has. The init is written before the profile is started.
 fn start(
     alloc: Global,
     profile: &mut SaslProfile,
@@ -279,7 +279,7 @@ fn start(
     }
 }
 
-/// The response of a profile, which is written before the profile waits for the outcome.
+/// Returns the response of a profile. The response is written before the profile waits for the outcome.
 fn respond(
     alloc: Global,
     profile: &mut SaslProfile,
@@ -305,7 +305,7 @@ fn respond(
     }
 }
 
-/// The outcome, if the profile reports it. Its data is copied before the profile ends its exchange.
+/// Returns the outcome, if the profile reports it. Its data is copied before the profile ends its exchange.
 fn report(
     alloc: Global,
     profile: &mut SaslProfile,
@@ -327,7 +327,7 @@ fn report(
     }
 }
 
-/// The canonical body of a client's frame.
+/// Returns the canonical body of a client's frame.
 fn client_body_of(alloc: Global, frame: Frame) -> Result<Vec<u8>, ProfileError>
     ensures { WritesBody (λ body. body.items) (canonical (owned_frame frame)) result }
 {

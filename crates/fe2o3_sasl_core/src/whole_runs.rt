@@ -1,5 +1,5 @@
-//! Runs over lists of frame bodies: what an acceptor and a profile answer to each, in order (AMQP
-//! 1.0, part 5, section 5.3.2).
+//! Runs over lists of frame bodies: what an acceptor and a profile answer to each, in order (AMQP 1.0, part 5, section
+//! 5.3.2).
 
 ghost use Rattle.std.specs.Prelude.{◌≡◌, ◌<◌, ◌≤◌, ◌+◌, ◌++◌, ◌∷◌, [], map, IfOk, OnErr, vec_len, vec_capacity, false};
 ghost use Rattle.fe2o3_sasl_wire.specs.FrameView.{shown};
@@ -24,8 +24,8 @@ use fe2o3_scram::hmac::ScramVersion;
 use fe2o3_scram::scram_server::ScramAuthenticator;
 use std::alloc::Global;
 
-/// The reply or the fault of an acceptor's step for each event, in order. Where there is no memory
-/// for the list of replies, nothing was done.
+/// Runs an acceptor over the events. Returns the reply or the error of its step for each, in order. If the list of
+/// replies cannot be allocated, nothing is done.
 pub fn run_acceptor<A: SaslAcceptor>(
     alloc: Global,
     acceptor: &mut A,
@@ -43,10 +43,9 @@ pub fn run_acceptor<A: SaslAcceptor>(
     Ok(replies)
 }
 
-/// The reply or the fault of a profile's step for each event, in order. A SCRAM profile that has not
-/// been used reports Ok exactly on the signature of its open answered challenge, with a hostname and
-/// without (RFC 5802, section 5; AMQP 1.0, part 5, section 5.3.3.2). Where there is no memory for the
-/// list of replies, nothing was done.
+/// Runs a profile over the events. Returns the reply or the error of its step for each, in order. A new SCRAM profile
+/// reports Ok exactly on the signature of its open answered challenge, with a hostname and without (RFC 5802, section
+/// 5; AMQP 1.0, part 5, section 5.3.3.2). If the list of replies cannot be allocated, nothing is done.
 pub fn run_profile(
     alloc: Global,
     profile: &mut SaslProfile,
@@ -77,9 +76,8 @@ pub fn run_profile(
     Ok(replies)
 }
 
-/// What a SCRAM server answers to a list of bodies, from a fresh start: it answers Ok exactly where
-/// a response fits its open challenge and its proof meets the stored key. Where there is no memory
-/// for the start or for the list of replies, nothing was done.
+/// Runs a new SCRAM server over a list of bodies. It answers Ok exactly if a response fits its open challenge and its
+/// proof meets the stored key. If the server or the list of replies cannot be allocated, nothing is done.
 pub fn scram_server_run<C: ScramCredentialProvider>(
     alloc: Global,
     credentials: &C,
@@ -95,8 +93,8 @@ pub fn scram_server_run<C: ScramCredentialProvider>(
     scram_server_run_with_cbind_flag_y(alloc, false, credentials, events)
 }
 
-/// As `scram_server_run`, of a server that takes a client whose GS2 header is `y,,` too where
-/// `accept_cbind_flag_y` says so (`ScramAuthenticator::accept_cbind_flag_y`).
+/// Like `scram_server_run`, but with `accept_cbind_flag_y` the server accepts a client with the GS2 header `y,,` too
+/// (`ScramAuthenticator::accept_cbind_flag_y`).
 pub fn scram_server_run_with_cbind_flag_y<C: ScramCredentialProvider>(
     alloc: Global,
     accept_cbind_flag_y: bool,
@@ -117,10 +115,9 @@ pub fn scram_server_run_with_cbind_flag_y<C: ScramCredentialProvider>(
     run_acceptor(alloc, &mut authenticator, events)
 }
 
-/// What a SCRAM client answers to a list of bodies, from a fresh start and without a hostname: it
-/// reports Ok exactly on the signature of its open answered challenge. It accepts every iteration
-/// count from 1 on. Where there is no memory for the start or for the list of replies, nothing was
-/// done.
+/// Runs a new SCRAM client without a hostname over a list of bodies. It reports Ok exactly on the signature of its open
+/// answered challenge. It accepts every iteration count from 1 on. If the client or the list of replies cannot be
+/// allocated, nothing is done.
 pub fn scram_client_run(
     alloc: Global,
     user: &str,
@@ -140,7 +137,7 @@ pub fn scram_client_run(
     scram_client_run_limited(alloc, user, password, version, u32::MAX, events)
 }
 
-/// As `scram_client_run`, for a client that refuses an iteration count above the limit.
+/// Like `scram_client_run`, but the client rejects an iteration count above the limit.
 pub fn scram_client_run_limited(
     alloc: Global,
     user: &str,
@@ -164,7 +161,7 @@ pub fn scram_client_run_limited(
     run_profile(alloc, &mut profile, events, None)
 }
 
-/// Adds an item for which there is room.
+/// Adds an item, for which there is room.
 fn push_within<T: Drop>(items: &mut Vec<T>, item: T)
     requires { vec_len items.old < vec_capacity items.old }
     ensures items { items.new.items ≡ items.old.items ++ item ∷ [] }

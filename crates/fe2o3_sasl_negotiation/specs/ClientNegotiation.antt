@@ -20,14 +20,14 @@ use Rattle.fe2o3_sasl_negotiation.specs.Framing.{sasl_header}
 use Rattle.fe2o3_sasl_negotiation.specs.Negotiations.{Side, SideOutput, closes, Sends, IsInTurn, AnswersTo, Receiving, Receives, Completes}
 use Rattle.fe2o3_sasl_core.specs.declared.sasl_profile.error.ProfileError.TheVariants.{OutOfMemory}
 
--- what it answers to a header: the one of SASL it waits for, another closes
+-- what a client answers to a header: it waits after the one of SASL, and closes after another
 abbrev pub ClientOpens : List ℕ → SideOutput → Type 0
 ClientOpens header answer =
     ((header ≢ sasl_header) × (answer ≡ closes ProtocolHeaderMismatch Header))
     ⊎ ((header ≡ sasl_header) × (answer ≡ record { sent = []; progress = InProgress; expected = Frame turns.Mechanisms }))
 
--- what it sends of what its profile says: an init to a list of mechanisms, a response to a challenge, and nothing
--- after an outcome or a refusal, which end the negotiation
+-- what a client sends for its profile's reply: an init to a list of mechanisms, a response to a challenge, and nothing
+-- after an outcome or an error, which end the negotiation
 abbrev pub ClientOutputs : ClientSays → FrameKind → SideOutput → Type 0
 ClientOutputs (Started body) turns.Mechanisms answer = Sends body InProgress (Frame turns.Challenge) answer
 ClientOutputs (Started body) turn answer = answer ≡ closes UnexpectedFrame (Frame turn)
@@ -38,12 +38,12 @@ ClientOutputs (Reported code more) turn answer = answer ≡ closes (Refused code
 ClientOutputs (ClientRefused OutOfMemory) turn answer = ⊥
 ClientOutputs (ClientRefused fault) turn answer = answer ≡ closes (ProfileRefused fault) (Frame turn)
 
--- it asks its profile, by a step over the body
+-- a client asks its profile, by a step over the body
 abbrev pub AsksProfile : Option (List ℕ) → FrameKind → Profile → Given → SideOutput → Profile → Type 0
 AsksProfile hostname turn profile event answer next =
     (says : ClientSays) × ProfileSteps hostname profile event says next × ClientOutputs says turn answer
 
--- what it answers to the body of a frame
+-- what a client answers to the body of a frame
 abbrev pub ClientReplies : Option (List ℕ) → FrameKind → Profile → Given → SideOutput → Profile → Type 0
 ClientReplies hostname turn profile event answer next = (spelled : Result SaslFrame Error) × SpellsBody event.body spelled
     × AnswersTo (AsksProfile hostname turn profile event) turn profile spelled answer next
@@ -54,17 +54,17 @@ ClientSideAnswers hostname Header profile nonce unit answer next = ClientOpens u
 ClientSideAnswers hostname (Frame turn) profile nonce unit answer next =
     ClientReplies hostname turn profile (record { body = drop 4 unit; nonce = nonce }) answer next
 
--- what a call makes of the bytes that it is passed
+-- what a client's call does with the bytes that it is passed
 abbrev pub ClientReceives : Option (List ℕ) → Receiving Profile
 ClientReceives hostname = Receives (ClientSideAnswers hostname)
 
--- the HMAC values of an answer to a body: none, or those of the profile's step over a body in turn
+-- the HMAC values of a client's answer to a body: none, or those of the profile's step over a body in turn
 abbrev pub ClientReplyCosts : FrameKind → Profile → Given → ℕ → ℕ → Type 0
 ClientReplyCosts turn profile event before after = (after ≡ before)
     ⊎ ((frame : SaslFrame) × (reply : Result ClientReply ProfileError) × SpellsBody event.body (Ok frame)
     × IsInTurn turn frame × ProfileStepCosts profile event reply before after)
 
--- and of a call: none, or those of the answer to a body that it completes
+-- the HMAC values of a client's call: none, or those of the answer to a body that it completes
 abbrev pub ClientCosts : Side Profile → List ℕ → List ℕ → ℕ → ℕ → Type 0
 ClientCosts side bytes nonce before after = (after ≡ before)
     ⊎ ((turn : FrameKind) × (body : List ℕ) × Completes side bytes turn body

@@ -1,4 +1,4 @@
--- What a side of a connection makes of the bytes that arrive, in whatever pieces (AMQP 1.0, part 5, section 5.3.2). Each
+-- What a side of a connection does with the bytes that arrive, in any pieces (AMQP 1.0, part 5, section 5.3.2). Each
 -- law is the contract of a clause of `laws::server_connections` or of `laws::client_connections`.
 use Rattle.std.specs.Prelude.{◌≡◌, ◌≢◌, ◌⊎◌, ◌↔◌, ℕ, ◌+◌, ◌<◌, ◌≤◌, Option, Some, List, [], ◌∷◌, ◌++◌, length, replicate, flat_map, slice_get, Result, Ok, Err}
 use Rattle.fe2o3_sasl_wire.specs.declared.amqp_types.SaslCode.TheVariants as outcomes
@@ -54,13 +54,13 @@ AreFrames pieces limit at (turn ∷ turns) (event ∷ events) = let size = lengt
     Fits limit size × SpellsTurn turn event.body × PieceNonceAt pieces (at + (length event.body + 3)) event.nonce
     × AreFrames pieces limit (at + size) turns events
 
--- why a body is not answered where a frame of this turn is expected: it is not read, or it is a frame out of turn
+-- why a body is not answered where a frame of this turn is expected: it is malformed, or its frame is out of turn
 abbrev pub Unanswered : FrameKind → Result SaslFrame Error → CloseReason → Type 0
 Unanswered turn (Err fault) why = why ≡ MalformedFrame fault
 Unanswered turn (Ok frame) why = ¬ IsInTurn turn frame × (why ≡ UnexpectedFrame)
 
--- bytes after the last answered frame, where one of this turn is expected: the side waits while they are a part of a frame,
--- and closes at a size that no frame may have, and at a whole frame that is not answered
+-- bytes after the last answered frame, where one of this turn is expected: the side waits while they are a part of a
+-- frame, and closes at a size that is not allowed, and at a whole frame that is not answered
 abbrev pub LeftOver : FrameKind → ℕ → List ℕ → Progress → Type 0
 LeftOver turn limit tail progress =
     (IsPart (Frame turn) limit tail × (progress ≡ InProgress))
@@ -95,21 +95,22 @@ pub record Negotiated {S A : Type 0} (Steps : S → Given → A → S → Type 0
     pub run : Runs Steps state events replies last.state
     pub replied : Replied Says turns replies answer
     pub sends : sent ≡ answer.sent
-    -- the last reply leaves it waiting for a frame, or has ended it, and then nothing after that frame is taken
+    -- the last reply leaves the side waiting for a frame, or has ended it, and then nothing after that frame is taken
     pub ends : ((turn : FrameKind) × (answer.progress ≡ InProgress) × (answer.expected ≡ Frame turn)
         × LeftOver turn limit tail last.progress)
         ⊎ ((answer.progress ≢ InProgress) × (last.progress ≡ answer.progress) × (tail ≡ []))
-    -- while it waits it holds the part of a frame that has come
+    -- while the side waits it holds the part of a frame that has arrived
     pub waits : last.progress ≡ InProgress → last
         ≡ record { progress = InProgress; expected = answer.expected; limit = limit; held = tail; state = last.state }
 
--- one of a server: an init is expected, and after one challenge a response
+-- a server after the client's header: an init is expected, and after one challenge a response
 abbrev pub ServerNegotiated : {S : Type 0} → (S → List ℕ → SaslFrame → SaslFrame → S → Type 0) → ℕ → S → List Piece
     → List ℕ → List ℕ → Side S → Type 0
 ServerNegotiated machine limit state pieces taken sent last =
     Negotiated (AcceptorSteps machine) of_server.ServerOutputs (turns.Init ∷ turns.Response ∷ []) limit state pieces taken sent last
 
--- and of a client: a list of mechanisms is expected, then a challenge or at once an outcome, and after a challenge an outcome
+-- a client after the server's header: a list of mechanisms is expected, then a challenge or at once an outcome, and
+-- after a challenge an outcome
 abbrev pub ClientNegotiated : {S : Type 0} → (S → Given → ClientSays → S → Type 0) → ℕ → S → List Piece → List ℕ
     → List ℕ → Side S → Type 0
 ClientNegotiated Steps limit state pieces taken sent last =
@@ -122,20 +123,20 @@ ClientNegotiated Steps limit state pieces taken sent last =
 abbrev pub fresh : {S : Type 0} → ℕ → S → Side S
 fresh limit state = record { progress = InProgress; expected = Header; limit = limit; held = []; state = state }
 
--- less than a header has come, and is held (part 2, section 2.2)
+-- less than a header has arrived, and is held (part 2, section 2.2)
 abbrev pub IsHeaderPart : {S : Type 0} → ℕ → S → List ℕ → List ℕ → Side S → Type 0
 IsHeaderPart limit state taken sent last = (length taken < 8) × (sent ≡ []) × (last ≡ record (fresh limit state) { held = taken })
 
--- it has closed at a header of another protocol or version
+-- the side has closed at a header of another protocol or version
 abbrev pub IsOtherHeader : {S : Type 0} → S → List ℕ → Side S → Type 0
 IsOtherHeader state taken last = (length taken ≡ 8) × (taken ≢ sasl_header) × (last.progress ≡ Failed ProtocolHeaderMismatch)
     × (last.state ≡ state)
 
--- the list of mechanisms is in no frame of 512 bytes
+-- the list of mechanisms does not fit in a frame of 512 bytes
 abbrev pub OffersNone : List (List ℕ) → Type 0
 OffersNone names = (body : List ℕ) → offer_body names ≡ Some body → 512 < length body + 4
 
--- a server's side, from a fresh one of this limit whose acceptor has these names and this machine and is in this state:
+-- a server's side, from a new one of this limit whose acceptor has these names and this machine and is in this state:
 -- it has taken these bytes, which arrived in these pieces, and sent these. It answers the header of SASL by its own and
 -- its mechanisms, and another by its own
 abbrev pub ServerConnection : {S : Type 0} → (S → List (List ℕ)) → (S → List ℕ → SaslFrame → SaslFrame → S → Type 0)
@@ -148,8 +149,8 @@ ServerConnection names machine limit state pieces taken sent last =
     ⊎ ((offer : List ℕ) × (out : List ℕ) × (offer_body (names state) ≡ Some offer) × (length offer + 4 ≤ 512)
     × (sent ≡ sasl_header ++ (framed offer ++ out)) × ServerNegotiated machine limit state pieces taken out last)
 
--- and a client's side, from a fresh one whose profile takes these steps and is in this state: what it sends comes after
--- its own header, and nothing is sent for the server's
+-- a client's side, from a new one whose profile takes these steps and is in this state: what it sends follows its own
+-- header, and nothing is sent for the server's
 abbrev pub ClientConnection : {S : Type 0} → (S → Given → ClientSays → S → Type 0) → ℕ → S → List Piece → List ℕ
     → List ℕ → Side S → Type 0
 ClientConnection Steps limit state pieces taken sent last =
@@ -166,8 +167,8 @@ ArePieces (call ∷ calls) (piece ∷ pieces) =
     (length piece.bytes ≤ call.handed) × (piece.nonce ≡ call.nonce) × ArePieces calls pieces
 ArePieces calls pieces = ⊥
 
--- every server, of whatever acceptor, limit, calls and bytes. What one call does is what the
--- contract of `ServerNegotiation::receive` says
+-- every server, of any acceptor, limit, calls and bytes. The contract of `ServerNegotiation::receive` says what one
+-- call does
 abbrev pub ServersConnect : {S : Type 0} → (S → List (List ℕ)) → (S → List ℕ → SaslFrame → SaslFrame → S → Type 0)
     → Receiving S → Type 0
 ServersConnect {S} names machine OneCall = (limit : ℕ) (state : S) (calls : List Call) (stream sent rest : List ℕ)
@@ -176,8 +177,8 @@ ServersConnect {S} names machine OneCall = (limit : ℕ) (state : S) (calls : Li
     → (pieces : List Piece) × ArePieces calls pieces × (stream ≡ bytes_of pieces ++ rest)
     × ServerConnection names machine limit state pieces (bytes_of pieces) sent last
 
--- and every client, of whatever profile, hostname, limit, calls and bytes. What one call does is
--- what the contract of `ClientNegotiation::receive` says
+-- every client, of any profile, hostname, limit, calls and bytes. The contract of `ClientNegotiation::receive` says
+-- what one call does
 abbrev pub ClientsConnect : {S : Type 0} → (Option (List ℕ) → S → Given → ClientSays → S → Type 0)
     → (Option (List ℕ) → Receiving S) → Type 0
 ClientsConnect {S} Steps OneCall = (hostname : Option (List ℕ)) (limit : ℕ) (state : S) (calls : List Call)
@@ -186,27 +187,27 @@ ClientsConnect {S} Steps OneCall = (hostname : Option (List ℕ)) (limit : ℕ) 
     → (pieces : List Piece) × ArePieces calls pieces × (stream ≡ bytes_of pieces ++ rest)
     × ClientConnection (Steps hostname) limit state pieces (bytes_of pieces) sent last
 
--- the last of the replies is such
+-- this holds of the last of the replies
 abbrev pub LastReply : {A : Type 0} → (A → Type 0) → List A → Type 0
 LastReply Is [] = ⊥
 LastReply Is (says ∷ []) = Is says
 LastReply Is (says ∷ next ∷ replies) = LastReply Is (next ∷ replies)
 
--- what a server says is an outcome Ok, in a frame of at most 512 bytes (part 5, section 5.3.1)
+-- a server's reply is an outcome Ok, in a frame of at most 512 bytes (part 5, section 5.3.1)
 abbrev pub IsOkSent : ServerSays → Type 0
 IsOkSent says = (body : List ℕ) × (says ≡ Concluded outcomes.Ok body) × (length body + 4 ≤ 512)
 
--- what a client says is an outcome Ok that it reports
+-- a client's reply is an outcome Ok that it reports
 abbrev pub IsOkReported : ClientSays → Type 0
 IsOkReported says = (more : Option (List ℕ)) × (says ≡ Reported outcomes.Ok more)
 
--- a server has logged its client in exactly where its last reply is an Ok that it sent
+-- a server has logged its client in exactly if its last reply is an Ok that it sent
 abbrev pub ServerConnectionsLogIn : {S : Type 0} → (S → List ℕ → SaslFrame → SaslFrame → S → Type 0) → Type 0
 ServerConnectionsLogIn {S} machine = (limit : ℕ) (state : S) (pieces : List Piece) (taken sent : List ℕ) (last : Side S)
     (negotiated : ServerNegotiated machine limit state pieces taken sent last)
     → (last.progress ≡ Authenticated) ↔ LastReply IsOkSent negotiated.replies
 
--- and a client has logged in exactly where its last reply reports an Ok
+-- a client has logged in exactly if its last reply reports an Ok
 abbrev pub ClientConnectionsLogIn : {S : Type 0} → (Option (List ℕ) → S → Given → ClientSays → S → Type 0) → Type 0
 ClientConnectionsLogIn {S} Steps = (hostname : Option (List ℕ)) (limit : ℕ) (state : S) (pieces : List Piece)
     (taken sent : List ℕ) (last : Side S)

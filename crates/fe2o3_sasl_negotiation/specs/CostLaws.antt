@@ -1,5 +1,5 @@
--- What a connection costs, sends and holds, whatever its bytes are and however they are passed. Each is the contract
--- of a clause of `laws::costs` or of `laws::bounds`.
+-- What a connection costs, sends and holds, for any bytes and any calls. Each is the contract of a clause of
+-- `laws::costs` or of `laws::bounds`.
 use Rattle.std.specs.Prelude.{◌≡◌, ◌⊎◌, ◌<◌, ◌≤◌, ◌+◌, ◌*◌, ℕ, Option, List, [], ◌∷◌, length, take, drop}
 use Rattle.fe2o3_scram.specs.Credentials.{Provider}
 use Rattle.fe2o3_scram.specs.ScramClient.{ClientSide}
@@ -14,7 +14,7 @@ use Rattle.fe2o3_sasl_negotiation.specs.Laws.{Call, Calls}
 use Rattle.fe2o3_sasl_negotiation.specs.Negotiations.{Side, SideOutput, Receives}
 use Rattle.fe2o3_sasl_negotiation.specs.ServerNegotiation.{ServerSideAnswers, ServerReceives, ServerCosts}
 
--- calls over a stream, each handed any number of the bytes that the calls before it left, with what one meter shows
+-- calls over a stream, each passed any number of the bytes that the calls before it left, with what one meter shows
 -- before and after them
 abbrev pub MeteredCalls : {S : Type 0} → (Expected → S → List ℕ → List ℕ → SideOutput → S → Type 0)
     → (Side S → List ℕ → List ℕ → ℕ → ℕ → Type 0) → Side S → List Call → List ℕ → ℕ → ℕ → Type 0
@@ -32,14 +32,15 @@ ServersCost = (provider : Provider) (state : ServerState) (limit : ℕ) (calls :
     (fresh limit (ScramAcceptor provider state)) calls stream before after
     → (before ≤ after) × (after ≤ before + (provider.look_up_cost + 2))
 
--- and one of a SCRAM client as many as its limit of iterations and four more
+-- a connection of a SCRAM client takes at most as many HMAC values as its limit of iterations and four more (RFC 5802,
+-- section 3)
 abbrev pub ClientsCost : Type 0
 ClientsCost = (hostname : Option (List ℕ)) (client : ClientSide) (limit : ℕ) (calls : List Call) (stream : List ℕ)
     (before after : ℕ) → MeteredCalls (ClientSideAnswers hostname) ClientCosts (fresh limit (ScramProfile client)) calls
     stream before after
     → (before ≤ after) × (after ≤ before + (client.limits.max_iterations + 4))
 
--- a side has sent no more bytes than these, and holds less than a header, or less than its limit lets a frame have
+-- a side has sent no more bytes than these, and holds less than a header, or less than its limit of a frame
 abbrev pub Bounded : {S : Type 0} → ℕ → ℕ → List ℕ → Side S → Type 0
 Bounded most limit sent last = (length sent ≤ most) × ((length last.held < 8) ⊎ (length last.held < limit))
 
@@ -51,7 +52,7 @@ ServersAreBounded = (acceptor : Acceptor) (limit : ℕ) (calls : List Call) (str
     → Calls (ServerReceives acceptor_names acceptor_machine) (fresh limit acceptor) calls stream sent last rest
     → Bounded (8 + 3 * 512) limit sent last
 
--- and a client, after its header, one init and one response
+-- a client sends, after its header, at most one init and one response
 abbrev pub ClientsAreBounded : Type 0
 ClientsAreBounded = (hostname : Option (List ℕ)) (profile : Profile) (limit : ℕ) (calls : List Call)
     (stream sent rest : List ℕ) (last : Side Profile)

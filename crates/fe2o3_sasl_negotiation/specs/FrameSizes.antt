@@ -13,7 +13,7 @@ use Rattle.fe2o3_scram.specs.Hmac.{mechanism_name}
 abbrev pub CanBeSent : SaslFrame → Type 0
 CanBeSent frame = (body : List ℕ) × (canonical frame ≡ Some body) × (length body + 4 ≤ 512)
 
--- the length of a text that may be left out
+-- the length of an optional text
 abbrev pub length_of : Option (List ℕ) → ℕ
 length_of None = 0
 length_of (Some text) = length text
@@ -35,6 +35,6 @@ ScramInitsFit = (version : ScramVersion) (user nonce : List ℕ) (hostname : Opt
 abbrev pub TextsFit : Type 0
 TextsFit = (text : List ℕ) → length text ≤ 487 → CanBeSent (frames.Challenge text) × CanBeSent (frames.Response text)
 
--- and an outcome with at most 485 bytes of data
+-- an outcome with at most 485 bytes of data
 abbrev pub OutcomesFit : Type 0
 OutcomesFit = (code : SaslCode) (more : Option (List ℕ)) → length_of more ≤ 485 → CanBeSent (frames.Outcome code more)

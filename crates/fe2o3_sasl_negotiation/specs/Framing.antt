@@ -15,16 +15,16 @@ sasl_header = header_bytes (first_version Sasl)
 abbrev pub framed : List ℕ → List ℕ
 framed body = to_be_bytes w32 (length body + 4) ++ body
 
--- the size that the first four bytes say
+-- the size in the first four bytes
 unfoldable pub size_of : List ℕ → ℕ
 size_of bytes = from_be_bytes w32 (take 4 bytes)
 
--- a frame may have this size: it holds a frame's own header of eight bytes, and the limit is kept (part 5, section
+-- a frame may have this size: it holds a frame's own header of eight bytes, and is within the limit (part 5, section
 -- 5.3.1: no SASL frame has more than 512 bytes)
 abbrev pub Fits : ℕ → ℕ → Type 0
 Fits limit size = (8 ≤ size) × (size ≤ limit)
 
--- how many bytes the unit has that is expected: a header eight (part 2, section 2.2), a frame as many as it says
+-- the length of the expected unit: eight bytes for a header (part 2, section 2.2), its own size for a frame
 abbrev pub unit_size : Expected → List ℕ → ℕ
 unit_size Header come = 8
 unit_size (Frame turn) come = size_of come
@@ -33,17 +33,17 @@ unit_size (Frame turn) come = size_of come
 abbrev pub longest_unit : ℕ → ℕ
 longest_unit limit = max limit 8
 
--- less of it has come than the whole, and nothing that is refused
+-- less than the whole unit has arrived, and no size that is not allowed
 abbrev pub IsPart : Expected → ℕ → List ℕ → Type 0
 IsPart Header limit come = length come < 8
 IsPart (Frame turn) limit come = 4 ≤ length come → Fits limit (size_of come) × (length come < size_of come)
 
--- a size has come that no frame may have
+-- the arrived size is not allowed
 abbrev pub IsRefused : Expected → ℕ → List ℕ → Type 0
 IsRefused Header limit come = ⊥
 IsRefused (Frame turn) limit come = (4 ≤ length come) × ¬ Fits limit (size_of come)
 
--- all of it has come
+-- the whole unit has arrived
 abbrev pub IsWhole : Expected → ℕ → List ℕ → Type 0
 IsWhole Header limit come = 8 ≤ length come
 IsWhole (Frame turn) limit come = Fits limit (size_of come) × (size_of come ≤ length come)

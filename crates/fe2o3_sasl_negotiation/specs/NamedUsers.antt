@@ -1,5 +1,5 @@
--- Who a server of several mechanisms has logged in, over the bytes of a connection (AMQP 1.0, part 5, section 5.3.3.2).
--- Each law is the contract of a clause of `laws::users_of_any_mechanism`.
+-- The user that a server of several mechanisms has logged in, over the bytes of a connection (AMQP 1.0, part 5, section
+-- 5.3.3.2). Each law is the contract of a clause of `laws::users_of_any_mechanism`.
 use Rattle.std.specs.Prelude.{◌≡◌, ℕ, Option, Some, List, [], ◌∷◌, ◌++◌, Ok}
 use Rattle.fe2o3_sasl_wire.specs.declared.amqp_types.SaslCode.TheVariants as outcomes
 use Rattle.fe2o3_sasl_wire.specs.SaslFrames as frames
@@ -51,7 +51,8 @@ AnyMechanismServersLogIn {S} {T} names others machine other = (limit : ℕ) (sta
     (negotiated : ServerNegotiated (any_mechanism_machine names others machine other) limit state pieces taken sent last)
     → last.progress ≡ Authenticated → AnyMechanismLogsIn names others machine other negotiated.events state last.state
 
--- and a step of one that answers Ok is a step of one of its parts that answers Ok, which may be such a server itself
+-- a step of a server of two acceptors that answers Ok is a step of one of them that answers Ok, which may be such a
+-- server itself
 abbrev pub AnyMechanismStepsLogIn : {S T : Type 0} → (S → List (List ℕ)) → (T → List (List ℕ))
     → (S → List ℕ → SaslFrame → SaslFrame → S → Type 0) → (T → List ℕ → SaslFrame → SaslFrame → T → Type 0) → Type 0
 AnyMechanismStepsLogIn {S} {T} names others machine other = (before after : BothStates S T) (event : Given) (body : List ℕ)

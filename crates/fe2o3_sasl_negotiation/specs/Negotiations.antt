@@ -1,4 +1,4 @@
--- What one call makes of a side of a connection, whatever its machine is.
+-- What one call does to a side of a connection, for any machine.
 use Rattle.std.specs.Prelude.{◌≡◌, ◌⊎◌, ℕ, ◌+◌, ◌-◌, ◌<◌, ◌≤◌, List, [], ◌++◌, length, take, drop, Result, Ok, Err}
 use Rattle.fe2o3_sasl_wire.specs.declared.sasl_frames.error.Error.{Error}
 use Rattle.fe2o3_sasl_wire.specs.SaslFrames.{SaslFrame}
@@ -13,8 +13,8 @@ use Rattle.fe2o3_sasl_negotiation.specs.declared.progress.Progress.{Progress}
 use Rattle.fe2o3_sasl_negotiation.specs.declared.progress.Progress.TheVariants.{InProgress, Authenticated, Failed}
 use Rattle.fe2o3_sasl_negotiation.specs.Framing.{framed, size_of, unit_size, IsPart, IsRefused, IsWhole}
 
--- a side of a connection: its progress, which unit is expected, the most bytes of a frame, what has come of that unit, and
--- the state of its machine
+-- a side of a connection: its progress, the expected unit, the maximum size of a frame, what has arrived of that unit,
+-- and the state of its machine
 pub record Side (S : Type 0) : Type 0 where
   pub progress : Progress
   pub expected : Expected
@@ -22,28 +22,28 @@ pub record Side (S : Type 0) : Type 0 where
   pub held : List ℕ
   pub state : S
 
--- what one call does: from a side, the bytes that the call is passed and its nonce to how many of the bytes it takes, what
--- it sends, and the side after it
+-- what one call does: from a side, the bytes that the call is passed and its nonce to how many of the bytes it takes,
+-- what it sends, and the side after it
 abbrev pub Receiving : Type 0 → Type 1
 Receiving S = Side S → List ℕ → List ℕ → ℕ → List ℕ → Side S → Type 0
 
--- what it answers to a unit: the bytes that it sends, its progress then, and what is expected then
+-- what a side answers to a unit: the bytes that it sends, its progress then, and what is expected then
 pub record SideOutput : Type 0 where
   pub sent : List ℕ
   pub progress : Progress
   pub expected : Expected
 
--- it sends nothing and closes
+-- the side sends nothing and closes
 abbrev pub closes : CloseReason → Expected → SideOutput
 closes why expected = record { sent = []; progress = Failed why; expected = expected }
 
--- it sends a body as a frame of at most 512 bytes (part 5, section 5.3.1), or closes where that has more
+-- the side sends a body as a frame of at most 512 bytes (part 5, section 5.3.1), or closes if the frame would be longer
 abbrev pub Sends : List ℕ → Progress → Expected → SideOutput → Type 0
 Sends body progress expected answer =
     ((length body + 4 ≤ 512) × (answer ≡ record { sent = framed body; progress = progress; expected = expected }))
     ⊎ ((512 < length body + 4) × (answer ≡ closes ReplyTooLarge expected))
 
--- the frame is the one that is expected: to an init a server may answer by a challenge, or at once by an outcome
+-- the frame is the expected one: to an init a server may answer by a challenge, or at once by an outcome
 abbrev pub IsInTurn : FrameKind → SaslFrame → Type 0
 IsInTurn turns.Mechanisms (frames.Mechanisms names) = Unit {0}
 IsInTurn turns.Init (frames.Init mechanism response hostname) = Unit {0}
@@ -53,20 +53,20 @@ IsInTurn turns.Response (frames.Response text) = Unit {0}
 IsInTurn turns.Outcome (frames.Outcome code more) = Unit {0}
 IsInTurn turn frame = ⊥
 
--- what it answers to a body that spells this: what spells no frame and what is out of turn closes, before the machine
--- is asked
+-- what a side answers to a body that spells this: no frame, and a frame out of turn, close it before the machine is
+-- asked
 abbrev pub AnswersTo : {S : Type 0} → (SideOutput → S → Type 0) → FrameKind → S → Result SaslFrame Error → SideOutput → S → Type 0
 AnswersTo Asks turn state (Err fault) answer next = (answer ≡ closes (MalformedFrame fault) (Frame turn)) × (next ≡ state)
 AnswersTo Asks turn state (Ok frame) answer next =
     (¬ IsInTurn turn frame × (answer ≡ closes UnexpectedFrame (Frame turn)) × (next ≡ state))
     ⊎ (IsInTurn turn frame × Asks answer next)
 
--- a call keeps every byte and wants more
+-- a call keeps every byte and needs more
 abbrev pub Waits : {S : Type 0} → Side S → List ℕ → ℕ → List ℕ → Side S → Type 0
 Waits side bytes taken sent next =
     (taken ≡ length bytes) × (sent ≡ []) × (next ≡ record side { held = side.held ++ bytes })
 
--- a call takes what is missing of a unit of n bytes, and leaves the bytes after it
+-- a call takes the missing bytes of a unit of n bytes, and leaves the bytes after it
 abbrev pub Ends : {S : Type 0} → Side S → ℕ → SideOutput → S → ℕ → List ℕ → Side S → Type 0
 Ends side n answer state taken sent next =
     (taken ≡ n - length side.held) × (sent ≡ answer.sent)
@@ -76,8 +76,8 @@ Ends side n answer state taken sent next =
 abbrev pub Rests : {S : Type 0} → Side S → ℕ → List ℕ → Side S → Type 0
 Rests side taken sent next = (taken ≡ 0) × (sent ≡ []) × (next ≡ side)
 
--- what a call makes of the bytes that it is passed, by the side's progress: they count as one with those that have
--- come of the unit
+-- what a call does with the bytes that it is passed, by the side's progress: they follow those that have arrived of the
+-- unit
 abbrev pub ReceivesAt : {S : Type 0} → Progress → (Expected → S → List ℕ → List ℕ → SideOutput → S → Type 0) → Side S → List ℕ
     → List ℕ → ℕ → List ℕ → Side S → Type 0
 ReceivesAt {S} InProgress Answers side bytes nonce taken sent next = let come = side.held ++ bytes in
@@ -89,7 +89,7 @@ ReceivesAt {S} InProgress Answers side bytes nonce taken sent next = let come = 
 ReceivesAt Authenticated Answers side bytes nonce taken sent next = Rests side taken sent next
 ReceivesAt (Failed why) Answers side bytes nonce taken sent next = Rests side taken sent next
 
--- what a call makes of them
+-- what a call does with the bytes that it is passed
 abbrev pub Receives : {S : Type 0} → (Expected → S → List ℕ → List ℕ → SideOutput → S → Type 0) → Side S → List ℕ → List ℕ → ℕ
     → List ℕ → Side S → Type 0
 Receives Answers side bytes nonce taken sent next = ReceivesAt side.progress Answers side bytes nonce taken sent next

@@ -1,4 +1,4 @@
--- The pieces that the code's values are, and what is taken of them.
+-- The pieces that the code's values are, and the bytes that are taken of them.
 use Rattle.std.specs.Prelude.{ℕ, List, ◌++◌, take, drop}
 use Rattle.fe2o3_sasl_negotiation.specs.declared.pieces.Piece as declared
 use Rattle.fe2o3_sasl_negotiation.specs.Connections.{Piece, bytes_of}

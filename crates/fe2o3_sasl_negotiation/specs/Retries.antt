@@ -1,4 +1,4 @@
--- What a connection costs whose calls run out of memory and are made again. Each is the contract of a clause of
+-- What a connection costs whose calls run out of memory and are repeated. Each is the contract of a clause of
 -- `retries::retries`.
 use Rattle.std.specs.Prelude.{◌≡◌, ◌⊎◌, ◌≤◌, ◌+◌, ◌*◌, ℕ, suc, Option, List, [], ◌∷◌, take, drop}
 use Rattle.fe2o3_scram.specs.Credentials.{Provider}
@@ -15,7 +15,7 @@ use Rattle.fe2o3_sasl_negotiation.specs.Negotiations.{Side, SideOutput, Receives
 use Rattle.fe2o3_sasl_negotiation.specs.ServerNegotiation.{ServerSideAnswers, ServerCosts}
 
 -- calls over a stream, of which this many run out of memory, with what one meter shows before and after them: such a
--- call leaves the side and the stream as they are, and what it costs stays on the meter
+-- call leaves the side and the stream unchanged, and its cost stays on the meter
 abbrev pub RetriedCalls : {S : Type 0} → (Expected → S → List ℕ → List ℕ → SideOutput → S → Type 0)
     → (Side S → List ℕ → List ℕ → ℕ → ℕ → Type 0) → Side S → List Call → List ℕ → ℕ → ℕ → ℕ → Type 0
 RetriedCalls Answers Costs side [] stream failed before after = (failed ≡ 0) × (after ≡ before)
@@ -34,7 +34,8 @@ ServersRetry = (provider : Provider) (state : ServerState) (limit : ℕ) (calls 
     (ServerCosts acceptor_hmacs) (fresh limit (ScramAcceptor provider state)) calls stream failed before after
     → (before ≤ after) × (after ≤ before + (failed * (provider.look_up_cost + 2) + (provider.look_up_cost + 2)))
 
--- and one of a SCRAM client as many as its limit of iterations and four more, and that for each such call
+-- a connection of a SCRAM client takes at most as many HMAC values as its limit of iterations and four more, and that
+-- for each call that ran out of memory
 abbrev pub ClientsRetry : Type 0
 ClientsRetry = (hostname : Option (List ℕ)) (client : ClientSide) (limit : ℕ) (calls : List Call) (stream : List ℕ)
     (failed before after : ℕ) → RetriedCalls (ClientSideAnswers hostname) ClientCosts (fresh limit (ScramProfile client))

@@ -26,7 +26,7 @@ pub record ScramReports (login : Login) (events : List Given) (replies : List Cl
   pub exactly : ReportsOkExactly login events replies
   pub agreement : TakenVerifiersAgree login events replies
 
--- every server of this machine that nobody has used
+-- every new server of this machine
 abbrev pub ScramServersServe : {S : Type 0} → (S → List ℕ → SaslFrame → SaslFrame → S → Type 0) → (Provider → S)
     → (S → Option (List ℕ)) → Type 0
 ScramServersServe {S} machine start named = (provider : Provider) (limit : ℕ) (pieces : List Piece)
@@ -34,7 +34,7 @@ ScramServersServe {S} machine start named = (provider : Provider) (limit : ℕ) 
     (negotiated : ServerNegotiated machine limit (start provider) pieces taken sent last)
     → ScramServes provider negotiated.events negotiated.replies (named last.state)
 
--- and every client of these steps
+-- every client of these steps
 abbrev pub ScramClientsReport : {S : Type 0} → (Option (List ℕ) → S → Given → ClientSays → S → Type 0) → (Login → S)
     → Type 0
 ScramClientsReport {S} Steps start = (login : Login) (limit : ℕ) (pieces : List Piece) (taken sent : List ℕ)

@@ -23,22 +23,22 @@ use Rattle.fe2o3_sasl_negotiation.specs.Negotiations.{Side, SideOutput, closes, 
 abbrev pub offer_body : List (List ℕ) → Option (List ℕ)
 offer_body names = canonical (frames.Mechanisms (offered names))
 
--- a server offers its mechanisms in a frame, or closes where they fit in none
+-- a server offers its mechanisms in a frame, or closes if they fit in none
 abbrev pub Offers : Option (List ℕ) → SideOutput → Type 0
 Offers (Some body) answer = Sends body InProgress (Frame turns.Init) answer
 Offers None answer = answer ≡ closes ReplyTooLarge Header
 
--- before its first frame it sends its header
+-- an answer of a server, with its header sent before it
 abbrev pub behind_header : SideOutput → SideOutput
 behind_header answer = record answer { sent = sasl_header ++ answer.sent }
 
--- what it answers to a header: to that of SASL its own and its mechanisms, to another the one that it wants
+-- what a server answers to a header: to that of SASL its own and its mechanisms, to another its own
 abbrev pub ServerOpens : List (List ℕ) → List ℕ → SideOutput → Type 0
 ServerOpens names header answer =
     ((header ≢ sasl_header) × (answer ≡ behind_header (closes ProtocolHeaderMismatch Header)))
     ⊎ ((header ≡ sasl_header) × ((first : SideOutput) × Offers (offer_body names) first × (answer ≡ behind_header first)))
 
--- what it sends of what its acceptor says: one challenge, and one outcome, which ends the negotiation
+-- what a server sends for its acceptor's reply: one challenge, and one outcome, which ends the negotiation
 abbrev pub ServerOutputs : ServerSays → FrameKind → SideOutput → Type 0
 ServerOutputs (Challenged body) turns.Init answer = Sends body InProgress (Frame turns.Response) answer
 ServerOutputs (Challenged body) turn answer = answer ≡ closes UnexpectedFrame (Frame turn)
@@ -47,13 +47,13 @@ ServerOutputs (Concluded code body) turn answer = Sends body (HasFailed (Refused
 ServerOutputs (Failed faults.OutOfMemory) turn answer = ⊥
 ServerOutputs (Failed fault) turn answer = answer ≡ closes (MalformedFrame fault) (Frame turn)
 
--- it asks its acceptor, by a step over the body
+-- a server asks its acceptor, by a step over the body
 abbrev pub AsksAcceptor : {S : Type 0} → (S → List ℕ → SaslFrame → SaslFrame → S → Type 0) → FrameKind → S → Given
     → SideOutput → S → Type 0
 AsksAcceptor machine turn state event answer next =
     (says : ServerSays) × AcceptorSteps machine state event says next × ServerOutputs says turn answer
 
--- what it answers to the body of a frame
+-- what a server answers to the body of a frame
 abbrev pub ServerReplies : {S : Type 0} → (S → List ℕ → SaslFrame → SaslFrame → S → Type 0) → FrameKind → S → Given → SideOutput → S
     → Type 0
 ServerReplies machine turn state event answer next = (spelled : Result SaslFrame Error) × SpellsBody event.body spelled
@@ -66,18 +66,18 @@ ServerSideAnswers names machine Header state nonce unit answer next = ServerOpen
 ServerSideAnswers names machine (Frame turn) state nonce unit answer next =
     ServerReplies machine turn state (record { body = drop 4 unit; nonce = nonce }) answer next
 
--- what a call makes of the bytes that it is passed
+-- what a server's call does with the bytes that it is passed
 abbrev pub ServerReceives : {S : Type 0} → (S → List (List ℕ)) → (S → List ℕ → SaslFrame → SaslFrame → S → Type 0)
     → Receiving S
 ServerReceives names machine = Receives (ServerSideAnswers names machine)
 
--- the HMAC values of an answer to a body: none, or those of the acceptor's step over a body in turn
+-- the HMAC values of a server's answer to a body: none, or those of the acceptor's step over a body in turn
 abbrev pub ServerReplyCosts : {S : Type 0} → (S → SaslFrame → ℕ → Type 0) → FrameKind → S → Given → ℕ → ℕ → Type 0
 ServerReplyCosts hmacs turn state event before after = (after ≡ before)
     ⊎ ((frame : SaslFrame) × SpellsBody event.body (Ok frame) × IsInTurn turn frame
     × AcceptorStepCosts hmacs state event before after)
 
--- and of a call: none, or those of the answer to a body that it completes
+-- the HMAC values of a server's call: none, or those of the answer to a body that it completes
 abbrev pub ServerCosts : {S : Type 0} → (S → SaslFrame → ℕ → Type 0) → Side S → List ℕ → List ℕ → ℕ → ℕ → Type 0
 ServerCosts hmacs side bytes nonce before after = (after ≡ before)
     ⊎ ((turn : FrameKind) × (body : List ℕ) × Completes side bytes turn body

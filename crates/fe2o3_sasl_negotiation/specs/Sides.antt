@@ -10,7 +10,7 @@ use Rattle.fe2o3_sasl_core.specs.SaslProfile.{profile_of}
 use Rattle.fe2o3_sasl_negotiation.specs.Negotiations.{Side}
 use Rattle.fe2o3_sasl_negotiation.specs.Snapshot.{server_fits, client_fits}
 
--- what a side asks for its answers
+-- the endpoint that answers for a side
 abbrev pub endpoint_in : {E R : Type 0} {role : Ghosts R} → ConnectionSide E R role → E
 endpoint_in side = side.endpoint
 
@@ -24,7 +24,7 @@ connection_side state side = record {
   state = state side.endpoint;
 }
 
--- the values of `ServerNegotiation`, and of `ClientNegotiation`
+-- the type of `ServerNegotiation`; the next one is that of `ClientNegotiation`
 abbrev pub ServerConnectionSide : Type 0 → Type 0
 ServerConnectionSide A = ConnectionSide A ServerRole (record { fits = server_fits })
 

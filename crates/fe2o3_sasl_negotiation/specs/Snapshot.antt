@@ -14,7 +14,8 @@ use Rattle.fe2o3_sasl_negotiation.specs.declared.progress.FrameKind.TheVariants 
 use Rattle.fe2o3_sasl_negotiation.specs.Framing.{IsPart}
 use Rattle.fe2o3_sasl_negotiation.specs.Negotiations.{Side}
 
--- a side that waits can have these values: the limit of a frame is kept, and less than the whole of what is expected has come
+-- a side that waits can have these values: the limit of a frame is kept, and less than the whole expected unit has
+-- arrived
 abbrev pub IsKept : Snapshot → Type 0
 IsKept kept = (kept.limit ≤ 512) × IsPart kept.expected kept.limit kept.held.now
 
@@ -22,20 +23,20 @@ IsKept kept = (kept.limit ≤ 512) × IsPart kept.expected kept.limit kept.held.
 abbrev pub EndsEmpty : Snapshot → Type 0
 EndsEmpty kept = kept.progress ≢ InProgress → kept.held.now ≡ []
 
--- a frame is expected to a server: an init or a response (AMQP 1.0, part 5, section 5.3.2)
+-- a frame is expected by a server: an init or a response (AMQP 1.0, part 5, section 5.3.2)
 abbrev pub server_awaits : Expected → Bool
 server_awaits (Frame turns.Init) = true
 server_awaits (Frame turns.Response) = true
 server_awaits expected = false
 
--- the client's header is expected to a server, or a frame
+-- the client's header, or a frame, is expected by a server
 abbrev pub server_due : Expected → Bool
 server_due Header = true
 server_due expected = server_awaits expected
 
--- a server with this progress can have this expected. One that waits, or whose answer was too large, can have any; another
--- header closes at the header, and all else ends it at a frame. No server is closed for memory, by an Ok, or by a
--- profile
+-- a server with this progress can expect this. One that waits, or whose answer was too large, can expect anything;
+-- another header closes it at the header, and every other reason at a frame. No server is closed for memory, by an Ok,
+-- or by a profile
 abbrev pub server_fits : Progress → Expected → Bool
 server_fits InProgress expected = server_due expected
 server_fits (Failed ReplyTooLarge) expected = server_due expected
@@ -46,27 +47,27 @@ server_fits (Failed (Refused outcomes.Ok)) expected = false
 server_fits (Failed (ProfileRefused fault)) expected = false
 server_fits other expected = server_awaits expected
 
--- a frame is expected to a client: the mechanisms, a challenge or an outcome
+-- a frame is expected by a client: the mechanisms, a challenge or an outcome
 abbrev pub client_awaits : Expected → Bool
 client_awaits (Frame turns.Mechanisms) = true
 client_awaits (Frame turns.Challenge) = true
 client_awaits (Frame turns.Outcome) = true
 client_awaits expected = false
 
--- the server's header is expected to a client, or a frame
+-- the server's header, or a frame, is expected by a client
 abbrev pub client_due : Expected → Bool
 client_due Header = true
 client_due expected = client_awaits expected
 
--- a frame is expected to a client that has had the mechanisms: a challenge or an outcome
+-- a frame is expected by a client that has received the mechanisms: a challenge or an outcome
 abbrev pub outcome_due : Expected → Bool
 outcome_due (Frame turns.Challenge) = true
 outcome_due (Frame turns.Outcome) = true
 outcome_due expected = false
 
--- a client with this progress can have this expected. One that waits can have any; another header closes at the header; an
--- outcome, and an answer that was too large, end it after the mechanisms, and all else at any frame. No client is closed
--- for memory, or by an Ok
+-- a client with this progress can expect this. One that waits can expect anything; another header closes it at the
+-- header; an outcome, and an answer that was too large, end it after the mechanisms, and every other reason at any
+-- frame. No client is closed for memory, or by an Ok
 abbrev pub client_fits : Progress → Expected → Bool
 client_fits InProgress expected = client_due expected
 client_fits Authenticated expected = outcome_due expected
@@ -83,19 +84,19 @@ client_fits (Failed why) expected = client_awaits expected
 abbrev pub NamesAfterLogin : Snapshot → Type 0
 NamesAfterLogin kept = kept.progress ≢ Authenticated → shown kept.user ≡ None
 
--- a server can have these values, and a client, which has no user
+-- a server can have these values; the next definition is that of a client, which has no user
 abbrev pub IsServerKept : Snapshot → Type 0
 IsServerKept kept = IsKept kept × IsTrue (server_fits kept.progress kept.expected) × EndsEmpty kept × NamesAfterLogin kept
 
 abbrev pub IsClientKept : Snapshot → Type 0
 IsClientKept kept = IsKept kept × IsTrue (client_fits kept.progress kept.expected) × EndsEmpty kept × (shown kept.user ≡ None)
 
--- a server of these values can be over an acceptor that names this user: where it has logged in, the two users are one.
--- A mechanism that names nobody has none (RFC 4505, section 2)
+-- a server of these values can have an acceptor that names this user: if it has logged in, the two users are one. A
+-- mechanism without an authenticated user has none (RFC 4505, section 2)
 abbrev pub NamesKeptUser : Snapshot → Option (List ℕ) → Type 0
 NamesKeptUser kept named = kept.progress ≡ Authenticated → named ≡ shown kept.user
 
--- the side of these values, whose machine is in this state
+-- the side with these values, whose machine is in this state
 abbrev pub side_of : {S : Type 0} → Snapshot → S → Side S
 side_of kept state = record {
   progress = kept.progress;
@@ -105,6 +106,6 @@ side_of kept state = record {
   state = state;
 }
 
--- the side of these values, whatever its machine is
+-- the side with these values, for any machine
 abbrev pub side_kept : Snapshot → Side (Unit {0})
 side_kept kept = side_of kept tt

@@ -35,7 +35,7 @@ impl Role for ClientRole {
     ghost fits = { client_fits };
 }
 
-/// A profile with the hostname that its init names.
+/// A profile and the hostname that its init carries.
 #[derive(Drop)]
 pub struct ClientEndpoint {
     profile: SaslProfile,
@@ -45,7 +45,7 @@ pub struct ClientEndpoint {
 /// The client's side of one connection, which logs in by a profile.
 pub type ClientNegotiation = ConnectionSide<ClientEndpoint, ClientRole>;
 
-/// Answers the server's header. A client goes on after the header of SASL.
+/// Answers the server's header. A client continues only after the header of SASL.
 fn open(header: &[u8]) -> Step
     ensures { (out : List ℕ) → Appends (ClientOpens header.now) out out result }
 {
@@ -59,7 +59,7 @@ fn open(header: &[u8]) -> Step
     }
 }
 
-/// Sends what the profile replies.
+/// Sends the profile's reply.
 fn send_reply(out: &mut BytesMut, turn: FrameKind, reply: ClientReply) -> Step
     requires { 512 ≤ out.old.spare }
     ensures { Appends (ClientOutputs (client_reply reply) turn) out.old.items out.new.items result }
@@ -101,7 +101,7 @@ fn concluded(turn: FrameKind, code: SaslCode) -> Step
     }
 }
 
-/// Closes at an error of the profile other than `OutOfMemory`.
+/// Fails with an error of the profile other than `OutOfMemory`.
 fn refuse(turn: FrameKind, fault: ProfileError) -> Result<Step, OutOfMemory>
     ensures ok { IfOk result (λ step. (out : List ℕ)
         → Appends (ClientOutputs (Refused fault) turn) out out step) }
@@ -215,8 +215,8 @@ impl Endpoint<ClientRole> for ClientEndpoint {
 impl ClientNegotiation {
     ghost use Rattle.fe2o3_sasl_negotiation.specs.Sides.{client_side, hostname_in};
 
-    /// Makes the client's side of a new connection, by a profile that no connection has used, with the hostname that
-    /// its init names, if any. The client speaks first: send its header (`open`).
+    /// Makes the client's side of a new connection from a profile that no connection has used and the hostname that its
+    /// init carries, if any. The client speaks first: send its header (`open`).
     pub fn new(alloc: Global, profile: SaslProfile, hostname: Option<String>) -> Self
         ensures side { client_side result
             ≡ record { progress = InProgress; expected = Header; limit = 512; held = []; state = profile_of profile } }
@@ -225,7 +225,7 @@ impl ClientNegotiation {
         Self::with_frame_limit(alloc, profile, hostname, MAX_FRAME)
     }
 
-    /// Like `new`, of a side that refuses a frame of more bytes than the limit, if that is below 512.
+    /// Like `new`, but the side rejects a frame of more bytes than the limit, if that is below 512.
     pub fn with_frame_limit(
         alloc: Global,
         profile: SaslProfile,
@@ -265,10 +265,10 @@ impl ClientNegotiation {
         }
     }
 
-    /// Restores the client's side that `snapshot` saved, over a profile in the state in which that side's was (the
-    /// profile's `restore_client_final_sent`), with its hostname.
+    /// Restores the client's side that `snapshot` saved, from a profile in the state of that side's (the profile's
+    /// `restore_client_final_sent`), and its hostname.
     ///
-    /// Errors, in this order: `InvalidSnapshot` where no client can have such values, and `OutOfMemory`.
+    /// Errors, in this order: `InvalidSnapshot` if no client can have such values, and `OutOfMemory`.
     pub fn restore(
         alloc: Global,
         profile: SaslProfile,
@@ -288,7 +288,7 @@ impl ClientNegotiation {
         ConnectionSide::restored(alloc, ClientEndpoint { profile, hostname }, kept)
     }
 
-    /// Appends the header of SASL, which a client sends first, and asks for room for the longest frame after it.
+    /// Appends the header of SASL, which a client sends first, and reserves room for the longest frame after it.
     pub fn open(out: &mut BytesMut) -> Result<(), OutOfMemory>
         ensures ok { OnOk result (out.new.items ≡ out.old.items ++ sasl_header) }
         ensures err { OnErr result (out.new.items ≡ out.old.items) }

@@ -3,8 +3,8 @@
 
 ghost use Rattle.fe2o3_sasl_negotiation.specs.FrameSizes.{InitsFit, ScramInitsFit, TextsFit, OutcomesFit};
 
-/// Says which frames of a login fit in the 512 bytes of a SASL frame, by the lengths of the texts that they carry, so
-/// that you can test before a login that no frame of it is too large.
+/// States which frames of a login fit in the 512 bytes of a SASL frame, by the lengths of the texts that they carry.
+/// You can test before a login that no frame of it is too large.
 pub fn frame_sizes()
     ensures inits { InitsFit }
     ensures scram_inits { ScramInitsFit }

@@ -1,4 +1,4 @@
-//! Headers and frames, read from any pieces, and written (AMQP 1.0, part 2, sections 2.2 and 2.3.1).
+//! Reads headers and frames from any pieces, and writes them (AMQP 1.0, part 2, sections 2.2 and 2.3.1).
 
 ghost use Rattle.std.specs.Prelude.{◌≡◌, ◌↔◌, ◌+◌, ◌-◌, ◌<◌, ◌≤◌, ◌++◌, ◌⊎◌, true, ℕ, [], length, take, drop, IfOk, OnOk, OnErr, MatchOption, vec_len, vec_capacity, max};
 ghost use Rattle.fe2o3_sasl_wire.specs.FrameView.{viewed_frame};
@@ -22,14 +22,14 @@ pub enum Arrived {
     /// Less than the whole.
     Part,
 
-    /// A size that no frame may have.
+    /// A size that is not allowed.
     Refused,
 
     /// All of it.
     Whole,
 }
 
-/// The progress of a side after the answer to a header or a frame, and what it expects then.
+/// The progress of a side after its answer to a header or a frame, and what it expects then.
 #[derive(Clone, Copy)]
 pub struct Step {
     /// The progress.
@@ -51,7 +51,7 @@ impl Step {
     }
 }
 
-/// Keeps bytes from the front until `n` are held.
+/// Buffers bytes from the front until `n` are held.
 fn keep(held: &mut Vec<u8>, bytes: &[u8], n: usize) -> Result<(), OutOfMemory>
     requires { vec_len held.old ≤ n }
     ensures ok { OnOk result (held.new.items ≡ take n (held.old.items ++ bytes.now)) }
@@ -74,7 +74,7 @@ pub(crate) fn size(bytes: &[u8]) -> Option<usize>
     }
 }
 
-/// Takes what is missing of a header.
+/// Takes the missing bytes of a header.
 fn take_header(held: &mut Vec<u8>, bytes: &[u8]) -> Result<Arrived, OutOfMemory>
     requires { length held.old.items < 8 }
     ensures ok { IfOk result (λ arrived. (limit : ℕ)
@@ -91,7 +91,7 @@ fn take_header(held: &mut Vec<u8>, bytes: &[u8]) -> Result<Arrived, OutOfMemory>
     }
 }
 
-/// Takes what is missing of the size of a frame, and returns how many bytes that were.
+/// Takes the missing bytes of a frame's size, and returns how many that were.
 fn take_size(held: &mut Vec<u8>, bytes: &[u8]) -> Result<usize, OutOfMemory>
     ensures within { IfOk result (λ taken. taken ≤ length bytes.now) }
     ensures len { IfOk result (λ taken. length held.new.items ≡ length held.old.items + taken) }
@@ -110,7 +110,7 @@ fn take_size(held: &mut Vec<u8>, bytes: &[u8]) -> Result<usize, OutOfMemory>
     Ok(held.len() - had)
 }
 
-/// Takes what is missing of a frame: first of its size, and then, if a frame may have this size, of its body.
+/// Takes the missing bytes of a frame: first of its size, and then, if the size is allowed, of its body.
 fn take_frame(
     held: &mut Vec<u8>,
     turn: FrameKind,
@@ -143,8 +143,8 @@ fn take_frame(
     }
 }
 
-/// Takes what is missing of the unit that is expected, and nothing after it. Room for the longest unit is asked for
-/// once, so that a connection makes one request for what it holds.
+/// Takes the missing bytes of the expected unit, and nothing after it. Room for the longest unit is reserved at once,
+/// so that a connection makes one allocation for what it holds.
 pub fn take_unit(
     held: &mut Vec<u8>,
     expected: Expected,
@@ -165,7 +165,7 @@ pub fn take_unit(
     }
 }
 
-/// Drops a unit that has ended, and returns how many of its bytes were not held before.
+/// Drops a complete unit, and returns how many of its bytes were not held before.
 pub fn end_unit(held: &mut Vec<u8>, had: usize) -> usize
     ensures taken { result ≡ length held.old.items - had }
     ensures empty { held.new.items ≡ [] }
@@ -176,14 +176,14 @@ pub fn end_unit(held: &mut Vec<u8>, had: usize) -> usize
     taken
 }
 
-/// Tells whether the bytes are the header of SASL 1.0.0 (AMQP 1.0, part 5, section 5.3.2).
+/// Returns whether the bytes are the header of SASL 1.0.0 (AMQP 1.0, part 5, section 5.3.2).
 pub fn is_sasl(header: &[u8]) -> bool
     ensures { result ≡ true ↔ (header.now ≡ sasl_header) }
 {
     header == <[u8; 8]>::from(ProtocolHeader::sasl()).as_slice()
 }
 
-/// Tells whether the frame is the one that is expected.
+/// Returns whether the frame is the expected one.
 fn is_in_turn(turn: FrameKind, view: &FrameView<'_>) -> bool
     ensures { result ≡ true ↔ IsInTurn turn (viewed_frame view.now) }
 {
@@ -198,7 +198,7 @@ fn is_in_turn(turn: FrameKind, view: &FrameView<'_>) -> bool
     }
 }
 
-/// Reads a body. A frame that is not expected closes the negotiation, and so does a body that is not read.
+/// Reads a body. A frame that is not expected closes the negotiation, and so does a malformed body.
 pub fn screen(turn: FrameKind, body: &[u8]) -> Result<FrameView<'_>, CloseReason>
     ensures { Screens turn body.now result }
 {
@@ -209,7 +209,7 @@ pub fn screen(turn: FrameKind, body: &[u8]) -> Result<FrameView<'_>, CloseReason
     }
 }
 
-/// Appends a body as a frame, for which there is room, or fails where it is too long for one.
+/// Appends a body as a frame, for which there is room, or fails if it is too long for one.
 pub fn send(out: &mut BytesMut, body: &[u8], progress: Progress, expected: Expected) -> Step
     requires { 512 ≤ out.old.spare }
     ensures { Appends (Sends body.now progress expected) out.old.items out.new.items result }

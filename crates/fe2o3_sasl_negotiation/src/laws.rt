@@ -1,5 +1,5 @@
-//! Laws of the definitions. A function with an empty body says nothing but its contract: a statement about
-//! every list of bytes, which the check has proved.
+//! Laws of the definitions. Each function has an empty body and states only its contract, about every list of bytes,
+//! which the check has proved.
 
 ghost use Rattle.fe2o3_scram.specs.ScramServer.{Initial};
 ghost use Rattle.fe2o3_sasl_core.specs.Profiles.{scram_profile};
@@ -15,9 +15,9 @@ ghost use Rattle.fe2o3_sasl_negotiation.specs.ServerNegotiation.{ServerSideAnswe
 
 use fe2o3_sasl_core::{AuthenticatedUser, HasMechanism};
 
-/// However a stream of bytes is cut into calls, what they take of it is answered as it would be as a whole, unit by unit,
-/// each with the nonce of a call, in order. Which call that is for a frame, [`server_connections`] and
-/// [`client_connections`] say.
+/// The division of a stream of bytes into calls does not matter: the bytes that the calls take are answered like the
+/// whole, unit by unit, each with the nonce of a call, in order. Which call that is for a frame, [`server_connections`]
+/// and [`client_connections`] say.
 pub fn cuts<A: AuthenticatedUser>()
     ensures server { CutsDoNotMatter (ServerSideAnswers A.names A.machine) }
     ensures client { ClientCutsDoNotMatter }
@@ -25,10 +25,10 @@ pub fn cuts<A: AuthenticatedUser>()
 
 /// The headline theorem over the bytes of a server's connection, in whatever calls they are passed. A server of any
 /// acceptor answers every frame up to the one that ends the negotiation, in a run over the bodies: each frame with the
-/// nonce of the call that completes it. What the server sends is its header, its list of mechanisms and the frames of
-/// its replies, and how it ends is what its last reply says. It has logged a client in exactly where that reply is an Ok
-/// that it sent. A SCRAM server answers Ok exactly to a response that fits its open challenge and whose proof meets the
-/// stored key, and names exactly the user of that challenge.
+/// nonce of the call that completes it. It sends its header, its list of mechanisms and the frames of its replies, and
+/// ends as its last reply says. It has logged a client in exactly if that reply is an Ok that it sent. A SCRAM server
+/// answers Ok exactly to a response that fits its open challenge and whose proof meets the stored key, and names
+/// exactly the user of that challenge.
 ///
 /// The last argument of `connects` is what one call does, by the contract of
 /// [`ConnectionSide::receive`](crate::ConnectionSide::receive). The arguments of `scram` are the machine of a SCRAM
@@ -41,10 +41,10 @@ pub fn server_connections<A: AuthenticatedUser>()
 
 /// The headline theorem over the bytes of a client's connection, in whatever calls they are passed. A client of any
 /// profile answers every frame up to the one that ends the negotiation, in a run over the bodies: each frame with the
-/// nonce of the call that completes it. What the client sends is the frames of its replies, and how it ends is what its
-/// last reply says. It has logged in exactly where that reply reports an Ok. A SCRAM client reports Ok exactly on the
-/// signature of its open answered challenge. On each verifier that it took and a server issued, both sides agree, or
-/// their own AuthMessages share one HMAC value.
+/// nonce of the call that completes it. It sends the frames of its replies, and ends as its last reply says. It has
+/// logged in exactly if that reply reports an Ok. A SCRAM client reports Ok exactly on the signature of its open
+/// answered challenge. On each verifier that it took and a server issued, both sides agree, or their own AuthMessages
+/// share one HMAC value.
 ///
 /// The last argument of `connects` is what one call does, by the contract of
 /// [`ConnectionSide::receive`](crate::ConnectionSide::receive). `ProfileSteps` is what a profile answers to a frame.
@@ -55,8 +55,9 @@ pub fn client_connections()
     ensures scram { ScramClientsReport ProfileSteps scram_profile }
 {}
 
-/// Who a server of several mechanisms has logged in, whatever its bytes are: the init asks for a mechanism that it offers,
-/// the acceptor that has this mechanism answers Ok to the last frame, and the server names that acceptor's user.
+/// The user that a server of several mechanisms has logged in, whatever its bytes are: the init asks for a mechanism
+/// that it offers, the acceptor that has this mechanism answers Ok to the last frame, and the server names that
+/// acceptor's user.
 pub fn users_of_any_mechanism<A: HasMechanism, B: HasMechanism>()
     ensures connections { AnyMechanismServersLogIn A.names B.names A.machine B.machine }
     ensures steps { AnyMechanismStepsLogIn A.names B.names A.machine B.machine }

@@ -1,11 +1,11 @@
-//! The negotiation of AMQP's SASL layer over the bytes of a connection, without a socket: bytes in, bytes
-//! out (AMQP 1.0, part 5, section 5.3).
+//! The negotiation of AMQP's SASL layer over the bytes of a connection, without a socket: bytes in, bytes out (AMQP
+//! 1.0, part 5, section 5.3).
 //!
-//! A [`ServerNegotiation`] and a [`ClientNegotiation`] read headers and sizes of frames, hold no more than one
-//! frame, answer each by an acceptor or a profile of `fe2o3_sasl_core`, and say when to close.
+//! A [`ServerNegotiation`] and a [`ClientNegotiation`] read headers and sizes of frames, hold at most one frame, and
+//! report when to close. An acceptor or a profile of `fe2o3_sasl_core` answers each frame.
 //!
-//! The items of `fe2o3_sasl_core`, `fe2o3_scram` and `fe2o3_sasl_wire` that a server or a client needs are
-//! re-exported here, so that it names this crate only.
+//! The items of `fe2o3_sasl_core`, `fe2o3_scram` and `fe2o3_sasl_wire` that a server or a client needs are re-exported
+//! here, so that it names this crate only.
 #![tactic(auto)]
 
 mod client;

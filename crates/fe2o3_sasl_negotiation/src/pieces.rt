@@ -47,7 +47,7 @@ pub struct Negotiated<S> {
     /// How many pieces it has taken whole.
     pub pieces: usize,
 
-    /// How many bytes it has taken of the next piece. The bytes after them are AMQP's.
+    /// How many bytes of the next piece it has taken. The rest is AMQP's.
     pub bytes: usize,
 }
 
@@ -75,9 +75,9 @@ fn serve_piece<A: AuthenticatedUser>(
     Ok(taken)
 }
 
-/// What a server's side of a new connection makes of bytes that arrive in these pieces, by an acceptor that no
-/// connection has used: the whole connection up to where the side takes no more. While it waits it takes them all.
-/// Where memory runs out nothing is returned.
+/// Runs a server's side of a new connection over bytes that arrive in these pieces, with an acceptor that no connection
+/// has used: the whole connection up to where the side takes no more. While it waits it takes them all. If memory runs
+/// out nothing is returned.
 pub fn server_connection<A: AuthenticatedUser + Drop>(
     alloc: Global,
     acceptor: A,
@@ -113,9 +113,9 @@ pub fn server_connection<A: AuthenticatedUser + Drop>(
     })
 }
 
-/// Like [`server_connection`], of a SCRAM server over these credentials that no connection has used: the headline
-/// theorem over bytes. It has logged a client in exactly where it sent an Ok, which it answers only to a response that
-/// fits its open challenge and whose proof meets the stored key, and it names the user of that challenge.
+/// Like [`server_connection`], for a SCRAM server over these credentials that no connection has used: the headline
+/// theorem over bytes. It has logged a client in exactly if it sent an Ok, and it names the user of the challenge. It
+/// answers Ok only to a response that fits its open challenge and whose proof meets the stored key.
 pub fn scram_server_connection<C: ScramCredentialProvider>(
     alloc: Global,
     credentials: &C,
@@ -172,9 +172,9 @@ fn answer_piece(
     Ok(taken)
 }
 
-/// Like [`server_connection`], of a client by a profile that no connection has used, with a hostname if any: what it
-/// sends after its own header. What the headline says of its bodies and replies is the clause `scram` of the law
-/// `client_connections`.
+/// Like [`server_connection`], for a client with a profile that no connection has used, and a hostname if any: what it
+/// sends after its own header. The clause `scram` of the law `client_connections` states the headline theorem of its
+/// bodies and replies.
 pub fn client_connection(
     alloc: Global,
     profile: SaslProfile,

@@ -1,17 +1,17 @@
-//! The progress of a negotiation, and what it expects.
+//! The progress of a negotiation, and the next expected header or frame.
 
 use fe2o3_sasl_core::ProfileError;
 use fe2o3_sasl_wire::{Error, SaslCode};
 
-/// Says why a negotiation has failed.
+/// Why a negotiation has failed.
 #[derive(Clone, Copy, Debug, PartialEq, Eq, thiserror::Error)]
 pub enum CloseReason {
     /// The other side's header is not that of SASL 1.0.0 (AMQP 1.0, part 5, section 5.3.2).
     #[error("The header is not that of SASL")]
     ProtocolHeaderMismatch,
 
-    /// The size of a frame is below 8 or above the limit (AMQP 1.0, part 2, section 2.3.1; part 5, section
-    /// 5.3.1). No byte after the size was taken.
+    /// The size of a frame is below 8 or above the limit (AMQP 1.0, part 2, section 2.3.1; part 5, section 5.3.1). No
+    /// byte after the size was taken.
     #[error("A frame of this size is refused")]
     FrameSize,
 
@@ -19,9 +19,8 @@ pub enum CloseReason {
     #[error("The frame is not read")]
     MalformedFrame(Error),
 
-    /// The frame is not the one that is expected (AMQP 1.0, part 5, section 5.3.2), such as a second init, a second
-    /// challenge or a second list of mechanisms. A server also closes so where its acceptor would send a second
-    /// challenge.
+    /// The frame is not the expected one (AMQP 1.0, part 5, section 5.3.2), such as a second init, a second challenge
+    /// or a second list of mechanisms. A server also fails with it if its acceptor would send a second challenge.
     #[error("The frame is out of turn")]
     UnexpectedFrame,
 
@@ -29,7 +28,7 @@ pub enum CloseReason {
     #[error("The answer is too large")]
     ReplyTooLarge,
 
-    /// The login is refused, by an outcome with this code, which a server has sent or a client has received.
+    /// The login was rejected by an outcome with this code, which a server has sent or a client has received.
     #[error("The login is refused")]
     Refused(SaslCode),
 
@@ -38,7 +37,7 @@ pub enum CloseReason {
     Mechanism(ProfileError),
 }
 
-/// Says how far a negotiation is.
+/// How far a negotiation is.
 #[derive(Clone, Copy, Debug, PartialEq, Eq)]
 pub enum Progress {
     /// The negotiation goes on: it needs more bytes, or those that a call has not taken.
@@ -62,7 +61,7 @@ pub struct Received {
     pub progress: Progress,
 }
 
-/// Says which frame is expected.
+/// The frame that is expected.
 #[derive(Clone, Copy, Debug, PartialEq, Eq)]
 pub enum FrameKind {
     /// The server's list of mechanisms.
@@ -81,7 +80,7 @@ pub enum FrameKind {
     Outcome,
 }
 
-/// Says what is expected next.
+/// The next expected header or frame.
 #[derive(Clone, Copy, Debug, PartialEq, Eq)]
 pub enum Expected {
     /// The other side's header.

@@ -10,10 +10,10 @@ use crate::snapshot::RestoreError;
 use fe2o3_sasl_core::{AuthenticatedUser, SaslProfile};
 use std::alloc::Global;
 
-/// Saves a server's side, after whatever call, and restores it over an acceptor in the state of that side's. The
-/// result is the same side, and its acceptor names the same user.
+/// Saves a server's side, after any call, and restores it with an acceptor in the state of that side's. The result is
+/// the same side, and its acceptor names the same user.
 ///
-/// `OutOfMemory` is the only error.
+/// The only error is `OutOfMemory`.
 pub fn restored_server<A: AuthenticatedUser + Drop>(
     alloc: Global,
     side: &ServerNegotiation<A>,
@@ -27,10 +27,10 @@ pub fn restored_server<A: AuthenticatedUser + Drop>(
     ServerNegotiation::restore(alloc, acceptor, &side.snapshot())
 }
 
-/// Saves a client's side, after whatever call, and restores it over a profile in the state of that side's. The
-/// result is the same side, with this hostname.
+/// Saves a client's side, after any call, and restores it with a profile in the state of that side's. The result is the
+/// same side, with this hostname.
 ///
-/// `OutOfMemory` is the only error.
+/// The only error is `OutOfMemory`.
 pub fn restored_client(
     alloc: Global,
     side: &ClientNegotiation,

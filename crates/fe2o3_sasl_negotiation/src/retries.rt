@@ -3,7 +3,7 @@
 
 ghost use Rattle.fe2o3_sasl_negotiation.specs.Retries.{ServersRetry, ClientsRetry};
 
-/// Bounds the cost of a connection whose calls run out of memory and are made again. A SCRAM server makes at most two
+/// Bounds the cost of a connection whose calls run out of memory and are repeated. A SCRAM server makes at most two
 /// HMAC values, with mock authentication five, and at most as many again for each such call. A SCRAM client makes at
 /// most as many as its limit of iterations and four more, and at most that again for each such call.
 pub fn retries()

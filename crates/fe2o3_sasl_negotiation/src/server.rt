@@ -37,7 +37,7 @@ impl Role for ServerRole {
 /// The server's side of one connection, which logs its client in by an acceptor.
 pub type ServerNegotiation<A> = ConnectionSide<A, ServerRole>;
 
-/// Returns the body of the list of mechanisms, or `None` where it has none.
+/// Returns the body of the list of mechanisms, or `None` if it has none.
 fn offer_body<A: SaslAcceptor>(alloc: Global, acceptor: &A) -> Result<Option<BytesMut>, OutOfMemory>
     ensures { IfOk result (λ body. option_map (λ b. b.items) body ≡ offer_of (A.names (A.state acceptor.now))) }
 {
@@ -50,7 +50,7 @@ fn offer_body<A: SaslAcceptor>(alloc: Global, acceptor: &A) -> Result<Option<Byt
     }
 }
 
-/// Sends the header of SASL, followed by the mechanisms where the client has sent that header.
+/// Sends the header of SASL, followed by the mechanisms if the client has sent that header.
 fn open<A: SaslAcceptor>(
     alloc: Global,
     acceptor: &A,
@@ -80,7 +80,7 @@ fn open<A: SaslAcceptor>(
     }
 }
 
-/// Sends what the acceptor replies.
+/// Sends the acceptor's reply.
 fn send_reply(out: &mut BytesMut, turn: FrameKind, reply: ServerReply) -> Step
     requires { 512 ≤ out.old.spare }
     ensures { Appends (ServerOutputs (server_reply reply) turn) out.old.items out.new.items result }
@@ -111,7 +111,7 @@ fn send_reply(out: &mut BytesMut, turn: FrameKind, reply: ServerReply) -> Step
     }
 }
 
-/// Closes at a fault of the acceptor's step other than `OutOfMemory`.
+/// Fails with an error of the acceptor's step other than `OutOfMemory`.
 fn refuse(turn: FrameKind, fault: Error) -> Result<Step, OutOfMemory>
     ensures ok { IfOk result (λ step. (out : List ℕ) → Appends (ServerOutputs (Failed fault) turn) out out step) }
     ensures err { OnErr result (fault ≡ WireOutOfMemory) }
@@ -205,7 +205,7 @@ impl<A: AuthenticatedUser> ServerNegotiation<A> {
         Self::with_frame_limit(alloc, acceptor, MAX_FRAME)
     }
 
-    /// Like `new`, of a side that refuses a frame of more bytes than the limit, if that is below 512.
+    /// Like `new`, but the side rejects a frame of more bytes than the limit, if that is below 512.
     pub fn with_frame_limit(alloc: Global, acceptor: A, limit: usize) -> Self
         ensures { server_side A.state result ≡ record {
           progress = InProgress;
@@ -225,7 +225,8 @@ impl<A: AuthenticatedUser> ServerNegotiation<A> {
         &self.endpoint
     }
 
-    /// Returns the name of the user who has logged in. It is `None` before that, and for a mechanism that names no user.
+    /// Returns the name of the user who has logged in. It is `None` before that, and for a mechanism that names no
+    /// user.
     pub fn authenticated_user(&self) -> Option<&str>
         ensures logged_in { (server_side A.state self.now).progress ≡ Authenticated
             → option_map (λ user. user.now) result ≡ A.named (acceptor_in self.now) }
@@ -253,10 +254,10 @@ impl<A: AuthenticatedUser> ServerNegotiation<A> {
         }
     }
 
-    /// Restores the server's side that `snapshot` saved, over an acceptor in the state in which that side's was. After
-    /// a login that is an acceptor that names the saved user, such as `restore_authenticated` returns.
+    /// Restores the server's side that `snapshot` saved, with an acceptor in the state of that side's. After a login,
+    /// that is an acceptor that names the saved user, such as `restore_authenticated` returns.
     ///
-    /// Errors, in this order: `InvalidSnapshot` where no server can have such values, `OtherUser` where a server that has
+    /// Errors, in this order: `InvalidSnapshot` if no server can have such values, `OtherUser` if a server that has
     /// logged in has another user than the acceptor, and `OutOfMemory`.
     pub fn restore(alloc: Global, acceptor: A, kept: &Snapshot<'_>) -> Result<Self, RestoreError>
     where

@@ -1,4 +1,4 @@
-//! One side of a connection, whatever answers it: the framing, the progress, and the calls that pass bytes.
+//! One side of a connection, of either role: the framing, the progress, and the calls that pass bytes.
 
 ghost use Rattle.std.specs.Prelude.{◌≡◌, ◌≢◌, ◌<◌, ◌≤◌, ◌^◌, ◌++◌, ℕ, Bool, List, Option, [], IsTrue, IfOk, IfErr, OnOk, OnErr, length, min};
 ghost use Rattle.fe2o3_sasl_negotiation.specs.Framing.{IsPart, IsPart-prop, longest_unit};
@@ -20,8 +20,7 @@ use fe2o3_scram::Meter;
 use std::alloc::Global;
 use std::marker::PhantomData;
 
-/// Says what a side can expect with which progress: [`ServerRole`](crate::ServerRole) or
-/// [`ClientRole`](crate::ClientRole).
+/// What a side can expect at each progress: [`ServerRole`](crate::ServerRole) or [`ClientRole`](crate::ClientRole).
 pub trait Role {
     ghost fits: { Progress → Expected → Bool };
 }
@@ -30,7 +29,7 @@ pub trait Role {
 /// [`ClientEndpoint`](crate::ClientEndpoint).
 ///
 /// `State` is the state of its machine, `Config` what never changes, and `answers` what it answers to a header or to a
-/// frame. `asks` says which calls may ask for memory, and `costs` how many HMAC values they take.
+/// frame. `asks` says which calls may allocate, and `costs` how many HMAC values they take.
 pub trait Endpoint<R: Role> {
     ghost State: { Type 0 };
 
@@ -46,8 +45,8 @@ pub trait Endpoint<R: Role> {
 
     ghost costs: { Side State → List ℕ → List ℕ → ℕ → ℕ → Type 0 };
 
-    /// Answers a header, or a frame with its size, and appends what is to be sent. The meter, of at most 2^63, counts the
-    /// HMAC values. `OutOfMemory` changes nothing but the meter.
+    /// Answers a header, or a frame with its size, and appends the bytes to send. The meter, of at most 2^63, counts
+    /// the HMAC values. `OutOfMemory` changes nothing but the meter.
     fn answer(
         &mut self,
         alloc: Global,
@@ -71,10 +70,10 @@ pub trait Endpoint<R: Role> {
         ensures cost { (side : Side State) (bytes : List ℕ) → CompletesUnit side bytes expected unit.now
             → side.state ≡ state self.old → costs side bytes nonce.now meter.old meter.new };
 
-    /// A call that makes no HMAC value may do so.
+    /// `costs` allows a call that makes no HMAC value.
     ghost costs_none: { (side : Side State) (bytes nonce : List ℕ) (count : ℕ) → costs side bytes nonce count count };
 
-    /// A side in progress may ask for room for the longest unit.
+    /// `asks` allows a side in progress to reserve room for the longest unit.
     ghost asks_room: { (room : ℕ) (side : Side State) (bytes : List ℕ) → side.progress ≡ InProgress
         → room < longest_unit side.limit → asks room side bytes };
 
@@ -84,8 +83,8 @@ pub trait Endpoint<R: Role> {
 }
 
 /// One side of a connection: [`ServerNegotiation`](crate::ServerNegotiation) or
-/// [`ClientNegotiation`](crate::ClientNegotiation). A function over both sides takes a `ConnectionSide<E, R>` with
-/// `E: Endpoint<R>` and `R: Role`.
+/// [`ClientNegotiation`](crate::ClientNegotiation). A function over both sides takes a `ConnectionSide<E, R>` with `E:
+/// Endpoint<R>` and `R: Role`.
 #[derive(Drop)]
 pub struct ConnectionSide<E, R: Role> {
     pub(crate) endpoint: E,
@@ -160,14 +159,14 @@ impl<E: Endpoint<R>, R: Role> ConnectionSide<E, R> {
         self.progress
     }
 
-    /// Takes the received bytes up to the end of the header or frame that is expected, and appends what is to be sent to
-    /// `out`. While more bytes are wanted, a call takes at least one. The nonce belongs to the frame that these bytes
+    /// Takes the received bytes up to the end of the expected header or frame, and appends the bytes to send to `out`.
+    /// While more bytes are needed, a call takes at least one. The nonce belongs to the frame that these bytes
     /// complete: pass fresh random bytes with each call. The meter, of at most 2^63, counts the HMAC values.
     ///
-    /// Once the client is authenticated or the negotiation has failed, nothing is taken, sent or changed, and no memory is
-    /// asked for. Otherwise a call asks for room for the longest unit, once for a connection, and for its answer to a
-    /// frame that is expected; a server asks also for its answer to a header.
-    /// `OutOfMemory` changes nothing but the meter: you can pass the same bytes again.
+    /// Once the client is authenticated or the negotiation has failed, nothing is taken, sent, changed or allocated.
+    /// Otherwise a call allocates room for the longest unit, once for a connection, and its answer to an expected
+    /// frame; a server also its answer to a header. `OutOfMemory` changes nothing but the meter: you can pass the same
+    /// bytes again.
     pub fn receive(
         &mut self,
         alloc: Global,

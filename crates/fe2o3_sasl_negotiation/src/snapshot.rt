@@ -17,8 +17,8 @@ use fe2o3_sasl_wire::{Error as FrameError, SaslCode};
 use std::alloc::{AllocError, Global};
 use thiserror::Error;
 
-/// A side between two calls as plain values, without its acceptor or its profile. It holds no password, no
-/// key and no store.
+/// A side between two calls as plain values, without its acceptor or its profile. It holds no password, no key and no
+/// store.
 #[derive(Drop)]
 pub struct Snapshot<'a> {
     /// The progress.
@@ -30,20 +30,20 @@ pub struct Snapshot<'a> {
     /// The maximum size of a frame, 512 at most.
     pub limit: usize,
 
-    /// The bytes that have arrived of the header or frame that is expected.
+    /// The bytes that have arrived of the expected header or frame.
     pub held: &'a [u8],
 
-    /// The user of a server that has logged in. `None` before that, for a mechanism that names nobody, and for
-    /// a client.
+    /// The user of a server that has logged in. `None` before that, for a mechanism that names no user, and for a
+    /// client.
     pub user: Option<&'a str>,
 }
 
 /// Why a side is not restored.
 #[derive(Clone, Copy, Debug, PartialEq, Eq, Error)]
 pub enum RestoreError {
-    /// No side has these values: the limit is above 512; all of what is expected has arrived, or a size that no frame may
-    /// have; a side that has ended holds bytes; what is expected does not fit the progress, or is never expected to that
-    /// side; or a side that has not logged in has a user, or a client.
+    /// No side has these values: the limit is above 512; the expected unit is complete, or has a size that is not
+    /// allowed; a side that has ended holds bytes; the expected unit does not fit the progress or the side; or a side
+    /// that has not logged in has a user, or a client has one.
     #[error("No side keeps these values")]
     InvalidSnapshot,
 
@@ -51,7 +51,7 @@ pub enum RestoreError {
     #[error("The acceptor names another user")]
     OtherUser,
 
-    /// A request for memory was refused.
+    /// An allocation failed.
     #[error("Out of memory")]
     OutOfMemory,
 }
@@ -65,12 +65,12 @@ impl From<AllocError> for RestoreError {
 }
 
 impl Snapshot<'_> {
-    /// Returns the body of the frame that these bytes complete, without the four bytes of its size, or `None` where
-    /// they complete none. From it you can read which user a frame claims, before you restore a server. Nothing is
-    /// taken: pass the same bytes to `receive` after that.
+    /// Returns the body of the frame that these bytes complete, without the four bytes of its size, or `None` if they
+    /// complete none. Read in it which user a frame claims, before you restore a server. Nothing is taken: pass the
+    /// same bytes to `receive` after that.
     ///
-    /// Errors, in this order: `InvalidSnapshot` where no side has such values, and `OutOfMemory`, only of a side that waits for
-    /// a frame. The user is not read.
+    /// Errors, in this order: `InvalidSnapshot` if no side has such values, and `OutOfMemory`, only for a side that
+    /// waits for a frame. The user is not read.
     #[tactic(auto, using(crate::proofs::lemmas::CompletedLemmas::completed))]
     pub fn peek_frame(&self, alloc: Global, bytes: &[u8]) -> Result<Option<Vec<u8>>, RestoreError>
         ensures kept { IfOk result (λ _. IsKept self.now) }
@@ -101,28 +101,28 @@ impl Snapshot<'_> {
         }
     }
 
-    /// Whether a side that waits can have these values.
+    /// Returns whether a side that waits can have these values.
     fn is_kept(&self) -> bool
         ensures { IsTrue result ↔ IsKept self.now }
     {
         self.limit <= MAX_FRAME && is_part(self.expected, self.limit, self.held)
     }
 
-    /// Whether a side that has ended holds nothing.
+    /// Returns whether the side, if it has ended, holds no bytes.
     fn ends_empty(&self) -> bool
         ensures { IsTrue result ↔ EndsEmpty self.now }
     {
         matches!(self.progress, Progress::InProgress) || self.held.is_empty()
     }
 
-    /// Whether only a side that has logged in has a user.
+    /// Returns whether the side, if it has a user, has logged in.
     fn names_after_login(&self) -> bool
         ensures { IsTrue result ↔ NamesAfterLogin self.now }
     {
         matches!(self.progress, Progress::Authenticated) || self.user.is_none()
     }
 
-    /// Whether a server can have these values.
+    /// Returns whether a server can have these values.
     pub(crate) fn is_server(&self) -> bool
         ensures { IsTrue result ↔ IsServerKept self.now }
     {
@@ -132,7 +132,7 @@ impl Snapshot<'_> {
             && self.names_after_login()
     }
 
-    /// Whether a client can have these values.
+    /// Returns whether a client can have these values.
     pub(crate) fn is_client(&self) -> bool
         ensures { IsTrue result ↔ IsClientKept self.now }
     {
@@ -143,7 +143,7 @@ impl Snapshot<'_> {
     }
 }
 
-/// Whether an acceptor names the user of a saved side, or both have none.
+/// Returns whether an acceptor names the user of a saved side, or both have none.
 pub(crate) fn is_user(named: Option<&str>, kept: Option<&str>) -> bool
     ensures { IsTrue result ↔ shown named.entry ≡ shown kept.entry }
 {
@@ -154,7 +154,7 @@ pub(crate) fn is_user(named: Option<&str>, kept: Option<&str>) -> bool
     }
 }
 
-/// Whether a server with this progress can have this expected.
+/// Returns whether a server with this progress can have this expected.
 fn is_server_at(progress: Progress, expected: Expected) -> bool
     ensures { result ≡ server_fits progress expected }
 {
@@ -179,7 +179,7 @@ fn is_server_at(progress: Progress, expected: Expected) -> bool
     }
 }
 
-/// Whether a client with this progress can have this expected.
+/// Returns whether a client with this progress can have this expected.
 fn is_client_at(progress: Progress, expected: Expected) -> bool
     ensures { result ≡ client_fits progress expected }
 {
@@ -205,7 +205,7 @@ fn is_client_at(progress: Progress, expected: Expected) -> bool
     }
 }
 
-/// Whether a side that waits can hold these bytes of what is expected.
+/// Returns whether a side that waits can hold these bytes of what is expected.
 fn is_part(expected: Expected, limit: usize, held: &[u8]) -> bool
     ensures { IsTrue result ↔ IsPart expected limit held.now }
 {

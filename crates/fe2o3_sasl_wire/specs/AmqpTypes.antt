@@ -1,4 +1,4 @@
--- What the types of the SASL frames hold, as plain data (AMQP 1.0, part 5, section 5.3.3).
+-- What the types of the SASL frames hold (AMQP 1.0, part 5, section 5.3.3).
 use Rattle.std.specs.Prelude.{◌≡◌, ℕ, ◌==◌, Bool, false, ◌&&◌, List, Result, MatchResult, option_map, bytes_eq, string_bytes, IsAscii}
 use Rattle.std.specs.Option.{option_eq}
 use Rattle.std.specs.Cmp.Lexicographic.{pointwise}
@@ -13,12 +13,12 @@ use Rattle.fe2o3_sasl_wire.specs.declared.amqp_types.SaslResponse.{SaslResponse}
 use Rattle.fe2o3_sasl_wire.specs.declared.amqp_types.SaslOutcome.{SaslOutcome}
 use Rattle.fe2o3_sasl_wire.specs.SaslFrames.{SaslFrame, Mechanisms, Init, Challenge, Response, Outcome, outcome_code}
 
--- why no symbol is made of a text: a byte is not ASCII; there is no memory, and then all are (part 1, section 1.6.21)
+-- why a text is not a symbol: a byte is not ASCII; or allocation fails, and then all are (part 1, section 1.6.21)
 abbrev pub RefusesText : List ℕ → SymbolError → Type 0
 RefusesText text NotAscii = ¬ (IsAscii text)
 RefusesText text OutOfMemory = IsAscii text
 
--- the result is the code of this byte, or the byte itself where no code has it (part 5, section 5.3.3.6)
+-- the code of this byte, or the byte itself if no code has it (part 5, section 5.3.3.6)
 abbrev pub DecodesCode : ℕ → Result SaslCode ℕ → Type 0
 DecodesCode byte r = MatchResult r
     (λ code. outcome_code code ≡ byte)

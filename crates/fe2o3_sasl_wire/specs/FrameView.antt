@@ -18,7 +18,7 @@ viewed_frame (views.Challenge bytes) = Challenge bytes.now
 viewed_frame (views.Response bytes) = Response bytes.now
 viewed_frame (views.Outcome code bytes) = Outcome code (shown bytes)
 
--- the frame that a view shows with the length that was read, or the fault (part 5, section 5.3.1)
+-- the frame that a view shows with the length that was read, or the error (part 5, section 5.3.1)
 abbrev pub viewed_answer : Result (FrameView × ℕ) Error → Result (SaslFrame × ℕ) Error
 viewed_answer (Ok answer) = Ok (viewed_frame answer.0, answer.1)
 viewed_answer (Err fault) = Err fault

@@ -1,4 +1,4 @@
--- What holds of the grammar of frames, over the relation alone (AMQP 1.0, part 5, section 5.3).
+-- Laws of the grammar of frames, over the relation `Spells` only (AMQP 1.0, part 5, section 5.3).
 use Rattle.std.specs.Prelude.{◌≡◌, ◌↔◌, ℕ, List, ◌++◌, length, IsTrue, Some, Result, Ok}
 use Rattle.fe2o3_sasl_wire.specs.declared.amqp_types.SaslCode.{SaslCode}
 use Rattle.fe2o3_sasl_wire.specs.declared.protocol_header.ProtocolHeader.{ProtocolHeader}
@@ -14,17 +14,18 @@ abbrev pub CanonicalBodiesSpell : Type 0
 CanonicalBodiesSpell =
     (frame : SaslFrame) (body : List ℕ) → HasTexts frame → canonical frame ≡ Some body → Spells frame body
 
--- a spelling has one frame (part 5, section 5.3.1)
+-- no body spells two frames (part 5, section 5.3.1)
 abbrev pub SpellingsHaveOneFrame : Type 0
 SpellingsHaveOneFrame = (left right : SaslFrame) (body : List ℕ) → Spells left body → Spells right body → left ≡ right
 
--- no spelling begins another: two that begin one list of bytes are one, of one frame (part 5, section 5.3.1)
+-- no spelling is a proper prefix of another: two that begin one list of bytes are equal, and of one frame (part 5,
+-- section 5.3.1)
 abbrev pub NoSpellingBeginsAnother : Type 0
 NoSpellingBeginsAnother =
     (left right : SaslFrame) (body other rest others : List ℕ) → Spells left body → Spells right other
     → body ++ rest ≡ other ++ others → (left ≡ right) × (body ≡ other)
 
--- a canonical body followed by anything is read as its frame, and as no other (part 5, section 5.3.1)
+-- a canonical body followed by any bytes is read as its frame, and as no other (part 5, section 5.3.1)
 abbrev pub WrittenBodiesAreRead : Type 0
 WrittenBodiesAreRead =
     (frame : SaslFrame) (body rest : List ℕ) (answer : Result (SaslFrame × ℕ) Error)
@@ -37,7 +38,7 @@ BodiesHaveOneAnswer = (body : List ℕ) → IsBytes body
     → (answer : Result (SaslFrame × ℕ) Error) × ReadsBody body answer
     × ((other : Result (SaslFrame × ℕ) Error) → ReadsBody body other → other ≡ answer)
 
--- what a body spells has an ASCII mechanism (part 1, section 1.6.21)
+-- the mechanism of every init that a body spells is ASCII (part 1, section 1.6.21)
 abbrev pub SpelledMechanismsAreAscii : Type 0
 SpelledMechanismsAreAscii = (frame : SaslFrame) (body : List ℕ) → Spells frame body → HasAsciiMechanism frame
 

@@ -1,4 +1,4 @@
--- What frames that own their texts hold, and which views have such a frame (AMQP 1.0, part 5, section 5.3).
+-- The frames that owned values hold, and which views have such a frame (AMQP 1.0, part 5, section 5.3).
 use Rattle.std.specs.Prelude.{IsAscii}
 use Rattle.fe2o3_sasl_wire.specs.declared.sasl_frames.Frame.{Frame}
 use Rattle.fe2o3_sasl_wire.specs.declared.sasl_frames.Frame.TheVariants as frames
@@ -20,7 +20,8 @@ abbrev pub HasAsciiMechanism : SaslFrame → Type 0
 HasAsciiMechanism (Init mechanism response hostname) = IsAscii mechanism
 HasAsciiMechanism _ = Unit {0}
 
--- why no frame is made of a view: the mechanism is not ASCII (part 1, section 1.6.21); or no memory, and then it is
+-- why a view has no owned frame: the mechanism is not ASCII (part 1, section 1.6.21); or allocation fails, and then it
+-- is
 abbrev pub RefusesView : SaslFrame → Error → Type 0
 RefusesView frame faults.DecodeError = ¬ (HasAsciiMechanism frame)
 RefusesView frame faults.OutOfMemory = HasAsciiMechanism frame

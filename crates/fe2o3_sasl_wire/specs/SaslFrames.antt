@@ -44,12 +44,12 @@ pub data Field : Type 0 where
   Symbol : List ℕ → Field
   Symbols : List (List ℕ) → Field
 
--- a field that may be left out (part 1, section 1.4)
+-- a field that may be absent (part 1, section 1.4)
 abbrev pub optional : (List ℕ → Field) → Option (List ℕ) → Field
 optional field None = Null
 optional field (Some bytes) = field bytes
 
--- the fields of a frame in their order (part 5, sections 5.3.3.1 to 5.3.3.5)
+-- the fields of a frame, in order (part 5, sections 5.3.3.1 to 5.3.3.5)
 abbrev pub fields_of : SaslFrame → List Field
 fields_of (Mechanisms names) = Symbols names ∷ []
 fields_of (Init mechanism response hostname) = Symbol mechanism ∷ optional Binary response ∷ optional Text hostname ∷ []
@@ -59,11 +59,11 @@ fields_of (Outcome code bytes) = Ubyte (outcome_code code) ∷ optional Binary b
 
 -- ---- encodings
 
--- each number is a byte (part 1, section 1.2), as in each list that stands for bytes of the code
+-- each number is a byte (part 1, section 1.2), as in each list of bytes that the code holds
 abbrev pub IsBytes : List ℕ → Type 0
 IsBytes bytes = (i : ℕ) → slice_index bytes i < 256
 
--- what a size, a length or a count is below (part 1, section 1.2)
+-- the bound of a size, a length or a count (part 1, section 1.2)
 abbrev pub limit : Form → ℕ
 limit Eight = 2 ^ 8
 limit ThirtyTwo = 2 ^ 32
@@ -78,11 +78,11 @@ abbrev pub choice : ℕ → ℕ → Form → ℕ
 choice short long Eight = short
 choice short long ThirtyTwo = long
 
--- a length or a size, and then that many bytes (part 1, section 1.2.2)
+-- a length or a size, followed by that many bytes (part 1, section 1.2.2)
 abbrev pub content : Form → List ℕ → List ℕ
 content form bytes = number form (length bytes) ++ bytes
 
--- the constructor of a form, a length or a size, and then that many bytes (part 1, section 1.2.2)
+-- the constructor of a form, a length or a size, followed by that many bytes (part 1, section 1.2.2)
 abbrev pub sized : ℕ → ℕ → Form → List ℕ → List ℕ
 sized short long form bytes = choice short long form ∷ content form bytes
 
@@ -97,7 +97,7 @@ list_body form count items = number form count ++ items
 
 -- ---- which bodies spell a frame
 
--- a constructor, a length and that many bytes, in either form whatever the length (part 1, section 1.2.2)
+-- a constructor, a length and that many bytes, in either form for any length (part 1, section 1.2.2)
 pub record SpellsVariable (short long : ℕ) (bytes b : List ℕ) : Type 0 where
   pub form : Form
   pub fits : length bytes < limit form
@@ -107,7 +107,7 @@ pub record SpellsVariable (short long : ℕ) (bytes b : List ℕ) : Type 0 where
 abbrev pub SpellsSymbol : List ℕ → List ℕ → Type 0
 SpellsSymbol bytes b = IsAscii bytes × SpellsVariable 0xa3 0xb3 bytes b
 
--- an array of symbols; the constructor of the elements stands also where there are none (part 1, section 1.6.24)
+-- an array of symbols; it has the constructor of the elements even if it has none (part 1, section 1.6.24)
 pub record SpellsArray (symbols : List (List ℕ)) (b : List ℕ) : Type 0 where
   pub form : Form
   pub inner : Form
@@ -127,8 +127,8 @@ pub record SpellsSized (count : ℕ) (items b : List ℕ) : Type 0 where
 abbrev pub SpellsList : ℕ → List ℕ → List ℕ → Type 0
 SpellsList count items b = ((count ≡ 0) × (items ≡ []) × (b ≡ 0x45 ∷ [])) ⊎ SpellsSized count items b
 
--- a field that is there: a binary is any bytes and a string is UTF-8 (part 1, sections 1.6.19 and 1.6.20); one symbol
--- stands for a list of one (part 1, section 1.4, on multiple values)
+-- a field that is present: a binary is any bytes and a string is UTF-8 (part 1, sections 1.6.19 and 1.6.20); one symbol
+-- is read as a list of one (part 1, section 1.4, on multiple values)
 abbrev pub SpellsField : Field → List ℕ → Type 0
 SpellsField Null b = b ≡ 0x40 ∷ []
 SpellsField (Ubyte n) b = b ≡ 0x50 ∷ n ∷ []
@@ -137,7 +137,7 @@ SpellsField (Text bytes) b = IsUtf8 bytes × SpellsVariable 0xa1 0xb1 bytes b
 SpellsField (Symbol bytes) b = SpellsSymbol bytes b
 SpellsField (Symbols names) b = ((name : List ℕ) × (names ≡ name ∷ []) × SpellsSymbol name b) ⊎ SpellsArray names b
 
--- so many items, one for each field from the first on; nulls at the end may be absent (part 1, section 1.4)
+-- that many items, one for each field from the first on; nulls at the end may be absent (part 1, section 1.4)
 abbrev pub SpellsItems : List Field → ℕ → List ℕ → Type 0
 SpellsItems [] count items = (count ≡ 0) × (items ≡ [])
 SpellsItems (field ∷ fields) count items =
@@ -145,7 +145,7 @@ SpellsItems (field ∷ fields) count items =
     ⊎ ((before : ℕ) × (item : List ℕ) × (others : List ℕ) × (count ≡ suc before) × (items ≡ item ++ others)
     × SpellsField field item × SpellsItems fields before others)
 
--- a descriptor: its code as smallulong or as ulong, or its name as a symbol (part 1, sections 1.4 and 1.6.6)
+-- a descriptor: the code as smallulong or as ulong, or the name as a symbol (part 1, sections 1.4 and 1.6.6)
 abbrev pub SpellsDescriptor : ℕ × List ℕ → List ℕ → Type 0
 SpellsDescriptor descriptor b =
     (b ≡ 0x53 ∷ descriptor.0 ∷ []) ⊎ ((b ≡ 0x80 ∷ to_be_bytes w64 descriptor.0) ⊎ SpellsSymbol descriptor.1 b)
@@ -171,42 +171,42 @@ pub record Begins (body : List ℕ) (frame : SaslFrame) (n : ℕ) : Type 0 where
   pub within : n ≤ length body
   pub spelled : Spells frame (take n body)
 
--- the fault of a body that begins with no frame: NotImplemented where, of four bytes or more, the type is not 1 or the
--- data offset is not 2 (part 5, section 5.3.1), else DecodeError
+-- the error for a body that begins with no frame: NotImplemented if, of four bytes or more, the type is not 1 or the
+-- data offset is not 2 (part 5, section 5.3.1), otherwise DecodeError
 unfoldable pub fault_of : List ℕ → Error
 fault_of body = if nat_lt (length body) 4 then faults.DecodeError
     else (if slice_index body 1 == 1 && (slice_index body 0 == 2) then faults.DecodeError else faults.NotImplemented)
 
--- the frame that a beginning of a body spells and its length, or the fault where none does (part 5, section 5.3.1)
+-- the frame that a prefix of a body spells and its length, or the error if none does (part 5, section 5.3.1)
 abbrev pub ReadsBody : List ℕ → Result (SaslFrame × ℕ) Error → Type 0
 ReadsBody body (Ok answer) = Begins body answer.0 answer.1
 ReadsBody body (Err fault) = (fault ≡ fault_of body) × ((frame : SaslFrame) (n : ℕ) → ¬ (Begins body frame n))
 
--- a beginning of the old bytes spells the frame, the new bytes are what stood behind it (part 5, section 5.3.1)
+-- a prefix of the old bytes spells the frame, and the new bytes are the rest (part 5, section 5.3.1)
 abbrev pub TakesFrame : List ℕ → List ℕ → SaslFrame → Type 0
 TakesFrame old new frame = (n : ℕ) × ReadsBody old (Ok (frame, n)) × (new ≡ drop n old)
 
--- why a body is not decoded: its fault; or no memory, and then a beginning spells a frame (part 5, section 5.3.1)
+-- why a body is not decoded: its error; or allocation fails, and then a prefix spells a frame (part 5, section 5.3.1)
 abbrev pub RefusesBody : List ℕ → Error → Type 0
 RefusesBody body faults.OutOfMemory = (frame : SaslFrame) × (n : ℕ) × Begins body frame n
 RefusesBody body fault = ReadsBody body (Err fault)
 
 -- ---- the one body that is written: the shortest forms, and no nulls at the end
 
--- the form of a length or a size: one byte where it is at most 255 (part 1, section 1.2)
+-- the form of a length or a size: one byte if it is at most 255 (part 1, section 1.2)
 abbrev pub shortest : ℕ → Form
 shortest n = if nat_lt n 256 then Eight else ThirtyTwo
 
--- a body with its constructor and its size: one byte for the size where it is at most 255 (part 1, section 1.2)
+-- a body with its constructor and its size: one byte for the size if it is at most 255 (part 1, section 1.2)
 abbrev pub compact : ℕ → ℕ → (Form → List ℕ) → List ℕ
 compact short long body = let form = shortest (length (body Eight)) in sized short long form (body form)
 
--- the form of the elements: one byte where each symbol has at most 255 bytes (part 1, section 1.2.4)
+-- the form of the elements: one byte if each symbol has at most 255 bytes (part 1, section 1.2.4)
 abbrev pub inner_form : List (List ℕ) → Form
 inner_form names = if list_all (λ name. nat_lt (length name) 256) names then Eight else ThirtyTwo
 
--- a field that is written: a binary, a string or a symbol in the form of its length, and a list of symbols always as an
--- array (part 1, sections 1.2.2, 1.2.4 and 1.6)
+-- a field in its canonical encoding: a binary, a string or a symbol in the form of its length, and a list of symbols
+-- always as an array (part 1, sections 1.2.2, 1.2.4 and 1.6)
 abbrev pub canonical_field : Field → List ℕ
 canonical_field Null = 0x40 ∷ []
 canonical_field (Ubyte n) = 0x50 ∷ n ∷ []
@@ -215,7 +215,7 @@ canonical_field (Text bytes) = compact 0xa1 0xb1 (λ form. bytes)
 canonical_field (Symbol bytes) = compact 0xa3 0xb3 (λ form. bytes)
 canonical_field (Symbols names) = compact 0xe0 0xf0 (λ form. array_body form (inner_form names) names)
 
--- a field before those that are written: a null with none behind it is left out (part 1, section 1.4)
+-- a field before the fields to write: a null with nothing after it is omitted (part 1, section 1.4)
 abbrev pub with_field : Field → List Field → List Field
 with_field Null [] = []
 with_field field fields = field ∷ fields
@@ -225,8 +225,8 @@ abbrev pub written : List Field → List Field
 written [] = []
 written (field ∷ fields) = with_field field (written fields)
 
--- the body (part 5, section 5.3.1): its code as smallulong, and the count and the items of its fields as one list (part 1,
--- section 1.2.3); none where a size, so the list's, has more than 32 bits
+-- the canonical body (part 5, section 5.3.1): the code as smallulong, and the count and the items of its fields as one
+-- list (part 1, section 1.2.3); none if a size, and so that of the list, has more than 32 bits
 unfoldable pub canonical : SaslFrame → Option (List ℕ)
 canonical frame = let fields = written (fields_of frame) in
     let list : Form → List ℕ = λ form. list_body form (length fields) (flat_map canonical_field fields) in
@@ -241,7 +241,8 @@ IsText (Symbol bytes) = IsAscii bytes
 IsText (Symbols names) = AllByRecursion IsAscii names
 IsText _ = Unit {0}
 
--- a frame's symbols are ASCII, its hostname UTF-8, as in each frame of the code (part 1, sections 1.6.20 and 1.6.21)
+-- a frame's symbols are ASCII, its hostname UTF-8, like those of each frame of the code (part 1, sections 1.6.20 and
+-- 1.6.21)
 abbrev pub HasTexts : SaslFrame → Type 0
 HasTexts frame = AllByRecursion IsText (fields_of frame)
 
@@ -249,7 +250,8 @@ HasTexts frame = AllByRecursion IsText (fields_of frame)
 abbrev pub AppendsCanonical : SaslFrame → List ℕ → List ℕ → Type 0
 AppendsCanonical frame old new = (body : List ℕ) × (canonical frame ≡ Some body) × (new ≡ old ++ body)
 
--- why a frame is not written: it has no canonical body; or no memory, and then it has one (part 5, section 5.3.1)
+-- why a frame is not written: it has no canonical body; or allocation fails, and then it has one (part 5, section
+-- 5.3.1)
 abbrev pub RefusesFrame : SaslFrame → Error → Type 0
 RefusesFrame frame faults.TooLarge = canonical frame ≡ None
 RefusesFrame frame faults.OutOfMemory = IsSome (canonical frame)

@@ -60,8 +60,8 @@ impl<T: Eq> Eq for Array<T> {
 }
 
 impl<T: Clone> Array<T> {
-    /// An equal array, where clones of the items equal them, as those of symbols and of numbers do.
-    /// OutOfMemory where there is no memory for it.
+    /// Returns an equal array, if clones of the items equal them, like those of symbols and of numbers. OutOfMemory if
+    /// allocation fails.
     pub fn clone(&self) -> Result<Array<T>, OutOfMemory>
         requires { (item copy : T) → T.is_clone item copy → copy ≡ item }
         ensures { IfOk result (λ copy. copy.0.items ≡ self.now.0.items) }
@@ -70,8 +70,8 @@ impl<T: Clone> Array<T> {
     }
 }
 
-/// The mechanisms that a server offers (AMQP 1.0, part 5, section 5.3.3.1). The standard asks for at
-/// least one name; an empty list is read and written here all the same.
+/// The mechanisms that a server offers (AMQP 1.0, part 5, section 5.3.3.1). The standard requires at least one name,
+/// but an empty list is read and written here.
 #[derive(Debug, Drop)]
 pub struct SaslMechanisms {
     /// The names of the mechanisms.
@@ -79,7 +79,7 @@ pub struct SaslMechanisms {
 }
 
 impl SaslMechanisms {
-    /// The offer of ANONYMOUS alone. OutOfMemory where there is no memory for it.
+    /// Returns the offer of ANONYMOUS only. OutOfMemory if allocation fails.
     pub fn anonymous(alloc: Global) -> Result<SaslMechanisms, OutOfMemory>
         ensures { IfOk result (λ mechanisms.
             mechanisms_frame mechanisms ≡ Mechanisms (codes "ANONYMOUS" ∷ [])) }
@@ -116,14 +116,14 @@ impl Eq for SaslMechanisms {
     ghost laws = { on_equiv mechanisms_frame same_frame_equiv };
 }
 
-/// The mechanism that the client chooses (AMQP 1.0, part 5, section 5.3.3.2). Its `Debug` shows the
-/// initial response by its length alone, since it may be a password.
+/// The mechanism that the client chooses (AMQP 1.0, part 5, section 5.3.3.2). Its `Debug` shows only the length of the
+/// initial response, which may be a password.
 #[derive(Drop)]
 pub struct SaslInit {
     /// The name of the mechanism.
     pub mechanism: Symbol,
 
-    /// What the client says first, where the mechanism lets it.
+    /// The client's first message, if the mechanism has one.
     pub initial_response: Option<Binary>,
 
     /// The host that the client asks for.
@@ -175,7 +175,7 @@ impl Eq for SaslInit {
 /// A challenge of the server (AMQP 1.0, part 5, section 5.3.3.3).
 #[derive(Debug, Drop)]
 pub struct SaslChallenge {
-    /// What the mechanism asks.
+    /// The message of the mechanism.
     pub challenge: Binary,
 }
 
@@ -203,11 +203,11 @@ impl Eq for SaslChallenge {
     ghost laws = { on_equiv challenge_frame same_frame_equiv };
 }
 
-/// The client's response to a challenge (AMQP 1.0, part 5, section 5.3.3.4). Its `Debug` shows the
-/// response by its length alone, since it may be a password.
+/// The client's response to a challenge (AMQP 1.0, part 5, section 5.3.3.4). Its `Debug` shows only the length of the
+/// response, which may be a password.
 #[derive(Drop)]
 pub struct SaslResponse {
-    /// What the mechanism answers.
+    /// The answer of the mechanism.
     pub response: Binary,
 }
 
@@ -249,7 +249,7 @@ pub struct SaslOutcome {
     /// How it ended.
     pub code: SaslCode,
 
-    /// What the mechanism says at its end.
+    /// The message of the mechanism at its end.
     pub additional_data: Option<Binary>,
 }
 
@@ -284,16 +284,16 @@ pub enum SaslCode {
     /// The client is authenticated.
     Ok = 0,
 
-    /// Its credentials were refused.
+    /// The client's credentials were rejected.
     Auth = 1,
 
     /// A system error.
     Sys = 2,
 
-    /// A system error that stays.
+    /// A system error that is permanent.
     SysPerm = 3,
 
-    /// A system error that may pass.
+    /// A system error that may be transient.
     SysTemp = 4,
 }
 
@@ -326,7 +326,7 @@ impl TryFrom<u8> for SaslCode {
 
     ghost try_from_gives = { DecodesCode };
 
-    /// Hands the byte back where it stands for no code.
+    /// Returns the byte itself as the error if it is not a code.
     fn try_from(value: u8) -> Result<Self, u8> {
         match value {
             0 => Ok(SaslCode::Ok),

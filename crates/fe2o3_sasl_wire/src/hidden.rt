@@ -2,7 +2,7 @@
 
 use std::fmt;
 
-/// Bytes that may be a password, shown by their length alone.
+/// Bytes that may be a password, of which only the length is shown.
 #[derive(Drop)]
 pub(crate) struct Hidden<'a>(pub(crate) &'a [u8]);
 

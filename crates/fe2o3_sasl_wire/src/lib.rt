@@ -1,8 +1,6 @@
-//! The bytes that open an AMQP 1.0 connection: protocol headers and the five SASL frames, after
-//! `fe2o3-amqp` 0.18.4.
+//! The bytes that open an AMQP 1.0 connection: protocol headers and the five SASL frames, after `fe2o3-amqp` 0.18.4.
 //!
-//! A frame is read in place by [`view_frame`], which takes no memory, or as a value of its own by
-//! [`FrameCodec`], which also writes frames.
+//! [`view_frame`] reads a frame in place, without an allocation. [`FrameCodec`] reads owned frames, and writes frames.
 #![tactic(auto)]
 
 pub mod amqp_types;

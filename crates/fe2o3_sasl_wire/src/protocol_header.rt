@@ -1,5 +1,5 @@
-//! The eight bytes that each side of a connection sends first (AMQP 1.0, part 2, section 2.2). But
-//! for `to_bytes` and `encode`, nothing here takes memory.
+//! The eight bytes that each side of a connection sends first (AMQP 1.0, part 2, section 2.2). Only `to_bytes` and
+//! `encode` allocate.
 
 ghost use Rattle.std.specs.Prelude.{◌≡◌, ◌==◌, ◌↔◌, ◌++◌, ⊤, IsTrue, IfOk, OnOk, OnErr, bytes_eq};
 ghost use Rattle.std.specs.Cmp.{on_per, on_equiv, partial_equiv_from_equiv, nat_eq_equiv};
@@ -25,7 +25,7 @@ const REVISION: u8 = 0;
 /// 1.0.0.
 #[derive(Copy, Debug)]
 pub struct ProtocolHeader {
-    /// Which protocol follows.
+    /// The protocol that follows.
     pub id: ProtocolId,
 
     /// The major version.
@@ -65,7 +65,7 @@ impl Eq for ProtocolHeader {
     ghost laws = { on_equiv header_bytes nat_list_eq_equiv };
 }
 
-/// The header of AMQP.
+/// Returns the header of AMQP.
 impl Default for ProtocolHeader {
     ghost is_default = { λ header. header ≡ first_version Amqp };
 
@@ -75,7 +75,7 @@ impl Default for ProtocolHeader {
 }
 
 impl ProtocolHeader {
-    /// A header of these four values.
+    /// Returns a header with these four values.
     pub fn new(id: ProtocolId, major: u8, minor: u8, revision: u8) -> Self
         ensures { result ≡ record { id = id; major = major; minor = minor; revision = revision } }
     {
@@ -87,50 +87,50 @@ impl ProtocolHeader {
         }
     }
 
-    /// The header of AMQP 1.0.0.
+    /// Returns the header of AMQP 1.0.0.
     pub fn amqp() -> Self
         ensures { result ≡ first_version Amqp }
     {
         ProtocolHeader::new(ProtocolId::Amqp, MAJOR, MINOR, REVISION)
     }
 
-    /// Whether AMQP follows.
+    /// Returns whether AMQP follows.
     pub fn is_amqp(&self) -> bool
         ensures { IsTrue result ↔ (self.now.id ≡ Amqp) }
     {
         self.id == ProtocolId::Amqp
     }
 
-    /// The header of TLS 1.0.0.
+    /// Returns the header of TLS 1.0.0.
     pub fn tls() -> Self
         ensures { result ≡ first_version Tls }
     {
         ProtocolHeader::new(ProtocolId::Tls, MAJOR, MINOR, REVISION)
     }
 
-    /// Whether TLS follows.
+    /// Returns whether TLS follows.
     pub fn is_tls(&self) -> bool
         ensures { IsTrue result ↔ (self.now.id ≡ Tls) }
     {
         self.id == ProtocolId::Tls
     }
 
-    /// The header of SASL 1.0.0.
+    /// Returns the header of SASL 1.0.0.
     pub fn sasl() -> Self
         ensures { result ≡ first_version Sasl }
     {
         ProtocolHeader::new(ProtocolId::Sasl, MAJOR, MINOR, REVISION)
     }
 
-    /// Whether SASL follows.
+    /// Returns whether SASL follows.
     pub fn is_sasl(&self) -> bool
         ensures { IsTrue result ↔ (self.now.id ≡ Sasl) }
     {
         self.id == ProtocolId::Sasl
     }
 
-    /// The eight bytes of the header: "AMQP", the protocol, major, minor and revision (AMQP 1.0, part
-    /// 2, section 2.2). OutOfMemory where there is no memory for them; `<[u8; 8]>::from` needs none.
+    /// Returns the eight bytes of the header: "AMQP", the protocol, major, minor and revision (AMQP 1.0, part 2,
+    /// section 2.2). OutOfMemory if allocation fails; `<[u8; 8]>::from` needs none.
     pub fn to_bytes(self, alloc: Global) -> Result<Bytes, OutOfMemory>
         ensures { IfOk result (λ bytes. bytes ≡ header_bytes self) }
     {
@@ -153,7 +153,7 @@ impl TryFrom<[u8; 8]> for ProtocolHeader {
 
     ghost try_from_gives = { DecodesHeader };
 
-    /// Hands the bytes back where they are no header.
+    /// Returns the bytes themselves as the error if they are no header.
     fn try_from(value: [u8; 8]) -> Result<Self, [u8; 8]> {
         let [b'A', b'M', b'Q', b'P', id, major, minor, revision] = value else {
             return Err(value);
@@ -170,7 +170,7 @@ impl<'a> TryFrom<&'a [u8]> for ProtocolHeader {
 
     ghost try_from_gives = { DecodesSlice };
 
-    /// Hands the slice back where it is no header, as where it has not eight bytes.
+    /// Returns the slice itself as the error if it is no header, for example if it does not have eight bytes.
     fn try_from(value: &'a [u8]) -> Result<Self, &'a [u8]> {
         if value.len() != 8 {
             return Err(value);
@@ -189,7 +189,7 @@ impl TryFrom<Bytes> for ProtocolHeader {
 
     ghost try_from_gives = { DecodesHeader };
 
-    /// Hands the bytes back where they are no header, as where there are not eight.
+    /// Returns the bytes themselves as the error if they are no header, for example if there are not eight.
     fn try_from(value: Bytes) -> Result<Self, Bytes> {
         match ProtocolHeader::try_from(value.as_slice()) {
             Ok(header) => Ok(header),
@@ -198,7 +198,7 @@ impl TryFrom<Bytes> for ProtocolHeader {
     }
 }
 
-/// Which protocol a header asks for (AMQP 1.0, part 2, section 2.2; part 5, sections 5.2 and 5.3).
+/// The protocol of a header (AMQP 1.0, part 2, section 2.2; part 5, sections 5.2 and 5.3).
 #[derive(Copy, Debug)]
 pub enum ProtocolId {
     /// AMQP.
@@ -240,7 +240,7 @@ impl TryFrom<u8> for ProtocolId {
 
     ghost try_from_gives = { DecodesId };
 
-    /// Hands the byte back where it stands for no protocol.
+    /// Returns the byte itself as the error if it is no protocol.
     fn try_from(value: u8) -> Result<Self, u8> {
         match value {
             0x0 => Ok(ProtocolId::Amqp),
@@ -254,7 +254,7 @@ impl TryFrom<u8> for ProtocolId {
 /// Why a negotiation ends.
 #[derive(Clone, Copy, Debug, PartialEq, Eq, Error)]
 pub enum NegotiationError {
-    /// These eight bytes came where a header was due. They were taken from the buffer.
+    /// These eight bytes arrived where a header was expected. They were taken from the buffer.
     #[error("Protocol header mismatch")]
     ProtocolHeaderMismatch([u8; 8]),
 }
@@ -274,13 +274,12 @@ impl Clone for ProtocolHeaderCodec {
 }
 
 impl ProtocolHeaderCodec {
-    /// A codec. It holds nothing, so every codec reads and writes alike.
+    /// Returns a codec. It holds nothing, so all codecs are equal.
     pub fn new() -> Self {
         ProtocolHeaderCodec {}
     }
 
-    /// Appends the eight bytes of the header. OutOfMemory where there is no memory for them, and then
-    /// the buffer stays as it was.
+    /// Appends the eight bytes of the header. OutOfMemory if allocation fails, and then the buffer is unchanged.
     pub fn encode(&mut self, item: ProtocolHeader, dst: &mut BytesMut) -> Result<(), OutOfMemory>
         ensures ok { OnOk result (dst.new.items ≡ dst.old.items ++ header_bytes item) }
         ensures err { OnErr result (dst.new.items ≡ dst.old.items) }
@@ -288,9 +287,8 @@ impl ProtocolHeaderCodec {
         dst.extend_from_slice(&<[u8; 8]>::from(item))
     }
 
-    /// Takes eight bytes from the front and answers their header. Below eight bytes it answers None
-    /// and takes nothing. ProtocolHeaderMismatch, with the eight bytes, where they are no header; they
-    /// are taken then too.
+    /// Takes eight bytes from the front and returns their header. Of fewer than eight bytes it takes none and returns
+    /// None. ProtocolHeaderMismatch, with the eight bytes, if they are no header; they are taken then too.
     pub fn decode(&mut self, src: &mut BytesMut) -> Result<Option<ProtocolHeader>, NegotiationError>
         ensures { DecodesBuffer src.old.items src.new.items result }
     {

@@ -26,14 +26,13 @@ use std::alloc::{AllocError, Global};
 pub use symbols_view::{SymbolsIter, SymbolsView};
 use writing::{put_number, put_start, shortest, width};
 
-/// How many words of four bytes stand before the value of a frame, its size among them (AMQP 1.0,
-/// part 2, section 2.3.1).
+/// The length of a frame's header in words of four bytes, including its size (AMQP 1.0, part 2, section 2.3.1).
 pub(crate) const DATA_OFFSET: u8 = 0x02;
 
-/// The type of a frame that is a SASL frame (AMQP 1.0, part 5, section 5.3.1).
+/// The type of a SASL frame (AMQP 1.0, part 5, section 5.3.1).
 pub(crate) const FRAME_TYPE_SASL: u8 = 0x01;
 
-/// A SASL frame (AMQP 1.0, part 5, section 5.3.3). Its `Debug` shows a response by its length alone.
+/// A SASL frame (AMQP 1.0, part 5, section 5.3.3). Its `Debug` shows only the length of a response.
 #[derive(Debug, Drop)]
 pub enum Frame {
     /// The mechanisms that the server offers.
@@ -91,17 +90,15 @@ impl Eq for Frame {
 #[derive(Debug, Drop)]
 pub struct FrameCodec {}
 
-/// How long the items of a list can be, in bytes: a size of 32 bits counts four bytes more.
+/// The maximum length of a list's items, in bytes: a size of 32 bits counts four bytes more.
 const MAX_ITEMS_LEN: usize = 0xffff_fffb;
 
 impl FrameCodec {
-    /// Appends the canonical body of the frame: each size and length in its shortest form, the
-    /// mechanisms as an array, and no nulls at the end. In this order: TooLarge where a size is more
-    /// than 32 bits can say, OutOfMemory where there is no memory for the body. After a refusal the
-    /// buffer is as before; the frame is taken by value, so it is gone, and who may need it again
-    /// clones it first. Memory is asked for at most once, which is seen by reading and is no clause.
-    /// Each frame has texts: its symbols are ASCII and its hostname is UTF-8, so its canonical body
-    /// spells it.
+    /// Appends the canonical body of the frame: each size and length in its shortest form, the mechanisms as an array,
+    /// and no nulls at the end. Errors, in this order: TooLarge if a size has more than 32 bits, and OutOfMemory if
+    /// allocation fails. An error leaves the buffer unchanged. The frame is taken by value: clone it first if you may
+    /// need it again. The call allocates at most once, which is seen by reading and is no clause. Each frame's symbols
+    /// are ASCII and its hostname is UTF-8, so its canonical body spells it.
     pub fn encode(&mut self, item: Frame, dst: &mut BytesMut) -> Result<(), Error>
         ensures ok { OnOk result (AppendsCanonical (owned_frame item) dst.old.items dst.new.items) }
         ensures texts { HasTexts (owned_frame item) }
@@ -123,11 +120,13 @@ impl FrameCodec {
         Ok(())
     }
 
-    /// Reads one frame from the front of a buffer and takes its bytes; later bytes stay. In this
-    /// order: fewer than four bytes are a DecodeError, another type than 1 or data offset than 2 is
-    /// NotImplemented, anything else that begins with no frame is a DecodeError, and a frame for
-    /// whose copy there is no memory is OutOfMemory. After a refusal the buffer is as before. Each
-    /// frame has texts, as in `encode`.
+    /// Reads one frame from the front of a buffer and takes its bytes; later bytes stay. Errors, in this order:
+    /// - DecodeError for fewer than four bytes;
+    /// - NotImplemented for another type than 1 or data offset than 2;
+    /// - DecodeError for any other bytes that begin with no frame;
+    /// - OutOfMemory if allocation fails.
+    ///
+    /// An error leaves the buffer unchanged. Each frame's symbols are ASCII and its hostname is UTF-8.
     pub fn decode(&mut self, alloc: Global, src: &mut BytesMut) -> Result<Frame, Error>
         ensures ok { IfOk result (λ frame. TakesFrame src.old.items src.new.items (owned_frame frame)) }
         ensures texts { IfOk result (λ frame. HasTexts (owned_frame frame)) }

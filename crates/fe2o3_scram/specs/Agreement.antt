@@ -39,8 +39,8 @@ pub record ClientKnows (side : ClientSide) (nonce text : List ℕ) : Type 0 wher
   pub first : ServerFirst
   pub reads : ReadsServerFirst (base64_text nonce) side.secret side.limits text (Ok first)
 
--- what the server knows: what the client-first message named to it, the record of its user, and what the client-final
--- message named
+-- what the server knows: what the client-first message named, the record of its user, and what the client-final message
+-- named
 pub record ServerKnows (provider : Provider) (nonce init response : List ℕ) : Type 0 where
   pub client : ClientFirst
   pub stored : Record
@@ -54,17 +54,17 @@ pub record ServerKnows (provider : Provider) (nonce init response : List ℕ) : 
 abbrev pub keys_known : {side : ClientSide} {nonce text : List ℕ} → ClientKnows side nonce text → ClientKeys
 keys_known {side} client = keys_for side.version side.secret client.first
 
--- AuthMessage, of the messages as the client has them
+-- AuthMessage of the messages as the client has them (RFC 5802, section 3)
 abbrev pub client_auth_message : {side : ClientSide} {nonce text : List ℕ} → ClientKnows side nonce text → List ℕ
 client_auth_message {side} {nonce} {text} client =
     auth_message (client_first_bare side.user (base64_text nonce)) text (without_proof client.first.nonce)
 
--- the server's challenge
+-- the challenge that the server sent
 abbrev pub challenge_known : {provider : Provider} {nonce init response : List ℕ}
     → ServerKnows provider nonce init response → ServerChallenge
 challenge_known {provider} {nonce} server = challenge_of server.client (base64_text nonce) server.stored
 
--- AuthMessage, of the messages as the server has them
+-- AuthMessage of the messages as the server has them (RFC 5802, section 3)
 abbrev pub server_auth_message : {provider : Provider} {nonce init response : List ℕ}
     → ServerKnows provider nonce init response → List ℕ
 server_auth_message server = auth_message server.client.bare (challenge_known server).first server.final.without
@@ -103,8 +103,8 @@ pub record Collide {side : ClientSide} {provider : Provider} {own text its init 
   pub one : hmac_of provider.version (keys_known client).server_key (client_auth_message client)
       ≡ hmac_of provider.version server.stored.server_key (server_auth_message server)
 
--- a client that verified the message by which a server accepted: both sides agree where their AuthMessages are equal,
--- and where these differ they collide
+-- a client that verified the message by which a server accepted: both sides agree if their AuthMessages are equal, and
+-- otherwise these collide
 abbrev pub VerifiedTextsAgree : Type 0
 VerifiedTextsAgree = (side : ClientSide) (provider : Provider) (own text last its init response verifier : List ℕ)
     → Verified side own text last → AcceptedTexts provider its init response verifier → Part last 0 verifier

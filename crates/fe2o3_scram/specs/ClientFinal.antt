@@ -21,12 +21,12 @@ use Rattle.fe2o3_scram.specs.Credentials.{Record}
 use Rattle.fe2o3_scram.specs.Hmac.{digest_len}
 use Rattle.fe2o3_scram.specs.Readings.{IsFirst, NoneHolds, Reads}
 
--- client-final-message-without-proof of a client that cannot bind a channel (RFC 5802, section 7): its GS2 header in
+-- client-final-message-without-proof of a client that cannot bind a channel (RFC 5802, section 7): the GS2 header in
 -- base64 and the nonce of both sides
 abbrev pub without_proof : List ℕ → List ℕ
 without_proof nonce = joined ((codes "c=" ++ base64_text (header_text NotSupported)) ∷ (codes "r=" ++ nonce) ∷ [])
 
--- client-final-message (RFC 5802, section 7): what stands before the proof, and the proof
+-- client-final-message (RFC 5802, section 7): the text before the proof, and the proof
 abbrev pub client_final_of : List ℕ → List ℕ → List ℕ
 client_final_of without proof = joined (without ∷ (codes "p=" ++ base64_text proof) ∷ [])
 
@@ -45,7 +45,7 @@ answer_values answer = record {
   keys = answer.keys;
 }
 
--- the answer by these keys (RFC 5802, section 3); the messages stand in the proof as they were sent
+-- the answer by these keys (RFC 5802, section 3); the proof is over the messages as they were sent
 abbrev pub answer_by : ClientKeys → List ℕ → List ℕ → List ℕ → Answer
 answer_by keys bare text without =
     let auth = auth_message bare text without in
@@ -66,12 +66,12 @@ keys_for version (Keys keys) first = keys
 keys_for version (Both password keys) first =
     if fit keys first then keys else keys_of version (password_bytes password) first.salt first.count
 
--- the answer to a server-first message that names these values
+-- the answer to a server-first message with these values (RFC 5802, section 5)
 abbrev pub answer_of : ScramVersion → Secret → List ℕ → List ℕ → ServerFirst → Answer
 answer_of version secret bare text first =
     answer_by (keys_for version secret first) bare text (without_proof first.nonce)
 
--- what a client-final message names (RFC 5802, section 7): the proof, and what stands before it
+-- what a client-final message names (RFC 5802, section 7): the proof, and the text before it
 pub record ClientFinal : Type 0 where
   pub without : List ℕ
   pub proof : List ℕ
@@ -80,8 +80,8 @@ pub record ClientFinal : Type 0 where
 abbrev pub client_final_values : CodeClientFinal → ClientFinal
 client_final_values final = record { without = final.without_proof.now; proof = final.proof.items }
 
--- what a server holds against a client-final message (RFC 5802, section 5): its version, the client's GS2 header, the
--- two messages before, the nonce of both sides, and the user's record
+-- what a server knows when it reads a client-final message (RFC 5802, section 5): its version, the client's GS2 header,
+-- the two messages before, the nonce of both sides, and the user's record
 pub record Server : Type 0 where
   pub version : ScramVersion
   pub header : ChannelBindingFlag
@@ -90,7 +90,7 @@ pub record Server : Type 0 where
   pub nonce : List ℕ
   pub stored : Record
 
--- these values
+-- a server with these values
 abbrev pub server_of : ScramVersion → ChannelBindingFlag → List ℕ → List ℕ → List ℕ → Record → Server
 server_of version header bare first nonce stored = record {
   version = version;
@@ -101,11 +101,11 @@ server_of version header bare first nonce stored = record {
   stored = stored;
 }
 
--- the last part is this proof, and this stands before it (RFC 5802, section 5.1)
+-- the last part is this proof, and this is the text before it (RFC 5802, section 5.1)
 abbrev pub HasProof : List ℕ → ClientFinal → Type 0
 HasProof text final = IsBytes final.proof × LastPart text final.without (codes "p=" ++ base64_text final.proof)
 
--- the key that the proof gives away, where it meets the stored key (RFC 5802, section 3)
+-- the ClientKey that a server recovers from the proof (RFC 5802, section 3)
 abbrev pub recovered_key : Server → ClientFinal → List ℕ
 recovered_key server final = recovered_client_key server.version server.stored.stored_key final.proof
     (auth_message server.bare server.first final.without)
@@ -115,15 +115,15 @@ abbrev pub Meets : Server → ClientFinal → Type 0
 Meets server final = MeetsStoredKey server.version server.stored.stored_key final.proof
     (auth_message server.bare server.first final.without)
 
--- the message repeats the GS2 header in place of a channel binding, and names the nonce of both sides and these values
--- (RFC 5802, section 5.1)
+-- the message repeats the GS2 header as its channel binding, and names the nonce of both sides and these values (RFC
+-- 5802, section 5.1)
 pub record NamesClientFinal (header : ChannelBindingFlag) (both text : List ℕ) (final : ClientFinal) : Type 0 where
   pub binding : HasBase64 text 0 (codes "c=") (header_text header)
   pub nonce : Part text 1 (codes "r=" ++ both)
   pub proof : HasProof text final
 
--- the server's tests of the text (RFC 5802, section 5.1; UTF-8: RFC 3629, section 3), in their order: of the channel
--- binding, of the nonce, and of how the proof is spelled
+-- the server's tests of the text, in order (RFC 5802, section 5.1; UTF-8: RFC 3629, section 3): of the channel binding,
+-- of the nonce, and of how the proof is spelled
 abbrev pub final_text_tests : ChannelBindingFlag → List ℕ → List ℕ → List (ServerScramErrorKind × Type 0)
 final_text_tests header nonce text =
     (Utf8Error, ¬ IsUtf8 text)
@@ -136,35 +136,35 @@ final_text_tests header nonce text =
     ∷ (Base64DecodeError, (final : ClientFinal) → ¬ HasProof text final)
     ∷ []
 
--- the server comes to a channel binding that is not its own, for which it asks for memory (RFC 5802, section 5.1)
+-- the server reaches a channel binding that is not its own, for which it allocates (RFC 5802, section 5.1)
 abbrev pub ReachesBinding : ChannelBindingFlag → List ℕ → Type 0
 ReachesBinding header text =
     ((rest : List ℕ) × Part text 0 (codes "c=" ++ rest)) × ¬ HasBase64 text 0 (codes "c=") (header_text header)
 
--- the server comes to the proof, for which it asks for memory: the tests up to that of the nonce have passed, and the
--- last part is a proof (RFC 5802, section 5.1)
+-- the server reaches the proof, for which it allocates: the tests up to that of the nonce have passed, and the last
+-- part is a proof (RFC 5802, section 5.1)
 abbrev pub ReachesProof : ChannelBindingFlag → List ℕ → List ℕ → Type 0
 ReachesProof header nonce text = NoneHolds (take 6 (final_text_tests header nonce text))
     × ((before : List ℕ) × (rest : List ℕ) × LastPart text before (codes "p=" ++ rest))
 
--- the server comes to ask for memory (RFC 5802, section 5.1), with this header and this nonce of both sides
+-- the server reaches an allocation (RFC 5802, section 5.1), with this header and this nonce of both sides
 abbrev pub ReachesBase64 : ChannelBindingFlag → List ℕ → List ℕ → Type 0
 ReachesBase64 header nonce text = IsUtf8 text × (ReachesBinding header text ⊎ ReachesProof header nonce text)
 
--- what the server reads before it looks at its keys (RFC 5802, section 5.1): the first refusal that holds, or the
--- values that are named; parts between the nonce and the proof stay in what stands before the proof
+-- what the server reads before it tests its keys (RFC 5802, section 5.1): the first error that applies, or the values
+-- that are named; parts between the nonce and the proof stay in the text before the proof
 unfoldable pub ReadsFinalText : ChannelBindingFlag → List ℕ → List ℕ → Result ClientFinal ServerScramErrorKind → Type 0
 ReadsFinalText header nonce text answer =
     Reads (final_text_tests header nonce text) (NamesClientFinal header nonce text) answer
 
--- its tests of the proof that was read (RFC 5802, section 3)
+-- the server's tests of the proof that was read, in order (RFC 5802, section 3)
 abbrev pub proof_tests : Server → ClientFinal → List (ServerScramErrorKind × Type 0)
 proof_tests server final =
     (XorLengthMismatch, length final.proof ≢ digest_len server.version)
     ∷ (AuthenticationFailed, ¬ Meets server final)
     ∷ []
 
--- what the server reads (RFC 5802, section 5): the first refusal of the text or else of its proof, or the values of a
+-- what the server reads (RFC 5802, section 5): the first error of the text, otherwise of its proof, or the values of a
 -- text whose proof meets the stored key
 unfoldable pub ReadsClientFinal : Server → List ℕ → Result ClientFinal ServerScramErrorKind → Type 0
 ReadsClientFinal server text (Ok final) = ReadsFinalText server.header server.nonce text (Ok final)

@@ -15,13 +15,13 @@ use Rattle.fe2o3_scram.specs.Texts.{joined, Part, StartsWith}
 abbrev pub client_first_bare : List ℕ → List ℕ → List ℕ
 client_first_bare username nonce = joined ((codes "n=" ++ escaped username) ∷ (codes "r=" ++ nonce) ∷ [])
 
--- the GS2 header of a client that binds no channel and acts for itself (RFC 5802, sections 6 and 7): it cannot bind
--- one, or it could and assumes that the server cannot
+-- the GS2 header of a client that binds no channel and acts for itself (RFC 5802, sections 6 and 7): the client does
+-- not support it, or it does and assumes that the server does not
 abbrev pub header_text : ChannelBindingFlag → List ℕ
 header_text NotSupported = codes "n,,"
 header_text ClientSupports = codes "y,,"
 
--- a server takes the header (RFC 5802, section 6): that of a client that could bind a channel only on wish
+-- a server accepts the header (RFC 5802, section 6): `y,,` only if it is set to
 abbrev pub TakesHeader : Bool → ChannelBindingFlag → Type 0
 TakesHeader cbind_flag_y NotSupported = Unit {0}
 TakesHeader cbind_flag_y ClientSupports = T cbind_flag_y
@@ -48,7 +48,7 @@ client_first_values first = record {
       first.client_first_message_bare.now;
 }
 
--- behind a GS2 header that is taken the message has this part at place k (RFC 5802, section 7)
+-- after a GS2 header that is accepted, the message has this part at place k (RFC 5802, section 7)
 abbrev pub BarePart : Bool → List ℕ → ℕ → List ℕ → Type 0
 BarePart cbind_flag_y text k part = (header : ChannelBindingFlag) × (bare : List ℕ) × TakesHeader cbind_flag_y header
     × (text ≡ header_text header ++ bare) × Part bare k part
@@ -60,7 +60,7 @@ pub record NamesClientFirst (cbind_flag_y : Bool) (text : List ℕ) (first : Cli
   pub user : Part first.bare 0 (codes "n=" ++ escaped first.user)
   pub nonce : Part first.bare 1 (codes "r=" ++ first.nonce)
 
--- the server's tests (RFC 5802, section 5.1; UTF-8: RFC 3629, section 3), in their order
+-- the server's tests, in order (RFC 5802, section 5.1; UTF-8: RFC 3629, section 3)
 abbrev pub client_first_tests : Bool → List ℕ → List (ServerScramErrorKind × Type 0)
 client_first_tests cbind_flag_y text =
     (Utf8Error, ¬ IsUtf8 text)
@@ -69,12 +69,12 @@ client_first_tests cbind_flag_y text =
     ∷ (CannotParseClientNonce, (nonce : List ℕ) → ¬ BarePart cbind_flag_y text 1 (codes "r=" ++ nonce))
     ∷ []
 
--- the server asks for memory for a name that is sent with escapes (RFC 5802, section 5.1)
+-- the server allocates for a name that is sent with escapes (RFC 5802, section 5.1)
 abbrev pub HasEscapes : Bool → List ℕ → Type 0
 HasEscapes cbind_flag_y text = IsUtf8 text
     × ((user : List ℕ) × BarePart cbind_flag_y text 0 (codes "n=" ++ escaped user) × ¬ NoEquals (escaped user))
 
--- what the server reads (RFC 5802, section 5.1): the first refusal that holds, or the values that are named; further
--- parts say nothing
+-- what the server reads (RFC 5802, section 5.1): the first error that applies, or the values that are named; further
+-- parts are ignored
 unfoldable pub ReadsClientFirst : Bool → List ℕ → Result ClientFirst ServerScramErrorKind → Type 0
 ReadsClientFirst cbind_flag_y text answer = Reads (client_first_tests cbind_flag_y text) (NamesClientFirst cbind_flag_y text) answer

@@ -1,4 +1,4 @@
--- The keys that a client keeps in place of its password (RFC 5802, section 3).
+-- The keys that a client keeps instead of its password (RFC 5802, section 3).
 use Rattle.std.specs.Prelude.{ℕ, List, ◌≡◌, length, Result}
 use Rattle.fe2o3_scram.specs.declared.hmac.ScramVersion.{ScramVersion}
 use Rattle.fe2o3_scram.specs.declared.keys.RecordError.{RecordError}
@@ -9,8 +9,8 @@ use Rattle.fe2o3_scram.specs.Passwords.{PasswordText, password_bytes}
 use Rattle.fe2o3_scram.specs.Pbkdf2Hi.{salted_of}
 use Rattle.fe2o3_scram.specs.Readings.{Reads}
 
--- what a client keeps of its password (RFC 5802, section 3): the ClientKey and the ServerKey, and the version, the salt
--- and the iteration count that they are of
+-- what a client keeps of its password (RFC 5802, section 3): the ClientKey and the ServerKey, with their version, salt
+-- and iteration count
 pub record ClientKeys : Type 0 where
   pub version : ScramVersion
   pub salt : List ℕ
@@ -18,7 +18,7 @@ pub record ClientKeys : Type 0 where
   pub client_key : List ℕ
   pub server_key : List ℕ
 
--- these values
+-- keys with these values
 abbrev pub keys_with : ScramVersion → List ℕ → ℕ → List ℕ → List ℕ → ClientKeys
 keys_with version salt count client server =
     record { version = version; salt = salt; count = count; client_key = client; server_key = server }
@@ -29,7 +29,7 @@ keys_of version password salt count = let salted = salted_of version password sa
     let client = client_key version salted in let server = server_key version salted in
     record { version = version; salt = salt; count = count; client_key = client; server_key = server }
 
--- what comes of making the keys of a password (RFC 5802, section 3): the first refusal that holds, or its keys
+-- the result of making the keys of a password (RFC 5802, section 3): the first error that applies, or its keys
 abbrev pub MakesKeys : ScramVersion → PasswordText → List ℕ → ℕ → Result ClientKeys RecordError → Type 0
 MakesKeys version password salt count answer =
     Reads (making_tests password count) (λ made. made ≡ keys_of version (password_bytes password) salt count) answer

@@ -1,4 +1,4 @@
--- By what a client proves who it is (RFC 5802, section 3), and the iteration counts that it accepts.
+-- The secret of a client (RFC 5802, section 3), and the iteration counts that it accepts.
 use Rattle.std.specs.Prelude.{ℕ, ◌≡◌}
 use Rattle.std.specs.String.{string_bytes}
 use Rattle.fe2o3_scram.specs.declared.client_secret.ClientSecret.{ClientSecret}
@@ -12,8 +12,8 @@ use Rattle.fe2o3_scram.specs.declared.hmac.ScramVersion.{ScramVersion}
 use Rattle.fe2o3_scram.specs.ClientKeys.{ClientKeys}
 use Rattle.fe2o3_scram.specs.Passwords.{PasswordText, Typed, Prepared, password_of}
 
--- a client has its password, or the keys of one login (RFC 5802, section 3), or both: then it answers by the keys
--- where they are of the salt and the count that the server names, and by the password where they are not
+-- a client has its password, or the keys of one login (RFC 5802, section 3), or both: then it answers by the keys if
+-- they are of the salt and the count that the server names, and otherwise by the password
 pub data Secret : Type 0 where
   Password : (password : PasswordText) → Secret
   Keys : (keys : ClientKeys) → Secret
@@ -25,7 +25,7 @@ secret_of (code.Password password) = Password (password_of password)
 secret_of (code.Keys keys) = Keys keys.now
 secret_of (code.PasswordAndKeys password keys) = Both (password_of password) keys.now
 
--- its keys, if it has any, are of this version, as a client's have to be (RFC 5802, section 3)
+-- the secret's keys, if it has any, are of this version (RFC 5802, section 3)
 abbrev pub IsOfVersion : ScramVersion → Secret → Type 0
 IsOfVersion version (Password password) = Unit {0}
 IsOfVersion version (Keys keys) = keys.version ≡ version

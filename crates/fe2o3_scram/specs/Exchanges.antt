@@ -18,8 +18,8 @@ use Rattle.fe2o3_scram.specs.Passwords.{IsNormal, password_bytes}
 use Rattle.fe2o3_scram.specs.Texts.{NoComma, base64_text, joined}
 
 -- a client's secret opens the record of a password with this salt and this count (RFC 5802, section 3): it is that
--- password, in normal form, or its keys with that salt and that count; where it is both, the password is what
--- opens a record of another salt or another count than the keys are of
+-- password, in normal form, or its keys with that salt and that count; of both, the password opens a record of another
+-- salt or count than the keys have
 abbrev pub OpensRecord : ScramVersion → Secret → List ℕ → List ℕ → ℕ → Type 0
 OpensRecord version (Password own) password salt count = (password_bytes own ≡ password) × IsNormal own
 OpensRecord version (Keys keys) password salt count = keys ≡ keys_of version password salt count
@@ -27,8 +27,8 @@ OpensRecord version (Both own keys) password salt count =
     (keys ≡ keys_of version password salt count)
     ⊎ (((salt ≢ keys.salt) ⊎ (count ≢ keys.count)) × (password_bytes own ≡ password) × IsNormal own)
 
--- what an exchange starts from (RFC 5802, section 5): the client's GS2 header, user, secret and limits, whether the
--- server takes a client that could bind a channel, the password, the salt and the count of the record, and the nonces
+-- the start of an exchange (RFC 5802, section 5): the client's GS2 header, user, secret and limits, whether the server
+-- accepts the GS2 header `y,,`, the password, the salt and the count of the record, and the nonces
 pub record Exchange : Type 0 where
   pub version : ScramVersion
   pub header : ChannelBindingFlag
@@ -42,7 +42,7 @@ pub record Exchange : Type 0 where
   pub client_nonce : List ℕ
   pub server_nonce : List ℕ
 
--- the server takes the header, the secret opens the record, the client accepts the count, and names, nonces and salts
+-- the server accepts the header, the secret opens the record, the client accepts the count, and names, nonces and salts
 -- are what the code holds
 pub record IsSound (x : Exchange) : Type 0 where
   pub header : TakesHeader x.cbind_flag_y x.header
@@ -62,8 +62,8 @@ pub record IsSound (x : Exchange) : Type 0 where
 abbrev pub client_first_with : ChannelBindingFlag → List ℕ → List ℕ → List ℕ
 client_first_with header username nonce = header_text header ++ client_first_bare username nonce
 
--- client-final-message-without-proof with a GS2 header (RFC 5802, section 7): that in base64, and the nonce of both
--- sides
+-- client-final-message-without-proof with a GS2 header (RFC 5802, section 7): the header in base64, and the nonce of
+-- both sides
 abbrev pub without_proof_with : ChannelBindingFlag → List ℕ → List ℕ
 without_proof_with header nonce =
     joined ((codes "c=" ++ base64_text (header_text header)) ∷ (codes "r=" ++ nonce) ∷ [])
@@ -72,32 +72,32 @@ without_proof_with header nonce =
 abbrev pub nonce_in : Exchange → List ℕ
 nonce_in x = x.client_nonce ++ x.server_nonce
 
--- the client's first message, without its header
+-- the client-first message of the exchange, without its header
 abbrev pub bare_in : Exchange → List ℕ
 bare_in x = client_first_bare x.user x.client_nonce
 
--- the record that the server keeps
+-- the record that the server stores
 abbrev pub record_in : Exchange → Record
 record_in x = record_of x.version x.password x.salt x.count
 
--- the server's first message
+-- the server-first message of the exchange
 abbrev pub first_in : Exchange → List ℕ
 first_in x = server_first_of (nonce_in x) (record_in x)
 
--- what it names
+-- the values that the server-first message names
 abbrev pub named_in : Exchange → ServerFirst
 named_in x = record { nonce = nonce_in x; salt = x.salt; count = x.count }
 
--- the client's last message, and the signature that it waits for
+-- the client-final message, and the signature that the client waits for
 abbrev pub answer_in : Exchange → Answer
 answer_in x = answer_by (keys_for x.version x.secret (named_in x)) (bare_in x) (first_in x)
     (without_proof_with x.header (nonce_in x))
 
--- what the server holds against the client's last message
+-- what the server knows when it reads the client-final message
 abbrev pub server_in : Exchange → Server
 server_in x = server_of x.version x.header (bare_in x) (first_in x) (nonce_in x) (record_in x)
 
--- what that message names
+-- the values that the client-final message names
 abbrev pub final_in : Exchange → ClientFinal
 final_in x = record {
   without = without_proof_with x.header (nonce_in x);

@@ -33,16 +33,17 @@ block_len Sha1 = 64
 block_len Sha256 = 64
 block_len Sha512 = 128
 
--- the bytes with zeros at their end, up to a length
+-- the bytes padded with zeros to a length (RFC 2104, section 2)
 abbrev pub zero_filled : ℕ → List ℕ → List ℕ
 zero_filled n bytes = bytes ++ replicate (n - length bytes) 0
 
--- the key as one block (RFC 2104, section 2): a key longer than a block stands for its digest, and zeros fill the block
+-- the key as one block (RFC 2104, section 2): a key longer than a block is replaced by its digest, and zeros pad the
+-- block
 unfoldable pub key_block : ScramVersion → List ℕ → List ℕ
 key_block version key = zero_filled (block_len version)
     (if nat_lt (block_len version) (length key) then digest version key else key)
 
--- each byte with the bits of the mask turned
+-- each byte XOR the mask (RFC 2104, section 2)
 abbrev pub masked : ℕ → List ℕ → List ℕ
 masked mask bytes = map (λ byte. bit_xor byte mask) bytes
 
@@ -51,7 +52,7 @@ unfoldable pub hmac_of : ScramVersion → List ℕ → List ℕ → List ℕ
 hmac_of version key message = digest version (masked 0x5c (key_block version key)
     ++ digest version (masked 0x36 (key_block version key) ++ message))
 
--- the exclusive or of two texts of bytes, byte by byte (RFC 5802, section 2.2)
+-- XOR of two texts of bytes, byte by byte (RFC 5802, section 2.2)
 unfoldable pub exclusive_or : List ℕ → List ℕ → List ℕ
 exclusive_or left right = map (λ (pair : ℕ × ℕ). bit_xor pair.0 pair.1) (zip left right)
 
@@ -61,7 +62,7 @@ digest_bytes (BytesSha1 bytes) = bytes
 digest_bytes (BytesSha256 bytes) = bytes
 digest_bytes (BytesSha512 bytes) = bytes
 
--- the version whose digest it is
+-- the version of the hash of a digest
 abbrev pub version_of : DigestBytes → ScramVersion
 version_of (BytesSha1 bytes) = Sha1
 version_of (BytesSha256 bytes) = Sha256

@@ -35,17 +35,17 @@ client_proof version key auth = exclusive_or key (hmac_of version (digest versio
 abbrev pub recovered_client_key : ScramVersion → List ℕ → List ℕ → List ℕ → List ℕ
 recovered_client_key version stored proof auth = exclusive_or proof (hmac_of version stored auth)
 
--- the call gives a value, and this fact of it, exactly where the text of its exclusive or is as long as a digest
+-- the call returns a value, of which this holds, exactly if the input of its XOR is as long as a digest
 abbrev pub OkWhereSized : {X F : Type 0} → ScramVersion → List ℕ → Result X F → (X → Type 0) → Type 0
 OkWhereSized version text result P = MatchResult result (λ value. (length text ≡ digest_len version) × P value)
     (λ _. length text ≢ digest_len version)
 
--- a meter before and after the call: one HMAC value where it gives a value, and none where it is refused
+-- a meter before and after the call: one HMAC value if it returns a value, and none for an error
 abbrev pub CostsOne : {X F : Type 0} → Result X F → ℕ → ℕ → Type 0
 CostsOne result before after = MatchResult result (λ _. after ≡ before + 1) (λ _. after ≡ before)
 
--- the proof meets the StoredKey (RFC 5802, section 3): H(ClientKey) = StoredKey of the ClientKey that is recovered
--- from it
+-- the proof meets the StoredKey (RFC 5802, section 3): the ClientKey that is recovered from it has H(ClientKey) =
+-- StoredKey
 abbrev pub MeetsStoredKey : ScramVersion → List ℕ → List ℕ → List ℕ → Type 0
 MeetsStoredKey version stored proof auth = digest version (recovered_client_key version stored proof auth) ≡ stored
 

@@ -41,16 +41,16 @@ abbrev pub DigestsAreSized : Type 0
 DigestsAreSized = (version : ScramVersion) (message : List ℕ)
     → (length (digest version message) ≡ digest_len version) × IsBytes (digest version message)
 
--- so is an HMAC value
+-- an HMAC value is as long as its version says, and holds bytes
 abbrev pub MacsAreSized : Type 0
 MacsAreSized = (version : ScramVersion) (key message : List ℕ)
     → (length (hmac_of version key message) ≡ digest_len version) × IsBytes (hmac_of version key message)
 
--- a text spells at most one list of bytes
+-- a text is the base64 of at most one list of bytes
 abbrev pub OneBytesOfBase64 : Type 0
 OneBytesOfBase64 = (text bytes others : List ℕ) → IsBase64 text bytes → IsBase64 text others → bytes ≡ others
 
--- what is written in base64 is read again
+-- bytes that are written in base64 are read again
 abbrev pub Base64IsReadAgain : Type 0
 Base64IsReadAgain = (bytes : List ℕ) → IsBytes bytes → decode_of standard (base64_text bytes) ≡ Ok bytes
 
@@ -62,7 +62,7 @@ NoCommaInBase64 = (bytes : List ℕ) → NoComma (base64_text bytes)
 abbrev pub PartsExist : Type 0
 PartsExist = (text : List ℕ) → (parts : List (List ℕ)) × Parts text parts
 
--- and no two lists of them
+-- no text has two lists of parts
 abbrev pub OneListOfParts : Type 0
 OneListOfParts = (text : List ℕ) (parts others : List (List ℕ)) → Parts text parts → Parts text others → parts ≡ others
 
@@ -90,7 +90,7 @@ abbrev pub OneClientFinal : Type 0
 OneClientFinal = (server : Server) (text : List ℕ) (answer other : Result ClientFinal ServerScramErrorKind)
     → ReadsClientFinal server text answer → ReadsClientFinal server text other → answer ≡ other
 
--- so has it before the server looks at its keys
+-- a client-final message has at most one reading of its text (before the keys are tested)
 abbrev pub OneFinalText : Type 0
 OneFinalText = (header : ChannelBindingFlag) (nonce text : List ℕ) (answer other : Result ClientFinal ServerScramErrorKind)
     → ReadsFinalText header nonce text answer → ReadsFinalText header nonce text other → answer ≡ other
@@ -100,7 +100,7 @@ abbrev pub OneServerFinal : Type 0
 OneServerFinal = (signature text : List ℕ) (answer other : Result (Unit {0}) ScramErrorKind)
     → ReadsServerFinal signature text answer → ReadsServerFinal signature text other → answer ≡ other
 
--- so has it before the client looks at the signature that it waits for
+-- a server-final message has at most one reading of its text (before the signature is compared)
 abbrev pub OneSignature : Type 0
 OneSignature = (text : List ℕ) (answer other : Result (List ℕ) ScramErrorKind) → ReadsSignature text answer
     → ReadsSignature text other → answer ≡ other
@@ -130,7 +130,7 @@ abbrev pub SomeServerFinal : Type 0
 SomeServerFinal = (signature text : List ℕ)
     → (answer : Result (Unit {0}) ScramErrorKind) × ReadsServerFinal signature text answer
 
--- a record is read again from its text, where it has a count and its keys are as long as a digest
+-- a record is read again from its text if it has a count and its keys are as long as a digest
 abbrev pub RecordsAreReadAgain : Type 0
 RecordsAreReadAgain = (kept : VersionedRecord) → IsReadable kept → ReadsRecord (record_text kept) (Ok kept)
 
@@ -144,7 +144,7 @@ abbrev pub OneRecord : Type 0
 OneRecord = (text : List ℕ) (answer other : Result VersionedRecord RecordTextError) → ReadsRecord text answer
     → ReadsRecord text other → answer ≡ other
 
--- and it has one, whatever the text
+-- a record's text has an answer, whatever the text is
 abbrev pub SomeRecord : Type 0
 SomeRecord = (text : List ℕ) → (answer : Result VersionedRecord RecordTextError) × ReadsRecord text answer
 
@@ -166,7 +166,7 @@ KeysStandForPassword = (keys : ClientKeys) (password : PasswordText) (nonce bare
     → AnswersServerFirst keys.version (client_of nonce (Keys keys) limits) bare text answer
     → AnswersServerFirst keys.version (client_of nonce (Password password) limits) bare text answer
 
--- what is answered by the password is answered by its keys, or else they are of another salt or another count
+-- what is answered by the password is answered by its keys, unless they are of another salt or another count
 abbrev pub KeysAnswerAsPassword : Type 0
 KeysAnswerAsPassword = (keys : ClientKeys) (password : PasswordText) (nonce bare text : List ℕ)
     (limits : IterationLimits) (answer : Result Answer ScramErrorKind) → IsNormal password
@@ -175,7 +175,7 @@ KeysAnswerAsPassword = (keys : ClientKeys) (password : PasswordText) (nonce bare
     → AnswersServerFirst keys.version (client_of nonce (Keys keys) limits) bare text answer
     ⊎ AnswersServerFirst keys.version (client_of nonce (Keys keys) limits) bare text (Err StaleKeys)
 
--- a client with both answers as the one with the password, where its keys are those of it
+-- a client with both answers like the one with the password, if its keys are those of the password
 abbrev pub BothAnswerAsPassword : Type 0
 BothAnswerAsPassword = (keys : ClientKeys) (password : PasswordText) (nonce bare text : List ℕ)
     (limits : IterationLimits) (answer : Result Answer ScramErrorKind) → IsNormal password
@@ -183,13 +183,13 @@ BothAnswerAsPassword = (keys : ClientKeys) (password : PasswordText) (nonce bare
     → AnswersServerFirst keys.version (client_of nonce (Both password keys) limits) bare text answer
     ↔ AnswersServerFirst keys.version (client_of nonce (Password password) limits) bare text answer
 
--- of a password of printable ASCII one record is made, whether it is handed in as it is typed or prepared
+-- a password of printable ASCII gives one record, whether it is passed as typed or prepared
 abbrev pub OneRecordOfPassword : Type 0
 OneRecordOfPassword = (version : ScramVersion) (text salt : List ℕ) (count : ℕ)
     (answer : Result VersionedRecord RecordError) → IsPrintable text
     → MakesRecord version (Prepared text) salt count answer ↔ MakesRecord version (Typed text) salt count answer
 
--- and a client with the one answers as the client with the other
+-- a client with a typed password of printable ASCII answers like one with it prepared
 abbrev pub OneAnswerOfPassword : Type 0
 OneAnswerOfPassword = (version : ScramVersion) (password nonce bare text : List ℕ) (limits : IterationLimits)
     (answer : Result Answer ScramErrorKind) → IsPrintable password
@@ -200,44 +200,44 @@ OneAnswerOfPassword = (version : ScramVersion) (password nonce bare text : List 
 abbrev pub HoldsBytes : List ℕ × Record → Type 0
 HoldsBytes user = (user.1.count < 2 ^ 32) × IsBytes user.1.salt × IsBytes user.1.stored_key × IsBytes user.1.server_key
 
--- users who can be written are read again from their text
+-- users that can be written are read again from their text
 abbrev pub UsersAreReadAgain : Type 0
 UsersAreReadAgain = (version : ScramVersion) (users : Records) → AllByRecursion (IsWritable version) users
     → AllByRecursion HoldsBytes users → ReadsUsers version (users_text version users) (Ok users)
 
--- a text of lines has at most one answer, so that no other line and no other fault is told
+-- a text of lines has at most one answer, so that no other line and no other error is returned
 abbrev pub OneUsersAnswer : Type 0
 OneUsersAnswer = (version : ScramVersion) (text : List ℕ) (answer other : Result Records ReadLinesError)
     → ReadsUsers version text answer → ReadsUsers version text other → answer ≡ other
 
--- and it has one, whatever the text
+-- a text of lines has an answer, whatever the text is
 abbrev pub SomeUsersAnswer : Type 0
 SomeUsersAnswer = (version : ScramVersion) (text : List ℕ)
     → (answer : Result Records ReadLinesError) × ReadsUsers version text answer
 
--- the same of a user of a mixed store
+-- what the code holds of a user of a mixed store: the count has 32 bits, and salt and keys are bytes
 abbrev pub HoldsMixedBytes : List ℕ × VersionedRecord → Type 0
 HoldsMixedBytes user = HoldsBytes (unversioned user)
 
--- users of several versions who can be written are read again from their text
+-- users of several versions that can be written are read again from their text
 abbrev pub MixedAreReadAgain : Type 0
 MixedAreReadAgain = (users : MultiRecords) → AllByRecursion IsMixedWritable users
     → AllByRecursion HoldsMixedBytes users → ReadsMixed (mixed_text users) (Ok users)
 
--- and those who were read can be written, as the very text that was read
+-- users of several versions that were read can be written, as the very text that was read
 abbrev pub MixedAreWrittenBack : Type 0
 MixedAreWrittenBack = (text : List ℕ) (users : MultiRecords) → SpellsMixed text users
     → AllByRecursion IsMixedWritable users × (mixed_text users ≡ text)
 
--- no line is refused for its version, since its record fits that
+-- no line is rejected for its version, since records of every version are read
 abbrev pub NoMismatch : Type 0
 NoMismatch = (text : List ℕ) → ¬ MixedFault text VersionMismatch
 
--- a text of lines has at most one answer for whatever version
+-- a text of lines of any version has at most one answer
 abbrev pub OneMixedAnswer : Type 0
 OneMixedAnswer = (text : List ℕ) (answer other : Result MultiRecords ReadLinesError) → ReadsMixed text answer
     → ReadsMixed text other → answer ≡ other
 
--- and it has one, whatever the text
+-- a text of lines of any version has an answer, whatever the text is
 abbrev pub SomeMixedAnswer : Type 0
 SomeMixedAnswer = (text : List ℕ) → (answer : Result MultiRecords ReadLinesError) × ReadsMixed text answer

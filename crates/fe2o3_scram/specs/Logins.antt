@@ -1,5 +1,5 @@
--- What an accepted message means to who calls the machines, in the words of the headline (RFC 5802, section 5). Each
--- law is the contract of a clause of `laws::accepted_messages`.
+-- The meaning of an accepted message, in the words of the headline (RFC 5802, section 5). Each law is the contract of a
+-- clause of `laws::accepted_messages`.
 use Rattle.std.specs.Prelude.{◌≡◌, ℕ, Option, List, Ok}
 use Rattle.fe2o3_scram.specs.ClientFinal.{ClientFinal, ReadsClientFinal}
 use Rattle.fe2o3_scram.specs.ClientKeys.{ClientKeys}
@@ -10,8 +10,8 @@ use Rattle.fe2o3_scram.specs.ScramServer.{ServerState, ServerFirstSent, ServerFi
 use Rattle.fe2o3_scram.specs.ServerFinal.{ReadsServerFinal}
 use Rattle.fe2o3_scram.specs.ServerFirst.{ServerChallenge}
 
--- the text logs this user in: a challenge to this user is open, and the text is a client-final message to it that passes
--- every test, the last being that its proof meets the stored key of the record that the challenge was made with
+-- the text logs this user in: a challenge to this user is open, and the text is a client-final message to it that
+-- passes every test; the last is that its proof meets the stored key of the challenge's record
 pub record TextLogsIn (version : ScramVersion) (state : ServerState) (text user : List ℕ) : Type 0 where
   pub challenge : ServerChallenge
   pub stored : Record
@@ -20,7 +20,7 @@ pub record TextLogsIn (version : ScramVersion) (state : ServerState) (text user 
   pub named : user ≡ challenge.user
   pub reads : ReadsClientFinal (server_against version challenge stored) text (Ok final)
 
--- a server accepts only such a text, and names that user behind it
+-- a server accepts only a text that logs a user in, and then names that user
 abbrev pub AcceptedTextsLogIn : Type 0
 AcceptedTextsLogIn = (state next : ServerState) (version : ScramVersion) (text : List ℕ) (answer : Option (List ℕ))
     → ConcludesFrom state version text (Ok answer) next
@@ -34,7 +34,7 @@ pub record IsSigned (state : ClientState) (text : List ℕ) : Type 0 where
   pub waits : state ≡ ClientFinalSent signature keys
   pub reads : ReadsServerFinal signature text (Ok tt)
 
--- a client accepts only such a text
+-- a client accepts only a text that shows the signature that it waits for
 abbrev pub VerifiedTextsAreSigned : Type 0
 VerifiedTextsAreSigned = (side next : ClientSide) (text : List ℕ) → VerifiesIn side.state side text (Ok tt) next
     → IsSigned side.state text

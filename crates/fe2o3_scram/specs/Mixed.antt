@@ -5,7 +5,7 @@ use Rattle.fe2o3_scram.specs.declared.hmac.ScramVersion.{ScramVersion}
 use Rattle.fe2o3_scram.specs.declared.hmac.ScramVersion.TheVariants.{Sha1, Sha256, Sha512}
 use Rattle.fe2o3_scram.specs.Credentials.{Store, Record, VersionedRecord}
 
--- user names and their records, each for the version that it names (RFC 5803, section 2), several for a name
+-- user names and their records, each for the version that it names (RFC 5803, section 2); a name may have several
 abbrev pub MultiRecords : Type 0
 MultiRecords = List (List ℕ × VersionedRecord)
 
@@ -20,7 +20,7 @@ is_version version other = false
 abbrev pub unversioned : List ℕ × VersionedRecord → List ℕ × Record
 unversioned user = (user.0, user.1.stored)
 
--- what a provider for one version means (RFC 5802, section 3): the records of that version, in their order
+-- the provider for one version (RFC 5802, section 3): the records of that version, in order
 abbrev pub provider_for : ScramVersion → MultiRecords → Store
 provider_for version users = record {
   version = version;
@@ -28,7 +28,7 @@ provider_for version users = record {
       map unversioned (filter (λ (user : List ℕ × VersionedRecord). is_version user.1.version version) users);
 }
 
--- the records of a name, for whatever version, in their order
+-- the records of a name, for any version, in order
 abbrev pub records_named : MultiRecords → List ℕ → List VersionedRecord
 records_named users name =
     map (λ (user : List ℕ × VersionedRecord). user.1)

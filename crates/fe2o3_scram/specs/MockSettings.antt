@@ -1,5 +1,5 @@
--- The mock record of a name, by which a server answers an unknown user as it answers a known one. RFC 5802 leaves open
--- what a server answers to an unknown user.
+-- The mock record of a name, by which a server answers an unknown user like a known one. RFC 5802 leaves open what a
+-- server answers to an unknown user.
 use Rattle.std.specs.Prelude.{ℕ, List, ◌++◌, Option, Some, None, codes, option_map, take}
 use Rattle.fe2o3_scram.specs.declared.hmac.ScramVersion.{ScramVersion}
 use Rattle.fe2o3_scram.specs.declared.hmac.ScramVersion.TheVariants.{Sha512}
@@ -26,7 +26,7 @@ mock_record mock name = record {
   server_key = hmac_of mock.version mock.secret (codes "ServerKey:" ++ name);
 }
 
--- a stored record, or where there is none this mock record, if there is one
+-- a stored record, or this mock record if there is none
 abbrev pub stored_or : Option Record → Option Record → Option Record
 stored_or (Some mock) None = Some mock
 stored_or mock stored = stored
@@ -36,7 +36,7 @@ abbrev pub mock_cost : Option MockSettings → ℕ
 mock_cost None = 0
 mock_cost (Some mock) = 3
 
--- the provider with mock authentication, where there are settings of it: a name without a record has its mock record
+-- the provider with mock authentication, if it is set: a name without a record has its mock record
 abbrev pub mocking : Option MockSettings → Provider → Provider
 mocking settings provider = record {
   version = provider.version;

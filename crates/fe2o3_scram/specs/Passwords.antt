@@ -4,7 +4,7 @@ use Rattle.fe2o3_scram.specs.declared.passwords.Password.{Password}
 use Rattle.fe2o3_scram.specs.declared.passwords.Password.TheVariants as code
 use Rattle.fe2o3_scram.specs.SaslprepAscii.{IsPrintable}
 
--- the text of a password as it is typed, or the text that Normalize (RFC 5802, section 2.2) makes of it
+-- a password as it is typed, or its text after Normalize (RFC 5802, section 2.2)
 pub data PasswordText : Type 0 where
   Typed : (text : List ℕ) → PasswordText
   Prepared : (text : List ℕ) → PasswordText
@@ -19,8 +19,8 @@ abbrev pub password_bytes : PasswordText → List ℕ
 password_bytes (Typed text) = text
 password_bytes (Prepared text) = text
 
--- it is in normal form (RFC 4013, section 2): a typed one where it is printable ASCII, which is prepared to itself, and
--- a prepared one as it stands, whatever it is
+-- a password is in normal form (RFC 4013, section 2): a typed one if it is printable ASCII, which is prepared to
+-- itself, and any prepared one
 abbrev pub IsNormal : PasswordText → Type 0
 IsNormal (Typed text) = IsPrintable text
 IsNormal (Prepared text) = Unit {0}

@@ -25,11 +25,11 @@ abbrev pub laid_out : Fields → List ℕ
 laid_out fields = fields.mechanism ++ (codes "$" ++ (fields.count ++ (codes ":" ++ (fields.salt
     ++ (codes "$" ++ (fields.stored_key ++ (codes ":" ++ fields.server_key)))))))
 
--- neither a dollar sign nor a colon stands in the text
+-- the text has neither a dollar sign nor a colon
 abbrev pub Plain : List ℕ → Type 0
 Plain text = Without 36 text × Without 58 text
 
--- nor in any of the fields
+-- no field has a dollar sign or a colon
 abbrev pub ArePlain : Fields → Type 0
 ArePlain fields = AllByRecursion Plain
     (fields.mechanism ∷ fields.count ∷ fields.salt ∷ fields.stored_key ∷ fields.server_key ∷ [])
@@ -74,14 +74,14 @@ pub record NamesRecord (fields : Fields) (kept : VersionedRecord) : Type 0 where
   pub stored_key : IsKey kept.version fields.stored_key kept.stored.stored_key
   pub server_key : IsKey kept.version fields.server_key kept.stored.server_key
 
--- the tests of the mechanism and of the count, in their order
+-- the tests of the mechanism and of the count, in order
 abbrev pub head_tests : Fields → List (RecordTextError × Type 0)
 head_tests fields =
     (UnknownMechanism, (version : ScramVersion) → mechanism_name version ≢ fields.mechanism)
     ∷ (IterationCountParseError, (count : ℕ) → ¬ IsPlainCount fields.count count)
     ∷ []
 
--- the tests of the salt and of the keys, in their order
+-- the tests of the salt and of the keys, in order
 abbrev pub value_tests : Fields → List (RecordTextError × Type 0)
 value_tests fields =
     (Base64DecodeError, (salt : List ℕ) → ¬ IsBase64 fields.salt salt)
@@ -99,17 +99,17 @@ value_tests fields =
     )
     ∷ []
 
--- what fields say: the first refusal that holds, or the record that they name
+-- what fields spell: the first error that applies, or the record that they name
 abbrev pub ReadsFields : Fields → Result VersionedRecord RecordTextError → Type 0
 ReadsFields fields answer = Reads (head_tests fields ++ value_tests fields) (NamesRecord fields) answer
 
--- what a text says: that it does not have five fields, or what its fields say
+-- what a text spells: the error that it does not have five fields, or what its fields spell
 unfoldable pub ReadsRecord : List ℕ → Result VersionedRecord RecordTextError → Type 0
 ReadsRecord text answer = (((fields : Fields) → ¬ HasFields text fields) × (answer ≡ Err PartsMismatch))
     ⊎ ((fields : Fields) × HasFields text fields × ReadsFields fields answer)
 
--- the reader comes to the salt, for which it asks for memory: the text has five fields, of which the first two have
--- passed their tests
+-- the reader reaches the salt, for which it allocates: the text has five fields, and the first two have passed their
+-- tests
 abbrev pub ReachesValues : List ℕ → Type 0
 ReachesValues text = (fields : Fields) × HasFields text fields × NoneHolds (head_tests fields)
 

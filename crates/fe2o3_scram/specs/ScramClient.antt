@@ -15,7 +15,7 @@ use Rattle.fe2o3_scram.specs.ClientFirst.{client_first_bare}
 use Rattle.fe2o3_scram.specs.ServerFirst.{Client, client_of, ReachesSalt, ReadsServerFirst}
 use Rattle.fe2o3_scram.specs.ServerFinal.{ReachesVerifier, ReadsServerFinal}
 
--- what a client has sent last, and what it waits for (RFC 5802, section 5); the keys are those of its answer, where it
+-- what a client has sent last, and what it waits for (RFC 5802, section 5); the keys are those of its answer, if it
 -- still has them
 pub data ClientState : Type 0 where
   ClientInitial : ClientState
@@ -41,7 +41,7 @@ fresh_client user version secret = record {
   state = ClientInitial;
 }
 
--- the same client in another state
+-- a client in another state
 abbrev pub with_state : ClientSide → ClientState → ClientSide
 with_state side state = record {
   user = side.user;
@@ -52,7 +52,7 @@ with_state side state = record {
   state = state;
 }
 
--- the same client with other limits
+-- a client with other limits
 abbrev pub with_limits : ClientSide → IterationLimits → ClientSide
 with_limits side limits = record {
   user = side.user;
@@ -63,17 +63,17 @@ with_limits side limits = record {
   state = side.state;
 }
 
--- the client after its first message, with this nonce
+-- a client after its first message, with this nonce
 abbrev pub started : ClientSide → List ℕ → ClientSide
 started side nonce = with_state side (ClientFirstSent (base64_text nonce)
     (client_first_bare side.user (base64_text nonce)))
 
--- what a client holds against a server-first message
+-- what a client knows when it reads a server-first message
 abbrev pub holding : ClientSide → List ℕ → Client
 holding side nonce = client_of nonce side.secret side.limits
 
 -- what a client in this state answers to a server-first message (RFC 5802, section 5), and the client after it: one
--- that has sent its first message answers it, any other refuses it unread, and a refusal changes nothing
+-- that has sent its first message answers it, any other rejects it unread, and an error changes nothing
 abbrev pub AnswersIn : ClientState → ClientSide → List ℕ → Result (List ℕ) ScramErrorKind → ClientSide → Type 0
 AnswersIn (ClientFirstSent nonce bare) side text (Ok message) next =
     (answer : Answer) × AnswersServerFirst side.version (holding side nonce) bare text (Ok answer)
@@ -83,21 +83,21 @@ AnswersIn (ClientFirstSent nonce bare) side text (Err fault) next =
 AnswersIn state side text (Ok message) next = ⊥
 AnswersIn state side text (Err fault) next = (fault ≡ IllegalClientState) × (next ≡ side)
 
--- a client in this state comes to ask for memory for that answer (RFC 5802, section 5): one that has sent its first
--- message does where it comes to the salt, any other never
+-- a client in this state allocates for its answer (RFC 5802, section 5): one that has sent its first message does if it
+-- reaches the salt, any other never
 abbrev pub ReachesSaltIn : ClientState → List ℕ → Type 0
 ReachesSaltIn (ClientFirstSent nonce bare) text = ReachesSalt nonce text
 ReachesSaltIn state text = ⊥
 
--- the HMAC values of that answer (RFC 5802, section 3), as a meter shows them before and after the call: those of
--- its answer where the client has sent its first message, and none in another state
+-- the HMAC values of a client's answer (RFC 5802, section 3), as a meter shows them before and after the call: those of
+-- the answer if the client has sent its first message, and none in another state
 abbrev pub AnswerCostsIn : {A F : Type 0} → ClientState → ClientSide → List ℕ → Result A F → ℕ → ℕ → Type 0
 AnswerCostsIn (ClientFirstSent nonce bare) side text result before after =
     AnswerCosts (holding side nonce) text result before after
 AnswerCostsIn state side text result before after = after ≡ before
 
--- whether a client in this state accepts a server-final message (RFC 5802, section 5), and the client after it: one
--- that has answered tests it, any other refuses it unread, and a refusal changes nothing
+-- the result of a server-final message for a client in this state (RFC 5802, section 5), and the client after it: one
+-- that has answered tests it, any other rejects it unread, and an error changes nothing
 abbrev pub VerifiesIn : ClientState → ClientSide → List ℕ → Result (Unit {0}) ScramErrorKind → ClientSide → Type 0
 VerifiesIn (ClientFinalSent signature keys) side text (Ok verified) next =
     ReadsServerFinal signature text (Ok verified) × (next ≡ with_state side (Complete keys))
@@ -106,8 +106,8 @@ VerifiesIn (ClientFinalSent signature keys) side text (Err fault) next =
 VerifiesIn state side text (Ok verified) next = ⊥
 VerifiesIn state side text (Err fault) next = (fault ≡ IllegalClientState) × (next ≡ side)
 
--- a client in this state comes to ask for memory for that (RFC 5802, section 5): one that has answered does where it
--- comes to the signature, any other never
+-- a client in this state allocates to verify a server-final message (RFC 5802, section 5): one that has answered does
+-- if it reaches the signature, any other never
 abbrev pub ReachesVerifierIn : ClientState → List ℕ → Type 0
 ReachesVerifierIn (ClientFinalSent signature keys) text = ReachesVerifier text
 ReachesVerifierIn state text = ⊥

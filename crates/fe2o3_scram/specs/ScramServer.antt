@@ -23,7 +23,7 @@ pub data ServerState : Type 0 where
   ServerFirstSent : (challenge : ServerChallenge) → (stored : Record) → ServerState
   ServerFinalSent : (user : List ℕ) → ServerState
 
--- who has logged in, where no later challenge has opened the login anew
+-- the user who has logged in, if no later challenge has reopened the login
 abbrev pub logged_in : ServerState → Option (List ℕ)
 logged_in (ServerFinalSent user) = Some user
 logged_in state = None
@@ -33,18 +33,18 @@ abbrev pub open_challenge : ServerState → Option ServerChallenge
 open_challenge (ServerFirstSent challenge stored) = Some challenge
 open_challenge state = None
 
--- the record that it was made with
+-- the record that the open challenge was made with
 abbrev pub open_record : ServerState → Option Record
 open_record (ServerFirstSent challenge stored) = Some stored
 open_record state = None
 
--- a server's open challenge, the record of this and who has logged in are all of its state
+-- a server's open challenge, its record, and the user who has logged in are all of its state
 abbrev pub StatesAreReported : Type 0
 StatesAreReported = (state other : ServerState) → open_challenge state ≡ open_challenge other
     → open_record state ≡ open_record other → logged_in state ≡ logged_in other → state ≡ other
 
--- what a server answers to a client-first message in whatever state (RFC 5802, section 5), and its state after it: a
--- challenge takes the place of an earlier one, an unknown user and a refusal change nothing
+-- what a server answers to a client-first message in any state (RFC 5802, section 5), and its state after it: a
+-- challenge replaces an earlier one, an unknown user and an error change nothing
 abbrev pub ChallengesFrom : ServerState → Provider → List ℕ → List ℕ → Result (Option (List ℕ)) ServerScramErrorKind
     → ServerState → Type 0
 ChallengesFrom state provider nonce text (Ok (Some message)) next =
@@ -56,22 +56,23 @@ ChallengesFrom state provider nonce text (Ok None) next =
 ChallengesFrom state provider nonce text (Err fault) next =
     AnswersClientFirst provider (base64_text nonce) text (Err fault) × (next ≡ state)
 
--- the HMAC values of that answer, as a meter shows them before and after: those of the look-up where the message is
--- read, and none where it is refused; where memory ran out from none to so many for one that is read
+-- the HMAC values of a server's answer to a client-first message, as a meter shows them before and after: those of the
+-- look-up if the message is read, none if it is rejected, and from none to that many if memory ran out for one that is
+-- read
 abbrev pub FirstCosts : {A : Type 0} → Provider → List ℕ → Result A ServerScramErrorKind → ℕ → ℕ → Type 0
 FirstCosts provider text (Ok answer) before after = after ≡ before + provider.look_up_cost
 FirstCosts provider text (Err OutOfMemory) before after = (before ≤ after) × (after ≤ before + provider.look_up_cost)
     × ((fault : ServerScramErrorKind) → ReadsClientFirst provider.cbind_flag_y text (Err fault) → after ≡ before)
 FirstCosts provider text (Err fault) before after = after ≡ before
 
--- what a server holds against a client-final message, of an open challenge and the record that it was made with
+-- what a server knows when it reads a client-final message, from an open challenge and the record that it was made with
 abbrev pub server_against : ScramVersion → ServerChallenge → Record → Server
 server_against version challenge stored =
     server_of version challenge.header challenge.bare challenge.first challenge.nonce stored
 
--- what a server answers to a client-final message (RFC 5802, section 5), and its state after it: an accepted one
--- closes the challenge and logs its user in, a refused one changes nothing, and without an open challenge it is
--- refused unread
+-- what a server answers to a client-final message (RFC 5802, section 5), and its state after it: an accepted one closes
+-- the challenge and logs its user in, a rejected one changes nothing, and without an open challenge it is rejected
+-- unread
 abbrev pub ConcludesFrom : ServerState → ScramVersion → List ℕ → Result (Option (List ℕ)) ServerScramErrorKind
     → ServerState → Type 0
 ConcludesFrom (ServerFirstSent challenge stored) version text (Ok (Some message)) next =
@@ -83,14 +84,14 @@ ConcludesFrom (ServerFirstSent challenge stored) version text (Err fault) next =
 ConcludesFrom state version text (Ok message) next = ⊥
 ConcludesFrom state version text (Err fault) next = (fault ≡ IllegalAuthenticatorState) × (next ≡ state)
 
--- a server in this state comes to ask for memory for that answer (RFC 5802, section 5): with an open challenge it does
--- where it comes to a base64 text, and otherwise never
+-- a server in this state allocates for its answer to a client-final message (RFC 5802, section 5): with an open
+-- challenge it does if it reaches a base64 text, and otherwise never
 abbrev pub ReachesBase64In : ServerState → List ℕ → Type 0
 ReachesBase64In (ServerFirstSent challenge stored) text = ReachesBase64 challenge.header challenge.nonce text
 ReachesBase64In state text = ⊥
 
--- the HMAC values of that answer (RFC 5802, section 3), as a meter shows them before and after the call: those of the
--- proof and the signature where a challenge is open, and none elsewhere
+-- the HMAC values of a server's answer to a client-final message (RFC 5802, section 3), as a meter shows them before
+-- and after the call: those of the proof and the signature if a challenge is open, and otherwise none
 abbrev pub FinalCostsFrom : {A : Type 0} → ServerState → ScramVersion → List ℕ → Result A ServerScramErrorKind → ℕ → ℕ
     → Type 0
 FinalCostsFrom (ServerFirstSent challenge stored) version text result before after =
@@ -104,7 +105,7 @@ server_state_of (CodeServerFirstSent user header bare nonce first stored) = Serv
     (record { user = string_bytes user; header = header; bare = bare; first = first; nonce = nonce }) stored
 server_state_of (CodeServerFinalSent user) = ServerFinalSent (string_bytes user)
 
--- the challenge of plain texts
+-- the challenge with these plain texts
 abbrev pub challenge_kept : OpenChallenge → ServerChallenge
 challenge_kept kept = record {
   user = kept.username.now;
@@ -114,23 +115,23 @@ challenge_kept kept = record {
   nonce = kept.client_server_nonce.now;
 }
 
--- the store that it holds
+-- the store that a server holds
 abbrev pub provider_in : {C : Type 0} → ScramAuthenticator C → C
 provider_in authenticator = authenticator.credentials
 
--- whether it takes a client that could bind a channel
+-- whether a server accepts the GS2 header `y,,` (RFC 5802, section 6)
 abbrev pub cbind_flag_y_in : {C : Type 0} → ScramAuthenticator C → Bool
 cbind_flag_y_in authenticator = authenticator.accept_cbind_flag_y
 
--- its settings of mock authentication, if it has them
+-- a server's settings of mock authentication, if it has them
 abbrev pub mock_in : {C : Type 0} → ScramAuthenticator C → Option MockSettings
 mock_in authenticator = authenticator.mock
 
--- what it answers by, where stores mean this
+-- the provider that a server answers by, for this meaning of its store
 abbrev pub served_by : {C : Type 0} → (C → Store) → ScramAuthenticator C → Provider
 served_by meaning authenticator =
     mocking (mock_in authenticator) (serving (cbind_flag_y_in authenticator) (meaning (provider_in authenticator)))
 
--- its state
+-- the state of a server
 abbrev pub state_in : {C : Type 0} → ScramAuthenticator C → ServerState
 state_in authenticator = server_state_of authenticator.state

@@ -15,16 +15,15 @@ abbrev pub server_final_of : Server → ClientFinal → List ℕ
 server_final_of server final = codes "v=" ++ base64_text
     (server_signature server.version server.stored.server_key (auth_message server.bare server.first final.without))
 
--- what the server answers to a client-final message (RFC 5802, section 5): the first refusal, or the server-final
--- message
+-- what the server answers to a client-final message (RFC 5802, section 5): the first error, or the server-final message
 abbrev pub AnswersClientFinal : Server → List ℕ → Result (List ℕ) ServerScramErrorKind → Type 0
 AnswersClientFinal server text (Ok message) = (final : ClientFinal) × ReadsClientFinal server text (Ok final)
     × (message ≡ server_final_of server final)
 AnswersClientFinal server text (Err fault) = ReadsClientFinal server text (Err fault)
 
--- the HMAC values of the answer (RFC 5802, section 3), as a meter shows them before and after: two where the proof is
--- accepted, one where it alone is refused, none for another refusal; where memory ran out none for a text that is
--- refused, and from none to two for one that is accepted
+-- the HMAC values of the answer (RFC 5802, section 3), as a meter shows them before and after: two if the proof is
+-- accepted, one if only it is rejected, none for another error; if memory ran out none for a text that is rejected, and
+-- from none to two for one that is accepted
 abbrev pub FinalCosts : {A : Type 0} → Server → List ℕ → Result A ServerScramErrorKind → ℕ → ℕ → Type 0
 FinalCosts server text (Ok message) before after = after ≡ before + 2
 FinalCosts server text (Err AuthenticationFailed) before after = after ≡ before + 1
@@ -32,7 +31,7 @@ FinalCosts server text (Err OutOfMemory) before after = (before ≤ after) × (a
     × ((fault : ServerScramErrorKind) → ReadsClientFinal server text (Err fault) → after ≡ before)
 FinalCosts server text (Err fault) before after = after ≡ before
 
--- the client's tests of the text (RFC 5802, section 5.1; UTF-8: RFC 3629, section 3), in their order
+-- the client's tests of the text, in order (RFC 5802, section 5.1; UTF-8: RFC 3629, section 3)
 abbrev pub server_final_tests : List ℕ → List (ScramErrorKind × Type 0)
 server_final_tests text =
     (Utf8Error, ¬ IsUtf8 text)
@@ -40,17 +39,17 @@ server_final_tests text =
     ∷ (Base64DecodeError, (signature : List ℕ) → ¬ HasBase64 text 0 (codes "v=") signature)
     ∷ []
 
--- the client comes to the signature, for which it asks for memory (RFC 5802, section 5.1)
+-- the client reaches the signature, for which it allocates (RFC 5802, section 5.1)
 abbrev pub ReachesVerifier : List ℕ → Type 0
 ReachesVerifier text = IsUtf8 text × ((rest : List ℕ) × Part text 0 (codes "v=" ++ rest))
 
--- what the client reads before it looks at the signature that it waits for (RFC 5802, section 5.1): the first refusal
--- that holds, or the signature that is named; parts after the first say nothing
+-- what the client reads before it compares the signature that it waits for (RFC 5802, section 5.1): the first error
+-- that applies, or the signature that is named; parts after the first are ignored
 unfoldable pub ReadsSignature : List ℕ → Result (List ℕ) ScramErrorKind → Type 0
 ReadsSignature text answer = Reads (server_final_tests text) (HasBase64 text 0 (codes "v=")) answer
 
--- what the client reads (RFC 5802, section 5): the first refusal of the text, that its signature is another one, or
--- that it is this one
+-- what the client reads (RFC 5802, section 5): the first error of the text, that its signature is another one, or that
+-- it is this one
 unfoldable pub ReadsServerFinal : List ℕ → List ℕ → Result (Unit {0}) ScramErrorKind → Type 0
 ReadsServerFinal signature text (Ok verified) = ReadsSignature text (Ok signature)
 ReadsServerFinal signature text (Err fault) = ReadsSignature text (Err fault)

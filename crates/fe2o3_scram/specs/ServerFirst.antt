@@ -37,17 +37,17 @@ pub record NamesServerFirst (text : List ℕ) (first : ServerFirst) : Type 0 whe
   pub salt : HasBase64 text 1 (codes "s=") first.salt
   pub count : HasCount text first.count
 
--- what a client holds against a server-first message (RFC 5802, section 5)
+-- what a client knows when it reads a server-first message (RFC 5802, section 5)
 pub record Client : Type 0 where
   pub nonce : List ℕ
   pub secret : Secret
   pub limits : IterationLimits
 
--- a client that holds these
+-- a client with these values
 abbrev pub client_of : List ℕ → Secret → IterationLimits → Client
 client_of nonce secret limits = record { nonce = nonce; secret = secret; limits = limits }
 
--- the client's tests of the nonce (RFC 5802, section 5.1), in their order
+-- the client's tests of the nonce, in order (RFC 5802, section 5.1)
 abbrev pub nonce_tests : List ℕ → List ℕ → List (ScramErrorKind × Type 0)
 nonce_tests client_nonce text =
     (InsufficientParts, (part : List ℕ) → ¬ Part text 2 part)
@@ -56,18 +56,19 @@ nonce_tests client_nonce text =
     ∷ (ClientNonceMismatch, (rest : List ℕ) → ¬ Part text 0 (codes "r=" ++ (client_nonce ++ rest)))
     ∷ []
 
--- the message names another salt or another count than the keys are of (RFC 5802, section 5.1)
+-- the message names another salt or another count than that of the keys (RFC 5802, section 5.1)
 abbrev pub NamesOther : ClientKeys → List ℕ → Type 0
 NamesOther keys text = ¬ (HasBase64 text 1 (codes "s=") keys.salt × HasCount text keys.count)
 
--- its test of its secret: a password that is needed (RFC 4013, section 2), and keys alone (RFC 5802, section 3)
+-- the client's test of its secret: a password that is needed (RFC 4013, section 2), and keys without a password (RFC
+-- 5802, section 3)
 abbrev pub secret_tests : Secret → List ℕ → List (ScramErrorKind × Type 0)
 secret_tests (Password password) text = (NormalizeError, ¬ IsNormal password) ∷ []
 secret_tests (Keys keys) text = (StaleKeys, NamesOther keys text) ∷ []
 secret_tests (Both password keys) text = (NormalizeError, NamesOther keys text × ¬ IsNormal password) ∷ []
 
--- all tests of the client, in their order: of the nonce, the salt and the iteration count (RFC 5802, section 5.1), and
--- of its secret
+-- all tests of the client, in order: of the nonce, the salt and the iteration count (RFC 5802, section 5.1), and of its
+-- secret
 abbrev pub server_first_tests : List ℕ → Secret → IterationLimits → List ℕ → List (ScramErrorKind × Type 0)
 server_first_tests client_nonce secret limits text = nonce_tests client_nonce text ++
     ((SaltNotFound, (rest : List ℕ) → ¬ Part text 1 (codes "s=" ++ rest))
@@ -78,14 +79,14 @@ server_first_tests client_nonce secret limits text = nonce_tests client_nonce te
     ∷ (IterationCountTooLarge, (count : ℕ) × HasCount text count × (limits.max_iterations < count))
     ∷ secret_tests secret text)
 
--- the client comes to the salt, for which it asks for memory: the nonce has passed its tests, and the second part is a
--- salt (RFC 5802, section 5.1)
+-- the client reaches the salt, for which it allocates: the nonce has passed its tests, and the second part is a salt
+-- (RFC 5802, section 5.1)
 abbrev pub ReachesSalt : List ℕ → List ℕ → Type 0
 ReachesSalt client_nonce text =
     NoneHolds (nonce_tests client_nonce text) × ((rest : List ℕ) × Part text 1 (codes "s=" ++ rest))
 
--- what the client reads (RFC 5802, section 5.1): the first refusal that holds, or the values that are named; parts
--- after the third say nothing
+-- what the client reads (RFC 5802, section 5.1): the first error that applies, or the values that are named; parts
+-- after the third are ignored
 unfoldable pub ReadsServerFirst : List ℕ → Secret → IterationLimits → List ℕ → Result ServerFirst ScramErrorKind
     → Type 0
 ReadsServerFirst client_nonce secret limits text answer =
@@ -116,7 +117,7 @@ challenge_values message = record {
   nonce = message.client_server_nonce;
 }
 
--- the challenge to a client-first message that was read, with the server's nonce and the user's record
+-- the challenge to a parsed client-first message, with the server's nonce and the user's record
 abbrev pub challenge_of : ClientFirst → List ℕ → Record → ServerChallenge
 challenge_of client server_nonce stored =
     let nonce = client.nonce ++ server_nonce in
@@ -128,15 +129,14 @@ challenge_of client server_nonce stored =
       nonce = nonce;
     }
 
--- the server comes to ask for memory: for an escaped name, or for the challenge to a user whom it knows (RFC 5802,
--- section 5.1)
+-- the server allocates: for an escaped name, or for the challenge to a known user (RFC 5802, section 5.1)
 abbrev pub ReachesChallenge : Provider → List ℕ → Type 0
 ReachesChallenge provider text = HasEscapes provider.cbind_flag_y text
     ⊎ ((client : ClientFirst) × (stored : Record) × ReadsClientFirst provider.cbind_flag_y text (Ok client)
     × (provider.records client.user ≡ Some stored))
 
--- what the server answers to a client-first message (RFC 5802, section 5): the first refusal, nothing to a user whom
--- it does not know, or the challenge
+-- what the server answers to a client-first message (RFC 5802, section 5): the first error, nothing to an unknown user,
+-- or the challenge
 abbrev pub AnswersClientFirst : Provider → List ℕ → List ℕ → Result (Option ServerChallenge) ServerScramErrorKind → Type 0
 AnswersClientFirst provider server_nonce text (Ok None) = (client : ClientFirst)
     × ReadsClientFirst provider.cbind_flag_y text (Ok client) × (provider.records client.user ≡ None)

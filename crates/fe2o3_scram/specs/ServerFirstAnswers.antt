@@ -1,4 +1,4 @@
--- What a client answers to a server-first message (RFC 5802, section 5), and what that costs.
+-- What a client answers to a server-first message (RFC 5802, section 5), and its cost.
 use Rattle.std.specs.Prelude.{ℕ, List, ◌≡◌, Result, Ok, Err, ◌+◌, ◌≤◌, OnOk, Vec, if◌then◌else◌}
 use Rattle.std.specs.declared.alloc.Global.{Global}
 use Rattle.fe2o3_scram.specs.declared.hmac.ScramVersion.{ScramVersion}
@@ -7,8 +7,8 @@ use Rattle.fe2o3_scram.specs.ClientFinal.{Answer, answer_of, fit}
 use Rattle.fe2o3_scram.specs.ClientSecret.{Secret, Password, Keys, Both}
 use Rattle.fe2o3_scram.specs.ServerFirst.{Client, ServerFirst, ReadsServerFirst}
 
--- what the client answers to a server-first message (RFC 5802, section 5): the first refusal that holds, or the
--- answer to what it names
+-- what the client answers to a server-first message (RFC 5802, section 5): the first error that applies, or the answer
+-- to the values that it names
 abbrev pub AnswersServerFirst : ScramVersion → Client → List ℕ → List ℕ → Result Answer ScramErrorKind → Type 0
 AnswersServerFirst version client bare text (Ok answer) =
     (first : ServerFirst) × ReadsServerFirst client.nonce client.secret client.limits text (Ok first)
@@ -20,7 +20,7 @@ AnswersServerFirst version client bare text (Err fault) =
 abbrev pub pair_values : Vec ℕ Global × Vec ℕ Global → List ℕ × List ℕ
 pair_values pair = (pair.0.items, pair.1.items)
 
--- the same of a call that gives the message and the signature alone
+-- what a call answers that returns only the message and the signature (RFC 5802, section 5)
 abbrev pub SendsServerFirst : ScramVersion → Client → List ℕ → List ℕ → Result (List ℕ × List ℕ) ScramErrorKind
     → Type 0
 SendsServerFirst version client bare text (Ok sent) =
@@ -36,8 +36,8 @@ hmac_count (Password password) first = first.count + 4
 hmac_count (Keys keys) first = 2
 hmac_count (Both password keys) first = if fit keys first then 2 else first.count + 4
 
--- they are made, as a meter shows them before and after the call: none for a message that is refused, those of the
--- answer for one that is answered, no more than that where memory ran out, and never fewer than before
+-- the HMAC values of an answer as a meter shows them before and after the call: none for a message that is rejected,
+-- those of the answer for one that is answered, at most that many if memory ran out, and never fewer than before
 pub record AnswerCosts {A F : Type 0} (client : Client) (text : List ℕ) (result : Result A F)
     (before after : ℕ) : Type 0 where
   pub refused : (fault : ScramErrorKind) → ReadsServerFirst client.nonce client.secret client.limits text (Err fault)

@@ -1,4 +1,4 @@
--- What a store of a caller's own means: a record for each of its entries, in their order.
+-- The meaning of a caller-owned store: a record for each of its entries, in order.
 use Rattle.std.specs.Prelude.{ℕ, List, map}
 use Rattle.fe2o3_scram.specs.Credentials.{Record, Records}
 

@@ -1,4 +1,4 @@
--- A reader need not trust these: they say what the code holds, and only private contracts cite them.
+-- What private contracts cite of the code. A reader need not trust these.
 pub mod Answers
 pub mod ByName
 pub mod Hashers

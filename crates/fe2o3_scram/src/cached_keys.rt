@@ -1,3 +1,3 @@
-//! What a client that keeps its keys has: a name alone, of what stands in `keys`.
+//! Re-exports [`CachedKeys`] under this path; `keys` defines it.
 
 pub use crate::keys::CachedKeys;

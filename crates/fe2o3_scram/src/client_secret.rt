@@ -1,4 +1,4 @@
-//! By what a client proves who it is (RFC 5802, section 3), and the iteration counts that it accepts.
+//! The secret of a client (RFC 5802, section 3), and the iteration counts that it accepts.
 
 ghost use Rattle.std.specs.Prelude.{◌≡◌, ◌↔◌, IfOk, IsTrue};
 ghost use Rattle.fe2o3_scram.specs.ClientSecret.{IsOfVersion, kept_password, kept_secret, no_limit, secret_of, up_to};
@@ -12,17 +12,16 @@ use crate::passwords::Password;
 use std::alloc::{AllocError, Global};
 use thiserror::Error;
 
-/// By what a client proves who it is (RFC 5802, section 3).
+/// The secret by which a client proves who it is (RFC 5802, section 3).
 #[derive(Clone, Copy)]
 pub enum ClientSecret<'a> {
     /// The password.
     Password(Password<'a>),
 
-    /// The keys of an earlier login. They serve where the server names the salt and the iteration count
-    /// that they are of.
+    /// The keys of an earlier login. They serve only if the server names their salt and iteration count.
     Keys(&'a CachedKeys),
 
-    /// Both: the keys where they serve, and otherwise the password.
+    /// Both: the keys if they serve, and otherwise the password.
     PasswordAndKeys {
         /// The password.
         password: Password<'a>,
@@ -32,14 +31,14 @@ pub enum ClientSecret<'a> {
     },
 }
 
-/// Why no client is made of a secret.
+/// Why a secret does not fit a client.
 #[derive(Debug, Clone, Copy, PartialEq, Eq, Error)]
 pub enum ClientSecretError {
     /// The keys are of another version than the client.
     #[error("Version mismatch")]
     VersionMismatch,
 
-    /// A request for memory was refused.
+    /// An allocation failed.
     #[error("Out of memory")]
     OutOfMemory,
 }
@@ -66,8 +65,8 @@ impl ClientSecret<'_> {
     }
 }
 
-/// The iteration counts that a client accepts, both ends among them. Without a limit they are 1 to
-/// 4294967295, which are all that a message can name (RFC 5802, section 7).
+/// The iteration counts that a client accepts, inclusive. Without limits they are 1 to 4294967295, all that a message
+/// can name (RFC 5802, section 7).
 #[derive(Debug, Clone, Copy, PartialEq, Eq)]
 pub struct IterationLimits {
     /// The minimum. RFC 7677, section 4, asks for at least 4096.
@@ -78,14 +77,14 @@ pub struct IterationLimits {
 }
 
 impl IterationLimits {
-    /// All counts from 1 to 4294967295.
+    /// Returns limits that accept every count from 1 to 4294967295.
     pub fn none() -> Self
         ensures { result ≡ up_to no_limit }
     {
         IterationLimits::up_to(u32::MAX)
     }
 
-    /// The counts from 1 to this one.
+    /// Returns limits that accept the counts from 1 to this one.
     pub fn up_to(max_iterations: u32) -> Self
         ensures { result ≡ up_to max_iterations }
     {
@@ -96,7 +95,7 @@ impl IterationLimits {
     }
 }
 
-/// The password as a client keeps it.
+/// An owned copy of a client's password.
 #[derive(Drop)]
 pub(crate) enum KeptPassword {
     Typed(String),
@@ -135,7 +134,7 @@ impl KeptPassword {
     }
 }
 
-/// The secret as a client keeps it.
+/// An owned copy of a client's secret.
 #[derive(Drop)]
 pub(crate) enum KeptSecret {
     Password(KeptPassword),

@@ -1,4 +1,4 @@
-//! What a server keeps of its users (RFC 5802, section 3).
+//! What a server stores for its users (RFC 5802, section 3).
 
 ghost use Rattle.std.specs.Prelude.{◌≡◌, ◌↔◌, ◌⊎◌, [], ◌∷◌, IfOk, IfErr};
 ghost use Rattle.std.specs.String.{string_bytes};
@@ -32,7 +32,7 @@ use std::alloc::{AllocError, Global};
 use std::fmt;
 use std::marker::Model;
 
-/// The iteration count of a credential that names none: the least that RFC 7677, section 4, asks for.
+/// The iteration count of a credential that names none: the minimum that RFC 7677, section 4, asks for.
 pub const DEFAULT_SCRAM_ITERATIONS: u32 = 4096;
 
 /// The credential of one user, made of the user's password.
@@ -50,12 +50,11 @@ impl Model for SingleScramCredential {
 }
 
 impl SingleScramCredential {
-    /// The credential of a user with this password, with 4096 iterations (RFC 5802, section 3). The
-    /// user name is plain, and not escaped; the salt is fresh for each credential; of the password
-    /// the keys alone are kept.
+    /// Makes the credential of a user with this password, with 4096 iterations (RFC 5802, section 3). The user name is
+    /// plain, not escaped. The salt is new for each credential. Only the keys are kept, not the password.
     ///
-    /// Refused are `NormalizeError`, exactly where the password is not printable ASCII (RFC 4013,
-    /// section 2), and `OutOfMemory`.
+    /// The errors are `NormalizeError`, exactly if the password is not printable ASCII (RFC 4013, section 2), and
+    /// `OutOfMemory`.
     pub fn new(
         alloc: Global,
         username: String,
@@ -93,7 +92,8 @@ impl SingleScramCredential {
 }
 
 impl fmt::Debug for SingleScramCredential {
-    /// The version, the user name and the iteration count: who has the keys can play the server.
+    /// Writes the version, the user name and the iteration count, and no key: with the keys anyone can impersonate the
+    /// server.
     fn fmt<W: fmt::Write>(&self, f: &mut fmt::Formatter<W>) -> fmt::Result {
         write!(
             f,

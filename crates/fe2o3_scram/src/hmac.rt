@@ -26,15 +26,15 @@ pub const SCRAM_SHA_256: &str = "SCRAM-SHA-256";
 /// The mechanism name of SCRAM with SHA-512.
 pub const SCRAM_SHA_512: &str = "SCRAM-SHA-512";
 
-/// The name is not that of a SCRAM mechanism which is known here.
+/// The name is not that of a known SCRAM mechanism.
 #[derive(Debug, Clone, Copy, PartialEq, Eq, Error)]
 #[error("Unknown SCRAM mechanism")]
 pub struct UnknownMechanism;
 
-/// Which hash a SCRAM mechanism stands on.
+/// The hash of a SCRAM mechanism.
 #[derive(Debug, Clone, Copy, PartialEq, Eq)]
 pub enum ScramVersion {
-    /// SHA-1, of `SCRAM-SHA-1` (RFC 5802). New applications should take SHA-256.
+    /// SHA-1, of `SCRAM-SHA-1` (RFC 5802). New applications should use SHA-256.
     Sha1,
 
     /// SHA-256, of `SCRAM-SHA-256` (RFC 7677).
@@ -45,8 +45,8 @@ pub enum ScramVersion {
 }
 
 impl ScramVersion {
-    /// The name of the SASL mechanism: `SCRAM-SHA-1` (RFC 5802, section 4), `SCRAM-SHA-256` (RFC 7677, section 3) or
-    /// `SCRAM-SHA-512`, which no RFC names.
+    /// Returns the name of the SASL mechanism: `SCRAM-SHA-1` (RFC 5802, section 4), `SCRAM-SHA-256` (RFC 7677, section
+    /// 3) or `SCRAM-SHA-512`, which no RFC names.
     pub fn mechanism(&self) -> &'static str
         ensures { result.now ≡ mechanism_name self.now }
     {
@@ -57,8 +57,7 @@ impl ScramVersion {
         }
     }
 
-    /// The version of the SASL mechanism with this name, which is compared byte by byte, or `None`
-    /// where it is the name of none of the three.
+    /// Returns the version of the SASL mechanism with this name, compared byte by byte, or `None` for any other name.
     pub fn from_mechanism(name: &str) -> Option<ScramVersion>
         ensures { MatchOption result ((version : ScramVersion) → mechanism_name version ≢ name.now)
             (λ version. mechanism_name version ≡ name.now) }
@@ -71,20 +70,20 @@ impl ScramVersion {
         }
     }
 
-    /// The digest of the input: `H` of RFC 5802, section 2.2. It has 20 bytes of SHA-1, 32 of SHA-256 and 64 of
-    /// SHA-512.
+    /// Computes the digest of the input: `H` of RFC 5802, section 2.2. It has 20 bytes of SHA-1, 32 of SHA-256 and 64
+    /// of SHA-512.
     ///
-    /// The one refusal is `OutOfMemory`, of the one request, which is for the digest.
+    /// The only error is `OutOfMemory`. The digest is the only allocation.
     pub fn h(&self, alloc: Global, input: &[u8]) -> Result<Vec<u8>, OutOfMemory>
         ensures { IfOk result (λ output. output.items ≡ digest self.now input.now) }
     {
         digest_of(*self, input).as_slice().to_vec(alloc)
     }
 
-    /// The HMAC of the input under a key (RFC 2104, section 2; RFC 5802, section 2.2), as long as a digest. Key and
-    /// input have any length: a key longer than a block is hashed first, and zeros fill up a shorter one.
+    /// Computes the HMAC of the input under a key (RFC 2104, section 2; RFC 5802, section 2.2), as long as a digest.
+    /// Key and input have any length: a key longer than a block is hashed first, and zeros pad a shorter one.
     ///
-    /// The one refusal is `OutOfMemory`, of the one request, which is for the value.
+    /// The only error is `OutOfMemory`. The value is the only allocation.
     pub fn hmac(&self, alloc: Global, key: &[u8], input: &[u8]) -> Result<Vec<u8>, OutOfMemory>
         ensures { IfOk result (λ output. output.items ≡ hmac_of self.now key.now input.now) }
     {
@@ -94,7 +93,7 @@ impl ScramVersion {
             .to_vec(alloc)
     }
 
-    /// The length of a block that the hash works on, in bytes.
+    /// Returns the block length of the hash, in bytes.
     pub(crate) fn block_len(&self) -> usize
         ensures { result ≡ block_len self.now }
     {
@@ -104,7 +103,7 @@ impl ScramVersion {
         }
     }
 
-    /// The length of a digest, in bytes.
+    /// Returns the length of a digest, in bytes.
     pub(crate) fn digest_len(&self) -> usize
         ensures { result ≡ digest_len self.now }
     {

@@ -1,11 +1,11 @@
 //! The keys, the proof and the signature of SCRAM, under the names of RFC 5802, section 3.
 //!
-//! A side that keeps its keys needs no password: a client makes its proof from the ClientKey, and
-//! a server tests it against the StoredKey and signs by the ServerKey.
+//! A side that keeps its keys needs no password: a client makes its proof from the ClientKey, and a server tests it
+//! against the StoredKey and signs by the ServerKey.
 //!
-//! Keys, proofs and signatures are as long as a digest: 20 bytes of SHA-1 (RFC 5802), 32 of SHA-256
-//! (RFC 7677), 64 of SHA-512, for which no RFC names a mechanism. None of the methods takes memory.
-//! The meter counts the HMAC values that each makes, and stands below 2^64 - 1 before the call.
+//! Keys, proofs and signatures are as long as a digest: 20 bytes of SHA-1 (RFC 5802), 32 of SHA-256 (RFC 7677), 64 of
+//! SHA-512, for which no RFC names a mechanism. The methods allocate nothing. The meter counts the HMAC values that
+//! each makes, and has to be below 2^64 - 1 before the call.
 
 ghost use Rattle.std.specs.Prelude.{◌≡◌, ◌<◌, ◌+◌, ◌^◌, ◌↔◌, IsTrue, IfOk};
 ghost use Rattle.fe2o3_scram.specs.Hmac.{digest_bytes, exclusive_or, version_of};
@@ -24,13 +24,13 @@ use crate::same_bytes::same_bytes;
 use std::alloc::{AllocError, Global};
 use thiserror::Error;
 
-/// What the ClientKey is made of.
+/// The input of which the ClientKey is the HMAC.
 const CLIENT_KEY_LABEL: &[u8] = b"Client Key";
 
-/// What the ServerKey is made of.
+/// The input of which the ServerKey is the HMAC.
 const SERVER_KEY_LABEL: &[u8] = b"Server Key";
 
-/// Why no keys and no record are made of a password.
+/// Why a password gives no keys and no record.
 #[derive(Debug, Clone, Copy, PartialEq, Eq, Error)]
 pub enum RecordError {
     /// The password is not printable ASCII.
@@ -41,7 +41,7 @@ pub enum RecordError {
     #[error("Iteration count is zero")]
     ZeroIterations,
 
-    /// A request for memory was refused.
+    /// An allocation failed.
     #[error("Out of memory")]
     OutOfMemory,
 }
@@ -54,11 +54,11 @@ impl From<AllocError> for RecordError {
     }
 }
 
-/// The AuthMessage: the client-first message without its GS2 header, the server-first message, and
-/// the client-final message up to its proof, with commas between them, each as it was sent (RFC
-/// 5802, section 3). They are not read: any bytes are taken.
+/// Concatenates the AuthMessage: the client-first message without its GS2 header, the server-first message, and the
+/// client-final message up to its proof, with commas between them, each as it was sent (RFC 5802, section 3). Any bytes
+/// are accepted.
 ///
-/// The one refusal is `OutOfMemory`, of the one request.
+/// The only error is `OutOfMemory`, of the one allocation.
 pub fn auth_message(
     alloc: Global,
     client_first_message_bare: &[u8],
@@ -82,7 +82,7 @@ pub fn auth_message(
     Ok(buf)
 }
 
-/// The pieces of the AuthMessage, which the two sides do not put together.
+/// Returns the pieces of the AuthMessage, for calls that do not concatenate them.
 pub(crate) fn auth_pieces<'a>(
     client_first_message_bare: &'a [u8],
     server_first_message: &'a [u8],
@@ -101,7 +101,7 @@ pub(crate) fn auth_pieces<'a>(
 }
 
 impl ScramVersion {
-    /// The two keys of a salted password: the ClientKey and the ServerKey, two HMAC values.
+    /// Computes the two keys of a salted password: the ClientKey and the ServerKey, two HMAC values.
     pub(crate) fn client_and_server_key(
         &self,
         salted_password: &[u8],
@@ -119,8 +119,8 @@ impl ScramVersion {
         (client_key, server_key)
     }
 
-    /// The ClientKey: `HMAC(SaltedPassword, "Client Key")`, one HMAC value. The salted password is
-    /// any bytes, and that of a login is as long as a digest.
+    /// Computes the ClientKey: `HMAC(SaltedPassword, "Client Key")`, one HMAC value. The salted password is any bytes,
+    /// and that of a login is as long as a digest.
     pub fn client_key(&self, salted_password: &[u8], meter: &mut Meter) -> DigestBytes
         requires { meter.old + 1 < 2 ^ 64 }
         ensures key { digest_bytes result ≡ client_key self.now salted_password.now }
@@ -129,16 +129,15 @@ impl ScramVersion {
         HmacKey::new(*self, salted_password).mac(&[CLIENT_KEY_LABEL], meter)
     }
 
-    /// The StoredKey: `H(ClientKey)`, no HMAC value. The ClientKey is any bytes, and is as long as a
-    /// digest where it was made by `client_key`.
+    /// Computes the StoredKey: `H(ClientKey)`, no HMAC value. The ClientKey is any bytes; one from `client_key` is as
+    /// long as a digest.
     pub fn stored_key(&self, client_key: &[u8]) -> DigestBytes
         ensures { digest_bytes result ≡ stored_key self.now client_key.now }
     {
         digest_of(*self, client_key)
     }
 
-    /// The ServerKey: `HMAC(SaltedPassword, "Server Key")`, one HMAC value. The salted password is
-    /// any bytes, as for `client_key`.
+    /// Computes the ServerKey: `HMAC(SaltedPassword, "Server Key")`, one HMAC value. The salted password is any bytes.
     pub fn server_key(&self, salted_password: &[u8], meter: &mut Meter) -> DigestBytes
         requires { meter.old + 1 < 2 ^ 64 }
         ensures key { digest_bytes result ≡ server_key self.now salted_password.now }
@@ -147,11 +146,10 @@ impl ScramVersion {
         HmacKey::new(*self, salted_password).mac(&[SERVER_KEY_LABEL], meter)
     }
 
-    /// The ClientProof: the exclusive or of the ClientKey and the ClientSignature, which is
-    /// `HMAC(H(ClientKey), AuthMessage)`. One HMAC value.
+    /// Computes the ClientProof: the ClientKey XOR the ClientSignature, which is `HMAC(H(ClientKey), AuthMessage)`. One
+    /// HMAC value.
     ///
-    /// The one refusal is `XorLengthMismatch`, of a ClientKey that is not as long as a digest, and no
-    /// HMAC value is made then.
+    /// The only error is `XorLengthMismatch`, if the ClientKey is not as long as a digest. Then no HMAC value is made.
     pub fn compute_client_proof(
         &self,
         client_key: &[u8],
@@ -166,12 +164,11 @@ impl ScramVersion {
         self.client_proof_over(client_key, &[auth_message], meter)
     }
 
-    /// The ClientKey that a server recovers: the exclusive or of the ClientProof and the
-    /// ClientSignature, which is `HMAC(StoredKey, AuthMessage)`. One HMAC value. It is the
-    /// client's where its digest is the StoredKey.
+    /// Recovers the ClientKey as a server does: the ClientProof XOR the ClientSignature, which is `HMAC(StoredKey,
+    /// AuthMessage)`. One HMAC value. The result is the client's key if its digest is the StoredKey.
     ///
-    /// The one refusal is `XorLengthMismatch`, of a proof that is not as long as a digest, and no HMAC
-    /// value is made then. The StoredKey is any bytes.
+    /// The only error is `XorLengthMismatch`, if the proof is not as long as a digest. Then no HMAC value is made. The
+    /// StoredKey is any bytes.
     pub fn recovered_client_key(
         &self,
         stored_key: &[u8],
@@ -187,12 +184,12 @@ impl ScramVersion {
         self.signed(client_proof, stored_key, &[auth_message], meter)
     }
 
-    /// Whether the proof meets the StoredKey, that is, whether the recovered ClientKey's digest is
-    /// the StoredKey. One HMAC value. That keys are compared over the whole length, whatever the
-    /// bytes are, is read in the code and not proved; no claim is made about time.
+    /// Returns whether the proof meets the StoredKey, that is, whether the recovered ClientKey's digest is the
+    /// StoredKey. One HMAC value. Keys are compared over the whole length, whatever the bytes are. That is read in the
+    /// code and not proved; no claim is made about time.
     ///
-    /// The one refusal is `XorLengthMismatch`, of a proof that is not as long as a digest, and no HMAC
-    /// value is made then. The StoredKey is any bytes.
+    /// The only error is `XorLengthMismatch`, if the proof is not as long as a digest. Then no HMAC value is made. The
+    /// StoredKey is any bytes.
     pub fn verify_client_proof(
         &self,
         stored_key: &[u8],
@@ -208,7 +205,7 @@ impl ScramVersion {
         self.meets_stored_key(stored_key, client_proof, &[auth_message], meter)
     }
 
-    /// The ServerSignature: `HMAC(ServerKey, AuthMessage)`, one HMAC value. The ServerKey is any bytes.
+    /// Computes the ServerSignature: `HMAC(ServerKey, AuthMessage)`, one HMAC value. The ServerKey is any bytes.
     pub fn compute_server_signature(
         &self,
         server_key: &[u8],
@@ -222,7 +219,7 @@ impl ScramVersion {
         self.server_signature_over(server_key, &[auth_message], meter)
     }
 
-    /// As `compute_client_proof`, of an AuthMessage in pieces.
+    /// Like `compute_client_proof`, with an AuthMessage in pieces.
     pub(crate) fn client_proof_over(
         &self,
         client_key: &[u8],
@@ -238,7 +235,7 @@ impl ScramVersion {
         self.signed(client_key, stored_key.as_slice(), auth_message, meter)
     }
 
-    /// As `verify_client_proof`, of an AuthMessage in pieces.
+    /// Like `verify_client_proof`, with an AuthMessage in pieces.
     pub(crate) fn meets_stored_key(
         &self,
         stored_key: &[u8],
@@ -258,7 +255,7 @@ impl ScramVersion {
         ))
     }
 
-    /// As `compute_server_signature`, of an AuthMessage in pieces.
+    /// Like `compute_server_signature`, with an AuthMessage in pieces.
     pub(crate) fn server_signature_over(
         &self,
         server_key: &[u8],
@@ -273,8 +270,8 @@ impl ScramVersion {
         HmacKey::new(*self, server_key).mac(auth_message, meter)
     }
 
-    /// The exclusive or of a text and the ClientSignature: a key becomes its proof, and a proof its
-    /// key.
+    /// XORs `text` with the ClientSignature: a ClientKey becomes its ClientProof, and a proof its key (RFC 5802,
+    /// section 3).
     fn signed(
         &self,
         text: &[u8],

@@ -1,5 +1,5 @@
-//! Laws of the definitions. A function with an empty body says nothing but its contract: a
-//! statement about every list of bytes, which the check has proved.
+//! Laws of the definitions. Each function has an empty body and states only its contract, about every list of bytes,
+//! which the check has proved.
 
 ghost use Rattle.std.specs.Prelude.{◌≡◌};
 ghost use Rattle.fe2o3_scram.specs.Agreement.{VerifiedTextsAgree};
@@ -10,7 +10,7 @@ ghost use Rattle.fe2o3_scram.specs.examples.MemoryExamples.{AnsweredClientsTakeN
 
 use crate::hmac::ScramVersion;
 
-/// The clone of a version is that version, and takes no memory.
+/// Returns the same version, without an allocation.
 pub fn clone_of_version(version: &ScramVersion) -> ScramVersion
     ensures { result ≡ version.now }
 {
@@ -28,7 +28,7 @@ pub fn digests()
     ensures macs { MacsAreSized }
 {}
 
-/// A base64 text stands for one list of bytes, is read again, and holds no comma.
+/// A base64 text encodes one list of bytes, is read again, and has no comma.
 pub fn base64_texts()
     ensures one { OneBytesOfBase64 }
     ensures again { Base64IsReadAgain }
@@ -41,14 +41,13 @@ pub fn parts()
     ensures one { OneListOfParts }
 {}
 
-/// A user name has one escaped text, which holds no comma.
+/// A user name has one escaped text, which has no comma.
 pub fn escaped_names()
     ensures one { OneEscapedName }
     ensures no_comma { NoCommaInEscapedNames }
 {}
 
-/// Each of the four messages has at most one answer, and the last two have one too before a key or
-/// a signature is looked at.
+/// Each of the four messages has at most one answer. The last two have one too before a key or a signature is tested.
 pub fn one_answer_each()
     ensures client_first { OneClientFirst }
     ensures server_first { OneServerFirst }
@@ -73,12 +72,12 @@ pub fn accepted_messages()
     ensures agreement { VerifiedTextsAgree }
 {}
 
-/// A client and a server that hold the same password log in where nothing is altered on the way.
+/// A client and a server with the same password log in if nothing is altered on the way.
 pub fn unaltered_exchanges()
     ensures { UnalteredExchangesSucceed }
 {}
 
-/// Each of the four messages has an answer, whatever numbers its text is.
+/// Each of the four messages has an answer, whatever its bytes are.
 pub fn each_text_is_read()
     ensures client_first { SomeClientFirst }
     ensures server_first { SomeServerFirst }
@@ -86,8 +85,8 @@ pub fn each_text_is_read()
     ensures server_final { SomeServerFinal }
 {}
 
-/// A record is read again from its text, and no other text is read as that record. Each text has
-/// one answer. A record that is made of a password is one that is read again.
+/// A record is read again from its text, and no other text is read as that record. Each text has one answer. A record
+/// that is made of a password is read again.
 pub fn record_texts()
     ensures again { RecordsAreReadAgain }
     ensures spelling { OneSpelling }
@@ -96,32 +95,32 @@ pub fn record_texts()
     ensures made { MadeRecordsAreReadable }
 {}
 
-/// A client with the keys of a password answers as with the password, or says that the server names
-/// another salt or another iteration count. One with both answers as with the password.
+/// A client with the keys of a password answers like one with the password, or returns that the server names another
+/// salt or iteration count. One with both answers like one with the password.
 pub fn kept_keys()
     ensures stand { KeysStandForPassword }
     ensures answer { KeysAnswerAsPassword }
     ensures both { BothAnswerAsPassword }
 {}
 
-/// A password of printable ASCII is prepared to itself: passed as typed or as prepared it gives one record,
-/// and a client one answer.
+/// A password of printable ASCII is prepared to itself: typed or prepared, it gives one record, and a client one
+/// answer.
 pub fn printable_passwords()
     ensures record { OneRecordOfPassword }
     ensures answer { OneAnswerOfPassword }
 {}
 
-/// Users who can be written are read again from their lines. Each text of lines has one answer: the
-/// users that it spells, or its first line that is not read and the fault of that.
+/// Users that can be written are read again from their lines. Each text of lines has one answer: the users that it
+/// spells, or its first malformed line and that line's fault.
 pub fn users_texts()
     ensures again { UsersAreReadAgain }
     ensures one { OneUsersAnswer }
     ensures some { SomeUsersAnswer }
 {}
 
-/// Users whose records are of several versions are read again from their lines, if they can be written.
-/// Users that were read are written as the very text that was read, and no line is rejected for its version.
-/// Each text of lines has one answer.
+/// Users with records of several versions are read again from their lines, if they can be written. Users that were read
+/// are written as the very text that was read, and no line is rejected for its version. Each text of lines has one
+/// answer.
 pub fn mixed_texts()
     ensures again { MixedAreReadAgain }
     ensures back { MixedAreWrittenBack }
@@ -130,10 +129,10 @@ pub fn mixed_texts()
     ensures some { SomeMixedAnswer }
 {}
 
-/// States worked examples of texts to which `OutOfMemory` is no answer, since they are rejected before a
-/// call asks for memory. A server-final message that is an error; a server-first message to a client that
-/// has answered one; a client-first message of an unknown user; a client-final message with another nonce,
-/// and one without a channel binding; a record of an unknown mechanism; and a line whose name has a comma.
+/// States worked examples of texts that are rejected before a call allocates, so never with `OutOfMemory`. A
+/// server-final message that is an error; a server-first message to a client that has answered one; a client-first
+/// message of an unknown user; a client-final message with another nonce, and one without a channel binding; a record
+/// of an unknown mechanism; and a line whose name has a comma.
 pub fn texts_without_memory()
     ensures errors { ErrorsTakeNone }
     ensures answered { AnsweredClientsTakeNone }
@@ -144,9 +143,9 @@ pub fn texts_without_memory()
     ensures commas { CommasTakeNone }
 {}
 
-/// States what the state of a server is. Two servers with one open challenge, one record that it was made
-/// with and one user who has logged in are in one state, so `open_challenge`, the record and
-/// `authenticated_user` are enough to restore a server.
+/// States what the state of a server is. Two servers with the same open challenge, record of that challenge and
+/// logged-in user are in one state. So `open_challenge`, the record and `authenticated_user` are enough to restore a
+/// server.
 pub fn saved_servers()
     ensures { StatesAreReported }
 {}

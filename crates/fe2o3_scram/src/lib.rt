@@ -1,16 +1,15 @@
-//! SCRAM over texts (RFC 5802), after the authentication layer of `fe2o3-amqp` 0.18.4. No AMQP is in it.
+//! SCRAM over texts (RFC 5802), after the authentication layer of `fe2o3-amqp` 0.18.4. It does not depend on AMQP.
 //!
-//! A client makes its first message with [`ScramVersion::client_first_message`], answers the
-//! server's with [`ScramVersion::compute_client_final_message`], and verifies the server only
-//! where [`ScramVersion::validate_server_final`] accepts its last one. A server makes its two
-//! messages with [`ScramVersion::compute_server_first_message`] and
-//! [`ScramVersion::compute_server_final_message`], from the records of a
-//! [`ScramCredentialProvider`]. [`ScramClient`] and [`ScramAuthenticator`] keep the messages of
-//! one exchange between the calls; [`laws`] says what holds of a whole exchange. A client proves who it is
-//! by its [`Password`], by the [`CachedKeys`] of an earlier login, or by both ([`ClientSecret`]).
+//! A client makes its first message with [`ScramVersion::client_first_message`], answers the server's with
+//! [`ScramVersion::compute_client_final_message`], and verifies the server with
+//! [`ScramVersion::validate_server_final`]. A server makes its two messages with
+//! [`ScramVersion::compute_server_first_message`] and [`ScramVersion::compute_server_final_message`], from the records
+//! of a [`ScramCredentialProvider`]. [`ScramClient`] and [`ScramAuthenticator`] keep the messages of one exchange
+//! between the calls; [`laws`] states what holds of a whole exchange. A client proves who it is by its [`Password`], by
+//! the [`CachedKeys`] of an earlier login, or by both ([`ClientSecret`]).
 //!
-//! [`ClientFirst`], [`ServerFirst`], [`ClientFinal`] and [`ServerFinal`] are what the four messages
-//! name, and each has a `parse`. The keys, the proof and the signature stand in [`keys`].
+//! [`ClientFirst`], [`ServerFirst`], [`ClientFinal`] and [`ServerFinal`] are the values of the four messages, and each
+//! has a `parse`. The keys, the proof and the signature are in [`keys`].
 #![tactic(auto)]
 
 pub mod cached_keys;

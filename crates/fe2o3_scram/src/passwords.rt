@@ -1,19 +1,19 @@
-//! A password, as the user typed it or as its caller prepared it (RFC 4013; RFC 5802, section 2.2).
+//! Passwords, typed or already prepared (RFC 4013; RFC 5802, section 2.2).
 
 ghost use Rattle.std.specs.Prelude.{◌≡◌, MatchResult};
 ghost use Rattle.fe2o3_scram.specs.Passwords.{IsNormal, password_bytes, password_of};
 
 use crate::saslprep_ascii::{NormalizeError, saslprep};
 
-/// A password, and who prepares it (RFC 4013; RFC 5802, section 2.2).
+/// A password, typed or already prepared (RFC 4013; RFC 5802, section 2.2).
 #[derive(Clone, Copy)]
 pub enum Password<'a> {
     /// The password as the user typed it. It is prepared by the ASCII subset of SASLprep, which leaves
     /// printable ASCII unchanged. Where it is needed, any other text is rejected by `NormalizeError`.
     Typed(&'a str),
 
-    /// The password as its caller prepared it, for example by the crate `saslprep` (RFC 4013). Any text
-    /// is taken, and used unchanged.
+    /// The password as its caller prepared it, for example by the crate `saslprep` (RFC 4013). Any text is accepted and
+    /// used unchanged.
     Prepared(&'a str),
 }
 

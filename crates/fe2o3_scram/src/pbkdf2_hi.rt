@@ -15,14 +15,14 @@ use crate::saslprep_ascii::{self, saslprep};
 use std::alloc::{AllocError, Global};
 use thiserror::Error;
 
-/// Why a password gives no salted password.
+/// Why a password has no salted password.
 #[derive(Debug, Clone, Copy, PartialEq, Eq, Error)]
 pub enum KeyError {
     /// The password is not printable ASCII.
     #[error("NormalizeError")]
     NormalizeError,
 
-    /// A request for memory was refused.
+    /// An allocation failed.
     #[error("OutOfMemory")]
     OutOfMemory,
 }
@@ -44,14 +44,14 @@ impl From<saslprep_ascii::NormalizeError> for KeyError {
 }
 
 impl ScramVersion {
-    /// The salted password: `Hi(password, salt, iterations)` of RFC 5802, section 2.2, which is PBKDF2 of RFC 8018,
-    /// section 5.2, with one block of output. It is as long as a digest: 20 bytes of SHA-1, 32 of SHA-256, 64 of
+    /// Computes the salted password: `Hi(password, salt, iterations)` of RFC 5802, section 2.2, which is PBKDF2 of RFC
+    /// 8018, section 5.2, with one block of output. It is as long as a digest: 20 bytes of SHA-1, 32 of SHA-256, 64 of
     /// SHA-512.
     ///
-    /// Password and salt are any bytes, and the password is not prepared here: `compute_salted_password` does that.
-    /// The iterations are the HMAC values that are made. That they are not 0 is a condition of the call.
+    /// Password and salt are any bytes. The password is not prepared here: `compute_salted_password` does that. The
+    /// iterations, which the caller ensures are not 0, are the HMAC values that are made.
     ///
-    /// The one refusal is `OutOfMemory`, of the one request, which is for the result. The loop takes no memory.
+    /// The only error is `OutOfMemory`, of the one allocation, which is for the result.
     pub fn h_i(
         &self,
         alloc: Global,
@@ -65,9 +65,9 @@ impl ScramVersion {
         self.h_i_metered(alloc, password, salt, iterations, &mut Meter::new())
     }
 
-    /// As `h_i`. The meter counts the HMAC values, one for each iteration, and stands at 2^63 at most before the call.
+    /// Like `h_i`; the meter, of at most 2^63, counts the HMAC values, one for each iteration.
     ///
-    /// Where `OutOfMemory` is returned the meter shows from 0 to `iterations` more than before.
+    /// If `OutOfMemory` is returned the meter shows from 0 to `iterations` more than before.
     pub fn h_i_metered(
         &self,
         alloc: Global,
@@ -86,10 +86,10 @@ impl ScramVersion {
         salted.as_slice().to_vec(alloc)
     }
 
-    /// The salted password of a password that is prepared first (RFC 5802, section 2.2; RFC 4013), which leaves one of
-    /// printable ASCII as it is. Salt, iterations and length are those of `h_i`, and the iterations are again not 0.
+    /// Prepares a password and computes its salted password (RFC 5802, section 2.2; RFC 4013). Printable ASCII is
+    /// prepared to itself. Salt, iterations and length are those of `h_i`, and the iterations must not be 0.
     ///
-    /// Refused are, in this order: `NormalizeError` where a byte of the password is not printable ASCII, before any
+    /// The errors are, in this order: `NormalizeError` if a byte of the password is not printable ASCII, before any
     /// HMAC value is made, and `OutOfMemory`.
     pub fn compute_salted_password(
         &self,
@@ -107,7 +107,7 @@ impl ScramVersion {
         Ok(self.h_i(alloc, normalized_password.as_bytes(), salt, iterations)?)
     }
 
-    /// `Hi` as a digest. It takes no memory.
+    /// Computes `Hi` as a digest, without an allocation.
     pub(crate) fn salted_password(
         &self,
         password: &[u8],
@@ -128,7 +128,7 @@ impl ScramVersion {
     }
 }
 
-/// `Hi` under a password whose pads one hash has taken in. It takes no memory.
+/// Computes `Hi` under a password whose pads are hashed, without an allocation.
 #[tactic(auto, using(crate::proofs::lemmas::hashes::HiRoundLemmas::rounds))]
 fn rounds<const N: usize, H: Hasher<N>>(
     password: &PaddedKey<N, H>,

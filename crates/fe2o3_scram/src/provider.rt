@@ -1,4 +1,4 @@
-//! What a server asks of its users' credentials, wherever they are kept (RFC 5802, section 3).
+//! What a server asks of its store of credentials (RFC 5802, section 3).
 
 ghost use Rattle.std.specs.Prelude.{◌≡◌, option_map};
 ghost use Rattle.std.proofs.Common.{ap};
@@ -8,13 +8,13 @@ use crate::hmac::ScramVersion;
 use std::fmt;
 use std::rc::Rc;
 
-/// What is kept of a password, borrowed from a provider.
+/// The record of a password, borrowed from a provider.
 #[derive(Drop)]
 pub struct StoredPassword<'a> {
     /// The salt, of any length.
     pub salt: &'a [u8],
 
-    /// The iteration count. A client refuses 0.
+    /// The iteration count. A client rejects 0.
     pub iterations: u32,
 
     /// StoredKey := H(ClientKey)
@@ -25,7 +25,7 @@ pub struct StoredPassword<'a> {
 }
 
 impl fmt::Debug for StoredPassword<'_> {
-    /// The iteration count alone: who has the keys can play the server.
+    /// Writes only the iteration count: with the keys anyone can impersonate the server.
     fn fmt<W: fmt::Write>(&self, f: &mut fmt::Formatter<W>) -> fmt::Result {
         write!(
             f,
@@ -35,11 +35,10 @@ impl fmt::Debug for StoredPassword<'_> {
     }
 }
 
-/// A store of credentials: a version, and a finite map from user names to what is kept of their
-/// passwords. User names are plain, and not escaped.
+/// A store of credentials: a version, and a finite map from user names to records. User names are plain, not escaped.
 ///
-/// A store of a caller's own means its entries in their order, as `records_in` of `specs/Stores.antt`
-/// says it, and shows its look-up by a lemma of `proofs/lemmas/providers/LookUpLemmas.antt`:
+/// The meaning of a caller-owned store is its entries in order, by `records_in` of `specs/Stores.antt`. Its look-up is
+/// proved by a lemma of `proofs/lemmas/providers/LookUpLemmas.antt`:
 /// `slice_looked_up` for the first of a name in a slice, `hash_map_looked_up` and
 /// `btree_map_looked_up` for `get` of a map, `looked_up` for any test of names. With a map from names
 /// to records the look-up is a function of one line, and its proof one line besides the imports:
@@ -56,19 +55,18 @@ impl fmt::Debug for StoredPassword<'_> {
 ///     c.args.records.now.entries c.args.username.now c.get.result c.get.ensures.value
 /// ```
 pub trait ScramCredentialProvider: Clone {
-    /// What the provider means: a version, and a record for each of its users.
+    /// The provider's meaning: a version, and a record for each of its users.
     ghost meaning: { Self → Store };
 
-    /// The version of every record.
+    /// Returns the version of every record.
     fn scram_version(&self) -> &ScramVersion
         ensures { result.now ≡ (meaning self.now).version };
 
-    /// What is kept of the user's password, or `None` for a user whom the store does not have. The
-    /// name is plain, and not escaped.
+    /// Returns what is stored for the user's password, or `None` for an unknown user. The name is plain, not escaped.
     fn get_stored_password<'a>(&'a self, username: &str) -> Option<StoredPassword<'a>>
         ensures { option_map kept result ≡ record_at (meaning self.now).records username.now };
 
-    /// A clone means the same.
+    /// A clone has the same meaning.
     ghost clone_keeps: { (provider copy : Self) → Self.is_clone provider copy → meaning copy ≡ meaning provider };
 }
 

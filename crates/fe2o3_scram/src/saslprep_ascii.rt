@@ -1,16 +1,16 @@
-//! Passwords of printable ASCII, which SASLprep (RFC 4013) leaves as they are.
+//! Passwords of printable ASCII, which SASLprep (RFC 4013) leaves unchanged.
 
 ghost use Rattle.std.specs.Prelude.{◌≡◌, ◌↔◌, MatchResult, IsTrue};
 ghost use Rattle.fe2o3_scram.specs.SaslprepAscii.{IsPrintable};
 
 use thiserror::Error;
 
-/// The text holds a byte that is not printable ASCII.
+/// The text has a byte that is not printable ASCII.
 #[derive(Debug, Clone, Copy, PartialEq, Eq, Error)]
 #[error("NormalizeError")]
 pub struct NormalizeError;
 
-/// The text itself, where each byte is printable ASCII (0x20 to 0x7E), the empty text too.
+/// Returns the text itself if each byte is printable ASCII (0x20 to 0x7E), also for the empty text.
 pub fn saslprep(text: &str) -> Result<&str, NormalizeError>
     ensures { MatchResult result (λ same. IsPrintable text.now × (same.now ≡ text.now)) (λ _. ¬ IsPrintable text.now) }
 {

@@ -1,4 +1,4 @@
-//! The SCRAM client as a machine: one message after the other (RFC 5802, section 5).
+//! The SCRAM client as a state machine over messages (RFC 5802, section 5).
 
 ghost use Rattle.std.specs.Prelude.{◌≡◌, ◌≢◌, ◌≤◌, ◌^◌, ◌↔◌, ℕ, List, Option, Some, IfOk, OnOk, OnErr, MatchOption};
 ghost use Rattle.std.specs.String.{string_bytes};
@@ -28,7 +28,7 @@ use std::marker::Model;
 enum ScramClientState {
     Initial,
     ClientFirstSent {
-        /// As bytes: its text is written again for the answer, which takes no memory.
+        /// The nonce as bytes: its text is written again for the answer, without an allocation.
         nonce: [u8; 32],
         client_first_message_bare: Vec<u8>,
     },
@@ -39,7 +39,7 @@ enum ScramClientState {
 }
 
 impl ScramClientState {
-    /// The same state.
+    /// Copies the state.
     fn copy(&self) -> Result<ScramClientState, OutOfMemory>
         ensures { IfOk result (λ copy. (keys : Option ClientKeys) → client_state_of copy keys ≡ client_state_of self.now keys) }
     {
@@ -62,9 +62,9 @@ impl ScramClientState {
     }
 }
 
-/// A client of one user. The calls come in the order `compute_client_first_message`,
-/// `compute_client_final_message`, `validate_server_final`, and the first starts afresh at any
-/// time. A call that is refused leaves the client as it was.
+/// A client of one user. The calls come in the order `compute_client_first_message`, `compute_client_final_message`,
+/// `validate_server_final`. The first restarts the exchange at any time. A call that returns an error leaves the client
+/// unchanged.
 #[derive(Drop)]
 pub struct ScramClient {
     username: String,
@@ -73,7 +73,7 @@ pub struct ScramClient {
     limits: IterationLimits,
     state: ScramClientState,
 
-    /// Those of its answer, where that stands.
+    /// The keys of the client-final message that was sent last, if the client still has them.
     keys: Option<CachedKeys>,
 }
 
@@ -95,10 +95,10 @@ impl Model for ScramClient {
 }
 
 impl ScramClient {
-    /// A client that has sent nothing, and accepts every iteration count from 1 to 4294967295. The
-    /// user name is plain, and the password as the user typed it ([`Password::Typed`]): neither is prepared
-    /// or tested here. A password that is not printable ASCII is refused by `NormalizeError` where it is
-    /// needed, and a user name is any text, which a caller prepares like a password.
+    /// Returns a client that has sent nothing, and accepts every iteration count from 1 to 4294967295. The user name is
+    /// plain, and the password as the user typed it ([`Password::Typed`]): neither is prepared or tested here. A
+    /// password that is not printable ASCII is rejected by `NormalizeError` when it is needed. A user name is any text,
+    /// which the caller prepares like a password.
     pub fn new(username: String, password: String, scram_version: ScramVersion) -> Self
         ensures { result ≡ fresh_client (string_bytes username) scram_version
             (ByPassword (Typed (string_bytes password))) }
@@ -107,19 +107,18 @@ impl ScramClient {
         ScramClient::by(username, secret, scram_version)
     }
 
-    /// Returns a client that has sent nothing, accepts every iteration count from 1 to 4294967295, and
-    /// proves who it is by a copy of this secret. The user name is plain. Neither it nor the password is
-    /// prepared or tested here.
+    /// Returns a client that has sent nothing, accepts every iteration count from 1 to 4294967295, and proves who it is
+    /// by a copy of this secret. The user name is plain. Neither it nor the password is prepared or tested here.
     ///
-    /// - [`ClientSecret::Password`]: a typed password is rejected by `NormalizeError` where it is needed and
-    ///   is not printable ASCII. A prepared one logs in where the record was made of that very text.
-    /// - [`ClientSecret::Keys`]: the client answers where the server names the salt and the iteration count
-    ///   of the keys, by two HMAC values, and rejects any other challenge by `StaleKeys`.
-    /// - [`ClientSecret::PasswordAndKeys`]: the client answers by the keys where the server names their salt
-    ///   and iteration count, and by the password otherwise.
+    /// - [`ClientSecret::Password`]: a typed password that is not printable ASCII is rejected by `NormalizeError` when
+    ///   it is needed. A prepared one logs in if the record was made of that very text.
+    /// - [`ClientSecret::Keys`]: the client answers if the server names the salt and the iteration count of the keys,
+    ///   by two HMAC values, and rejects any other challenge by `StaleKeys`.
+    /// - [`ClientSecret::PasswordAndKeys`]: the client answers by the keys if the server names their salt and iteration
+    ///   count, and by the password otherwise.
     ///
-    /// The errors are, in this order: `VersionMismatch` where the secret has keys of another version than
-    /// this, and `OutOfMemory`.
+    /// The errors are, in this order: `VersionMismatch` if the secret has keys of another version than this, and
+    /// `OutOfMemory`.
     pub fn with_secret(
         alloc: Global,
         username: String,
@@ -152,8 +151,8 @@ impl ScramClient {
         }
     }
 
-    /// The same client in the same state, which refuses an iteration count above the limit. The limit is
-    /// one for each challenge: how many challenges are answered it does not bound.
+    /// Returns this client, but with a maximum iteration count, above which it rejects a challenge. The limit is for
+    /// each challenge: it does not bound how many challenges are answered.
     pub fn with_iteration_limit(self, limit: u32) -> Self
         ensures { result ≡ with_limits self (record { min_iterations = self.limits.min_iterations; max_iterations = limit }) }
     {
@@ -164,9 +163,9 @@ impl ScramClient {
         self.with_limits(limits)
     }
 
-    /// The same client in the same state, which refuses an iteration count below this one. Without it
-    /// whoever stands between the two sides can have the client show an answer that is made with the count
-    /// 1, from which the password is soon guessed. RFC 7677, section 4, asks for 4096 at least.
+    /// Returns this client, but with a minimum iteration count, below which it rejects a challenge. Without one, a man
+    /// in the middle can have the client show an answer for the count 1, from which the password is soon guessed. RFC
+    /// 7677, section 4, asks for at least 4096.
     pub fn with_min_iterations(self, min_iterations: u32) -> Self
         ensures { result ≡ with_limits self (record { min_iterations = min_iterations; max_iterations = self.limits.max_iterations }) }
     {
@@ -177,7 +176,7 @@ impl ScramClient {
         self.with_limits(limits)
     }
 
-    /// The same client with these limits.
+    /// Returns this client, but with these limits.
     fn with_limits(self, limits: IterationLimits) -> Self
         ensures { result ≡ with_limits self limits }
     {
@@ -191,17 +190,17 @@ impl ScramClient {
         }
     }
 
-    /// The version, which names the mechanism that the client logs in by (RFC 5802, section 4).
+    /// Returns the version, which names the client's mechanism (RFC 5802, section 4).
     pub fn version(&self) -> ScramVersion
         ensures { result ≡ self.now.version }
     {
         self.scram
     }
 
-    /// The client-first message (RFC 5802, section 7), with its GS2 header. The nonce is 32 bytes,
-    /// which no exchange before had, and is written in base64, as 44 symbols.
+    /// Writes the client-first message (RFC 5802, section 7), with its GS2 header, and restarts the exchange in every
+    /// state. The nonce is 32 bytes, new for each exchange. It is written in base64, as 44 symbols.
     ///
-    /// It starts afresh in every state. `OutOfMemory` is the only refusal.
+    /// The only error is `OutOfMemory`.
     pub fn compute_client_first_message(
         &mut self,
         alloc: Global,
@@ -226,10 +225,9 @@ impl ScramClient {
 
     /// Answers the server-first message with the client-final message (RFC 5802, sections 5 and 7).
     ///
-    /// Refused are, in this order: `IllegalClientState` where the client-first message is not what
-    /// the client sent last; then what `ScramVersion::answer_server_first` refuses, in its order, with the
-    /// nonce, the secret and the limits of the client. `OutOfMemory` is answered only where none of those
-    /// before `Base64DecodeError` holds.
+    /// The errors are, in this order: `IllegalClientState` if the client has not sent the client-first message last;
+    /// then those of `ScramVersion::answer_server_first`, in its order, with the client's nonce, secret and limits.
+    /// `OutOfMemory` is returned only if no error before `Base64DecodeError` applies.
     pub fn compute_client_final_message(
         &mut self,
         alloc: Global,
@@ -243,8 +241,8 @@ impl ScramClient {
         self.compute_client_final_message_metered(alloc, server_first, &mut Meter::new())
     }
 
-    /// As `compute_client_final_message`. The meter, of at most 2^63, counts the HMAC values: two by
-    /// keys, by the password four and those of the iteration count, and none for a refusal.
+    /// Like `compute_client_final_message`; the meter, of at most 2^63, counts the HMAC values: two by keys, by the
+    /// password four more than the iterations, and none for an error.
     pub fn compute_client_final_message_metered(
         &mut self,
         alloc: Global,
@@ -284,12 +282,12 @@ impl ScramClient {
         }
     }
 
-    /// Verifies the server-final message, or refuses it (RFC 5802, section 5).
+    /// Verifies the server-final message (RFC 5802, section 5).
     ///
-    /// Refused are, in this order: `IllegalClientState` where the client-final message is not what
-    /// the client sent last; `Utf8Error`; `ServerSignatureMismatch` where the first part does not
-    /// begin with `v=`; `Base64DecodeError`; `ServerSignatureMismatch` for another signature.
-    /// `OutOfMemory` is answered only where none of the first three refusals holds.
+    /// The errors are, in this order: `IllegalClientState` if the client has not sent the client-final message last;
+    /// `Utf8Error`; `ServerSignatureMismatch` if the first part does not begin with `v=`; `Base64DecodeError`;
+    /// `ServerSignatureMismatch` for another signature. `OutOfMemory` is returned only if none of the first three
+    /// errors applies.
     pub fn validate_server_final(
         &mut self,
         alloc: Global,
@@ -311,9 +309,9 @@ impl ScramClient {
         }
     }
 
-    /// The keys of the login, once its server was verified, and `None` before: those that its answer was
-    /// made by. The next login by them takes two HMAC values, as long as the server keeps its salt and its
-    /// iteration count (RFC 5802, section 3).
+    /// Returns the keys that the client answered by, once the server is verified, and `None` before that. The next
+    /// login by them takes two HMAC values, as long as the server keeps its salt and iteration count (RFC 5802, section
+    /// 3).
     pub fn keys(&self) -> Option<&CachedKeys>
         ensures { MatchOption result (login_keys self.now.state ≡ None)
             (λ keys. login_keys self.now.state ≡ Some keys.now) }
@@ -324,7 +322,7 @@ impl ScramClient {
         }
     }
 
-    /// Whether the server was verified, which ends the exchange.
+    /// Returns whether the server was verified, which ends the exchange.
     pub fn is_complete(&self) -> bool
         ensures { result ≡ is_complete self.now.state }
     {
@@ -334,8 +332,8 @@ impl ScramClient {
         }
     }
 
-    /// The nonce of the client-first message, where that is what the client sent last. A client that is
-    /// saved here is restored by `compute_client_first_message` with it.
+    /// Returns the nonce of the client-first message, if the client has sent that last. Restore a client that is saved
+    /// here by `compute_client_first_message` with this nonce.
     pub fn nonce(&self) -> Option<&[u8; 32]>
         ensures { MatchOption result ((nonce bare : List ℕ) → self.now.state ≢ ClientFirstSent nonce bare)
             (λ nonce. (bare : List ℕ) × (self.now.state ≡ ClientFirstSent (base64_text nonce.now) bare)) }
@@ -346,8 +344,8 @@ impl ScramClient {
         }
     }
 
-    /// The signature that the client waits for, where it has sent its client-final message last. A client
-    /// that is saved here is restored by `restore_client_final_sent`.
+    /// Returns the signature that the client waits for, if it has sent its client-final message last. Restore a client
+    /// that is saved here by `restore_client_final_sent`.
     pub fn server_signature(&self) -> Option<&[u8]>
         ensures { MatchOption result
             ((signature : List ℕ) (keys : Option ClientKeys) → self.now.state ≢ ClientFinalSent signature keys)
@@ -362,9 +360,8 @@ impl ScramClient {
         }
     }
 
-    /// The keys of the answer for which the client waits for a signature. They are for a client that is
-    /// saved: until the server is verified anybody may have named their salt, so do not keep them for
-    /// another login.
+    /// Returns the keys of the answer for which the client waits for a signature. Use them only to save the client:
+    /// until the server is verified anybody may have named their salt, so do not keep them for another login.
     pub fn answer_keys(&self) -> Option<&CachedKeys>
         ensures { MatchOption result (answer_keys self.now.state ≡ None)
             (λ keys. answer_keys self.now.state ≡ Some keys.now) }
@@ -396,7 +393,7 @@ impl ScramClient {
 }
 
 impl fmt::Debug for ScramClient {
-    /// The user name, the version and the limit, without the secret and the state.
+    /// Writes the user name, the version and the limits, without the secret and the state.
     fn fmt<W: fmt::Write>(&self, f: &mut fmt::Formatter<W>) -> fmt::Result {
         write!(
             f,

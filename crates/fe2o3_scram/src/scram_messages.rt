@@ -1,4 +1,4 @@
-//! The messages of SCRAM (RFC 5802, sections 5 and 7), each in a file of its own.
+//! The messages of SCRAM (RFC 5802, sections 5 and 7).
 
 pub(crate) mod attributes;
 mod channel_binding_flag;

@@ -1,4 +1,4 @@
-//! The SCRAM server as a machine: one message after the other (RFC 5802, section 5).
+//! The SCRAM server as a state machine over messages (RFC 5802, section 5).
 
 ghost use Rattle.std.specs.Prelude.{◌≡◌, ◌≤◌, ◌^◌, IfOk, OnErr, None, false, option_map};
 ghost use Rattle.fe2o3_scram.specs.ClientFirst.{client_first_values};
@@ -24,8 +24,8 @@ use bytes::Bytes;
 use std::alloc::{AllocError, Global};
 use std::{fmt, mem};
 
-/// What a server has sent last. An open challenge has the record that it was made with: the store may
-/// change before the client-final message.
+/// What a server has sent last. An open challenge keeps the record that it was made with: the store may change before
+/// the client-final message.
 #[derive(Drop)]
 enum ScramAuthenticatorState {
     Initial,
@@ -72,7 +72,7 @@ impl ScramAuthenticatorState {
         })
     }
 
-    /// The state once the open challenge is accepted: its user has logged in.
+    /// Returns the state after the open challenge is accepted: its user has logged in.
     fn accepted(self) -> ScramAuthenticatorState
         ensures { (challenge : ServerChallenge) (stored : Record)
             → server_state_of self ≡ ServerFirstSent challenge stored
@@ -87,8 +87,8 @@ impl ScramAuthenticatorState {
     }
 }
 
-/// Returns the message of a challenge to a client-first message, and the state in which the challenge
-/// is open. No store is a parameter, so that the requests for memory do not depend on one.
+/// Returns the challenge to a client-first message, and the state in which it is open. No store is a parameter, so that
+/// the allocations do not depend on one.
 fn challenged(
     alloc: Global,
     client_first: ClientFirst<'_>,
@@ -155,8 +155,8 @@ pub struct ScramAuthenticator<C: ScramCredentialProvider> {
 }
 
 impl<C: ScramCredentialProvider> ScramAuthenticator<C> {
-    /// Returns a server without an open challenge. It accepts clients whose GS2 header is `n,,`, and
-    /// answers an unknown user with `None`.
+    /// Returns a server without an open challenge. It accepts clients whose GS2 header is `n,,`, and answers an unknown
+    /// user with `None`.
     pub fn new(credentials: C) -> Self
         ensures provider { provider_in result ≡ credentials }
         ensures cbind_flag_y { cbind_flag_y_in result ≡ false }
@@ -240,10 +240,9 @@ impl<C: ScramCredentialProvider> ScramAuthenticator<C> {
         )
     }
 
-    /// Like `compute_server_first_message`, with a meter. The meter, of at most 2^63, counts the HMAC
-    /// values. There are none without mock authentication. With it there are three if the message is
-    /// read, for a known user too, none if it is rejected, and at most three if the call runs out of
-    /// memory.
+    /// Like `compute_server_first_message`; the meter, of at most 2^63, counts the HMAC values. There are none without
+    /// mock authentication. With it there are three if the message is read, for a known user too, none if it is
+    /// rejected, and at most three if the call runs out of memory.
     pub fn compute_server_first_message_metered(
         &mut self,
         alloc: Global,
@@ -270,8 +269,8 @@ impl<C: ScramCredentialProvider> ScramAuthenticator<C> {
             client_first_message,
             self.accept_cbind_flag_y,
         )?;
-        // Memory is asked for only by functions that have no store: the parser before the look-up, and
-        // `challenged` after it. So known users and mock users make the same requests.
+        // Only functions without a store allocate: the parser before the look-up, and `challenged` after it. So known
+        // users and mock users make the same allocations.
         let mock = mock_values(&self.mock, &client_first.username, meter);
         let Some(stored) = look_up(&self.credentials, &client_first.username, &mock) else {
             return Ok(None);
@@ -281,16 +280,15 @@ impl<C: ScramCredentialProvider> ScramAuthenticator<C> {
         Ok(Some(answer))
     }
 
-    /// Answers a client-final message with the server-final message (RFC 5802, sections 5 and 7), and
-    /// never with `None`. The message is the client's text as received.
+    /// Answers a client-final message with the server-final message (RFC 5802, sections 5 and 7), and never with
+    /// `None`. The message is the client's text as received.
     ///
-    /// The proof is tested against the record that the challenge was made with, whatever the store has
-    /// by now.
+    /// The proof is tested against the record that the challenge was made with, whatever the store has by now.
     ///
     /// The errors are, in this order: `IllegalAuthenticatorState` if no challenge is open; those of
-    /// `ClientFinal::parse`, in its order; `XorLengthMismatch` if the proof is not as long as a digest;
-    /// and `AuthenticationFailed` if the proof does not meet the stored key. `OutOfMemory` is returned
-    /// only where `ClientFinal::parse` asks for memory.
+    /// `ClientFinal::parse`, in its order; `XorLengthMismatch` if the proof is not as long as a digest; and
+    /// `AuthenticationFailed` if the proof does not meet the stored key. `OutOfMemory` is returned only where
+    /// `ClientFinal::parse` allocates.
     pub fn compute_server_final_message(
         &mut self,
         alloc: Global,
@@ -309,8 +307,7 @@ impl<C: ScramCredentialProvider> ScramAuthenticator<C> {
         self.compute_server_final_message_metered(alloc, client_final_message, &mut Meter::new())
     }
 
-    /// Like `compute_server_final_message`, with a meter. The meter, of at most 2^63, counts the HMAC
-    /// values, also of an error.
+    /// Like `compute_server_final_message`; the meter, of at most 2^63, counts the HMAC values, also of an error.
     pub fn compute_server_final_message_metered(
         &mut self,
         alloc: Global,

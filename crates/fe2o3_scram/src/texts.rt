@@ -8,14 +8,14 @@ use base64::DecodeAllocError;
 use base64::engine::general_purpose::STANDARD;
 use std::alloc::Global;
 
-/// The part at place `k`, counted from 0.
+/// Returns the part at index `k`, from 0.
 pub(crate) fn part(text: &str, k: usize) -> Option<&str>
     ensures { MatchOption result ((part : List ℕ) → ¬ Part text.now k part) (λ part. Part text.now k part.now) }
 {
     text.split(',').nth(k)
 }
 
-/// What follows the key in the part at place `k`, where that part begins with the key.
+/// Returns what follows the key in the part at index `k`, if that part begins with the key.
 pub(crate) fn attribute<'a>(text: &'a str, k: usize, key: &str) -> Option<&'a str>
     ensures { MatchOption result ((rest : List ℕ) → ¬ Part text.now k (key.now ++ rest))
         (λ rest. Part text.now k (key.now ++ rest.now)) }
@@ -23,7 +23,7 @@ pub(crate) fn attribute<'a>(text: &'a str, k: usize, key: &str) -> Option<&'a st
     after(part(text, k)?, key)
 }
 
-/// The last of several parts, and what stands before its comma.
+/// Returns the last of several parts, and the text before its comma.
 pub(crate) fn last_part(text: &str) -> Option<(&str, &str)>
     ensures { MatchOption result ((before part : List ℕ) → ¬ LastPart text.now before part)
         (λ both. LastPart text.now both.0.now both.1.now) }
@@ -31,15 +31,15 @@ pub(crate) fn last_part(text: &str) -> Option<(&str, &str)>
     text.rsplit_once(',')
 }
 
-/// What follows the prefix.
+/// Returns what follows the prefix.
 pub(crate) fn after<'a>(text: &'a str, prefix: &str) -> Option<&'a str>
     ensures { MatchOption result (¬ StartsWith text.now prefix.now) (λ rest. text.now ≡ prefix.now ++ rest.now) }
 {
     text.strip_prefix(prefix)
 }
 
-/// Writes a nonce of 32 bytes in base64 into the 44 bytes of `room`, and returns the text: it is the
-/// part that a side adds to the nonce of both. The call needs no memory.
+/// Writes a nonce of 32 bytes in base64 into the 44 bytes of `room`, and returns the text: the part that a side adds to
+/// the nonce of both. The call allocates nothing.
 pub fn base64_of_nonce<'a>(nonce: &[u8; 32], room: &'a mut [u8; 44]) -> &'a str
     ensures { result.now ≡ base64_text nonce.now }
 {
@@ -51,7 +51,7 @@ pub fn base64_of_nonce<'a>(nonce: &[u8; 32], room: &'a mut [u8; 44]) -> &'a str
     }
 }
 
-/// The bytes that the text spells in base64, or `None` where it is no base64 text.
+/// Decodes the base64 text, or returns `None` if it is none.
 pub(crate) fn bytes_of(alloc: Global, text: &str) -> Result<Option<Vec<u8>>, OutOfMemory>
     ensures { IfOk result (λ read. MatchOption read ((bytes : List ℕ) → ¬ IsBase64 text.now bytes)
         (λ bytes. IsBase64 text.now bytes.items)) }
@@ -63,7 +63,7 @@ pub(crate) fn bytes_of(alloc: Global, text: &str) -> Result<Option<Vec<u8>>, Out
     }
 }
 
-/// The iteration count that the text spells, or `None` where it spells none, or 0.
+/// Returns the iteration count that the text spells, or `None` if it spells none, or 0.
 pub(crate) fn count_of(text: &str) -> Option<u32>
     ensures { MatchOption result ((count : ℕ) → ¬ IsCount text.now count) (λ count. IsCount text.now count) }
 {
@@ -74,20 +74,20 @@ pub(crate) fn count_of(text: &str) -> Option<u32>
     }
 }
 
-/// Writes the base64 text of the bytes at the end of the text.
+/// Appends the base64 text of the bytes to the text.
 pub(crate) fn push_base64(text: &mut String, bytes: &[u8]) -> Result<(), OutOfMemory>
     ensures { OnOk result (string_bytes text.new ≡ string_bytes text.old ++ base64_text bytes.now) }
 {
     STANDARD.encode_string(bytes, text)
 }
 
-/// How long the base64 text of so many bytes is. Room is reserved by it, and nothing rests on it.
+/// Returns the length of the base64 text of that many bytes. It only sizes a buffer: no contract rests on it.
 pub(crate) fn base64_len(len: usize) -> usize {
     len.div_ceil(3).saturating_mul(4)
 }
 
-/// The iteration count that the text spells without a sign or a leading zero, or `None` where it
-/// spells none, or 0.
+/// Returns the iteration count that the text spells without a sign or a leading zero, or `None` if it spells none, or
+/// 0.
 #[tactic(auto, using(crate::proofs::lemmas::texts::CountLemmas::plain_counts))]
 pub(crate) fn plain_count_of(text: &str) -> Option<u32>
     ensures { MatchOption result ((count : ℕ) → ¬ IsPlainCount text.now count)
@@ -102,7 +102,7 @@ pub(crate) fn plain_count_of(text: &str) -> Option<u32>
     count_of(text)
 }
 
-/// What stands before the first separator, which is ASCII, and what follows it.
+/// Splits the text at its first separator, which is ASCII.
 pub(crate) fn cut(text: &str, separator: char) -> Option<(&str, &str)>
     requires { separator < 128 }
     ensures { MatchOption result ((before rest : List ℕ) → ¬ Cut separator text.now before rest)

@@ -10,23 +10,23 @@ use Rattle.saslprep.specs.declared.error.SaslprepError.TheVariants.{ProhibitedCh
 use Rattle.saslprep.specs.declared.Unassigned.{Unassigned}
 use Rattle.saslprep.specs.declared.Unassigned.TheVariants.{Allowed, Refused}
 
--- RFC 4013, section 2.1: a space outside ASCII is mapped to a space, and what is commonly mapped to nothing to nothing;
--- U+200B, which is both, is a space
+-- RFC 4013, section 2.1: a space outside ASCII is mapped to a space, and a character that is commonly mapped to nothing
+-- to nothing; U+200B, which is both, is a space
 unfoldable pub mapping : ℕ → Option ℕ
 mapping c = if in_ranges c_1_2 c then Some 0x20 else if in_ranges b_1 c then None else Some c
 
--- sections 2.1 and 2.2: the text mapped, and normalized with form KC
+-- RFC 4013, sections 2.1 and 2.2: the text mapped, and normalized with form KC
 unfoldable pub prepared : List ℕ → List ℕ
 prepared cs = nfkc (filter_map mapping cs)
 
--- section 2.3: the tables of what the output must not hold
+-- RFC 4013, section 2.3: the tables of prohibited output
 abbrev pub prohibited_tables : List (List Range)
 prohibited_tables = c_1_2 ∷ c_2_1 ∷ c_2_2 ∷ c_3 ∷ c_4 ∷ c_5 ∷ c_6 ∷ c_7 ∷ c_8 ∷ c_9 ∷ []
 
 unfoldable pub is_prohibited : ℕ → Bool
 is_prohibited c = list_any (λ table. in_ranges table c) prohibited_tables
 
--- section 2.4: the characters that RFC 3454, section 6, names RandALCat and LCat
+-- RFC 4013, section 2.4: the characters that RFC 3454, section 6, names RandALCat and LCat
 unfoldable pub is_right_to_left : ℕ → Bool
 is_right_to_left = in_ranges d_1
 
@@ -40,17 +40,17 @@ has_one_direction cs =
     let at = λ (i : ℕ). option_map_or is_right_to_left (slice_get cs i) false in
     not (list_any is_right_to_left cs) || (not (list_any is_left_to_right cs) && (at 0 && at (length cs - 1)))
 
--- section 2.5
+-- RFC 4013, section 2.5: the code points that Unicode 3.2 does not assign
 unfoldable pub is_unassigned : ℕ → Bool
 is_unassigned = in_ranges a_1
 
--- the first of these code points that is not assigned, where such code points are refused
+-- the first of these code points that is not assigned, if such code points are rejected
 abbrev pub first_unassigned : Unassigned → List ℕ → Option ℕ
 first_unassigned Allowed cs = None
 first_unassigned Refused cs = find is_unassigned cs
 
--- why a text is refused that is prepared to `out`, if it is: the rules in the RFC's order. Unassigned code points are
--- looked for in the text as it came and in what it is prepared to.
+-- why a text that is prepared to `out` is rejected, if it is: the rules in the RFC's order. Unassigned code points are
+-- searched in the text as received and in its prepared form.
 unfoldable pub refusal_of : Unassigned → List ℕ → List ℕ → Option SaslprepError
 refusal_of unassigned cs out =
     let prohibited = option_map ProhibitedCharacter (find is_prohibited out) in

@@ -1,9 +1,8 @@
-//! SASLprep (RFC 4013): what a user name or a password is prepared to before it is compared or hashed.
-//! Characters are mapped and the text is normalized with form KC; the result is refused where it
-//! holds what the RFC prohibits, where it mixes directions, and, if the caller says so, for a code
-//! point that Unicode 3.2 does not assign. The tables are those of RFC 3454, of Unicode 3.2; the
-//! normalization is that of `unicode_normalization`, of a later Unicode, and `README.md` lists where
-//! the two differ.
+//! SASLprep (RFC 4013): prepares a user name or a password before it is compared or hashed. Characters are mapped and
+//! the text is normalized with form KC. The result is rejected if it has what the RFC prohibits, if it mixes
+//! directions, and, if the caller says so, for a code point that Unicode 3.2 does not assign. The tables are those of
+//! RFC 3454, of Unicode 3.2; the normalization is that of `unicode_normalization`, of a later Unicode, and `README.md`
+//! lists where the two differ.
 #![tactic(auto)]
 
 ghost use Rattle.std.specs.Prelude.{◌≡◌, ◌≢◌, ◌++◌, chars, string_bytes, encode_utf8_all, false, MatchResult, IfOk, IfErr, Some, None};
@@ -23,17 +22,17 @@ pub mod laws;
 mod table_runs;
 mod tables;
 
-/// Whether code points may stand in a text that Unicode 3.2 does not assign.
+/// Whether a text may have code points that Unicode 3.2 does not assign.
 #[derive(Clone, Copy, Debug, PartialEq, Eq)]
 pub enum Unassigned {
-    /// They may, as in a query: a text that is only compared with stored ones.
+    /// Accepts them, as in a query: a text that is only compared with stored ones.
     Allowed,
-    /// They may not, as in a stored text.
+    /// Rejects them, as in a stored text.
     Refused,
 }
 
-/// The text as SASLprep prepares it, or the first rule of the RFC that refuses it. ASCII text is
-/// borrowed, and asks for no memory.
+/// Returns the text as SASLprep prepares it, or the first rule of the RFC that rejects it. ASCII text is borrowed,
+/// without an allocation.
 pub fn saslprep(
     alloc: Global,
     text: &str,
@@ -44,7 +43,7 @@ pub fn saslprep(
     ensures refused { IfErr result (λ error.
         error ≢ SaslprepError.OutOfMemory → refusal unassigned (chars text.now) ≡ Some error) }
 
-    // Of ASCII, printable text is borrowed as it is and any other refused, neither for want of memory.
+    // Printable ASCII is borrowed unchanged, and other ASCII rejected, neither with an allocation.
     ensures ascii { IsAscii text.now → MatchResult result
         (λ out. IsPrintableText text.now × IsBorrowedStr out × (cow_str_bytes out ≡ text.now))
         (λ error. ¬ IsPrintableText text.now × (error ≢ SaslprepError.OutOfMemory)) }
@@ -61,7 +60,7 @@ pub fn saslprep(
     Ok(CowStr::Owned(out))
 }
 
-/// The text mapped and normalized.
+/// Maps and normalizes the text.
 #[tactic(auto, unfolding(crate::specs::Saslprep::prepared))]
 fn prepare(alloc: Global, text: &str) -> Result<Vec<char>, AllocError>
     ensures { IfOk result (λ out. out.items ≡ prepared (chars text.now)) }
@@ -84,7 +83,7 @@ fn text_of(alloc: Global, out: &[char]) -> Result<String, AllocError>
     out.iter().copied().collect(alloc)
 }
 
-/// The rules on `text`, which is prepared to `out`.
+/// Tests the rules on `text`, which is prepared to `out`.
 #[tactic(auto, unfolding(crate::specs::Saslprep::refusal_of))]
 fn check(text: &str, out: &[char], unassigned: Unassigned) -> Result<(), SaslprepError>
     ensures { MatchResult result
@@ -115,7 +114,7 @@ fn first_prohibited(out: &[char]) -> Option<char>
     out.iter().copied().find(|c| tables::is_prohibited(*c))
 }
 
-/// The first code point of the text or of what it is prepared to that is refused as unassigned.
+/// Returns the first code point of the text or of its prepared form that is rejected as unassigned.
 #[tactic(auto, using(crate::proofs::lemmas::ListLemmas::find_either))]
 fn first_unassigned(text: &str, out: &[char], unassigned: Unassigned) -> Option<char>
     ensures { result ≡ first_unassigned unassigned (chars text.now ++ out.now) }
@@ -138,8 +137,8 @@ fn unassigned_of(out: &[char]) -> Option<char>
     out.iter().copied().find(|c| tables::is_unassigned(*c))
 }
 
-/// Whether the text has no right-to-left character, or no left-to-right one and right-to-left ones
-/// at both its ends.
+/// Returns whether the text has no right-to-left character, or no left-to-right one and right-to-left ones at both its
+/// ends.
 #[tactic(auto, unfolding(crate::specs::Saslprep::has_one_direction))]
 fn has_one_direction(text: &[char]) -> bool
     ensures { result ≡ has_one_direction text.now }

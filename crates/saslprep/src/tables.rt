@@ -7,7 +7,7 @@ use crate::table_runs::{
     LEFT_TO_RIGHT, MAPPED_TO_NOTHING, PROHIBITED, RIGHT_TO_LEFT, SPACES, UNASSIGNED,
 };
 
-/// What `c` is mapped to, if to anything.
+/// Returns what `c` is mapped to, if it is mapped.
 pub(crate) fn mapped(c: char) -> Option<char>
     ensures { result ≡ mapping c }
 {

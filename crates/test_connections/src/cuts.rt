@@ -14,7 +14,7 @@ pub struct Row {
     /// The headers and frames that the side sends.
     pub sent: &'static [&'static str],
 
-    /// How the side stands at its end.
+    /// The side's progress at the end.
     pub progress: Progress,
 
     /// For each length of `LENGTHS`, how many pieces the side takes whole, and how many bytes of the next.
@@ -33,7 +33,7 @@ pub struct End<'a> {
 }
 
 impl End<'_> {
-    /// Returns whether the call returned this, with a side that stands so.
+    /// Returns whether the call returned this, with a side that has this progress.
     pub fn is<S>(&self, negotiated: &Negotiated<S>, progress: Progress) -> bool {
         progress == self.progress
             && (negotiated.pieces, negotiated.bytes) == self.stop
@@ -46,7 +46,7 @@ pub trait Call {
     /// The byte that fills the nonce of the rows, and how many bytes of a login end with the frame that takes it.
     const NONCE: (u8, usize);
 
-    /// Makes the call over these pieces, and returns whether it ends so.
+    /// Makes the call over these pieces, and returns whether it ends like this.
     fn ends<R: Abort + AllocGlobal>(&self, rt: &R, pieces: &[Piece<'_>], end: &End<'_>) -> bool;
 }
 

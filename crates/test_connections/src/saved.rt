@@ -153,7 +153,7 @@ fn both<R: Abort + AllocGlobal, A: HasMechanism + Drop>(
     AnyMechanism::with_selected(first, plain_of(rt, USER), selected)
 }
 
-/// Returns that server, which offers SCRAM only.
+/// Returns a server of both parts that offers only SCRAM.
 fn cut_down<R: Abort + AllocGlobal, A: HasMechanism + Drop>(
     rt: &R,
     both: AnyMechanism<A, SaslPlainMechanism>,

@@ -13,7 +13,7 @@ use fe2o3_sasl_negotiation::{
 use fe2o3_sasl_wire::SaslCode;
 use std::process::Abort;
 
-/// Returns whether a server ends so, and names the user exactly if it has logged a client in.
+/// Returns whether a server ends like this, and names the user exactly if it has logged a client in.
 fn is_end<A: AuthenticatedUser>(served: &Negotiated<ServerNegotiation<A>>, end: &End<'_>) -> bool {
     let progress = served.side.progress();
     let user = match progress {

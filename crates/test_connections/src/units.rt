@@ -14,7 +14,7 @@ pub const SASL: &str = "414d515003010000";
 /// The header of the TLS layer of AMQP.
 pub const OTHER_HEADER: &str = "414d515002010000";
 
-/// The header of AMQP, which comes after a login.
+/// The header of AMQP, which follows a login.
 pub const AMQP: &str = "414d515000010000";
 
 /// The mechanism SCRAM-SHA-256.

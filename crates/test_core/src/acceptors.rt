@@ -1,5 +1,5 @@
-//! What acceptors offer, what they answer to bodies of frames, who has logged in as they name it, and how many
-//! HMAC values an answer takes (RFC 5802, section 3, of a server's record).
+//! What acceptors offer, what they answer to bodies of frames, which user they name, and how many HMAC values an answer
+//! takes (RFC 5802, section 3, of a server's record).
 
 use crate::values::{body_of, bytes_of, event, text};
 use fe2o3_sasl::any_mechanism::{AnyMechanism, HasMechanism};
@@ -38,7 +38,7 @@ const INIT_EXTERNAL_OTHER: &str = "02010000005341c01202a30845585445524e414ca0056
 /// An init of EXTERNAL that asks for the empty name.
 const INIT_EXTERNAL_EMPTY: &str = "02010000005341c00d02a30845585445524e414ca000";
 
-/// The init of `bobs`, whom the server does not have, with SCRAM-SHA-256.
+/// The init of `bobs`, an unknown user, with SCRAM-SHA-256.
 const INIT_OF_ANOTHER: &str =
     "02010000005341c04a02a30d534352414d2d5348412d323536a0386e2c2c6e3d626f62732c723d41514542415145424151454\
     2415145424151454241514542415145424151454241514542415145424151453d";
@@ -48,25 +48,25 @@ const LOGIN_INIT: &str =
     "02010000005341c04a02a30d534352414d2d5348412d323536a0386e2c2c6e3d757365722c723d41514542415145424151454241\
     5145424151454241514542415145424151454241514542415145424151453d";
 
-/// The challenge to it, with a nonce of 32 bytes 02, a salt of 32 bytes 03 and the count 4096.
+/// The challenge to `LOGIN_INIT`, with a nonce of 32 bytes 02, a salt of 32 bytes 03 and the count 4096.
 const LOGIN_CHALLENGE: &str =
     "02010000005342c09301a090723d4151454241514542415145424151454241514542415145424151454241514542415145424151\
     45424151453d416749434167494341674943416749434167494341674943416749434167494341674943416749434167493d2c73\
     3d41774d4441774d4441774d4441774d4441774d4441774d4441774d4441774d4441774d4441774d4441774d3d2c693d34303936";
 
-/// The response to that. Its proof and the signature of the outcome were computed with Python's `hashlib` and
-/// `hmac`.
+/// The response to `LOGIN_CHALLENGE`. Its proof and the signature of the outcome were computed with Python's `hashlib`
+/// and `hmac`.
 const LOGIN_RESPONSE: &str =
     "02010000005343c09301a090633d626977732c723d41514542415145424151454241514542415145424151454241514542415145\
     4241514542415145424151453d416749434167494341674943416749434167494341674943416749434167494341674943416749\
     434167493d2c703d42434e634f5a67302b446a566d4f59627175546a2b374a61424976744830505574516572306e74774c78513d";
 
-/// The outcome.
+/// The outcome for `LOGIN_RESPONSE`.
 const LOGIN_OUTCOME: &str =
     "02010000005344c033025000a02e763d5833774d497a6167624a352b7378643046526b376c5a3558303755425a41384b464b4c34\
     31424d7254776f3d";
 
-/// A body that an acceptor is given, the one that it answers, whom it names then, and how many HMAC values the
+/// A body that an acceptor receives, the one that it answers, the user that it names then, and how many HMAC values the
 /// answer takes.
 type Row = (&'static str, &'static str, Option<&'static str>, u64);
 
@@ -78,7 +78,7 @@ static PLAIN: [Row; 3] = [
 
 static ANONYMOUS: [Row; 1] = [(INIT_ANONYMOUS, OUTCOME_OK, None, 0)];
 
-/// Whom the transport has is let in, whether the init names it or not.
+/// EXTERNAL lets in the user of the transport, whether the init names it or not.
 static EXTERNAL: [Row; 6] = [
     (INIT_EXTERNAL_OTHER, OUTCOME_AUTH, None, 0),
     (INIT_PLAIN, OUTCOME_AUTH, None, 0),
@@ -88,7 +88,7 @@ static EXTERNAL: [Row; 6] = [
     (RESPONSE, OUTCOME_AUTH, Some(USER), 0),
 ];
 
-/// SCRAM names whose proof it accepted, until it challenges again.
+/// SCRAM names the user whose proof it accepted, until it challenges again.
 static SCRAM: [Row; 7] = [
     (LOGIN_INIT, LOGIN_CHALLENGE, None, 0),
     (INIT_OF_ANOTHER, OUTCOME_AUTH, None, 0),
@@ -99,7 +99,7 @@ static SCRAM: [Row; 7] = [
     (LOGIN_RESPONSE, LOGIN_OUTCOME, Some("user"), 2),
 ];
 
-/// Sees to it that an acceptor answers these bodies so by itself, which leaves it as it is.
+/// Checks that an acceptor answers these bodies by itself, without a change.
 fn replies<R: Abort + AllocGlobal, A: SaslAcceptor + Drop>(rt: &R, acceptor: &A, row: &Row) {
     let (given, wanted, _, _) = *row;
     let mut copy = acceptor.clone().expect(rt, "memory");
@@ -117,7 +117,7 @@ fn replies<R: Abort + AllocGlobal, A: SaslAcceptor + Drop>(rt: &R, acceptor: &A,
     assert!(rt; body_of(rt, frame) == bytes_of(rt, wanted), "{given}");
 }
 
-/// Sees to it that an acceptor answers the rows.
+/// Checks that an acceptor answers the rows.
 fn answers<R: Abort + AllocGlobal, A: AuthenticatedUser + Drop>(
     rt: &R,
     mut acceptor: A,
@@ -137,7 +137,7 @@ fn answers<R: Abort + AllocGlobal, A: AuthenticatedUser + Drop>(
     }
 }
 
-/// Sees to it that an acceptor offers this and answers the rows.
+/// Checks that an acceptor offers this and answers the rows.
 fn plays<R: Abort + AllocGlobal, A: AuthenticatedUser + Drop>(
     rt: &R,
     acceptor: A,
@@ -152,12 +152,12 @@ fn plays<R: Abort + AllocGlobal, A: AuthenticatedUser + Drop>(
     answers(rt, acceptor, rows);
 }
 
-/// An acceptor of PLAIN.
+/// Returns an acceptor of PLAIN.
 fn plain<R: Abort + AllocGlobal>(rt: &R) -> SaslPlainMechanism {
     SaslPlainMechanism::new(text(rt, USER), text(rt, PASSWORD))
 }
 
-/// A server of SCRAM that has `user`.
+/// Returns a server of SCRAM that has `user`.
 fn scram<R: Abort + AllocGlobal>(rt: &R) -> ScramAuthenticator<SingleScramCredential> {
     let (user, version) = (text(rt, "user"), ScramVersion::Sha256);
     let credential = SingleScramCredential::new(rt.alloc(), user, "pencil", version, [3; 32]);
@@ -182,7 +182,7 @@ fn acceptors_of_one_mechanism(rt: HostRuntime) {
     plays(&rt, scram(&rt), MECHANISMS, &SCRAM);
 }
 
-/// Each init goes to the one that has its mechanism, and a response to the one that was asked last.
+/// Each init goes to the acceptor that has its mechanism, and a response to the one that was asked last.
 static BOTH: [Row; 8] = [
     (RESPONSE, OUTCOME_AUTH, None, 0),
     (LOGIN_INIT, LOGIN_CHALLENGE, None, 0),
@@ -194,13 +194,13 @@ static BOTH: [Row; 8] = [
     (LOGIN_RESPONSE, LOGIN_OUTCOME, Some("user"), 2),
 ];
 
-/// The same server where it may offer PLAIN alone.
+/// The server of `BOTH` when it offers only PLAIN.
 static CUT_DOWN: [Row; 2] = [
     (LOGIN_INIT, OUTCOME_AUTH, None, 0),
     (INIT_PLAIN, OUTCOME_OK, Some(USER), 0),
 ];
 
-/// Sees to it that a server of both acceptors plays, and so it does where it may offer PLAIN alone.
+/// Checks that a server of both acceptors passes, and passes again if it offers only PLAIN.
 fn of_two<R, A, B>(rt: &R, first: A, second: B)
 where
     R: Abort + AllocGlobal,
@@ -224,8 +224,8 @@ fn an_offer_of_nothing_is_refused(rt: HostRuntime) {
     assert!(rt; matches!(only, Err(OfferError::NoMechanismLeft)));
 }
 
-/// Sees to it that a server of both acceptors that has sent its challenge and is set down answers the row, taken up
-/// with the part that it tells as the one that was asked, or with none.
+/// Checks that a server of both acceptors that is saved after its challenge answers the row, restored with the part
+/// that it returned as the selected one, or with none.
 fn is_taken_up<R, A, B>(rt: &R, first: A, second: B, told: bool, row: Row)
 where
     R: Abort + AllocGlobal,

@@ -1,4 +1,4 @@
-//! What a client takes of an offer.
+//! Which mechanism a client selects from an offer.
 
 use crate::acceptors::TWO_MECHANISMS;
 use crate::values::{boxed, bytes_of};
@@ -10,7 +10,8 @@ use fe2o3_sasl_wire::{FrameView, view_frame};
 use std::process::Abort;
 use test_help_bodies::bodies::{FOUR_MECHANISMS, OTHER_MECHANISMS, PASSWORD, USER};
 
-/// An offer, the lowest version of SCRAM that a client may take, what else it may, and the name of what it takes.
+/// An offer, the minimum version of SCRAM that a client accepts, what it accepts besides, and the name of the selected
+/// mechanism.
 type Row = (
     &'static str,
     ScramVersion,
@@ -64,7 +65,7 @@ static TAKEN: [Row; 8] = [
     ),
 ];
 
-/// A policy of SCRAM from this version on, and of these mechanisms.
+/// Returns a policy of SCRAM from this version on, and of these mechanisms.
 fn policy(floor: ScramVersion, others: &[Mechanism]) -> ClientPolicy {
     let mut policy = ClientPolicy::scram_from(floor);
     for other in others {
@@ -77,7 +78,7 @@ fn policy(floor: ScramVersion, others: &[Mechanism]) -> ClientPolicy {
     policy
 }
 
-/// Whether a client with a password takes this of the offer of a body, or nothing.
+/// Returns whether a client with a password selects this from the offer of a body, or nothing.
 fn takes<R: Abort + AllocGlobal>(
     rt: &R,
     offer: &str,

@@ -9,25 +9,24 @@ use fe2o3_sasl::sasl_acceptor::{SaslAcceptor, SaslServerFrame};
 use fe2o3_sasl_wire::{Array, SaslCode, SaslInit, SaslOutcome, SaslResponse, Symbol};
 use std::alloc::{AllocError, Global};
 
-/// A server that is closed: it names no mechanism, tells everyone to come again, and remembers
-/// whether anyone came.
+/// A server that is closed: it names no mechanism, answers everyone with sys, and remembers whether anyone asked.
 #[derive(Debug, Drop)]
 pub struct Closed {
     asked: bool,
 }
 
 impl Closed {
-    /// A server that nobody has asked.
+    /// Makes a server that has received nothing.
     pub fn new() -> Closed {
         Closed { asked: false }
     }
 
-    /// Whether anyone has asked.
+    /// Returns whether anyone has asked.
     pub fn is_asked(&self) -> bool {
         self.asked
     }
 
-    /// What everyone is told.
+    /// Returns the answer for everyone.
     fn turn_away(&mut self) -> SaslServerFrame
         ensures reply { sent_frame result ≡ ends_with Sys }
         ensures asked { self.new.asked ≡ true }

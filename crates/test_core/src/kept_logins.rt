@@ -1,4 +1,4 @@
-//! Logins over frames whose keys are kept for the next one, and profiles that are set down on the way.
+//! Logins over frames whose keys are cached for the next one, and profiles that are saved on the way.
 
 use crate::values::{boxed, bytes, bytes_of, event, text};
 use fe2o3_sasl::cached_keys::CachedKeys;
@@ -51,11 +51,11 @@ static OTHER_KEYS: Keys = Keys {
     server_key: "92041b69d0a0e2978c97fdbf349030b2819755f54d0235e025ec92f392492099",
 };
 
-/// A body that a profile is given, the one that it answers, and how many HMAC values the answer takes (RFC 5802,
+/// A body that a profile receives, the one that it answers, and how many HMAC values the answer takes (RFC 5802,
 /// section 3): by keys two, and by a password four and those of the count, which is 1.
 type Row = (&'static str, &'static str, u64);
 
-/// The login at the server as it is, by the password and by its keys; and as it is with another salt.
+/// The login at the server as it is, by the password and by its keys; and with another salt.
 static LOGIN: [Row; 3] = [
     (MECHANISMS, INIT_WITH_HOSTNAME, 0),
     (CHALLENGE, RESPONSE, 5),
@@ -74,7 +74,7 @@ static OTHER_LOGIN: [Row; 3] = [
     (OTHER_OUTCOME, OTHER_OUTCOME, 0),
 ];
 
-/// What the profile answers to a body, with the hostname `h`, and how many HMAC values that takes.
+/// Returns what the profile answers to a body, with the hostname `h`, and how many HMAC values that takes.
 fn step<R: Abort + AllocGlobal>(
     rt: &R,
     profile: &mut SaslProfile,
@@ -86,7 +86,7 @@ fn step<R: Abort + AllocGlobal>(
     (reply, meter.count())
 }
 
-/// Sees to it that the profile answers the row. An outcome has to be Ok, and is answered by itself.
+/// Checks that the profile answers the row. An outcome has to be Ok, and is answered by itself.
 fn answers<R: Abort + AllocGlobal>(rt: &R, profile: &mut SaslProfile, row: &Row) {
     let (given, wanted, count) = *row;
     let (reply, taken) = step(rt, profile, given);
@@ -97,7 +97,7 @@ fn answers<R: Abort + AllocGlobal>(rt: &R, profile: &mut SaslProfile, row: &Row)
     assert!(rt; right && taken == count, "{given}");
 }
 
-/// Sees to it that the profile refuses the body so, which takes no HMAC value.
+/// Checks that the profile rejects the body with this error, which takes no HMAC value.
 fn refuses<R: Abort + AllocGlobal>(
     rt: &R,
     profile: &mut SaslProfile,
@@ -108,7 +108,7 @@ fn refuses<R: Abort + AllocGlobal>(
     assert!(rt; reply.err() == Some(fault) && taken == 0, "{given}");
 }
 
-/// Sees to it that the profile hands out these keys.
+/// Checks that the profile returns these keys.
 fn has<R: Abort + AllocGlobal>(rt: &R, profile: &SaslProfile, wanted: &Keys) {
     let keys = profile.keys().expect(rt, "keys");
     assert!(rt; keys.salt() == wanted.salt.as_slice() && keys.iterations() == 1);
@@ -116,7 +116,7 @@ fn has<R: Abort + AllocGlobal>(rt: &R, profile: &SaslProfile, wanted: &Keys) {
     assert!(rt; keys.server_key() == bytes_of(rt, wanted.server_key).as_slice());
 }
 
-/// Sees to it that the profile logs in by these rows, and has these keys then.
+/// Checks that the profile logs in by these rows, and has these keys then.
 fn logs_in<R: Abort + AllocGlobal>(
     rt: &R,
     profile: &mut SaslProfile,
@@ -129,13 +129,13 @@ fn logs_in<R: Abort + AllocGlobal>(
     has(rt, profile, keys);
 }
 
-/// A profile with the password.
+/// Returns a profile with the password.
 fn by_password<R: Abort + AllocGlobal>(rt: &R) -> Box<SaslProfile> {
     let client = ScramClient::new(text(rt, USER), text(rt, PASSWORD), ScramVersion::Sha256);
     boxed(rt, SaslProfile::from(client))
 }
 
-/// A profile with a secret.
+/// Returns a profile with a secret.
 fn by_secret<R: Abort + AllocGlobal>(rt: &R, secret: ClientSecret<'_>) -> Box<SaslProfile> {
     let scram = SaslScramSha256::with_secret(rt.alloc(), text(rt, USER), secret);
     boxed(
@@ -144,7 +144,7 @@ fn by_secret<R: Abort + AllocGlobal>(rt: &R, secret: ClientSecret<'_>) -> Box<Sa
     )
 }
 
-/// A copy of keys that a profile shows.
+/// Returns a copy of keys that a profile shows.
 fn copy_of<R: Abort + AllocGlobal>(rt: &R, keys: Option<&CachedKeys>) -> CachedKeys {
     keys.expect(rt, "keys").clone().expect(rt, "memory")
 }
@@ -158,7 +158,7 @@ fn the_keys_of_a_login_serve_for_the_next(rt: HostRuntime) {
     logs_in(&rt, &mut next, &LOGIN_BY_KEYS, &KEYS);
 }
 
-/// After a change of the salt keys alone are refused, and a password gives them anew.
+/// After a change of the salt a client with only keys is rejected, and a password gives new keys.
 #[test]
 fn another_salt_wants_the_password(rt: HostRuntime) {
     let mut first = by_password(&rt);
@@ -172,8 +172,8 @@ fn another_salt_wants_the_password(rt: HostRuntime) {
     logs_in(&rt, &mut both, &OTHER_LOGIN, &OTHER_KEYS);
 }
 
-/// Sees to it that of a profile these are shown: a nonce, a signature, the keys of an answer and those of a login; and
-/// that its client is done, or not.
+/// Checks which of these a profile returns: a nonce, a signature, the keys of an answer and those of a login; and
+/// whether its client is done.
 fn stands<R: Abort>(rt: &R, profile: &SaslProfile, wanted: [bool; 5]) {
     let is_complete = match profile.scram_client() {
         Some(client) => client.is_complete(),
@@ -189,10 +189,10 @@ fn stands<R: Abort>(rt: &R, profile: &SaslProfile, wanted: [bool; 5]) {
     assert!(rt; shown == wanted, "{wanted:?}");
 }
 
-/// Before the start, and where there is no SCRAM.
+/// Before the start, and for a profile that is not of SCRAM.
 const NOTHING: [bool; 5] = [false, false, false, false, false];
 
-/// Behind the answer to a challenge.
+/// After the answer to a challenge.
 const ANSWERED: [bool; 5] = [false, true, true, false, false];
 
 #[test]
@@ -214,7 +214,7 @@ fn keys_are_returned_once_the_server_is_verified(rt: HostRuntime) {
     stands(&rt, &profile, [false, false, false, true, true]);
 }
 
-/// A profile that waits for this signature, with these keys of its answer.
+/// Returns a profile that waits for this signature, with these keys of its answer.
 fn taken_up<R: Abort + AllocGlobal>(
     rt: &R,
     signature: &[u8],
@@ -225,7 +225,7 @@ fn taken_up<R: Abort + AllocGlobal>(
     boxed(rt, profile)
 }
 
-/// With the keys of its answer, and without them, where it hands out none.
+/// A profile is restored with the keys of its answer, and without them, where it returns none.
 #[test]
 fn a_profile_is_taken_up_behind_its_answer(rt: HostRuntime) {
     let mut answered = by_password(&rt);
@@ -255,7 +255,7 @@ fn a_profile_is_taken_up_before_the_challenge(rt: HostRuntime) {
     answers(&rt, &mut profile, &LOGIN[1]);
 }
 
-/// A profile that is not of SCRAM shows nothing, and waits for no signature.
+/// A profile that is not of SCRAM returns nothing, and waits for no signature.
 #[test]
 fn a_profile_without_scram_has_no_keys(rt: HostRuntime) {
     let profile = SaslProfile::External.restore_client_final_sent(bytes_of(&rt, "00"), None);

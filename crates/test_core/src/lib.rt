@@ -1,7 +1,7 @@
 //! Tests of the acceptors, the profiles, the runs and the audits of `fe2o3_sasl`, its public paths, and the program
-//! `sasl_lab`, by the library of its commands: what no run shows. Runs and audits themselves, and what the program
-//! prints, are data, which `test_vectors_sasl` replays. No library below `fe2o3_sasl` but `fe2o3_sasl_wire` is named.
-//! Expected values come from the standards and from Python's `hmac` and `hashlib`.
+//! `sasl_lab`, by the library of its commands: only what no run shows. Runs and audits themselves, and the output of
+//! the program, are data, which `test_vectors_sasl` replays. No library below `fe2o3_sasl` but `fe2o3_sasl_wire` is
+//! named. Expected values come from the standards and from Python's `hmac` and `hashlib`.
 #![tactic(auto)]
 
 #[cfg(test)]

@@ -1,4 +1,4 @@
-//! An acceptor that the library does not know, by itself, in runs and step by step.
+//! An acceptor from outside the library, by itself, in runs and step by step.
 
 use crate::closed::Closed;
 use crate::values::{body_of, bytes_of, event};
@@ -11,7 +11,7 @@ use test_help_bodies::bodies::{
     OUTCOME_SYS, RESPONSE,
 };
 
-/// Whether a reply is the outcome sys of this body where no fault is wanted, or else this fault.
+/// Returns whether a reply is this error or, if none is expected, the outcome sys of this body.
 fn is_wanted(reply: &Result<ServerReply, Error>, sys: &[u8], wanted: Option<Error>) -> bool {
     match reply {
         Ok(ServerReply::Outcome { code, body }) => {
@@ -22,7 +22,7 @@ fn is_wanted(reply: &Result<ServerReply, Error>, sys: &[u8], wanted: Option<Erro
     }
 }
 
-/// Sees to it that an acceptor answers these bodies so, in a run, and a copy step by step.
+/// Checks that an acceptor answers these bodies in a run, and a copy step by step.
 fn answers<R: Abort + AllocGlobal>(rt: &R, closed: &mut Closed, rows: &[(&str, Option<Error>)]) {
     let (sys, mut events) = (bytes_of(rt, OUTCOME_SYS), Vec::new(rt.alloc()));
     let mut copy = closed.clone().expect(rt, "memory");
@@ -39,7 +39,7 @@ fn answers<R: Abort + AllocGlobal>(rt: &R, closed: &mut Closed, rows: &[(&str, O
     }
 }
 
-/// Bodies that nobody is asked by, and the fault of each.
+/// Bodies that reach no acceptor, and the error of each.
 static NOT_ASKED: [(&str, Option<Error>); 4] = [
     (MECHANISMS, Some(Error::NotImplemented)),
     (CHALLENGE, Some(Error::NotImplemented)),

@@ -1,4 +1,4 @@
-//! A login by a provider that the library does not know, whose contracts cite definitions by `fe2o3_sasl`.
+//! A login by a provider from outside the library, whose contracts cite definitions by `fe2o3_sasl`.
 
 ghost use Rattle.std.specs.Prelude.{◌≡◌, nat_eq};
 ghost use Rattle.std.specs.Cmp.Lexicographic.{pointwise};
@@ -14,7 +14,7 @@ use std::alloc::AllocError;
 use std::marker::Model;
 use std::process::Abort;
 
-/// A user of SCRAM-SHA-256, and what is kept of the password.
+/// A user of SCRAM-SHA-256, and what is stored for the password.
 #[derive(Clone, Copy)]
 struct User {
     name: &'static str,
@@ -24,7 +24,7 @@ struct User {
 }
 
 impl User {
-    /// What is kept of the password.
+    /// Returns what is stored for the password.
     fn stored_password(&self) -> StoredPassword<'_>
         ensures { kept result ≡ record {
           salt = self.now.salt;
@@ -41,7 +41,7 @@ impl User {
         }
     }
 
-    /// Whether the user has this name.
+    /// Returns whether the user has this name.
     fn is_called(&self, username: &str) -> bool
         ensures { result ≡ pointwise nat_eq self.now.name.now username.now }
     {
@@ -87,7 +87,7 @@ impl Model for Users {
 }
 
 impl Users {
-    /// The provider of `USER`.
+    /// Returns the provider of `USER`.
     fn new() -> Users {
         Users {
             version: ScramVersion::Sha256,
@@ -134,7 +134,8 @@ static CLIENT_FINAL: &str = "c=biws,r=AQEBAQEBAQEBAQEBAQEBAQEBAQEBAQEBAQEBAQEBAQ
 
 static SERVER_FINAL: &str = "v=X3wMIzagbJ5+sxd0FRk7lZ5X07UBZA8KFKL41BMrTwo=";
 
-/// The server's answer to a client that proves `user` by a password. A right one has to give the messages of the login.
+/// Returns the server's answer to a client that proves `user` by a password. A right one has to give the messages of
+/// the login.
 fn logs_in<R: Abort + AllocGlobal>(
     rt: &R,
     client: &mut ScramClient,
@@ -161,7 +162,7 @@ fn logs_in<R: Abort + AllocGlobal>(
     }
 }
 
-/// A client of `user` with a password.
+/// Returns a client of `user` with a password.
 fn client<R: Abort + AllocGlobal>(rt: &R, password: &str) -> ScramClient {
     ScramClient::new(text(rt, "user"), text(rt, password), ScramVersion::Sha256)
 }

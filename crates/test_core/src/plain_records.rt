@@ -15,11 +15,11 @@ const LINES: &str =
     turned SCRAM-SHA-256$4096:+JH2W68K7GjfMP0LX43J0w==$BWDYt7JIe5bgxedNkST7Cp4q/eiYnxJvFUdthbN4rsA=:\
         N1M1QURGjAh4ce7CvsAbYSXgOHtbNACLHcXTskAJ1zI=\n";
 
-/// What is tried: a mechanism and a message, whom the message names, whether it logs in, and how many HMAC values
-/// it takes, where that of an unknown user is of 10 iterations.
+/// A mechanism and a message, the user that the message names, whether it logs in, and how many HMAC values it takes,
+/// where that of an unknown user is of 10 iterations.
 type Row = (&'static str, &'static str, Option<&'static str>, bool, u64);
 
-/// In this order, by one acceptor.
+/// The messages in this order, to one acceptor.
 static ROWS: [Row; 15] = [
     ("PLAIN", "\0user\0crayon", Some("user"), false, 4098),
     ("PLAIN", "\0user\0pencil", Some("user"), true, 4098),
@@ -38,7 +38,7 @@ static ROWS: [Row; 15] = [
     ("SCRAM-SHA-256", "\0user\0pencil", Some("user"), false, 0),
 ];
 
-/// The outcome of an init of this mechanism with this message, if it is one, and how many HMAC values it takes.
+/// Returns the outcome of an init of this mechanism with this message, if it is one, and how many HMAC values it takes.
 fn outcome<R: Abort + AllocGlobal, A: SaslAcceptor>(
     rt: &R,
     plain: &mut A,

@@ -1,5 +1,5 @@
-//! Printed texts: the faults, and what `Debug` prints of what holds a password, a key or a message, which is
-//! none of these.
+//! Printed texts: the errors, and the `Debug` texts of types that hold a password, a key or a message, which show none
+//! of these.
 
 use crate::values::{bytes, bytes_of, text};
 use fe2o3_sasl::audit::{AuditError, Finding, FindingKind, Parameters, Verdict};
@@ -17,13 +17,13 @@ use fe2o3_sasl_wire::{Binary, Error, SaslCode, SaslOutcome};
 use std::fmt::{Debug, Display};
 use std::process::Abort;
 
-/// Sees to it that `Debug` prints this.
+/// Checks that `Debug` prints this.
 pub fn shows<R: Abort + AllocGlobal, T: Debug + Drop>(rt: &R, value: T, wanted: &str) {
     let text = format!(in rt.alloc(); "{value:?}").expect(rt, "memory");
     assert!(rt; text.as_str() == wanted, "{text}");
 }
 
-/// Sees to it that the faults have these texts.
+/// Checks that the errors have these texts.
 fn tell<R: Abort + AllocGlobal, T: Display>(rt: &R, faults: &[(T, &str)]) {
     for (fault, wanted) in faults {
         let text = fault.to_string(rt.alloc()).expect(rt, "memory");
@@ -31,7 +31,7 @@ fn tell<R: Abort + AllocGlobal, T: Display>(rt: &R, faults: &[(T, &str)]) {
     }
 }
 
-/// A text for each kind of a profile's fault.
+/// A text for each kind of a profile's error.
 static PROFILE_TEXTS: [(ProfileError, &str); 5] = [
     (ProfileError::NotImplemented, "Not implemented"),
     (ProfileError::Scram(ScramErrorKind::Utf8Error), "Scram"),
@@ -43,13 +43,13 @@ static PROFILE_TEXTS: [(ProfileError, &str); 5] = [
     (ProfileError::OutOfMemory, "OutOfMemory"),
 ];
 
-/// A text for each kind of an address's fault.
+/// A text for each kind of an address's error.
 static URL_TEXTS: [(UrlError, &str); 2] = [
     (UrlError::NoCredentials, "NoCredentials"),
     (UrlError::OutOfMemory, "OutOfMemory"),
 ];
 
-/// A text for each kind of the faults of an offer, of a choice, of an event and of an audit.
+/// A text for each kind of the errors of an offer, of a choice, of an event and of an audit.
 static OFFER_TEXTS: [(OfferError, &str); 2] = [
     (OfferError::NoMechanismLeft, "Nothing offered"),
     (OfferError::OutOfMemory, "Out of memory"),
@@ -85,7 +85,7 @@ fn hides_the_password_of_an_acceptor(rt: HostRuntime) {
     shows(&rt, SaslAnonymousMechanism::new(), "SaslAnonymousMechanism");
 }
 
-/// The keys of the password `pencil` with a salt of bytes 03 and count 1.
+/// Returns the keys of the password `pencil` with a salt of bytes 03 and count 1.
 fn keys<R: Abort + AllocGlobal>(rt: &R) -> CachedKeys {
     let (version, salt, mut meter) = (ScramVersion::Sha256, b"\x03\x03\x03\x03", Meter::new());
     let password = Password::Typed("pencil");

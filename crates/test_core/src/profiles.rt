@@ -1,5 +1,5 @@
-//! Profiles: their mechanisms, what each says first, and what `Debug` prints of it, which is no password. User
-//! `user` with the password `pencil`, and a nonce of 32 bytes 01.
+//! Profiles: their mechanisms, their initial responses, and their `Debug` texts, which show no password. User `user`
+//! with the password `pencil`, and a nonce of 32 bytes 01.
 
 use crate::printed::shows;
 use crate::values::{boxed, bytes_of, text};
@@ -8,7 +8,7 @@ use fe2o3_sasl_wire::view_frame;
 use std::process::Abort;
 use test_help_bodies::bodies::{FOUR_MECHANISMS, OUTCOME};
 
-/// The profile of a mechanism, in a box: EXTERNAL where it is none of the others.
+/// Returns the profile of a mechanism, in a box: EXTERNAL if it is none of the others.
 fn profile<R: Abort + AllocGlobal>(rt: &R, mechanism: &str) -> Box<SaslProfile> {
     let (user, password) = (text(rt, "user"), text(rt, "pencil"));
     let profile = match mechanism {
@@ -22,10 +22,10 @@ fn profile<R: Abort + AllocGlobal>(rt: &R, mechanism: &str) -> Box<SaslProfile> 
     boxed(rt, profile)
 }
 
-/// What each version of SCRAM says first.
+/// The initial response of each version of SCRAM.
 const CLIENT_FIRST: &str = "n,,n=user,r=AQEBAQEBAQEBAQEBAQEBAQEBAQEBAQEBAQEBAQEBAQE=";
 
-/// The mechanism of each profile, what it says first, and its text.
+/// The mechanism of each profile, its initial response, and its text.
 static PROFILES: [(&str, Option<&str>, &str); 6] = [
     ("ANONYMOUS", None, "Anonymous"),
     (
@@ -69,7 +69,7 @@ fn names_its_mechanism_and_speaks_first(rt: HostRuntime) {
     }
 }
 
-/// What a profile of PLAIN answers to two bodies, as `Debug` prints it: without the message.
+/// The `Debug` text of a PLAIN profile's answers to two bodies: without the message.
 static ANSWERS: [(&str, &str); 2] = [
     (FOUR_MECHANISMS, "Ok(Init { mechanism: \"PLAIN\", .. })"),
     (OUTCOME, "Ok(Outcome { code: Ok, .. })"),

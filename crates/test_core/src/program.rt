@@ -1,5 +1,5 @@
 //! The lines that the program `sasl_lab` prints of findings and the last line where it stops, for verdicts that no
-//! transcript and refusals that no command line is known to have too; and its usage.
+//! transcript and errors that no command line is known to cause; and its usage.
 
 use crate::values::{bytes, text};
 use fe2o3_sasl::audit::{AuditError, Finding, FindingKind, Parameters, Verdict};
@@ -11,7 +11,7 @@ use sasl_lab_lib::stop::Stop;
 use std::alloc::AllocError;
 use std::process::Abort;
 
-/// Sees to it that a finding at the positions 3 and 4294967296 has this line.
+/// Checks that a finding at the positions 3 and 4294967296 has this line.
 fn prints<R: Abort + AllocGlobal>(rt: &R, kind: FindingKind, verdict: Verdict, wanted: &str) {
     let finding = Finding {
         kind,
@@ -23,7 +23,7 @@ fn prints<R: Abort + AllocGlobal>(rt: &R, kind: FindingKind, verdict: Verdict, w
     assert!(rt; line.as_str() == wanted, "{line}");
 }
 
-/// A verdict on which both sides agree, with a salt where they agree on parameters too: the nonce `nonce` and the
+/// Returns a verdict on which both sides agree, with a salt if they agree on parameters too: the nonce `nonce` and the
 /// highest count.
 fn agreed<R: Abort + AllocGlobal>(
     rt: &R,
@@ -91,7 +91,7 @@ fn lines_of_collisions_and_of_another_key(rt: HostRuntime) {
     );
 }
 
-/// Sees to it that this is the last line, and the status 1.
+/// Checks that this is the last line, and the status 1.
 fn ends<R: Abort + AllocGlobal>(rt: &R, stop: Stop, wanted: &str) {
     let mut output = Vec::new(rt.alloc());
     assert!(rt;
@@ -100,7 +100,7 @@ fn ends<R: Abort + AllocGlobal>(rt: &R, stop: Stop, wanted: &str) {
     );
 }
 
-/// Each refusal of a SCRAM message, with the last line.
+/// Each error of a SCRAM message, with the last line.
 static MESSAGES: [(ScramErrorKind, &str); 18] = [
     (ScramErrorKind::Utf8Error, "refused Utf8Error\n"),
     (
@@ -158,7 +158,7 @@ static MESSAGES: [(ScramErrorKind, &str); 18] = [
     (ScramErrorKind::OutOfMemory, "refused OutOfMemory\n"),
 ];
 
-/// What a profile refuses, with the last line.
+/// Each error of a profile, with the last line.
 static PROFILES: [(ProfileError, &str); 5] = [
     (ProfileError::NotImplemented, "refused NotImplemented\n"),
     (
@@ -173,7 +173,7 @@ static PROFILES: [(ProfileError, &str); 5] = [
     (ProfileError::OutOfMemory, "refused OutOfMemory\n"),
 ];
 
-/// Other refusals, with the last line.
+/// Other errors, with the last line.
 static OTHERS: [(Stop, &str); 11] = [
     (Stop::Input, "refused Input\n"),
     (Stop::Outcome(SaslCode::Auth), "refused Auth\n"),

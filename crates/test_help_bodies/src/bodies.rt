@@ -9,7 +9,7 @@ pub const USER: &str = "us,er";
 /// The password.
 pub const PASSWORD: &str = "pencil";
 
-/// What the server keeps of the password, as a text.
+/// The record of the password, as a text.
 pub const RECORD: &str = "SCRAM-SHA-256$1:AwMDAwMDAwMDAwMDAwMDAwMDAwMDAwMDAwMDAwMDAwM=$\
     UirV+ZKbhd2i+RnnHd8L1j6l+PgDPvtgbiOHYSDYStY=:\
     TzbRIb5dtc1mmDGahhuirMlCV3F9VfmfEsSONnSG2mg=";
@@ -37,12 +37,12 @@ pub const INIT: &str =
     "02010000005341c04d02a30d534352414d2d5348412d323536a03b6e2c2c6e3d75733d324365722c723d41514542415145424151\
     4542415145424151454241514542415145424151454241514542415145424151453d";
 
-/// The same with the hostname `h`.
+/// The client's init with the hostname `h`.
 pub const INIT_WITH_HOSTNAME: &str =
     "02010000005341c05003a30d534352414d2d5348412d323536a03b6e2c2c6e3d75733d324365722c723d41514542415145424151\
     4542415145424151454241514542415145424151454241514542415145424151453da10168";
 
-/// The same of a user who is unknown.
+/// The client's init of an unknown user.
 pub const INIT_OF_NOBODY: &str =
     "02010000005341c04f02a30d534352414d2d5348412d323536a03d6e2c2c6e3d6e6f3d3243626f64792c723d4151454241514542\
     41514542415145424151454241514542415145424151454241514542415145424151453d";
@@ -76,14 +76,14 @@ pub const OUTCOME_SYS: &str = "02010000005344c003015002";
 /// An init of PLAIN, user `us,er`, password `pencil`.
 pub const INIT_PLAIN: &str = "02010000005341c01702a305504c41494ea00d0075732c65720070656e63696c";
 
-/// The same with the hostname `h`.
+/// An init of PLAIN with the hostname `h`.
 pub const INIT_PLAIN_WITH_HOSTNAME: &str =
     "02010000005341c01a03a305504c41494ea00d0075732c65720070656e63696ca10168";
 
 /// An init of ANONYMOUS.
 pub const INIT_ANONYMOUS: &str = "02010000005341c00c01a309414e4f4e594d4f5553";
 
-/// The same with the hostname `h`.
+/// An init of ANONYMOUS with the hostname `h`.
 pub const INIT_ANONYMOUS_WITH_HOSTNAME: &str = "02010000005341c01003a309414e4f4e594d4f555340a10168";
 
 /// An init of EXTERNAL.

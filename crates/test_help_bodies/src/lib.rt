@@ -1,5 +1,5 @@
-//! A help for tests: the bodies of a SCRAM login and of the other mechanisms, the frames and events of
-//! them, and replies compared without memory.
+//! A help for tests: the bodies of a SCRAM login and of the other mechanisms, their frames and events, and replies
+//! compared without an allocation.
 #![tactic(auto)]
 
 pub mod bodies;

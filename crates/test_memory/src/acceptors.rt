@@ -1,5 +1,5 @@
-//! Acceptors, their steps and runs where memory is wanting: no refusal moves an acceptor, and none is told
-//! as an outcome.
+//! Acceptors, their steps and runs out of memory: no failed allocation changes an acceptor, and none is returned as an
+//! outcome.
 
 use crate::calls::{Answer, Call, right, same, stand, take_none, want};
 use crate::handed::{Handed, handed_of, server_ran};
@@ -33,11 +33,11 @@ enum Does {
     /// The frame of its mechanisms.
     Mechanisms,
 
-    /// A whole run of a server that is made of the provider.
+    /// A whole run of a server over the provider.
     ServerRun,
 }
 
-/// Which acceptor it is.
+/// One of the acceptors.
 #[derive(Clone, Copy)]
 enum Is {
     Scram,
@@ -45,7 +45,7 @@ enum Is {
     Anonymous,
 }
 
-/// An acceptor that is given the bodies after others, and the bodies of its replies.
+/// An acceptor that receives the bodies after others, and the bodies of its replies.
 struct Row {
     is: Is,
     before: &'static [&'static str],
@@ -53,7 +53,7 @@ struct Row {
     replies: &'static [&'static str],
 }
 
-/// An acceptor of each mechanism, and what it is handed.
+/// An acceptor of each mechanism, and what it is passed.
 #[derive(Drop)]
 struct Acceptors {
     plain: SaslPlainMechanism,
@@ -62,13 +62,13 @@ struct Acceptors {
     scram: Box<Server>,
 }
 
-/// An acceptor of PLAIN.
+/// Returns an acceptor of PLAIN.
 fn plain(alloc: Global) -> Result<SaslPlainMechanism, Fail> {
     let username = USER.to_string(alloc)?;
     Ok(SaslPlainMechanism::new(username, PASSWORD.to_string(alloc)?))
 }
 
-/// The answer of a step, whose reply has to be the first.
+/// Returns the answer of a step, whose reply has to be the first.
 fn replied(step: Result<ServerReply, Error>, handed: &Handed) -> Answer {
     match step {
         Ok(reply) => match handed.replies.first() {
@@ -79,7 +79,7 @@ fn replied(step: Result<ServerReply, Error>, handed: &Handed) -> Answer {
     }
 }
 
-/// The answer of a step of a copy.
+/// Returns the answer of a step of a copy.
 fn copy_replied<A: SaslAcceptor>(
     alloc: Global,
     acceptor: &A,
@@ -92,7 +92,7 @@ fn copy_replied<A: SaslAcceptor>(
     }
 }
 
-/// The answer of a call that made a frame, which has to be the last.
+/// Returns the answer of a call that made a frame, which has to be the last.
 fn sent(outcome: Result<SaslServerFrame, OutOfMemory>, handed: &Handed) -> Answer {
     match outcome {
         Ok(frame) => right(is_sent(frame, &handed.last)),
@@ -100,7 +100,7 @@ fn sent(outcome: Result<SaslServerFrame, OutOfMemory>, handed: &Handed) -> Answe
     }
 }
 
-/// The answer of the acceptor to the frame of the first body.
+/// Returns the answer of the acceptor to the frame of the first body.
 fn answered<A: SaslAcceptor>(alloc: Global, acceptor: &mut A, handed: &mut Handed) -> Answer {
     match handed.frames.pop() {
         Some(Frame::Init(init)) => sent(acceptor.on_init(alloc, init, &[2; 32]), handed),
@@ -112,7 +112,7 @@ fn answered<A: SaslAcceptor>(alloc: Global, acceptor: &mut A, handed: &mut Hande
     }
 }
 
-/// The answer of the acceptor that tells its mechanisms.
+/// Returns the answer of the acceptor that returns its mechanisms.
 fn offered<A: SaslAcceptor>(alloc: Global, acceptor: &A, handed: &Handed) -> Answer {
     match &*handed.last {
         Frame::Mechanisms(wanted) => same(acceptor.sasl_mechanisms(alloc), wanted, OutOfMemory),
@@ -120,7 +120,7 @@ fn offered<A: SaslAcceptor>(alloc: Global, acceptor: &A, handed: &Handed) -> Ans
     }
 }
 
-/// The answer of an acceptor's call.
+/// Returns the answer of an acceptor's call.
 fn asked<A: SaslAcceptor>(
     alloc: Global,
     acceptor: &mut A,
@@ -171,15 +171,15 @@ impl Call for Does {
         }
     }
 
-    /// No user has logged in, and the challenge is open that was.
+    /// Checks that no user has logged in, and that the same challenge is open.
     fn stays(&self, _alloc: Global, row: &Row, acceptors: &mut Acceptors) -> Answer {
         let is_open = acceptors.scram.open_challenge().is_some();
         right(acceptors.plain.authenticated_user().is_none() && is_open != row.before.is_empty())
     }
 }
 
-/// A server of SCRAM that is fresh, and one whose challenge is open; then PLAIN and ANONYMOUS, whose own
-/// answers take no memory.
+/// A new server of SCRAM, and one whose challenge is open; then PLAIN and ANONYMOUS, whose own answers allocate
+/// nothing.
 static ROWS: [Row; 7] = [
     Row {
         is: Is::Scram,

@@ -1,4 +1,4 @@
-//! Audits where memory is wanting: a refusal anywhere is the audit's `OutOfMemory`.
+//! Audits out of memory: a failed allocation anywhere is the audit's `OutOfMemory`.
 
 use crate::calls::{Answer, Call, Expected, stand, told};
 use crate::scram_values::{BOTH_NONCES, CLIENT_NONCE};
@@ -30,14 +30,14 @@ struct Sides {
     store: UserRecord,
 }
 
-/// Whether these are the parameters of the login.
+/// Returns whether these are the parameters of the login.
 fn are_parameters(parameters: &Parameters) -> bool {
     parameters.full_nonce.as_str() == BOTH_NONCES
         && parameters.salt.as_slice() == [3; 32].as_slice()
         && parameters.iterations == 1
 }
 
-/// Whether both sides mean the login.
+/// Returns whether both sides mean the login.
 fn is_agreed(verdict: &Verdict) -> bool {
     match verdict {
         Verdict::Agreed {
@@ -53,7 +53,7 @@ fn is_agreed(verdict: &Verdict) -> bool {
     }
 }
 
-/// Whether the finding is of this kind, at these positions, and agreed.
+/// Returns whether the finding is of this kind, at these positions, and agreed.
 fn is_found(finding: &Finding, kind: FindingKind, client: usize, server: usize) -> bool {
     finding.kind == kind
         && finding.client == client

@@ -1,16 +1,16 @@
-//! Memory that is all taken, so that each further request is refused.
+//! Memory that is all taken, so that each further allocation fails.
 
 use std::alloc::{AllocError, Global};
 
-/// How much the one block that can be given back in part holds, in bytes.
+/// How much the one block holds that can be partly freed, in bytes.
 const ROOM: usize = 16384;
 
-/// How much memory there is while none is refused, in bytes. It is so much that the few hundred freed
-/// blocks which the allocator keeps aside cannot cut it into pieces that are all smaller than `ROOM`.
+/// How much memory is free until the rest is taken, in bytes. The few hundred freed blocks that the allocator keeps
+/// aside cannot cut this much into pieces that are all smaller than `ROOM`.
 const PLENTY: usize = 1 << 24;
 
-/// All the memory that the process can get, in two parts: the first stays taken until this is dropped,
-/// the second, of about `PLENTY`, can be taken and given back many times.
+/// All the memory that the process can get, in two parts: the first stays taken until this is dropped, the second, of
+/// about `PLENTY`, can be taken and freed many times.
 #[derive(Drop)]
 pub struct TakenMemory {
     alloc: Global,
@@ -19,7 +19,7 @@ pub struct TakenMemory {
     kept: Vec<u8>,
 }
 
-/// Takes blocks of this size until none is given.
+/// Takes blocks of this size until an allocation fails.
 fn take_each(alloc: Global, blocks: &mut Vec<Vec<u8>>, size: usize) -> Result<(), AllocError> {
     for _ in 0..200000 {
         match Vec::with_capacity(alloc, size) {
@@ -31,7 +31,7 @@ fn take_each(alloc: Global, blocks: &mut Vec<Vec<u8>>, size: usize) -> Result<()
 }
 
 impl TakenMemory {
-    /// Takes all memory but for plenty, the largest blocks first.
+    /// Takes all memory but `PLENTY`, the largest blocks first.
     pub fn take(alloc: Global) -> Result<TakenMemory, AllocError> {
         let plenty: Vec<u8> = Vec::with_capacity(alloc, PLENTY)?;
         let near: Vec<Vec<u8>> = Vec::with_capacity(alloc, 100000)?;
@@ -49,8 +49,8 @@ impl TakenMemory {
         })
     }
 
-    /// Takes the rest too, but for about this many bytes; at last the blocks that were given back and
-    /// that the allocator keeps aside, each for requests of its own size alone.
+    /// Takes the rest too, but for about this many bytes; at last the freed blocks that the allocator keeps aside, each
+    /// only for allocations of its own size.
     pub fn leave(&mut self, spare: usize) -> Result<(), AllocError> {
         self.kept = Vec::with_capacity(self.alloc, ROOM)?;
         for shift in 0..22u32 {
@@ -64,7 +64,7 @@ impl TakenMemory {
         Ok(())
     }
 
-    /// Gives the rest back.
+    /// Frees the rest.
     pub fn give_back(&mut self) {
         self.near.clear();
         self.kept = Vec::new(self.alloc);

@@ -1,48 +1,48 @@
-//! Calls that can want memory, each tried with ever more room.
+//! Calls that can run out of memory, each tried with ever more room.
 
 use crate::blocks::TakenMemory;
 use std::alloc::Global;
 use std::test::Fail;
 
-/// What a call answered.
+/// The result of a call.
 #[derive(Clone, Copy, PartialEq, Eq)]
 pub enum Answer {
-    /// Its own `OutOfMemory`.
+    /// The call's own `OutOfMemory`.
     WantOfMemory,
 
-    /// What it has to answer with ample memory.
+    /// The expected result with enough memory.
     Right,
 
     /// Anything else.
     Wrong,
 }
 
-/// What has one right value in these tests.
+/// A type that has one right value in these tests.
 pub trait Expected {
-    /// Whether it has that value. What is compared takes no memory.
+    /// Returns whether this is the right value. The comparison allocates nothing.
     fn is_right(&self) -> bool;
 }
 
-/// A call that has nothing to tell.
+/// A call that returns nothing.
 impl Expected for () {
     fn is_right(&self) -> bool {
         true
     }
 }
 
-/// A call that tells whether it was right.
+/// A call that returns whether it was right.
 impl Expected for bool {
     fn is_right(&self) -> bool {
         *self
     }
 }
 
-/// The answer that is right where this holds.
+/// Returns the answer that is right if this holds.
 pub fn right(holds: bool) -> Answer {
     if holds { Answer::Right } else { Answer::Wrong }
 }
 
-/// The answer that is want of memory where this holds.
+/// Returns the answer that is out of memory if this holds.
 pub fn want(holds: bool) -> Answer {
     if holds {
         Answer::WantOfMemory
@@ -51,8 +51,8 @@ pub fn want(holds: bool) -> Answer {
     }
 }
 
-/// The answer of a call that made what has one right value, or told its fault, which may be this one
-/// alone, its own `OutOfMemory`.
+/// Returns the answer of a call that returned a value that has one right value, or an error, which may only be this
+/// one, its own `OutOfMemory`.
 pub fn told<T: Expected + Drop, E: PartialEq + Drop>(
     outcome: Result<T, E>,
     out_of_memory: E,
@@ -63,7 +63,7 @@ pub fn told<T: Expected + Drop, E: PartialEq + Drop>(
     }
 }
 
-/// The answer of a call that made bytes, which have to be these, or told its fault.
+/// Returns the answer of a call that returned bytes, which have to be these, or an error.
 pub fn made<E: PartialEq + Drop>(
     outcome: Result<Vec<u8>, E>,
     wanted: &[u8],
@@ -75,7 +75,7 @@ pub fn made<E: PartialEq + Drop>(
     }
 }
 
-/// The answer of a call that made a value, which has to be equal to this one, or told its fault.
+/// Returns the answer of a call that returned a value, which has to be equal to this one, or an error.
 pub fn same<T: PartialEq + Drop, E: PartialEq + Drop>(
     outcome: Result<T, E>,
     wanted: &T,
@@ -87,7 +87,7 @@ pub fn same<T: PartialEq + Drop, E: PartialEq + Drop>(
     }
 }
 
-/// The answer, which is right only where this holds too.
+/// Returns the answer, which is right only if this holds too.
 pub fn and(answer: Answer, holds: bool) -> Answer {
     match answer {
         Answer::Right => right(holds),
@@ -95,44 +95,44 @@ pub fn and(answer: Answer, holds: bool) -> Answer {
     }
 }
 
-/// A call that can want memory.
+/// A call that can run out of memory.
 pub trait Call {
-    /// What it is tried with.
+    /// The input of a try.
     type Row;
 
-    /// What it works on.
+    /// The value that the call works on.
     type Subject: Drop;
 
-    /// What it works on, made afresh with ample memory.
+    /// Makes a new subject with enough memory.
     fn subject(&self, alloc: Global, row: &Self::Row) -> Result<Self::Subject, Fail>;
 
-    /// Its answer. What is compared takes no memory.
+    /// Returns the call's answer. The comparison allocates nothing.
     fn answer(&self, alloc: Global, row: &Self::Row, subject: &mut Self::Subject) -> Answer;
 
-    /// Whether the subject is as it was made, beyond that the call is still right of it. Asked with
-    /// ample memory, and the call can be made thereafter. As it stands here there is nothing to ask.
+    /// Returns whether the subject is unchanged, beyond that the call is still right of it. Called with enough memory,
+    /// and the call can be made after that. By default nothing is tested.
     fn stays(&self, _alloc: Global, _row: &Self::Row, _subject: &mut Self::Subject) -> Answer {
         Answer::Right
     }
 }
 
-/// What is found of a call.
+/// The finding about a call.
 #[derive(Debug, Clone, Copy, PartialEq, Eq)]
 pub enum Finding {
-    /// It wanted memory, at least once, until it was right. After each refusal the subject was as
-    /// before, and the same call with ample memory was right.
+    /// The call ran out of memory, at least once, until it was right. After each failure the subject was unchanged, and
+    /// the same call with enough memory was right.
     Stands,
 
-    /// It was right without memory.
+    /// The call was right without memory.
     NeverRefused,
 
-    /// It wanted memory where there was plenty, or for all room that was tried.
+    /// The call ran out of memory where there was plenty, or for all room that was tried.
     NeverGiven,
 
-    /// Its answer was neither right nor want of memory.
+    /// The call's answer was neither right nor out of memory.
     WrongAnswer,
 
-    /// A refusal changed its subject.
+    /// A failed allocation changed the subject.
     Changed,
 }
 
@@ -142,7 +142,7 @@ const STEP: usize = 16;
 /// How many tries there are at most.
 const TRIES: usize = 1000;
 
-/// What is wrong with the call behind a refusal, if anything is.
+/// Returns what is wrong with the call after a failed allocation, if anything is.
 fn after_refusal<C: Call>(
     alloc: Global,
     call: &C,
@@ -159,7 +159,7 @@ fn after_refusal<C: Call>(
     }
 }
 
-/// What is found of the call where all memory is taken but for a room that grows from nothing.
+/// Returns the finding about the call, with all memory taken but a room that grows from nothing.
 pub fn found<C: Call>(
     alloc: Global,
     memory: &mut TakenMemory,
@@ -184,7 +184,7 @@ pub fn found<C: Call>(
     Ok(Finding::NeverGiven)
 }
 
-/// This is what is found of each of the calls with each of the rows.
+/// Checks that this is the finding about each of the calls with each of the rows.
 fn are_found<C: Call>(
     alloc: Global,
     calls: &[C],
@@ -203,13 +203,13 @@ fn are_found<C: Call>(
     Ok(())
 }
 
-/// Each of the calls wants memory with each of the rows until there is enough, and no refusal changes
-/// anything.
+/// Checks that each of the calls runs out of memory with each of the rows until there is enough, and that no failure
+/// changes anything.
 pub fn stand<C: Call>(alloc: Global, calls: &[C], rows: &[C::Row]) -> Result<(), Fail> {
     are_found(alloc, calls, rows, Finding::Stands)
 }
 
-/// Each of the calls takes no memory with any of the rows: it is right with each request refused.
+/// Checks that each of the calls allocates nothing with any of the rows: it is right while each allocation fails.
 pub fn take_none<C: Call>(alloc: Global, calls: &[C], rows: &[C::Row]) -> Result<(), Fail> {
     are_found(alloc, calls, rows, Finding::NeverRefused)
 }

@@ -1,4 +1,4 @@
-//! Sides of a connection where memory is wanting: no refusal moves a side, takes a byte or sends one.
+//! Sides of a connection out of memory: no failed allocation changes a side, takes a byte or sends one.
 
 use crate::calls::{Answer, Call, right, stand, want};
 use crate::scram_servers::Server;
@@ -17,13 +17,13 @@ use test_help_bodies::replies::bytes_of;
 /// The header of SASL.
 pub const HEADER: &str = "414d515003010000";
 
-/// Which side is given bytes.
+/// The side that receives bytes.
 enum Side {
     Server,
     Client,
 }
 
-/// A side that was given these bytes, headers and frames, is given more of them, sends this and stands so.
+/// A side that has received these bytes, headers and frames, receives more of them, sends this and has this progress.
 struct Row {
     before: &'static [&'static str],
     given: &'static str,
@@ -38,7 +38,7 @@ struct Sides {
     client: Box<ClientNegotiation>,
 }
 
-/// What a side is given, what it has to send, and the sides.
+/// What a side receives, what it has to send, and the sides.
 #[derive(Drop)]
 struct Connection {
     given: Vec<u8>,
@@ -46,7 +46,7 @@ struct Connection {
     sides: Sides,
 }
 
-/// The bytes of a header, or of the frame of a body.
+/// Returns the bytes of a header, or of the frame of a body.
 fn unit_of(alloc: Global, digits: &str) -> Result<Vec<u8>, Fail> {
     let bytes = bytes_of(alloc, digits)?;
     if digits == HEADER {
@@ -59,7 +59,7 @@ fn unit_of(alloc: Global, digits: &str) -> Result<Vec<u8>, Fail> {
     Ok(unit)
 }
 
-/// The bytes of several.
+/// Returns the bytes of several headers and bodies.
 pub fn units_of(alloc: Global, units: &[&str]) -> Result<Vec<u8>, Fail> {
     let mut bytes = Vec::new(alloc);
     for digits in units {
@@ -68,7 +68,7 @@ pub fn units_of(alloc: Global, units: &[&str]) -> Result<Vec<u8>, Fail> {
     Ok(bytes)
 }
 
-/// A side of a server with the user, and one of the user.
+/// Returns a side of a server with the user, and one of the user.
 fn both_sides(alloc: Global) -> Result<Sides, Fail> {
     let server = ServerNegotiation::new(alloc, ScramAuthenticator::new(stored(alloc)?));
     let server = Box::new(alloc, server)?;
@@ -80,7 +80,7 @@ fn both_sides(alloc: Global) -> Result<Sides, Fail> {
 }
 
 impl Sides {
-    /// Gives the side these bytes.
+    /// Passes these bytes to the side.
     fn receive(
         &mut self,
         alloc: Global,

@@ -1,5 +1,4 @@
-//! Constructors and conversions, while each request for memory is refused, and those of texts, which want
-//! it.
+//! Constructors and conversions, while each allocation fails, and those of texts, which allocate.
 
 use crate::calls::{Answer, Call, Expected, right, stand, take_none, told};
 use crate::users::two_of;
@@ -15,7 +14,7 @@ use std::test::Fail;
 use test_help_bodies::bodies::PASSWORD;
 use url::Url;
 
-/// A call that makes something of what it is handed.
+/// A call that makes something of its arguments.
 enum Made {
     Plain,
     PlainMechanism,
@@ -28,7 +27,7 @@ enum Made {
     Faults,
 }
 
-/// What is handed in.
+/// The arguments.
 #[derive(Drop)]
 struct Words {
     words: Vec<String>,
@@ -48,7 +47,7 @@ impl Expected for SaslProfile {
     }
 }
 
-/// Whether the profile of the call is made of the words.
+/// Returns whether the profile of the call is made of the words.
 fn profile_is_made(made: &Made, user: String, password: String) -> bool {
     let profile = match made {
         Made::ScramSha1 => {
@@ -65,14 +64,14 @@ fn profile_is_made(made: &Made, user: String, password: String) -> bool {
     matches!(made, Made::Plain) == matches!(&profile, SaslProfile::Plain { .. })
 }
 
-/// An acceptor of PLAIN is made of the words, to which nobody has logged in.
+/// Returns whether an acceptor of PLAIN is made of the words, at which nobody has logged in.
 fn acceptor_is_made(user: String, password: String) -> bool {
     SaslPlainMechanism::new(user, password)
         .authenticated_user()
         .is_none()
 }
 
-/// Whether something is made of the words.
+/// Returns whether something is made of the words.
 fn is_made(made: &Made, words: &mut Vec<String>) -> bool {
     match (two_of(words), made) {
         (Some((user, password)), Made::PlainMechanism) => acceptor_is_made(user, password),
@@ -81,14 +80,14 @@ fn is_made(made: &Made, words: &mut Vec<String>) -> bool {
     }
 }
 
-/// An acceptor of ANONYMOUS is made and copied.
+/// Returns whether an acceptor of ANONYMOUS is made and copied.
 fn anonymous_is_made() -> bool {
     let _copy = SaslAnonymousMechanism::new().clone().unwrap();
     let _default = SaslAnonymousMechanism::default();
     true
 }
 
-/// Want of memory is `OutOfMemory` of each fault itself.
+/// Checks that running out of memory is each error's own `OutOfMemory`.
 fn are_out_of_memory() -> bool {
     ProfileError::from(OutOfMemory) == ProfileError::OutOfMemory
         && ProfileError::from(Error::OutOfMemory) == ProfileError::OutOfMemory
@@ -130,7 +129,7 @@ impl Call for Made {
     }
 }
 
-/// Those that take no memory.
+/// The constructors that allocate nothing.
 static FREE: [Made; 8] = [
     Made::Plain,
     Made::PlainMechanism,

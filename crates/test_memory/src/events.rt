@@ -1,4 +1,4 @@
-//! Events from hexadecimal texts, where memory is wanting.
+//! Events from hexadecimal texts, out of memory.
 
 use crate::calls::{Answer, Call, right, stand, take_none, want};
 use fe2o3_sasl::runs::{Event, EventError};
@@ -20,7 +20,7 @@ impl Call for Spell {
     /// The digits of a nonce and of a body.
     type Row = (&'static str, &'static str);
 
-    /// The body where they spell one.
+    /// The body that the digits spell.
     type Subject = Vec<u8>;
 
     fn subject(&self, alloc: Global, row: &Self::Row) -> Result<Vec<u8>, Fail> {

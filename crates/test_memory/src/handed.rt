@@ -1,4 +1,4 @@
-//! What a profile or an acceptor is given, and what it has to answer.
+//! What a profile or an acceptor receives, and what it has to answer.
 
 use crate::calls::{Answer, right, want};
 use fe2o3_sasl::OutOfMemory;
@@ -11,7 +11,7 @@ use test_help_bodies::replies::{
     bytes_of, events, frame, is_client_reply, is_server_reply, two_frames,
 };
 
-/// Bodies that are given and those of the replies.
+/// Bodies that are passed and those of the replies.
 #[derive(Drop)]
 pub struct Handed {
     /// The events of the bodies.
@@ -27,7 +27,7 @@ pub struct Handed {
     pub last: Box<Frame>,
 }
 
-/// What is handed to a side with nonces of this byte.
+/// Returns what is passed to a side with nonces of this byte.
 pub fn handed_of(
     alloc: Global,
     nonce: u8,
@@ -48,8 +48,8 @@ pub fn handed_of(
     })
 }
 
-/// The answer of a server's run: right where all replies are, and want of memory where the first that is
-/// not, or the list of them, is.
+/// Returns the answer of a server's run: right if all replies are, and out of memory if the first that is not, or the
+/// list of them, is.
 pub fn server_ran(
     run: Result<Vec<Result<ServerReply, Error>>, OutOfMemory>,
     handed: &Handed,
@@ -67,7 +67,8 @@ pub fn server_ran(
     right(replies.len() == handed.replies.len())
 }
 
-/// The same of a client's.
+/// Returns the answer of a client's run: right if all replies are, and out of memory if the first that is not, or the
+/// list of them, is.
 pub fn client_ran(
     run: Result<Vec<Result<ClientReply, ProfileError>>, OutOfMemory>,
     handed: &Handed,

@@ -1,4 +1,4 @@
-//! A server with mock authentication where memory runs out: known and unknown users get the same answer.
+//! A server with mock authentication out of memory: known and unknown users get the same answer.
 
 use crate::blocks::TakenMemory;
 use crate::scram_values::{CLIENT_FIRST, SALT, WITHOUT_PROOF};
@@ -12,7 +12,7 @@ use std::test::Fail;
 /// The client-first message of an unknown user, as long as that of the known one.
 const OF_UNKNOWN: &str = "n,,n=us=2Ces,r=AQEBAQEBAQEBAQEBAQEBAQEBAQEBAQEBAQEBAQEBAQE=";
 
-/// The proof of 32 zero bytes, which is nobody's.
+/// The proof of 32 zero bytes, which meets no record.
 const WRONG_PROOF: &str = ",p=AAAAAAAAAAAAAAAAAAAAAAAAAAAAAAAAAAAAAAAAAAA=";
 
 /// By how many bytes the room grows from one try to the next.

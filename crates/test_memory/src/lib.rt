@@ -1,6 +1,6 @@
-//! Tests of every call of the libraries while there is too little memory: those that can want it, and those
-//! that take none; and the texts of the faults of SASLprep. Expected values come from the standards, from
-//! worked examples, from other programs, and from Python's `hmac` and `hashlib`.
+//! Tests of every call of the libraries with too little memory: those that can run out of it, and those that allocate
+//! nothing; and the texts of the errors of SASLprep. Expected values come from the standards, from worked examples,
+//! from other programs, and from Python's `hmac` and `hashlib`.
 #![tactic(auto)]
 
 #[cfg(test)]

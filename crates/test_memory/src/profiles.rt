@@ -1,5 +1,5 @@
-//! Profiles, their steps and runs where memory is wanting: no refusal moves a profile, and each is
-//! `OutOfMemory` itself, never inside another fault.
+//! Profiles, their steps and runs out of memory: no failed allocation changes a profile, and each is its own
+//! `OutOfMemory`, never inside another error.
 
 use crate::calls::{Answer, Call, right, same, stand, want};
 use crate::handed::{Handed, client_ran, handed_of};
@@ -37,26 +37,26 @@ enum Does {
     /// `on_view_metered` of the body's view.
     OnView,
 
-    /// The name of the mechanism in the init that is wanted.
+    /// The name of the mechanism in the expected init.
     Mechanism,
 
-    /// The initial response in the init that is wanted.
+    /// The initial response in the expected init.
     InitialResponse,
 
-    /// A whole run of a client that is made of the password.
+    /// A whole run of a client with the password.
     ClientRun,
 
-    /// The same with a limit of the iteration count.
+    /// A whole run of a client with a limit of the iteration count.
     ClientRunLimited,
 }
 
-/// Which profile it is.
+/// One of the profiles.
 #[derive(Clone, Copy)]
 enum Is {
     /// A client of SCRAM.
     Scram,
 
-    /// The same, with the keys of its password in place of that.
+    /// A client of SCRAM with the keys of its password.
     Keyed,
 
     /// PLAIN.
@@ -69,7 +69,7 @@ enum Is {
     External,
 }
 
-/// A profile that is given the bodies after others, and the bodies of its replies.
+/// A profile that receives the bodies after others, and the bodies of its replies.
 struct Row {
     is: Is,
     before: &'static [&'static str],
@@ -78,14 +78,14 @@ struct Row {
     replies: &'static [&'static str],
 }
 
-/// A profile, and what it is handed.
+/// A profile, and what it is passed.
 #[derive(Drop)]
 struct AtProfile {
     handed: Handed,
     profile: Box<SaslProfile>,
 }
 
-/// A client of SCRAM with the keys of its password.
+/// Returns a client of SCRAM with the keys of its password.
 fn keyed(alloc: Global, username: String) -> Result<SaslProfile, Fail> {
     let (password, meter) = (Password::Typed(PASSWORD), &mut Meter::new());
     let keys = CachedKeys::from_password(alloc, VERSION, password, &[3; 32], 1, meter)?;
@@ -93,7 +93,7 @@ fn keyed(alloc: Global, username: String) -> Result<SaslProfile, Fail> {
     Ok(SaslProfile::from(scram))
 }
 
-/// A profile that has been given nothing.
+/// Returns a profile that has received nothing.
 fn fresh(alloc: Global, is: Is) -> Result<SaslProfile, Fail> {
     let username = USER.to_string(alloc)?;
     let password = PASSWORD.to_string(alloc)?;
@@ -106,7 +106,7 @@ fn fresh(alloc: Global, is: Is) -> Result<SaslProfile, Fail> {
     }
 }
 
-/// The answer of a step, whose reply has to be the first.
+/// Returns the answer of a step, whose reply has to be the first.
 fn replied(step: Result<ClientReply, ProfileError>, handed: &Handed) -> Answer {
     match step {
         Ok(reply) => match handed.replies.first() {
@@ -117,7 +117,7 @@ fn replied(step: Result<ClientReply, ProfileError>, handed: &Handed) -> Answer {
     }
 }
 
-/// The answer of a step of a copy.
+/// Returns the answer of a step of a copy.
 fn copy_replied(
     alloc: Global,
     profile: &SaslProfile,
@@ -131,7 +131,7 @@ fn copy_replied(
     }
 }
 
-/// The answer of a call that made a frame, which has to be the last.
+/// Returns the answer of a call that made a frame, which has to be the last.
 fn negotiated(outcome: Result<Negotiation, ProfileError>, handed: &Handed) -> Answer {
     match outcome {
         Ok(answer) => right(is_negotiated(answer, &handed.last)),
@@ -139,7 +139,7 @@ fn negotiated(outcome: Result<Negotiation, ProfileError>, handed: &Handed) -> An
     }
 }
 
-/// The answer to the frame of the first body.
+/// Returns the answer to the frame of the first body.
 fn on_frame(alloc: Global, profile: &mut SaslProfile, row: &Row, handed: &mut Handed) -> Answer {
     match handed.frames.pop() {
         Some(frame) => {
@@ -151,7 +151,7 @@ fn on_frame(alloc: Global, profile: &mut SaslProfile, row: &Row, handed: &mut Ha
     }
 }
 
-/// The answer to the view of the body.
+/// Returns the answer to the view of the body.
 fn on_view(
     alloc: Global,
     profile: &mut SaslProfile,
@@ -169,7 +169,7 @@ fn on_view(
     }
 }
 
-/// The answer of a call that makes a part of the init.
+/// Returns the answer of a call that makes a part of the init.
 fn begun(alloc: Global, profile: &mut SaslProfile, is_name: bool, init: &Frame) -> Answer {
     match init {
         Frame::Init(init) if is_name => {
@@ -225,8 +225,7 @@ impl Call for Does {
         }
     }
 
-    /// The profile waits for what it waited for: by the number of bodies for a list, a challenge or an
-    /// outcome.
+    /// Checks that the profile waits for the same: by the number of bodies for a list, a challenge or an outcome.
     fn stays(&self, _alloc: Global, row: &Row, at: &mut AtProfile) -> Answer {
         let bodies = row.before.len();
         right(
@@ -236,8 +235,8 @@ impl Call for Does {
     }
 }
 
-/// The mechanisms, to a client that is fresh, to one that has begun, to PLAIN, and to those that say
-/// nothing first; the challenge and the outcome; and all three to a client with kept keys.
+/// The mechanisms, to a new client, to one that has begun, to PLAIN, and to those without an initial response; the
+/// challenge and the outcome; and all three to a client with cached keys.
 static ROWS: [Row; 11] = [
     Row {
         is: Is::Scram,
@@ -327,7 +326,7 @@ static LOGIN: [Row; 1] = [Row {
     replies: &[INIT, RESPONSE, OUTCOME],
 }];
 
-/// The calls that go on with a login.
+/// The calls that continue a login.
 static GOING_ON: [Does; 5] = [
     Does::Step,
     Does::StepByCopy,

@@ -1,14 +1,14 @@
-//! SASLprep where memory is wanting, and the texts of its faults.
+//! SASLprep out of memory, and the texts of its errors.
 
 use crate::calls::{Answer, Call, right, stand, take_none, want};
 use saslprep::{SaslprepError, Unassigned, saslprep};
 use std::alloc::Global;
 use std::test::Fail;
 
-/// A text is prepared.
+/// The call that prepares a text.
 struct Prepare;
 
-/// A text, and what it is prepared to, or none where a character of it is prohibited.
+/// A text, and its prepared form, or none if it has a prohibited character.
 type Row = (&'static str, Option<&'static str>);
 
 impl Call for Prepare {
@@ -29,14 +29,14 @@ impl Call for Prepare {
     }
 }
 
-/// Texts outside ASCII. The values are of RFC 4013, section 3, and of RFC 3454, table B.1.
+/// Texts outside ASCII. The values are from RFC 4013, section 3, and from RFC 3454, table B.1.
 static OTHERS: [Row; 3] = [
     ("I\u{AD}X", Some("IX")),
     ("\u{2168}", Some("IX")),
     ("\u{AA}", Some("a")),
 ];
 
-/// Texts of ASCII, which are borrowed or refused.
+/// ASCII texts, which are borrowed or rejected.
 static ASCII: [Row; 4] = [
     ("", Some("")),
     ("user", Some("user")),
@@ -50,7 +50,7 @@ fn texts_outside_ascii_want_memory(rt: HostRuntime) -> Result<(), Fail> {
     take_none(rt.alloc(), &[Prepare], &ASCII)
 }
 
-/// Each fault, and its text.
+/// Each error, and its text.
 static FAULTS: [(SaslprepError, &str); 4] = [
     (
         SaslprepError::ProhibitedCharacter('\u{7}'),

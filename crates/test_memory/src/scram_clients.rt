@@ -1,5 +1,5 @@
-//! Clients, by the password, by kept keys and by both, and the keys themselves, where memory is wanting:
-//! no refusal moves a client.
+//! Clients, by the password, by cached keys and by both, and the keys themselves, out of memory: no failed allocation
+//! changes a client.
 
 use crate::calls::{Answer, Call, Expected, and, made, right, stand, told};
 use crate::scram_values::*;
@@ -17,7 +17,7 @@ use std::test::Fail;
 
 const VERSION: ScramVersion = ScramVersion::Sha256;
 
-/// By what a client proves who it is.
+/// The secret by which a client proves who it is.
 #[derive(Clone, Copy)]
 enum Secret {
     Password,
@@ -36,41 +36,41 @@ enum Does {
     /// The answer to the server-first message.
     Respond,
 
-    /// The same with a meter.
+    /// The answer to the server-first message, with a meter.
     RespondMetered,
 
-    /// The same of a copy.
+    /// The answer of a copy to the server-first message.
     RespondByCopy,
 
-    /// The server-final message is believed.
+    /// The verification of the server-final message.
     Verify,
 
-    /// The same of a copy.
+    /// The verification by a copy.
     VerifyByCopy,
 
-    /// A copy of a client that has believed the server, which has its keys.
+    /// A copy of a client that has verified the server, which has its keys.
     CloneLast,
 
     /// The answer to the server-first message without a client.
     Answer,
 
-    /// A client is made of its secret.
+    /// A client with its secret.
     Make,
 
-    /// The keys are made of the password.
+    /// The keys of the password.
     MakeKeys,
 
-    /// The keys are copied.
+    /// A copy of the keys.
     CloneKeys,
 }
 
-/// The keys of the password.
+/// Returns the keys of the password.
 fn keys(alloc: Global) -> Result<CachedKeys, RecordError> {
     let (password, meter) = (Password::Typed(PASSWORD), &mut Meter::new());
     CachedKeys::from_password(alloc, VERSION, password, &SALT, 1, meter)
 }
 
-/// The secret of a client.
+/// Returns the secret of a client.
 fn secret_of(by: Secret, keys: &CachedKeys) -> ClientSecret<'_> {
     let password = Password::Typed(PASSWORD);
     match by {
@@ -80,7 +80,7 @@ fn secret_of(by: Secret, keys: &CachedKeys) -> ClientSecret<'_> {
     }
 }
 
-/// A client that has sent nothing.
+/// Returns a client that has sent nothing.
 fn new_client(
     alloc: Global,
     by: Secret,
@@ -90,7 +90,7 @@ fn new_client(
     ScramClient::with_secret(alloc, username, secret_of(by, keys), VERSION)
 }
 
-/// How many of the three calls of a login the client has made before.
+/// Returns how many of the three calls of a login the client has made before.
 fn calls_before(does: &Does) -> u8 {
     match does {
         Does::Start | Does::Answer | Does::Make | Does::MakeKeys | Does::CloneKeys => 0,
@@ -114,7 +114,7 @@ fn log_in(alloc: Global, client: &mut ScramClient, calls: u8) -> Result<(), Fail
     Ok(())
 }
 
-/// Whether these are there, and right.
+/// Returns whether the keys are there, and right.
 fn are_kept(keys: Option<&CachedKeys>) -> bool {
     match keys {
         Some(keys) => keys.is_right(),
@@ -122,7 +122,7 @@ fn are_kept(keys: Option<&CachedKeys>) -> bool {
     }
 }
 
-/// Whether the client has made so many of the calls.
+/// Returns whether the client has made that many of the calls.
 fn has_made(client: &ScramClient, calls: u8) -> bool {
     let signature = client.server_signature() == Some(SIGNATURE.as_slice());
     (client.nonce() == Some(&[1; 32])) == (calls == 1)
@@ -131,7 +131,7 @@ fn has_made(client: &ScramClient, calls: u8) -> bool {
         && are_kept(client.keys()) == (calls == 3)
 }
 
-/// The answer of a call that made a client-first message, which has to be this one.
+/// Returns the answer of a call that made a client-first message, which has to be this one.
 fn started(message: Result<Bytes, OutOfMemory>, wanted: &str) -> Answer {
     match message {
         Ok(bytes) => right(bytes.as_slice() == wanted.as_bytes()),
@@ -139,7 +139,7 @@ fn started(message: Result<Bytes, OutOfMemory>, wanted: &str) -> Answer {
     }
 }
 
-/// The answer to the server-first message, and its HMAC values.
+/// Returns the answer to the server-first message, and its HMAC values.
 fn respond(alloc: Global, client: &mut ScramClient, by: Secret) -> Answer {
     let mut meter = Meter::new();
     let message = client.compute_client_final_message_metered(alloc, SERVER_FIRST, &mut meter);
@@ -153,7 +153,7 @@ fn respond(alloc: Global, client: &mut ScramClient, by: Secret) -> Answer {
     )
 }
 
-/// The HMAC values of an answer.
+/// Returns the HMAC values of an answer.
 fn cost(by: Secret) -> u64 {
     match by {
         Secret::Password => 5,
@@ -161,7 +161,7 @@ fn cost(by: Secret) -> u64 {
     }
 }
 
-/// The server-final message is believed.
+/// Returns the answer to the server-final message, which is verified.
 fn verify(alloc: Global, client: &mut ScramClient) -> Answer {
     let verified = client.validate_server_final(alloc, SERVER_FINAL.as_bytes());
     and(
@@ -170,7 +170,7 @@ fn verify(alloc: Global, client: &mut ScramClient) -> Answer {
     )
 }
 
-/// The answer by this secret without a client.
+/// Returns the answer by this secret without a client.
 fn answer_server_first(alloc: Global, by: Secret, keys: &CachedKeys) -> Answer {
     let secret = secret_of(by, keys);
     let (bare, mut meter) = (CLIENT_FIRST_BARE.as_bytes(), Meter::new());
@@ -197,7 +197,7 @@ struct AtClient {
     client: Box<ScramClient>,
 }
 
-/// What the copy does next, or has done.
+/// Returns the answer of the copy to the next call, or what it has done.
 fn copy_goes_on(alloc: Global, client: &ScramClient, does: &Does, by: Secret) -> Answer {
     match client.clone() {
         Ok(mut copy) => match does {

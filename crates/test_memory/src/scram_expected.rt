@@ -26,7 +26,7 @@ impl Expected for String {
     }
 }
 
-/// The client-first message, and the same without its header.
+/// The client-first message, with and without its header.
 impl Expected for (Bytes, Bytes) {
     fn is_right(&self) -> bool {
         self.0.as_slice() == CLIENT_FIRST.as_bytes()
@@ -75,7 +75,7 @@ impl Expected for ServerFinal {
     }
 }
 
-/// The server's answer to the client-first message, to a user who is known.
+/// The server's answer to the client-first message of a known user.
 impl Expected for Option<ServerFirstMessage<'_>> {
     fn is_right(&self) -> bool {
         let Some(first) = self else {
@@ -98,7 +98,7 @@ impl Expected for CachedKeys {
     }
 }
 
-/// What is kept of the password.
+/// What is stored for the password.
 impl Expected for StoredPassword<'_> {
     fn is_right(&self) -> bool {
         self.salt == SALT.as_slice()
@@ -114,7 +114,7 @@ impl Expected for ScramRecord {
     }
 }
 
-/// Whether the provider has the record under this name.
+/// Returns whether the provider has the record under this name.
 pub fn has_record<C: ScramCredentialProvider>(provider: &C, username: &str) -> bool {
     match provider.get_stored_password(username) {
         Some(kept) => kept.is_right(),

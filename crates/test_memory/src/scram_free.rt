@@ -1,4 +1,4 @@
-//! Calls that take no memory give their answers while each request for it is refused.
+//! Calls that allocate nothing return their answers while each allocation fails.
 
 use crate::calls::{Answer, Call, Expected, right, take_none};
 use crate::scram_expected::has_record;
@@ -20,7 +20,7 @@ use std::test::Fail;
 
 const VERSION: ScramVersion = ScramVersion::Sha256;
 
-/// Calls of values that are there without memory.
+/// Calls of values that need no memory.
 enum Free {
     Words,
     Keys,
@@ -47,7 +47,7 @@ fn keys_are_made() -> bool {
         && meter.count() == 2
 }
 
-/// The proof is made and met, and the ClientKey recovered from it.
+/// Checks that the proof is made and met, and the ClientKey recovered from it.
 fn proof_is_made() -> bool {
     let (text, mut meter) = (AUTH_MESSAGE.as_bytes(), Meter::new());
     let Ok(proof) = VERSION.compute_client_proof(&CLIENT_KEY, text, &mut meter) else {
@@ -70,7 +70,7 @@ fn signature_is_made() -> bool {
     signature.as_slice() == SIGNATURE.as_slice()
 }
 
-/// Names without an escape are borrowed.
+/// Checks that names without an escape are borrowed.
 fn names_are_borrowed(alloc: Global) -> bool {
     match (
         unescape_username(alloc, "user"),
@@ -83,7 +83,7 @@ fn names_are_borrowed(alloc: Global) -> bool {
     }
 }
 
-/// Want of memory is `OutOfMemory` of each fault itself.
+/// Checks that running out of memory is each error's own `OutOfMemory`.
 fn are_out_of_memory() -> bool {
     KeyError::from(OutOfMemory) == KeyError::OutOfMemory
         && UnescapeError::from(OutOfMemory) == UnescapeError::OutOfMemory
@@ -124,7 +124,7 @@ static FREE: [Free; 6] = [
     Free::Faults,
 ];
 
-/// A call that makes something of what it is handed, or asks it.
+/// A call that makes something of its arguments, or reads it.
 enum Making {
     Client,
     RestoredClient,
@@ -134,7 +134,7 @@ enum Making {
     Server,
 }
 
-/// What is handed in.
+/// The arguments.
 #[derive(Drop)]
 struct Parts {
     names: Vec<String>,
@@ -143,7 +143,7 @@ struct Parts {
     provider: Option<UserRecord>,
 }
 
-/// The record's server key, stored key and salt.
+/// Returns the record's server key, stored key and salt.
 fn keys(alloc: Global) -> Result<Vec<Vec<u8>>, Fail> {
     let mut keys = Vec::with_capacity(alloc, 3)?;
     for key in &[SERVER_KEY, STORED_KEY, SALT] {
@@ -152,7 +152,7 @@ fn keys(alloc: Global) -> Result<Vec<Vec<u8>>, Fail> {
     Ok(keys)
 }
 
-/// The client of the call. One that is restored waits for the stored key, in place of a signature.
+/// Returns the client of the call. One that is restored waits for the stored key, in place of a signature.
 fn client_of(making: &Making, parts: &mut Parts) -> Option<ScramClient> {
     let (user, password) = two_of(&mut parts.names)?;
     let salt = parts.keys.pop()?;
@@ -168,7 +168,7 @@ fn client_of(making: &Making, parts: &mut Parts) -> Option<ScramClient> {
     })
 }
 
-/// Whether the client has sent nothing, so that a server-first message comes too early.
+/// Returns whether the client has sent nothing, so that a server-first message comes too early.
 fn is_fresh(alloc: Global, client: &mut ScramClient) -> bool {
     let refused = client
         .compute_client_final_message(alloc, SERVER_FIRST)
@@ -179,7 +179,7 @@ fn is_fresh(alloc: Global, client: &mut ScramClient) -> bool {
         && client.keys().is_none()
 }
 
-/// Whether the client waits for the stored key, in place of a signature.
+/// Returns whether the client waits for the stored key, in place of a signature.
 fn is_restored(client: &ScramClient) -> bool {
     client.server_signature() == Some(STORED_KEY.as_slice())
         && client.answer_keys().is_some()
@@ -202,7 +202,7 @@ fn record_is_made(parts: &mut Parts) -> Option<bool> {
     Some(record.is_right() && *record.scram_version() == VERSION)
 }
 
-/// Whether the provider has the user's record, and no other.
+/// Returns whether the provider has the user's record, and no other.
 fn has_the_record<C: ScramCredentialProvider>(provider: &C) -> bool {
     has_record(provider, USER)
         && provider.get_stored_password("another").is_none()

@@ -1,4 +1,4 @@
-//! Hashes, keys and names where memory is wanting.
+//! Hashes, keys and names out of memory.
 
 use crate::calls::{Answer, Call, and, made, stand, told};
 use crate::scram_values::*;
@@ -25,7 +25,7 @@ enum Value {
     UnescapedName,
 }
 
-/// The server-first message as it is read, which needs no salt for the AuthMessage.
+/// Returns the server-first message as parsed, which needs no salt for the AuthMessage.
 fn server_first(alloc: Global) -> ServerFirst<'static> {
     ServerFirst {
         nonce: BOTH_NONCES,

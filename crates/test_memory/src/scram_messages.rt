@@ -1,4 +1,4 @@
-//! Messages where memory is wanting.
+//! Messages out of memory.
 
 use crate::calls::{Answer, Call, and, made, stand, told};
 use crate::scram_values::*;
@@ -14,7 +14,7 @@ use std::test::Fail;
 
 const VERSION: ScramVersion = ScramVersion::Sha256;
 
-/// A call that writes or believes a message.
+/// A call that writes or verifies a message.
 enum Written {
     ClientFirst,
     Challenge,
@@ -26,7 +26,7 @@ enum Written {
     Verified,
 }
 
-/// What is kept of the password.
+/// What is stored for the password.
 static STORED_PASSWORD: StoredPassword<'static> = StoredPassword {
     salt: &SALT,
     iterations: 1,
@@ -34,7 +34,7 @@ static STORED_PASSWORD: StoredPassword<'static> = StoredPassword {
     server_key: &SERVER_KEY,
 };
 
-/// The answer of a call that writes the server-final message, with a meter or without.
+/// Returns the answer of a call that writes the server-final message, with a meter or without.
 fn server_final(alloc: Global, is_metered: bool) -> Answer {
     let (last, nonce) = (CLIENT_FINAL.as_bytes(), BOTH_NONCES.as_bytes());
     let (bare, challenge) = (CLIENT_FIRST_BARE.as_bytes(), SERVER_FIRST.as_bytes());

@@ -1,4 +1,4 @@
-//! A store of users of several versions where memory is wanting.
+//! A store of users of several versions out of memory.
 
 use crate::calls::{Answer, Call, and, made, right, stand, told, want};
 use crate::scram_values::USER;
@@ -23,7 +23,7 @@ const LINES: &str =
 const LINE_OF_SHA256: &str =
     "second SCRAM-SHA-256$1:AA==$q543IgzVrdKaJWKZAObT/tVAKRM2dOrKH5FD3kGlq2o=:Az4mYWZGczNgQNLViL4wmA2f5/gXgNBJcTXkkO8GmdQ=\n";
 
-/// A call of such a store.
+/// A call of a store of several versions.
 enum OfMixed {
     Add,
     Records,
@@ -41,7 +41,7 @@ struct Mixed {
     new: Vec<(String, ScramRecord)>,
 }
 
-/// Whether the store has a record of this version and name.
+/// Returns whether the store has a record of this version and name.
 fn has(store: &MultiRecordStore, version: ScramVersion, name: &str) -> bool {
     store.for_version(version).record(name).is_some()
 }
@@ -87,7 +87,7 @@ impl Call for OfMixed {
         }
     }
 
-    /// The store has its lines, and its users of SHA-256 theirs.
+    /// Checks that the store has its lines, and its users of SHA-256 theirs.
     fn stays(&self, alloc: Global, row: &Row, mixed: &mut Mixed) -> Answer {
         let none = WriteLinesError::OutOfMemory;
         let of_sha256 = mixed
@@ -101,7 +101,7 @@ impl Call for OfMixed {
     }
 }
 
-/// The user who is added is the first of all, or the fifth: there the list of users has to grow.
+/// The added user is the first of all, or the fifth: there the list of users has to grow.
 #[test]
 fn a_store_of_several_versions_wants_memory(rt: HostRuntime) -> Result<(), Fail> {
     let (empty, four) = (("", ""), (LINES, LINE_OF_SHA256));

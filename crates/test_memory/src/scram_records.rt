@@ -1,4 +1,4 @@
-//! Records, credentials and stores where memory is wanting.
+//! Records, credentials and stores out of memory.
 
 use crate::calls::{Answer, Call, Expected, and, made, right, stand, take_none, told, want};
 use crate::scram_expected::has_record;
@@ -76,10 +76,10 @@ static OF_RECORDS: [OfRecord; 5] = [
 
 /// A call of the credential of one user's password.
 enum OfSingle {
-    /// It is made. It is handed the name, so there is one for each call.
+    /// The credential is made. The call is passed the name, so there is one for each call.
     New,
 
-    /// It is copied.
+    /// The credential is copied.
     Clone,
 }
 
@@ -134,7 +134,7 @@ struct Row {
     is_shared: bool,
 }
 
-/// A store, its clone, and records to add or to put into it, one for each call.
+/// A store, its clone, and records to add or to put into the store, one for each call.
 #[derive(Drop)]
 struct Users {
     users: RecordStore,
@@ -149,7 +149,7 @@ impl Expected for RecordStore {
     }
 }
 
-/// The answer of a call that puts in the user's record, or that of the other one in place of its own.
+/// Returns the answer of a call that adds the user's record, or replaces it by the other one.
 fn put(is_replaced: bool, users: &mut RecordStore, new: Option<(String, ScramRecord)>) -> Answer {
     let none = AddRecordError::OutOfMemory;
     match new {
@@ -159,7 +159,7 @@ fn put(is_replaced: bool, users: &mut RecordStore, new: Option<(String, ScramRec
     }
 }
 
-/// Whether these are the lines of the users.
+/// Returns whether these are the lines of the users.
 fn are_written(alloc: Global, users: &RecordStore, lines: &str) -> Answer {
     made(
         users.to_lines(alloc),
@@ -209,7 +209,7 @@ impl Call for OfUsers {
         }
     }
 
-    /// The store and its clone have their lines.
+    /// Checks that the store and its clone have their lines.
     fn stays(&self, alloc: Global, row: &Row, store: &mut Users) -> Answer {
         let clone = store.clone.as_ref().unwrap_or(&store.users);
         and(
@@ -231,7 +231,7 @@ static GROWING: [Row; 2] = [
     },
 ];
 
-/// Both users, of this store alone.
+/// Both users, only of this store.
 static OWNED: [Row; 1] = [Row {
     lines: LINES,
     is_shared: false,

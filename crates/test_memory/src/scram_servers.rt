@@ -1,4 +1,4 @@
-//! A server where memory is wanting: no refusal moves it.
+//! A server out of memory: no failed allocation changes it.
 
 use crate::calls::{Answer, Call, and, made, right, stand};
 use crate::scram_values::*;
@@ -21,22 +21,22 @@ enum OfServer {
     /// The server-final message.
     Conclude,
 
-    /// The same with a meter.
+    /// The server-final message, with a meter.
     ConcludeMetered,
 
-    /// The same of a copy.
+    /// The server-final message of a copy.
     ConcludeByCopy,
 }
 
 /// A server of one user.
 pub type Server = ScramAuthenticator<UserRecord>;
 
-/// A server that has read nothing.
+/// Returns a server that has read nothing.
 pub fn server(alloc: Global) -> Result<Box<Server>, Fail> {
     Ok(Box::new(alloc, ScramAuthenticator::new(stored(alloc)?))?)
 }
 
-/// Whether this challenge is open, or none.
+/// Returns whether this challenge is open, or none.
 pub fn is_open(server: &Server, challenge: Option<&str>) -> bool {
     match (server.open_challenge(), challenge) {
         (Some(open), Some(text)) => open.server_first_message == text.as_bytes(),
@@ -45,7 +45,7 @@ pub fn is_open(server: &Server, challenge: Option<&str>) -> bool {
     }
 }
 
-/// The answer of a call that made a message, which has to be this one.
+/// Returns the answer of a call that made a message, which has to be this one.
 fn sent(outcome: Result<Option<Vec<u8>>, ServerScramErrorKind>, wanted: &str) -> Answer {
     let none = ServerScramErrorKind::OutOfMemory;
     match outcome {

@@ -13,14 +13,14 @@ pub const CLIENT_NONCE: &str = "AQEBAQEBAQEBAQEBAQEBAQEBAQEBAQEBAQEBAQEBAQE=";
 /// The server's nonce in base64.
 pub const SERVER_NONCE: &str = "AgICAgICAgICAgICAgICAgICAgICAgICAgICAgICAgI=";
 
-/// The nonce of both.
+/// The nonce of both sides.
 pub const BOTH_NONCES: &str = "AQEBAQEBAQEBAQEBAQEBAQEBAQEBAQEBAQEBAQEBAQE=\
     AgICAgICAgICAgICAgICAgICAgICAgICAgICAgICAgI=";
 
 /// The client-first message.
 pub const CLIENT_FIRST: &str = "n,,n=us=2Cer,r=AQEBAQEBAQEBAQEBAQEBAQEBAQEBAQEBAQEBAQEBAQE=";
 
-/// The same without its header.
+/// The client-first message without its header.
 pub const CLIENT_FIRST_BARE: &str = "n=us=2Cer,r=AQEBAQEBAQEBAQEBAQEBAQEBAQEBAQEBAQEBAQEBAQE=";
 
 /// The client-first message of a client whose nonce is 32 bytes 02.

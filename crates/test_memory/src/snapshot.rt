@@ -1,4 +1,4 @@
-//! A server's side of a connection that is set down behind each byte and taken up by another.
+//! A server's side of a connection that is saved after each byte and restored by another.
 
 use crate::connections::{HEADER, units_of};
 use crate::scram_servers::Server;
@@ -13,7 +13,7 @@ use std::alloc::Global;
 use std::test::Fail;
 use test_help_bodies::bodies::{CHALLENGE, INIT, MECHANISMS, OUTCOME, RESPONSE};
 
-/// Another side with what this one keeps.
+/// Returns another side with what this one keeps.
 fn another(
     alloc: Global,
     side: &ServerNegotiation<Server>,
@@ -25,7 +25,7 @@ fn another(
     )?)
 }
 
-/// How a login by these bytes ends, each of which is given to a side of its own, and what was sent.
+/// Returns how a login by these bytes ends, each of which is passed to a new side, and what was sent.
 fn log_in(alloc: Global, bytes: &[u8], output: &mut BytesMut) -> Result<Progress, Fail> {
     let acceptor = ScramAuthenticator::new(stored(alloc)?);
     let mut side = Box::new(alloc, ServerNegotiation::new(alloc, acceptor))?;
@@ -47,7 +47,7 @@ fn each_byte_has_a_side_of_its_own(rt: HostRuntime) -> Result<(), Fail> {
     Ok(())
 }
 
-/// What a side keeps that wants more of what is expected.
+/// Returns what a side keeps that waits for more of what is expected.
 fn kept(expected: Expected, limit: usize, held: &[u8]) -> Snapshot<'_> {
     Snapshot {
         progress: Progress::InProgress,
@@ -58,7 +58,7 @@ fn kept(expected: Expected, limit: usize, held: &[u8]) -> Snapshot<'_> {
     }
 }
 
-/// Whether values that no side keeps are refused.
+/// Returns whether values that no side keeps are rejected.
 fn is_refused(alloc: Global, kept: &Snapshot<'_>) -> Result<bool, Fail> {
     let acceptor = ScramAuthenticator::new(stored(alloc)?);
     let side = ServerNegotiation::restore(alloc, acceptor, kept);
@@ -68,7 +68,7 @@ fn is_refused(alloc: Global, kept: &Snapshot<'_>) -> Result<bool, Fail> {
 /// The frame of an init is expected.
 const INIT_DUE: Expected = Expected::Frame(FrameKind::Init);
 
-/// What is expected, the limit, what has come of it, and whether no side keeps that.
+/// What is expected, the limit, what has arrived of it, and whether no side keeps that.
 static KEPT: [(Expected, usize, &[u8], bool); 7] = [
     (Expected::Header, 512, &[0; 7], false),
     (Expected::Header, 512, &[0; 8], true),
@@ -88,7 +88,7 @@ fn no_side_keeps_a_whole_unit(rt: HostRuntime) -> Result<(), Fail> {
     Ok(())
 }
 
-/// The body that the bytes up to `end` of an init complete, by the side to which as many have come.
+/// Returns the body of an init that the bytes up to `end` complete, by a side that has received `come` of them.
 fn completed(alloc: Global, unit: &[u8], come: usize, end: usize) -> Option<Vec<u8>> {
     let (held, more) = (unit.get(..come)?, unit.get(come..end)?);
     kept(INIT_DUE, 512, held).peek_frame(alloc, more).ok()?

@@ -1,22 +1,22 @@
-//! The user of the logins, as what a server keeps of the password.
+//! The user of the logins, as a server's record.
 
 use fe2o3_scram::credentials::{ScramRecord, UserRecord};
 use std::alloc::Global;
 use std::test::Fail;
 use test_help_bodies::bodies::{RECORD, USER};
 
-/// The record of the password.
+/// Returns the record of the password.
 pub fn record(alloc: Global) -> Result<ScramRecord, Fail> {
     Ok(ScramRecord::parse(alloc, RECORD)?)
 }
 
-/// The record as a provider of the one user.
+/// Returns the record as a provider of the one user.
 pub fn stored(alloc: Global) -> Result<UserRecord, Fail> {
     let username = USER.to_string(alloc)?;
     Ok(UserRecord::new(username, record(alloc)?))
 }
 
-/// The user, twice: once for each call that is handed a user.
+/// Returns the user, twice: once for each call that takes a user.
 pub fn new_users(alloc: Global) -> Result<Vec<(String, ScramRecord)>, Fail> {
     let mut new = Vec::new(alloc);
     for _ in 0..2 {
@@ -25,13 +25,13 @@ pub fn new_users(alloc: Global) -> Result<Vec<(String, ScramRecord)>, Fail> {
     Ok(new)
 }
 
-/// A user.
+/// Returns a user.
 fn new_user(alloc: Global) -> Result<(String, ScramRecord), Fail> {
     let name = USER.to_string(alloc)?;
     Ok((name, record(alloc)?))
 }
 
-/// The user's name, twice: one for each call that is handed it.
+/// Returns the user's name, twice: once for each call that takes it.
 pub fn two_names(alloc: Global) -> Result<Vec<String>, Fail> {
     let mut names = Vec::with_capacity(alloc, 2)?;
     for _ in 0..2 {
@@ -40,7 +40,7 @@ pub fn two_names(alloc: Global) -> Result<Vec<String>, Fail> {
     Ok(names)
 }
 
-/// The last two of the words.
+/// Returns the last two of the words.
 pub fn two_of(words: &mut Vec<String>) -> Option<(String, String)> {
     let first = words.pop()?;
     Some((first, words.pop()?))

@@ -1,5 +1,4 @@
-//! Values of the types of frames, headers and frames where memory is wanting: made, written, read and
-//! copied.
+//! Values of the types of frames, headers and frames out of memory: made, written, read and copied.
 
 use crate::calls::{Answer, Call, Expected, and, same, stand, take_none, told};
 use crate::wire_bodies::*;
@@ -13,14 +12,14 @@ use std::test::Fail;
 use test_help_bodies::bodies::{INIT_ANONYMOUS_WITH_HOSTNAME, MECHANISM_ANONYMOUS, OUTCOME_OK};
 use test_help_bodies::replies::{bytes_of, frame, two_frames};
 
-/// What stands in a buffer before something is written to it: as much as fills a block of the allocator,
-/// so that the buffer has to grow.
+/// The bytes in a buffer before something is written to it: as much as fills a block of the allocator, so that the
+/// buffer has to grow.
 const BEFORE: [u8; 24] = [b'x'; 24];
 
-/// The same with the header of SASL behind it.
+/// The bytes of `BEFORE` followed by the header of SASL.
 const WRITTEN: [u8; 32] = *b"xxxxxxxxxxxxxxxxxxxxxxxxAMQP\x03\x01\x00\x00";
 
-/// The mechanism ANONYMOUS alone.
+/// Only the mechanism ANONYMOUS.
 impl Expected for SaslMechanisms {
     fn is_right(&self) -> bool {
         match self.sasl_server_mechanisms.0.as_slice() {
@@ -116,21 +115,21 @@ static VALUES: [Value; 7] = [
     Value::ArrayClone,
 ];
 
-/// What is done with a frame.
+/// A call on a frame.
 enum Does {
-    /// It is written behind other bytes.
+    /// The frame is written after other bytes.
     Encode,
 
-    /// It is read before another byte.
+    /// The frame is read before another byte.
     Decode,
 
-    /// Its view is copied.
+    /// The frame's view is copied.
     ToFrame,
 
-    /// It is copied.
+    /// The frame is copied.
     Clone,
 
-    /// The struct in it is copied.
+    /// The struct in the frame is copied.
     CloneInner,
 }
 
@@ -144,7 +143,7 @@ struct Buffers {
     frame: Box<Frame>,
 }
 
-/// Whether the struct in the frame is copied.
+/// Returns whether the struct in the frame is copied.
 fn inner_copied(frame: &Frame) -> Answer {
     match frame {
         Frame::Mechanisms(mechanisms) => same(mechanisms.clone(), mechanisms, AllocError),
@@ -155,7 +154,7 @@ fn inner_copied(frame: &Frame) -> Answer {
     }
 }
 
-/// The frame is written, behind what was in the buffer.
+/// Returns whether the frame is written after the bytes of the buffer.
 fn written(buffers: &mut Buffers) -> Answer {
     let Some(frame) = buffers.frames.pop() else {
         return Answer::Wrong;
@@ -210,10 +209,10 @@ impl Call for Does {
     }
 }
 
-/// What is done with a frame but that it is written.
+/// The calls on a frame other than writing.
 static OTHERS: [Does; 4] = [Does::Decode, Does::ToFrame, Does::Clone, Does::CloneInner];
 
-/// Bodies of each frame, whose values all take memory.
+/// Bodies of each frame, whose values all allocate.
 static BODIES: [&str; 7] = [
     MECHANISMS_TWO,
     MECHANISM_ANONYMOUS,

@@ -1,4 +1,4 @@
-//! Calls that take no memory give their answers while each request for it is refused.
+//! Calls that allocate nothing return their answers while each allocation fails.
 
 use crate::calls::{Answer, Call, right, take_none};
 use crate::wire_bodies::*;
@@ -11,7 +11,7 @@ use std::alloc::{AllocError, Global};
 use std::test::Fail;
 use test_help_bodies::replies::bytes_of;
 
-/// What is no header.
+/// Bytes that are no header.
 const NO_HEADER: [u8; 8] = *b"AMQP\x01\x01\x00\x00";
 
 /// A call of headers, codes, symbols and views.
@@ -61,7 +61,7 @@ fn no_header_is_handed_back() -> bool {
         && ProtocolId::try_from(1).err() == Some(1)
 }
 
-/// Of seventeen bytes the first eight are a header, the next are none, and one is left.
+/// Returns whether of seventeen bytes the first eight are a header, the next eight are none, and one is left.
 fn header_is_read(buffer: &mut BytesMut) -> bool {
     let mut codec = ProtocolHeaderCodec::default();
     let mismatch = NegotiationError::ProtocolHeaderMismatch(NO_HEADER);
@@ -79,7 +79,7 @@ fn plain_values_are_copied() -> bool {
         && SaslCode::SysTemp == SaslCode::SysTemp.clone().unwrap()
 }
 
-/// Codes are read, a text that is no symbol is refused, and want of memory is that of each fault.
+/// Returns whether codes are read, a text that is no symbol is rejected, and running out of memory is each error's own.
 fn codes_are_read(alloc: Global) -> bool {
     SaslCode::try_from(1) == Ok(SaslCode::Auth)
         && SaslCode::try_from(5) == Err(5)
@@ -88,7 +88,7 @@ fn codes_are_read(alloc: Global) -> bool {
         && SymbolError::from(AllocError) == SymbolError::OutOfMemory
 }
 
-/// Whether these are the two symbols, by every call.
+/// Returns whether these are the two symbols, by every call.
 fn are_both(symbols: &SymbolsView<'_>, first: &str, second: &str) -> bool {
     let mut walk = symbols.iter();
     walk.next() == Some(first)

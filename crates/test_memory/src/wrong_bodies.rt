@@ -1,4 +1,4 @@
-//! Wrong bodies of the tests' own, each of which the tests of the other modules would report.
+//! Wrong bodies for the tests themselves, each of which the other modules would report.
 
 use crate::blocks::TakenMemory;
 use crate::calls::{Answer, Call, Finding, found, right};
@@ -9,19 +9,19 @@ use std::test::Fail;
 /// A body that counts its calls, and is wrong.
 #[derive(Debug)]
 enum WrongBody {
-    /// It always answers want of memory.
+    /// The body always returns `OutOfMemory`.
     AlwaysWants,
 
-    /// It takes no memory.
+    /// The body allocates nothing.
     NeverWants,
 
-    /// It counts a call that was refused.
+    /// The body counts a failed call.
     CountsRefusals,
 
-    /// It tells another fault where memory is wanting.
+    /// The body returns another error where memory runs out.
     HidesWant,
 
-    /// Not wrong: it counts a call that was not refused.
+    /// Not wrong: the body counts a call that did not fail.
     Counts,
 }
 
@@ -49,7 +49,7 @@ impl Call for WrongBody {
     }
 }
 
-/// Each body, and what is found of it.
+/// Each body, and the finding about it.
 static BODIES: [(WrongBody, Finding); 5] = [
     (WrongBody::AlwaysWants, Finding::NeverGiven),
     (WrongBody::NeverWants, Finding::NeverRefused),

@@ -1,4 +1,4 @@
-//! The loop of a server whose users stand in a store of its own.
+//! The loop of a server with its own store of users.
 
 use crate::logins::{Login, client, exchange};
 use fe2o3_scram::credentials::{ScramRecord, UserRecord};
@@ -22,18 +22,18 @@ static STORE: [(&str, &str); 2] = [
     ),
 ];
 
-/// What no stranger knows.
+/// A secret that no stranger knows.
 const SECRET: &[u8] = b"a secret of the server's";
 
 /// The version of all records.
 const VERSION: ScramVersion = ScramVersion::Sha256;
 
-/// The store. No proof looks into it.
+/// Returns the store. No proof looks into it.
 fn store() -> &'static [(&'static str, &'static str)] {
     &STORE
 }
 
-/// The text of the user's record.
+/// Returns the text of the user's record.
 fn look_up(name: &str) -> Option<&'static str> {
     for (known, text) in store() {
         if *known == name {
@@ -43,7 +43,7 @@ fn look_up(name: &str) -> Option<&'static str> {
     None
 }
 
-/// The record of the user, or one that is made up, the same at each login.
+/// Returns the record of the user, or a mock record, the same at each login.
 fn record_for(alloc: Global, name: &str) -> Option<ScramRecord> {
     match look_up(name) {
         Some(text) => ScramRecord::parse(alloc, text).ok(),
@@ -54,7 +54,7 @@ fn record_for(alloc: Global, name: &str) -> Option<ScramRecord> {
 /// The server of one exchange.
 type Server = ScramAuthenticator<Rc<UserRecord>>;
 
-/// A server for the user whom the message names.
+/// Returns a server for the user that the message names.
 fn server_for(alloc: Global, client_first: &[u8]) -> Option<Box<Server>> {
     let client = ClientFirst::parse(alloc, client_first).ok()?;
     let name = client.username.into_owned(alloc).ok()?;
@@ -63,7 +63,7 @@ fn server_for(alloc: Global, client_first: &[u8]) -> Option<Box<Server>> {
     Box::new(alloc, ScramAuthenticator::new(credential)).ok()
 }
 
-/// What comes of a login.
+/// Returns the result of a login.
 fn log_in(alloc: Global, name: &str, password: &str) -> Option<Login> {
     let mut client = client(alloc, name, password).ok()?;
     let sent = client.compute_client_first_message(alloc, &[1; 32]);
@@ -72,7 +72,7 @@ fn log_in(alloc: Global, name: &str, password: &str) -> Option<Login> {
     Some(exchange(alloc, &mut server, &mut client, &client_first))
 }
 
-/// Names and passwords, and what comes of their logins.
+/// Names and passwords, and the results of their logins.
 static LOGINS: [(&str, &str, Login); 6] = [
     ("user", "pencil", Login::Accepted),
     ("a,b=c", "x", Login::Accepted),
@@ -82,7 +82,7 @@ static LOGINS: [(&str, &str, Login); 6] = [
     ("", "x", REFUSED),
 ];
 
-/// What comes of a login after a challenge to somebody else.
+/// The result of a login after a challenge to another user.
 const REFUSED: Login = Login::ServerRefuses(ServerScramErrorKind::AuthenticationFailed);
 
 #[test]

@@ -1,7 +1,7 @@
-//! A client that could bind a channel and believes that the server cannot: its GS2 header is `y,,`. Proof and
-//! signature are those of Python's `hashlib` and `hmac`, for the password `pencil`, a salt of 32 bytes 03, a
-//! client's nonce of 32 bytes 01 and a server's of 32 bytes 02. The runs of all versions, and those that are
-//! refused, stand in the data of `test_vectors_sasl`.
+//! A client that supports channel binding and assumes that the server does not: its GS2 header is `y,,`. Proof and
+//! signature are those of Python's `hashlib` and `hmac`, for the password `pencil`, a salt of 32 bytes 03, a client's
+//! nonce of 32 bytes 01 and a server's of 32 bytes 02. The runs of all versions, and those that are rejected, are in
+//! the data of `test_vectors_sasl`.
 
 use crate::published::VERSION;
 use fe2o3_scram::hmac::Meter;
@@ -34,14 +34,14 @@ const CLIENT_FINAL: &[u8] = b"c=eSws,r=AQEBAQEBAQEBAQEBAQEBAQEBAQEBAQEBAQEBAQEBA
 /// The server's last message.
 const SERVER_FINAL: &[u8] = b"v=Kvirjct/nXdXyX/mrBd1MWQvbo2zHXO3Sr2OjJqQ7ys=";
 
-/// The one user of a server.
+/// Returns the one user of a server.
 fn credential<R: Abort + AllocGlobal>(rt: &R) -> SingleScramCredential {
     let user = "user".to_string(rt.alloc()).expect(rt, "memory");
     let made = SingleScramCredential::new(rt.alloc(), user, "pencil", VERSION, [3; 32]);
     made.expect(rt, "a credential")
 }
 
-/// Whether an answer is this text.
+/// Returns whether an answer is this text.
 fn is(answer: &Result<Option<Vec<u8>>, ServerScramErrorKind>, text: &[u8]) -> bool {
     match answer {
         Ok(Some(answer)) => answer.as_slice() == text,
@@ -49,7 +49,7 @@ fn is(answer: &Result<Option<Vec<u8>>, ServerScramErrorKind>, text: &[u8]) -> bo
     }
 }
 
-/// Whether a server answers the first message, and keeps its header.
+/// Returns whether a server answers the first message, and keeps its header.
 fn opens<C: ScramCredentialProvider>(alloc: Global, server: &mut ScramAuthenticator<C>) -> bool {
     let answer = server.compute_server_first_message(alloc, CLIENT_FIRST, &[2; 32]);
     match server.open_challenge() {
@@ -59,7 +59,8 @@ fn opens<C: ScramCredentialProvider>(alloc: Global, server: &mut ScramAuthentica
     }
 }
 
-/// The second server with the open challenge of the first and the record of its user, or `None` if there is none.
+/// Returns the second server with the open challenge of the first and the record of its user, or `None` if there is
+/// none.
 fn taken_up<C: ScramCredentialProvider + Drop>(
     alloc: Global,
     first: &ScramAuthenticator<C>,
@@ -70,7 +71,7 @@ fn taken_up<C: ScramCredentialProvider + Drop>(
     second.restore_challenge(alloc, &open, &stored).ok()
 }
 
-/// Whether a server ends the login, and names the user, who has the salt.
+/// Returns whether a server ends the login, and names the user, who has the salt.
 fn concludes<C: ScramCredentialProvider>(
     alloc: Global,
     server: &mut ScramAuthenticator<C>,
@@ -96,7 +97,7 @@ fn a_server_opens_the_login_and_another_ends_it(rt: HostRuntime) {
     assert!(rt; concludes(rt.alloc(), &mut second));
 }
 
-/// Whether a server takes the login.
+/// Returns whether a server accepts the login.
 fn logs_in<C: ScramCredentialProvider>(alloc: Global, server: &mut ScramAuthenticator<C>) -> bool {
     let first = server.compute_server_first_message(alloc, CLIENT_FIRST, &[2; 32]);
     let last = server.compute_server_final_message(alloc, CLIENT_FINAL);
@@ -123,7 +124,7 @@ fn the_readings_take_a_header(rt: HostRuntime) {
     assert!(rt; last.without_proof.starts_with("c=eSws,r="));
 }
 
-/// Whether the last message is answered behind this first one.
+/// Returns whether the last message is answered after this first one.
 fn ends(alloc: Global, first: &ServerFirstMessage<'_>, kept: &StoredPassword<'_>) -> bool {
     let last = VERSION.compute_server_final_message_with_gs2_header(
         alloc,
@@ -141,7 +142,7 @@ fn ends(alloc: Global, first: &ServerFirstMessage<'_>, kept: &StoredPassword<'_>
     }
 }
 
-/// Whether both messages are answered over these users.
+/// Returns whether both messages are answered over these users.
 fn answers<C: ScramCredentialProvider>(alloc: Global, users: &C) -> bool {
     let Some(kept) = users.get_stored_password("user") else {
         return false;

@@ -1,7 +1,6 @@
-//! Clients and the keys that they keep. The login is that of `user` with the password `pencil` by
-//! SCRAM-SHA-256, with 32 bytes 01 as the client's nonce, 32 bytes 02 as the server's and 32 bytes 03 as
-//! the salt. Other logins through both machines, and answers by each secret, stand in the data of
-//! `test_vectors_scram`.
+//! Clients and the keys that they cache. The login is that of `user` with the password `pencil` by SCRAM-SHA-256, with
+//! 32 bytes 01 as the client's nonce, 32 bytes 02 as the server's and 32 bytes 03 as the salt. Other logins through
+//! both machines, and answers by each secret, are in the data of `test_vectors_scram`.
 
 use crate::published::{CLIENT_KEY, SALT, SALTED_PASSWORD, SERVER_KEY, VERSION};
 use crate::values::{bytes_of, spells};
@@ -19,7 +18,7 @@ const SERVER_FIRST: &str = "r=AQEBAQEBAQEBAQEBAQEBAQEBAQEBAQEBAQEBAQEBAQE=\
     AgICAgICAgICAgICAgICAgICAgICAgICAgICAgICAgI=,\
     s=AwMDAwMDAwMDAwMDAwMDAwMDAwMDAwMDAwMDAwMDAwM=,i=4096";
 
-/// Computed with Python's `hashlib` and `hmac`, as is the answer to it.
+/// The client's answer. Computed with Python's `hashlib` and `hmac`, like the server's answer to it.
 const CLIENT_FINAL: &[u8] = b"c=biws,r=AQEBAQEBAQEBAQEBAQEBAQEBAQEBAQEBAQEBAQEBAQE=\
     AgICAgICAgICAgICAgICAgICAgICAgICAgICAgICAgI=,\
     p=BCNcOZg0+DjVmOYbquTj+7JaBIvtH0PUtQer0ntwLxQ=";
@@ -35,14 +34,14 @@ pub struct Kept {
     pub server_key: &'static str,
 }
 
-/// Those of the login, as computed with Python's `hashlib` and `hmac`.
+/// The keys of the login, as computed with Python's `hashlib` and `hmac`.
 const KEPT: Kept = Kept {
     salt: "AwMDAwMDAwMDAwMDAwMDAwMDAwMDAwMDAwMDAwMDAwM=",
     client_key: "dygDMdzg+O+746FUq8TOC6eXJhea8pDb2u0ISCWbfGo=",
     server_key: "hinEcAuJjoOQ+aEn5iUnX8Hiq0kkSbIYlC+FV8dUDpU=",
 };
 
-/// Those of the published exchange.
+/// The keys of the published exchange.
 const PUBLISHED: Kept = Kept {
     salt: SALT,
     client_key: CLIENT_KEY,
@@ -50,7 +49,7 @@ const PUBLISHED: Kept = Kept {
 };
 
 impl Kept {
-    /// Whether these are the keys.
+    /// Returns whether these are the keys.
     pub fn are(&self, alloc: Global, keys: &CachedKeys) -> bool {
         keys.scram_version() == VERSION
             && keys.iterations() == 4096
@@ -60,7 +59,7 @@ impl Kept {
     }
 }
 
-/// The keys of the login.
+/// Returns the keys of the login.
 pub fn keys<R: Abort + AllocGlobal>(rt: &R) -> CachedKeys {
     let client_key = bytes_of(rt, KEPT.client_key);
     let server_key = bytes_of(rt, KEPT.server_key);
@@ -88,7 +87,7 @@ fn keys_are_made_of_a_password_and_of_a_salted_password(rt: HostRuntime) {
     assert!(rt; PUBLISHED.are(rt.alloc(), &keys) && meter.count() == 4100);
 }
 
-/// What a client has.
+/// The secret of a client.
 #[derive(Debug, Clone, Copy)]
 pub enum Secret {
     Password,
@@ -98,7 +97,7 @@ pub enum Secret {
     PreparedAndKeys,
 }
 
-/// A client of `user` that has sent nothing.
+/// Returns a client of `user` that has sent nothing.
 pub fn client<R: Abort + AllocGlobal>(rt: &R, secret: Secret) -> ScramClient {
     let name = "user".to_string(rt.alloc()).expect(rt, "memory");
     let keys = &keys(rt);
@@ -116,7 +115,7 @@ pub fn client<R: Abort + AllocGlobal>(rt: &R, secret: Secret) -> ScramClient {
     ScramClient::with_secret(rt.alloc(), name, secret, VERSION).expect(rt, "keys of its version")
 }
 
-/// Whether the client shows a nonce, a signature, the keys of an answer and those of a login, and is done.
+/// Returns whether the client returns a nonce, a signature, the keys of an answer and those of a login, and is done.
 fn shown(client: &ScramClient) -> [bool; 5] {
     [
         client.nonce().is_some(),
@@ -127,7 +126,7 @@ fn shown(client: &ScramClient) -> [bool; 5] {
     ]
 }
 
-/// The HMAC values that the login costs a client, which shows at each step where it is, refuses another
+/// Returns the HMAC values that the login costs a client, which shows at each step where it is, rejects another
 /// signature, and has the keys of the login in the end.
 fn cost_of_login<R: Abort + AllocGlobal>(rt: &R, client: &mut ScramClient) -> u64 {
     assert!(rt; client.version() == VERSION && shown(client) == [false; 5]);
@@ -161,7 +160,7 @@ fn a_client_logs_in_by_its_secret(rt: HostRuntime) {
     }
 }
 
-/// Why a client that accepts counts from the least to the most does not answer.
+/// Returns why a client with a minimum and a maximum iteration count does not answer.
 fn refusal<R: Abort + AllocGlobal>(rt: &R, least: u32, most: u32) -> Option<ScramErrorKind> {
     let mut client = client(rt, Secret::Password)
         .with_iteration_limit(most)

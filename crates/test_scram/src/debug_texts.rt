@@ -1,5 +1,5 @@
-//! What `Debug` prints of what holds a password or a key: neither of them. A row for each type of
-//! `fe2o3_scram` whose `Debug` is written by hand; the texts are those that its docstring tells.
+//! The `Debug` texts of types that hold a password or a key, which show neither. A row for each type of `fe2o3_scram`
+//! whose `Debug` is written by hand; the texts are those of its doc comment.
 
 use crate::clients::{Secret, client, keys};
 use fe2o3_scram::credentials::{
@@ -16,7 +16,7 @@ use std::process::Abort;
 /// The bytes of a secret.
 const SECRET: [u8; 32] = [211; 32];
 
-/// Whether this is what `Debug` prints.
+/// Returns whether this is what `Debug` prints.
 fn shows<T: Debug>(alloc: Global, value: &T, wanted: &str) -> bool {
     match format!(in alloc; "{value:?}") {
         Ok(text) => text.as_str() == wanted,
@@ -24,12 +24,12 @@ fn shows<T: Debug>(alloc: Global, value: &T, wanted: &str) -> bool {
     }
 }
 
-/// The name `user`.
+/// Returns the name `user`.
 fn user<R: Abort + AllocGlobal>(rt: &R) -> String {
     "user".to_string(rt.alloc()).expect(rt, "memory")
 }
 
-/// A record of this version.
+/// Returns a record of this version.
 fn record<R: Abort + AllocGlobal>(rt: &R, version: ScramVersion) -> ScramRecord {
     let (password, meter) = (Password::Typed("pencil"), &mut Meter::new());
     let made = ScramRecord::from_password(rt.alloc(), version, password, &SECRET, 4096, meter);
@@ -75,7 +75,7 @@ fn hides_the_keys_of_a_stored_password(rt: HostRuntime) {
     assert!(rt; shows(rt.alloc(), &stored, wanted));
 }
 
-/// A version, and what is printed of a record of it, and of a user with that.
+/// A version, and the `Debug` texts of a record of it, and of a user with that.
 static RECORDS: [(ScramVersion, &str, &str); 2] = [
     (
         ScramVersion::Sha256,

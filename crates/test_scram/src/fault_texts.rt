@@ -1,4 +1,4 @@
-//! The texts of the faults, most of them those of `fe2o3-amqp` 0.18.4.
+//! The texts of the errors, most of them those of `fe2o3-amqp` 0.18.4.
 
 use fe2o3_scram::credentials::{RecordError, RecordTextError};
 use fe2o3_scram::hmac::UnknownMechanism;
@@ -157,7 +157,7 @@ static UNESCAPE_ERRORS: [(UnescapeError, &str); 2] = [
     (UnescapeError::OutOfMemory, "OutOfMemory"),
 ];
 
-/// Whether the fault has this text.
+/// Returns whether the error has this text.
 fn says<D: Display>(alloc: Global, fault: &D, wanted: &str) -> bool {
     match fault.to_string(alloc) {
         Ok(text) => text.as_str() == wanted,

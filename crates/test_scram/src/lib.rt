@@ -1,8 +1,7 @@
-//! Tests of what `fe2o3_scram` does with the texts of a login: its messages, its keys, its clients and
-//! its servers; and of what a server keeps of its users: records, their lines, the providers made of
-//! them, and brokers over these. Expected values come from the standards and from other programs. The
-//! rows of values and refusals, and the texts that are read or refused, stand in the data of
-//! `test_vectors_scram`.
+//! Tests of what `fe2o3_scram` does with the texts of a login: its messages, its keys, its clients and its servers; and
+//! of what a server stores for its users: records, their lines, their providers, and brokers over these. Expected
+//! values come from the standards and from other programs. The rows of values and errors, and the texts that are read
+//! or rejected, are in the data of `test_vectors_scram`.
 #![tactic(auto)]
 
 #[cfg(test)]

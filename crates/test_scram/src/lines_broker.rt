@@ -1,4 +1,4 @@
-//! The loop of a server that reads its store from lines, and hands a clone to each exchange.
+//! The loop of a server that reads its store from lines, and passes a clone to each exchange.
 
 use crate::logins::{Login, client, exchange};
 use fe2o3_scram::credentials::RecordStore;

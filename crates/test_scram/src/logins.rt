@@ -1,4 +1,4 @@
-//! A login between a client and a server whose store holds its users.
+//! A login between a client and a server whose store has its users.
 
 use fe2o3_scram::credentials::ScramCredentialProvider;
 use fe2o3_scram::hmac::ScramVersion;
@@ -7,7 +7,7 @@ use fe2o3_scram::scram_messages::{ScramErrorKind, ServerScramErrorKind};
 use fe2o3_scram::scram_server::ScramAuthenticator;
 use std::alloc::{AllocError, Global};
 
-/// What comes of a login.
+/// The result of a login.
 #[derive(Clone, Copy, PartialEq, Eq)]
 pub enum Login {
     /// The server does not know the user.
@@ -16,14 +16,14 @@ pub enum Login {
     /// Both sides accept.
     Accepted,
 
-    /// The client refuses the challenge, or the signature.
+    /// The client rejects the challenge, or the signature.
     ClientRefuses(ScramErrorKind),
 
-    /// The server refuses the first message, or the proof.
+    /// The server rejects the first message, or the proof.
     ServerRefuses(ServerScramErrorKind),
 }
 
-/// A client of SHA-256 with this name and this password.
+/// Returns a client of SHA-256 with this name and this password.
 pub fn client(alloc: Global, name: &str, password: &str) -> Result<Box<ScramClient>, AllocError> {
     let name = name.to_string(alloc)?;
     let password = password.to_string(alloc)?;
@@ -31,7 +31,7 @@ pub fn client(alloc: Global, name: &str, password: &str) -> Result<Box<ScramClie
     Ok(Box::new(alloc, client)?)
 }
 
-/// What comes of the login of a client that has sent its first message.
+/// Returns the result of the login of a client that has sent its first message.
 pub fn exchange<C: ScramCredentialProvider + Drop>(
     alloc: Global,
     server: &mut ScramAuthenticator<C>,
@@ -45,7 +45,7 @@ pub fn exchange<C: ScramCredentialProvider + Drop>(
     }
 }
 
-/// What comes of the challenge.
+/// Returns the result of the challenge.
 fn answer<C: ScramCredentialProvider + Drop>(
     alloc: Global,
     server: &mut ScramAuthenticator<C>,
@@ -61,7 +61,7 @@ fn answer<C: ScramCredentialProvider + Drop>(
     }
 }
 
-/// What comes of the proof.
+/// Returns the result of the proof.
 fn conclude<C: ScramCredentialProvider + Drop>(
     alloc: Global,
     server: &mut ScramAuthenticator<C>,

@@ -1,4 +1,4 @@
-//! A store of a caller's own: a map from names to records, which the lemma on look-ups makes a provider.
+//! A caller-owned store: a map from names to records, which the lemma on look-ups makes a provider.
 
 ghost use Rattle.std.specs.Prelude.{◌≡◌, option_map};
 ghost use Rattle.std.specs.String.{string_bytes};
@@ -62,7 +62,7 @@ impl ScramCredentialProvider for MapStore {
     }
 }
 
-/// The record of the name.
+/// Returns the record of the name.
 fn record_of<'a>(
     records: &'a BTreeMap<String, ScramRecord>,
     username: &str,
@@ -93,12 +93,12 @@ fn add_entries(alloc: Global, records: &mut BTreeMap<String, ScramRecord>) -> Re
     Ok(())
 }
 
-/// The iteration count of the user's record, by a provider's call.
+/// Returns the iteration count of the user's record, by a provider's call.
 pub fn count<C: ScramCredentialProvider>(store: &C, name: &str) -> Option<u32> {
     Some(store.get_stored_password(name)?.iterations)
 }
 
-/// Whether the store has the users of the entries with their counts, and no other.
+/// Returns whether the store has the users of the entries with their counts, and no other.
 fn has_the_entries<C: ScramCredentialProvider>(store: &C) -> bool {
     store.scram_version().mechanism() == "SCRAM-SHA-1"
         && count(store, "user") == Some(4096)

@@ -12,9 +12,9 @@ use std::alloc::Global;
 use std::process::Abort;
 use std::test::Fail;
 
-/// A file that was moved from one version to the next: records with the values of GNU SASL 2.2, of SHA-1
-/// and of SHA-256, records as PostgreSQL 15 writes them, and one of SHA-512 by Python's `hashlib`. `user`
-/// has two of SHA-1, the later of another password, and two of SHA-256.
+/// A file that was migrated from one version to the next: records with the values of GNU SASL 2.2, of SHA-1 and of
+/// SHA-256, records as PostgreSQL 15 writes them, and one of SHA-512 by Python's `hashlib`. `user` has two of SHA-1,
+/// the later of another password, and two of SHA-256.
 const LINES: &str =
     "user SCRAM-SHA-1$4096:W22ZaJ0SNY7soEsUEjb6gQ==$g2pEzX2tMaoibxTD4YfBJkq1y8w=:ZGkNjsmKwVX5C5z80vGxHZ02jOI=\n\
     a=2Cb=3Dc SCRAM-SHA-1$2:QSXCR+Q6sek8bf92$F34nPypAwpQj4OkgRTmqTU9j/i4=:oEudMQ1jYmGlSazKCet8Yza63eQ=\n\
@@ -27,19 +27,19 @@ const LINES: &str =
         RGYFY+e+u7uHIF3UEjaaiwKnWlCXpZUvQkZVf0FIu+A=\n\
     user SCRAM-SHA-256$1:AA==$q543IgzVrdKaJWKZAObT/tVAKRM2dOrKH5FD3kGlq2o=:Az4mYWZGczNgQNLViL4wmA2f5/gXgNBJcTXkkO8GmdQ=\n";
 
-/// The iteration count of the user's record of this version.
+/// Returns the iteration count of the user's record of this version.
 fn count(store: &MultiRecordStore, version: ScramVersion, name: &str) -> Option<u32> {
     let record = store.for_version(version).record(name)?;
     Some(record.as_stored_password().iterations)
 }
 
-/// The store of the lines, in a box, where it costs the proof of its holder little.
+/// Returns the store of the lines, in a box, since its holder is then faster to prove.
 fn store<R: Abort + AllocGlobal>(rt: &R) -> Box<MultiRecordStore> {
     let store = MultiRecordStore::parse_lines(rt.alloc(), LINES).expect(rt, "lines");
     Box::new(rt.alloc(), store).expect(rt, "memory")
 }
 
-/// Whether the store has the lines that it was read from.
+/// Returns whether the store has the lines that it was read from.
 fn is_written(alloc: Global, store: &MultiRecordStore) -> bool {
     match store.to_lines(alloc) {
         Ok(lines) => lines.as_slice() == LINES.as_bytes(),
@@ -66,7 +66,7 @@ fn writes_what_it_reads_and_finds_the_first_of_a_version(rt: HostRuntime) {
     }
 }
 
-/// Whether the records of the user are of these versions and counts.
+/// Returns whether the records of the user are of these versions and counts.
 fn has(store: &MultiRecordStore, name: &str, wanted: &[(ScramVersion, u32)]) -> bool {
     let Ok(records) = store.records(name) else {
         return false;
@@ -118,7 +118,7 @@ fn serves_a_version(rt: HostRuntime) -> Result<(), Fail> {
     Ok(())
 }
 
-/// Whether this comes of a login over the records of SHA-256.
+/// Returns whether this is the result of a login over the records of SHA-256.
 fn serves<R: AllocGlobal>(
     rt: &R,
     store: &MultiRecordStore,

@@ -1,5 +1,5 @@
-//! Passwords that their caller has prepared. What a typed password is prepared to, the records of it and
-//! the answers by it stand in the data of `test_vectors_scram`.
+//! Prepared passwords. What a typed password is prepared to, its records and the answers by it are in the data of
+//! `test_vectors_scram`.
 
 use crate::clients::Kept;
 use fe2o3_scram::cached_keys::CachedKeys;
@@ -10,7 +10,7 @@ use fe2o3_scram::passwords::Password;
 /// A password of two letters with marks, each letter one code point.
 const PASSWORD: &str = "p\u{e4}ssw\u{f6}rd";
 
-/// The same with a code point for each mark, as it may be typed: another text, that is prepared to `PASSWORD`.
+/// The password with a code point for each mark, as it may be typed: another text, which is prepared to `PASSWORD`.
 const DECOMPOSED: &str = "pa\u{308}sswo\u{308}rd";
 
 /// The record of `PASSWORD` with a salt of 32 bytes 03, as GNU SASL 2.2 and Python's `hashlib` and `hmac` make it.

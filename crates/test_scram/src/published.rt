@@ -1,5 +1,5 @@
-//! The exchange of RFC 7677, section 3, of the user `user` with the password `pencil`. That of RFC 5802 and
-//! one of SHA-512 stand in the data of `test_vectors_scram`.
+//! The exchange of RFC 7677, section 3, of the user `user` with the password `pencil`. That of RFC 5802 and one of
+//! SHA-512 are in the data of `test_vectors_scram`.
 
 use fe2o3_scram::hmac::ScramVersion;
 
@@ -15,7 +15,7 @@ pub const NONCE: &str = "rOprNGfwEbeRWgbNEkqO%hvYDpWUa2RaTCAfuxFIlj)hNlF$k0";
 /// The client's first message.
 pub const CLIENT_FIRST: &[u8] = b"n,,n=user,r=rOprNGfwEbeRWgbNEkqO";
 
-/// The same without its header.
+/// The client's first message without its header.
 pub const BARE: &str = "n=user,r=rOprNGfwEbeRWgbNEkqO";
 
 /// The server's challenge.
@@ -26,7 +26,7 @@ pub const SERVER_FIRST: &str =
 pub const CLIENT_FINAL: &[u8] = b"c=biws,r=rOprNGfwEbeRWgbNEkqO%hvYDpWUa2RaTCAfuxFIlj)hNlF$k0,\
     p=dHzbZapWIk4jUhN+Ute9ytag9zjfMHgsqmmiz7AndVQ=";
 
-/// The same without its proof.
+/// The client's answer without its proof.
 pub const WITHOUT_PROOF: &str = "c=biws,r=rOprNGfwEbeRWgbNEkqO%hvYDpWUa2RaTCAfuxFIlj)hNlF$k0";
 
 /// The server's answer.
@@ -37,7 +37,7 @@ pub const AUTH_MESSAGE: &[u8] = b"n=user,r=rOprNGfwEbeRWgbNEkqO,\
     r=rOprNGfwEbeRWgbNEkqO%hvYDpWUa2RaTCAfuxFIlj)hNlF$k0,s=W22ZaJ0SNY7soEsUEjb6gQ==,i=4096,\
     c=biws,r=rOprNGfwEbeRWgbNEkqO%hvYDpWUa2RaTCAfuxFIlj)hNlF$k0";
 
-/// The client's proof and the server's signature in base64, as is all that follows.
+/// The client's proof in base64, like all values after it.
 pub const PROOF: &str = "dHzbZapWIk4jUhN+Ute9ytag9zjfMHgsqmmiz7AndVQ=";
 
 pub const SIGNATURE: &str = "6rriTRBi23WpRR/wtup+mMhUZUn/dB5nLTJRsjl95G4=";

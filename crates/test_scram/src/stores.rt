@@ -21,21 +21,21 @@ const BAD: &str =
     "user SCRAM-SHA-1$1:AA==$YF7oDQGjPVIPxi8iznLc+46IvFc=:8h4ZQlkCz/2y5tGl1vo8XJd6czQ=\n\
     x SCRAM-SHA-1$0:=$=:=\n";
 
-/// Users of whom one stands twice.
+/// Users, of which one occurs twice.
 const ALL: &str =
     "user SCRAM-SHA-1$4096:W22ZaJ0SNY7soEsUEjb6gQ==$g2pEzX2tMaoibxTD4YfBJkq1y8w=:ZGkNjsmKwVX5C5z80vGxHZ02jOI=\n\
     a b SCRAM-SHA-1$2:QSXCR+Q6sek8bf92$F34nPypAwpQj4OkgRTmqTU9j/i4=:oEudMQ1jYmGlSazKCet8Yza63eQ=\n\
     user SCRAM-SHA-1$1:AA==$YF7oDQGjPVIPxi8iznLc+46IvFc=:8h4ZQlkCz/2y5tGl1vo8XJd6czQ=\n\
     other SCRAM-SHA-1$1:AA==$YF7oDQGjPVIPxi8iznLc+46IvFc=:8h4ZQlkCz/2y5tGl1vo8XJd6czQ=\n";
 
-/// The first record of the one who stands twice, and that user's line.
+/// The first record of the user who occurs twice, and that user's line.
 const FIRST: &str =
     "SCRAM-SHA-1$4096:W22ZaJ0SNY7soEsUEjb6gQ==$g2pEzX2tMaoibxTD4YfBJkq1y8w=:ZGkNjsmKwVX5C5z80vGxHZ02jOI=";
 
 const FIRST_LINE: &str =
     "user SCRAM-SHA-1$4096:W22ZaJ0SNY7soEsUEjb6gQ==$g2pEzX2tMaoibxTD4YfBJkq1y8w=:ZGkNjsmKwVX5C5z80vGxHZ02jOI=\n";
 
-/// Another record, and all users once it stands in place of the first.
+/// Another record, and all users once it replaces the first.
 const OTHER: &str =
     "SCRAM-SHA-1$2:QSXCR+Q6sek8bf92$F34nPypAwpQj4OkgRTmqTU9j/i4=:oEudMQ1jYmGlSazKCet8Yza63eQ=";
 
@@ -45,7 +45,7 @@ const REPLACED: &str =
     user SCRAM-SHA-1$1:AA==$YF7oDQGjPVIPxi8iznLc+46IvFc=:8h4ZQlkCz/2y5tGl1vo8XJd6czQ=\n\
     other SCRAM-SHA-1$1:AA==$YF7oDQGjPVIPxi8iznLc+46IvFc=:8h4ZQlkCz/2y5tGl1vo8XJd6czQ=\n";
 
-/// The last of them, and the users without the one who stands twice.
+/// The last of them, and the users without the one who occurs twice.
 const OTHER_LINE: &str =
     "other SCRAM-SHA-1$1:AA==$YF7oDQGjPVIPxi8iznLc+46IvFc=:8h4ZQlkCz/2y5tGl1vo8XJd6czQ=\n";
 
@@ -53,12 +53,12 @@ const OTHERS: &str =
     "a b SCRAM-SHA-1$2:QSXCR+Q6sek8bf92$F34nPypAwpQj4OkgRTmqTU9j/i4=:oEudMQ1jYmGlSazKCet8Yza63eQ=\n\
     other SCRAM-SHA-1$1:AA==$YF7oDQGjPVIPxi8iznLc+46IvFc=:8h4ZQlkCz/2y5tGl1vo8XJd6czQ=\n";
 
-/// A store of these lines.
+/// Returns a store of these lines.
 fn store<R: Abort + AllocGlobal>(rt: &R, lines: &str) -> RecordStore {
     RecordStore::parse_lines(rt.alloc(), ScramVersion::Sha1, lines).expect(rt, "lines")
 }
 
-/// Whether the store is that of these lines.
+/// Returns whether the store is that of these lines.
 fn is_of(alloc: Global, store: &RecordStore, lines: &str) -> bool {
     match store.to_lines(alloc) {
         Ok(written) => written.as_slice() == lines.as_bytes(),
@@ -94,12 +94,12 @@ fn says_which_line_and_why(rt: HostRuntime) {
     assert!(rt; shown.as_str() == "Line 2: Cannot parse iteration count");
 }
 
-/// The record of this text.
+/// Returns the record of this text.
 fn record<R: Abort + AllocGlobal>(rt: &R, text: &str) -> ScramRecord {
     ScramRecord::parse(rt.alloc(), text).expect(rt, "a record")
 }
 
-/// Whether the user has a record, of this text.
+/// Returns whether the user has a record, of this text.
 fn shows(alloc: Global, store: &RecordStore, name: &str, text: &str) -> bool {
     let Some(record) = store.record(name) else {
         return false;

@@ -1,5 +1,5 @@
-//! Calls that make a value of the published exchange, once each. The rows of values, and of digests, HMAC
-//! values, passwords and names, stand in the data of `test_vectors_scram`.
+//! Calls that make a value of the published exchange, once each. The rows of values, and of digests, HMAC values,
+//! passwords and names, are in the data of `test_vectors_scram`.
 
 use crate::published::*;
 use base64::engine::general_purpose::STANDARD;
@@ -9,13 +9,13 @@ use fe2o3_scram::passwords::Password;
 use std::alloc::Global;
 use std::process::Abort;
 
-/// The bytes of a text in base64.
+/// Returns the bytes of a text in base64.
 pub fn bytes_of<R: Abort + AllocGlobal>(rt: &R, text: &str) -> Vec<u8> {
     let bytes = STANDARD.decode(rt.alloc(), text.as_bytes());
     bytes.expect(rt, "base64")
 }
 
-/// Whether the text is these bytes in base64.
+/// Returns whether the text is these bytes in base64.
 pub fn spells(alloc: Global, text: &str, bytes: &[u8]) -> bool {
     match STANDARD.encode(alloc, bytes) {
         Ok(spelled) => spelled.as_str() == text,

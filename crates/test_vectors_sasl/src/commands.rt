@@ -1,4 +1,4 @@
-//! Runs of the program `sasl_lab`: its words and its input, what it prints, and its status.
+//! Runs of the program `sasl_lab`: its words and its input, its output, and its status.
 
 mod streams;
 
@@ -8,17 +8,17 @@ use sasl_lab_lib::{USAGE, run};
 use std::alloc::{AllocError, Global};
 use std::io;
 
-/// A run as the file has it.
+/// A run of the file.
 #[derive(Drop)]
 struct Command {
     /// The words of the program.
     words: Vec<String>,
 
-    /// The input, and how it fails behind that.
+    /// The input, and how it fails after that.
     input: Vec<u8>,
     fault: Option<io::ErrorKind>,
 
-    /// What is printed, how many lines that is, and whether the last is `wrong words`.
+    /// The output, how many lines that is, and whether the last is `wrong words`.
     output: Vec<u8>,
     lines: usize,
     is_misused: bool,
@@ -31,8 +31,8 @@ struct Command {
     usage_rooms: Vec<usize>,
 }
 
-/// Checks the run that a paragraph spells with room for all that it writes, and with each less room, and
-/// tells how many lines it prints.
+/// Checks the run that a paragraph spells with room for all that it writes, and with each less room, and returns how
+/// many lines it prints.
 pub fn check(row: &mut Row<'_>) -> usize {
     let command = read(row);
     let (len, usage_len) = (command.output.len(), USAGE.len());
@@ -46,8 +46,8 @@ pub fn check(row: &mut Row<'_>) -> usize {
     command.lines
 }
 
-/// Checks a run whose output and whose usage have room for so many bytes. Where the output has too little,
-/// the status is 1 and no usage is told. Else it is told behind `wrong words`.
+/// Checks a run whose output and whose usage have room for that many bytes. If the output has too little, the status is
+/// 1 and no usage is printed. Otherwise the usage follows `wrong words`.
 fn check_run(row: &mut Row<'_>, command: &Command, room: usize, usage_room: usize) {
     let is_whole = room >= command.output.len();
     let status = if is_whole { command.status } else { 1 };
@@ -93,7 +93,7 @@ fn read(row: &mut Row<'_>) -> Command {
     command
 }
 
-/// Reads what stands behind a mark.
+/// Reads what follows a mark.
 fn read_line(row: &mut Row<'_>, command: &mut Command, mark: &str) {
     match mark {
         "#" => drop(row.rest()),
@@ -118,7 +118,7 @@ fn read_line(row: &mut Row<'_>, command: &mut Command, mark: &str) {
     }
 }
 
-/// A text without its signs for line feeds, tabs, carriage returns and spaces.
+/// Returns a text without its signs for line feeds, tabs, carriage returns and spaces.
 fn unescaped(alloc: Global, text: &str) -> Result<String, AllocError> {
     let text = text.replace(alloc, "\\n", "\n")?;
     let text = text.replace(alloc, "\\t", "\t")?;
@@ -134,7 +134,7 @@ fn push_text(row: &mut Row<'_>, bytes: &mut Vec<u8>, end: &[u8]) {
     row.made(bytes.extend_from_slice(end), ());
 }
 
-/// Adds words, each cut at one space. Of an empty text there are none.
+/// Adds words, each split at one space. An empty text has none.
 fn push_words(row: &mut Row<'_>, words: &mut Vec<String>) {
     if row.is_over() {
         return;
@@ -153,8 +153,8 @@ fn push_word(row: &mut Row<'_>, words: &mut Vec<String>, word: &str) {
     row.push(words, word);
 }
 
-/// Adds the words of an audit: version, user, password and salt, of which the user and the password stand in
-/// hexadecimal digits.
+/// Adds the words of an audit: version, user, password and salt, of which the user and the password are in hexadecimal
+/// digits.
 fn push_audit(row: &mut Row<'_>, words: &mut Vec<String>) {
     let (version, user, password, salt) = (row.word(), row.text(), row.text(), row.word());
     for &word in &["audit", version, user.as_str(), password.as_str(), salt] {

@@ -12,7 +12,7 @@ use bytes::BytesMut;
 use fe2o3_sasl::hmac::Meter;
 use fe2o3_sasl_negotiation::{ConnectionSide, Endpoint, Role};
 
-/// Checks the connection that a paragraph spells, and tells how many calls it has.
+/// Checks the connection that a paragraph spells, and returns how many calls it has.
 pub fn check(row: &mut Row<'_>) -> usize {
     let run = read(row);
     play_side(row, run.side, &mut Replay(&run));
@@ -45,8 +45,8 @@ impl Play for Replay<'_, '_> {
     }
 }
 
-/// Checks the login that a paragraph spells, cut at each pair of places, and tells how many connections and
-/// calls these are.
+/// Checks the login that a paragraph spells, cut at each pair of places, and returns how many connections and calls
+/// these are.
 pub fn check_cuts(row: &mut Row<'_>) -> (usize, usize) {
     let run = read(row);
     let (mut connections, mut calls) = (0usize, 0usize);

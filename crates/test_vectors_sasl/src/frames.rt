@@ -6,8 +6,8 @@ use fe2o3_sasl_wire::{FrameCodec, FrameView, SymbolsView, view_frame};
 use sasl_lab_lib::digits::digits_of;
 use std::alloc::{AllocError, Global};
 
-/// Checks a line: a body, what it is read as, how long that is, and what is written for its frame, or how it
-/// is refused. Tells whether it is a body, and whether that is read.
+/// Checks a line: a body, what it is read as, how long that is, and what is written for its frame, or how it is
+/// rejected. Returns whether it is a body, and whether that is read.
 pub fn check(row: &mut Row<'_>) -> (usize, usize) {
     if row.is_over() || row.is_comment() {
         row.rest();
@@ -81,7 +81,7 @@ fn say_fields(row: &mut Row<'_>, view: FrameView<'_>) {
     }
 }
 
-/// The symbols of a list, joined by commas.
+/// Returns the symbols of a list, joined by commas.
 fn names_of(alloc: Global, symbols: &SymbolsView<'_>) -> Result<String, AllocError> {
     if symbols.is_empty() {
         return String::from_str(alloc, "empty");

@@ -1,6 +1,6 @@
-//! Replays outside vectors, the files of `data/`, and prints one line a file. A row of a file that the
-//! libraries do not confirm is printed with what they answer, and ends the program with status 1. Then
-//! plays the strangers, and prints what came of them.
+//! Replays outside vectors, the files of `data/`, and prints one line a file. A row of a file that the libraries do not
+//! confirm is printed with what they answer, and ends the program with status 1. Then plays the strangers, and prints
+//! the results.
 #![tactic(auto)]
 
 mod commands;
@@ -18,7 +18,7 @@ use std::fs;
 use std::io::{self, Write};
 use std::process::ExitCode;
 
-/// What the rows of a file are.
+/// The kind of a file's rows.
 #[derive(Clone, Copy)]
 enum Kind {
     Frames,
@@ -48,7 +48,7 @@ static FILES: [(Kind, &str); 13] = [
 ];
 
 impl Kind {
-    /// What stands between two rows.
+    /// Returns the separator of rows.
     fn separator(self) -> &'static str {
         match self {
             Kind::Frames => "\n",
@@ -56,7 +56,7 @@ impl Kind {
         }
     }
 
-    /// The words for what a row is and for what it has.
+    /// Returns the words for a row and for its parts.
     fn words(self) -> (&'static str, &'static str) {
         match self {
             Kind::Frames => ("bodies", "read"),
@@ -67,8 +67,8 @@ impl Kind {
         }
     }
 
-    /// Checks a row, and tells how many runs, audits or connections it is, and how many bodies, findings,
-    /// calls or lines they have.
+    /// Checks a row, and returns how many runs, audits or connections it is, and how many bodies, findings, calls or
+    /// lines they have.
     fn check(self, row: &mut Row<'_>) -> (usize, usize) {
         match self {
             Kind::Frames => frames::check(row),
@@ -80,7 +80,7 @@ impl Kind {
     }
 }
 
-/// Prints what a row answers in place of what is wanted, and tells whether it answers just that.
+/// Prints what a row answers in place of what is wanted, and returns whether it answers just that.
 fn is_confirmed<W: Write>(
     row: &Row<'_>,
     name: &str,
@@ -94,8 +94,8 @@ fn is_confirmed<W: Write>(
     Ok(true)
 }
 
-/// Checks each row of a file behind what stands before the first, and prints how many runs, audits or
-/// connections there are, and how many bodies, findings, calls or lines they have.
+/// Checks each row of a file after its head, and prints how many runs, audits or connections there are, and how many
+/// bodies, findings, calls or lines they have.
 fn replay<W: Write>(
     alloc: Global,
     kind: Kind,
@@ -116,7 +116,7 @@ fn replay<W: Write>(
     Ok(confirmed)
 }
 
-/// Plays the strangers of each row of a file, and prints what came of them.
+/// Plays the strangers of each row of a file, and prints the results.
 fn play<W: Write>(alloc: Global, name: &str, text: &str, output: &mut W) -> io::Result<bool> {
     let mut confirmed = true;
     for text in text.split("\n\n").skip(1) {

@@ -1,18 +1,18 @@
 //! Numbers that look random, and are the same in each run.
 
-/// A generator: a linear congruence modulo 2^64, of which the upper half is given.
+/// A generator: a linear congruence modulo 2^64, of which the upper half is returned.
 #[derive(Drop)]
 pub struct Numbers {
     state: u64,
 }
 
 impl Numbers {
-    /// The generator of this seed.
+    /// Returns the generator of this seed.
     pub fn new(seed: u64) -> Numbers {
         Numbers { state: seed }
     }
 
-    /// The next number of 32 bits.
+    /// Returns the next number of 32 bits.
     fn next(&mut self) -> u32 {
         self.state = self
             .state
@@ -21,7 +21,7 @@ impl Numbers {
         (self.state >> 32) as u32
     }
 
-    /// The next number below a bound, or 0 where the bound is 0.
+    /// Returns the next number below a bound, or 0 if the bound is 0.
     pub fn below(&mut self, bound: usize) -> usize {
         let number = self.next() as usize;
         if bound == 0 {

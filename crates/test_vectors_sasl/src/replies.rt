@@ -5,9 +5,9 @@ use fe2o3_sasl::runs::{ClientReply, ServerReply};
 use fe2o3_sasl::sasl_profile::{Negotiation, ProfileError};
 use fe2o3_sasl_wire::{Error, Frame, SaslOutcome};
 
-/// What a row can say.
+/// A type that a row can say.
 pub trait Reply {
-    /// Says it.
+    /// Says the value.
     fn say(&self, row: &mut Row<'_>);
 }
 
@@ -75,7 +75,7 @@ pub fn say_negotiation(row: &mut Row<'_>, answer: Result<Negotiation, ProfileErr
     }
 }
 
-/// Says replies one after the other, and compares each.
+/// Says replies in order, and compares each.
 pub fn agree_all<R: Reply>(row: &mut Row<'_>, replies: &[R], wanted: &[&str]) {
     if replies.len() != wanted.len() {
         row.refuse(replies.len());

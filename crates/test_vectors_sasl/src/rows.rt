@@ -9,11 +9,11 @@ use std::alloc::Global;
 use std::fmt::{Debug, Display, Write};
 use std::mem;
 
-/// A row while it is answered. Where a word is not of its form or a value cannot be made, an empty one
-/// stands in its place, the answer says why, and the row is confirmed no more.
+/// A row while it is answered. For a malformed word, or a value that cannot be made, an empty one is used, the answer
+/// says why, and the row is no longer confirmed.
 #[derive(Drop)]
 pub struct Row<'a> {
-    /// What the values of the row are made in.
+    /// The allocator for the row's values.
     pub alloc: Global,
 
     /// The words that are not read yet.
@@ -27,7 +27,7 @@ pub struct Row<'a> {
 }
 
 impl<'a> Row<'a> {
-    /// A row of these words, without an answer.
+    /// Returns a row of these words, without an answer.
     pub fn new(alloc: Global, words: &'a str) -> Row<'a> {
         Row {
             alloc,
@@ -37,13 +37,13 @@ impl<'a> Row<'a> {
         }
     }
 
-    /// Goes on to other words, behind the last ones.
+    /// Goes on to other words, after the last ones.
     pub fn turn_to(&mut self, words: &'a str) {
         self.is_sound &= self.is_over();
         self.words = words;
     }
 
-    /// Compares the answer so far, and begins another where it is right.
+    /// Compares the answer so far, and begins another if it is right.
     pub fn agree(&mut self, wanted: &str) {
         self.is_sound &= self.answer.as_str() == wanted;
         if self.is_sound {
@@ -51,12 +51,12 @@ impl<'a> Row<'a> {
         }
     }
 
-    /// The answer so far, behind which another begins.
+    /// Returns the answer so far, and begins another.
     pub fn take_answer(&mut self) -> String {
         mem::replace(&mut self.answer, String::new(self.alloc))
     }
 
-    /// What is answered in place of the wanted words, where each of them is not answered.
+    /// Returns what is answered in place of the wanted words, if they are not all answered.
     pub fn fault(&self) -> Option<&str> {
         if self.is_sound && self.is_over() && self.answer.is_empty() {
             return None;
@@ -64,22 +64,22 @@ impl<'a> Row<'a> {
         Some(self.answer.as_str())
     }
 
-    /// Whether these words are left.
+    /// Returns whether these words are left.
     pub fn is_left(&self, words: &str) -> bool {
         self.words == words
     }
 
-    /// Whether the words are a comment.
+    /// Returns whether the words are a comment.
     pub fn is_comment(&self) -> bool {
         self.words.starts_with('#')
     }
 
-    /// Whether all words are read.
+    /// Returns whether all words are read.
     pub fn is_over(&self) -> bool {
         self.words.is_empty()
     }
 
-    /// The next word, which ends with a space or a colon.
+    /// Returns the next word, which ends with a space or a colon.
     pub fn word(&mut self) -> &'a str {
         self.is_sound &= !self.is_over();
         let (word, rest) = self
@@ -97,7 +97,7 @@ impl<'a> Row<'a> {
         words
     }
 
-    /// The bytes of hexadecimal digits, where `-` is none.
+    /// Returns the bytes of hexadecimal digits, where `-` is none.
     pub fn bytes(&mut self) -> Vec<u8> {
         let digits = match self.word() {
             "-" => "",
@@ -106,13 +106,13 @@ impl<'a> Row<'a> {
         self.made(hex::decode(self.alloc, digits), Vec::new(self.alloc))
     }
 
-    /// The text of hexadecimal digits, where `-` is the empty text.
+    /// Returns the text of hexadecimal digits, where `-` is the empty text.
     pub fn text(&mut self) -> String {
         let text = String::from_utf8(self.bytes());
         self.made(text, String::new(self.alloc))
     }
 
-    /// The hostname, where one is left that is not `none`.
+    /// Returns the hostname, if one is left that is not `none`.
     pub fn hostname(&mut self) -> Option<String> {
         if self.is_over() || self.words == "none" {
             self.words = "";
@@ -121,7 +121,7 @@ impl<'a> Row<'a> {
         Some(self.text())
     }
 
-    /// The 32 bytes of hexadecimal digits, or of two digits that stand for each of them.
+    /// Returns the 32 bytes of hexadecimal digits, or of two digits that are repeated for each of them.
     pub fn nonce(&mut self) -> [u8; 32] {
         let bytes = self.bytes();
         match bytes.as_slice() {
@@ -130,25 +130,25 @@ impl<'a> Row<'a> {
         }
     }
 
-    /// The event of a nonce and a body.
+    /// Returns the event of a nonce and a body.
     pub fn event(&mut self) -> Event {
         let (nonce, body) = (self.nonce(), self.bytes());
         Event { body, nonce }
     }
 
-    /// The number of decimal digits.
+    /// Returns the number of decimal digits.
     pub fn number(&mut self) -> u32 {
         let number = self.word().parse::<u32>();
         self.made(number, 0)
     }
 
-    /// The version of SCRAM that a word names.
+    /// Returns the version of SCRAM that a word names.
     pub fn version(&mut self) -> ScramVersion {
         let version = self.word().parse::<ScramVersion>();
         self.made(version, ScramVersion::Sha1)
     }
 
-    /// The value that was made, or this one in its place.
+    /// Returns the value that was made, or this one in its place.
     pub fn made<T: Drop, E: Debug + Drop>(&mut self, made: Result<T, E>, instead: T) -> T {
         match made {
             Ok(value) => value,
@@ -159,7 +159,7 @@ impl<'a> Row<'a> {
         }
     }
 
-    /// Bytes of their own.
+    /// Copies the bytes.
     pub fn own(&mut self, bytes: &[u8]) -> Vec<u8> {
         let bytes = bytes.to_vec(self.alloc);
         self.made(bytes, Vec::new(self.alloc))

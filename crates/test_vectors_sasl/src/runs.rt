@@ -11,21 +11,21 @@ use fe2o3_sasl::runs::{Event, scram_client_run, scram_client_run_limited};
 /// A paragraph of a file.
 #[derive(Drop)]
 pub struct Run<'a> {
-    /// What the side or the two sides of an audit are made of.
+    /// The words for the side or the two sides of an audit.
     pub side: &'a str,
 
-    /// What comes in, of an audit to its server.
+    /// The events that arrive, of an audit at its server.
     pub events: Vec<Event>,
 
-    /// What comes in to the client of an audit.
+    /// The events that arrive at the client of an audit.
     pub client_events: Vec<Event>,
 
-    /// What is answered to each event, or what an audit finds.
+    /// The answer to each event, or the findings of an audit.
     pub wanted: Vec<&'a str>,
 }
 
-/// Reads a paragraph: a line for the side, and one for each event, with what is answered to it, or for what
-/// an audit finds.
+/// Reads a paragraph: a line for the side, and one for each event, with the answer to it, or for the findings of an
+/// audit.
 pub fn read<'a>(row: &mut Row<'a>) -> Run<'a> {
     let mut run = Run {
         side: "",
@@ -60,23 +60,23 @@ fn push_event<'a>(row: &mut Row<'a>, asked: &'a str, events: &mut Vec<Event>) {
     row.push(events, event);
 }
 
-/// Events, and what is answered to each.
+/// Events, and the answer to each.
 type Part<'a> = (&'a [Event], &'a [&'a str]);
 
-/// A side of a run, of which copies can be made.
+/// A side of a run that can be copied.
 trait Side: Clone + Drop {
-    /// Compares what it answers in a run.
+    /// Compares the side's answers in a run.
     fn answer_all(&mut self, row: &mut Row<'_>, part: Part<'_>);
 
-    /// Says what it answers to an event.
+    /// Says the side's answer to an event.
     fn answer(&mut self, row: &mut Row<'_>, event: &Event);
 
-    /// Compares what copies of it answer to an event.
+    /// Compares the answers of copies of the side to an event.
     fn copies_answer(&self, row: &mut Row<'_>, event: &Event, wanted: &str);
 }
 
-/// Checks a side: a copy in two runs, of which a further copy makes the second one first, and itself and
-/// copies of it step by step.
+/// Checks a side: a copy in two runs, of which a further copy makes the second one first, and the side and copies of it
+/// step by step.
 fn check_side<S: Side>(row: &mut Row<'_>, run: &Run<'_>, side: &mut S) {
     match side.clone() {
         Ok(mut copy) => check_halves(row, run, &mut copy),
@@ -101,8 +101,8 @@ fn check_halves<S: Side>(row: &mut Row<'_>, run: &Run<'_>, side: &mut S) {
     side.answer_all(row, (later, wanted_later));
 }
 
-/// Checks what the side of a paragraph answers, in each way in which it can be asked, or what an audit finds,
-/// and tells how many answers or findings these are.
+/// Checks the answers of the side of a paragraph, in each way in which it can be asked, or the findings of an audit,
+/// and returns how many answers or findings these are.
 pub fn check(row: &mut Row<'_>) -> usize {
     let run = read(row);
     row.turn_to(run.side);
@@ -118,7 +118,7 @@ pub fn check(row: &mut Row<'_>) -> usize {
     run.wanted.len()
 }
 
-/// Checks a SCRAM client: `VERSION USER PASSWORD`, and a limit on the count, where there is one.
+/// Checks a SCRAM client: `VERSION USER PASSWORD`, and a limit on the count, if there is one.
 fn check_client(row: &mut Row<'_>, run: &Run<'_>) {
     let (alloc, version, user, password) = (row.alloc, row.version(), row.text(), row.text());
     let replies = if row.is_over() {

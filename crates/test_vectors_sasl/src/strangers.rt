@@ -1,6 +1,6 @@
-//! Lists of bodies as a stranger sends them: those of logins of count 1, cut, doubled, swapped, flipped
-//! and given other nonces, by a generator with a fixed seed. Each side has to answer the same twice, to
-//! end well only where a whole login stands behind it, and an audit has to find no more than that.
+//! Lists of bodies from a stranger: those of logins of count 1, cut, doubled, swapped, flipped and with other nonces,
+//! by a generator with a fixed seed. Each side has to answer the same twice, to end well only after a whole login, and
+//! an audit has to find no more than that.
 
 mod logins;
 mod sides;
@@ -11,11 +11,11 @@ use crate::rows::Row;
 use crate::strangers::logins::{altered, login_of};
 use crate::strangers::sides::{Counts, Sides};
 
-/// How many lists each side is given.
+/// How many lists each side receives.
 const LISTS: u32 = 5000;
 
-/// Plays every list of the user and of the logins of a paragraph, `VERSION USER PASSWORD SALT COUNT` and a line
-/// for each login, and tells what came of them.
+/// Plays every list of the user and of the logins of a paragraph, `VERSION USER PASSWORD SALT COUNT` and a line for
+/// each login, and returns the results.
 pub fn play(row: &mut Row<'_>) -> String {
     let mut logins = Vec::new(row.alloc);
     let paragraph = row.rest();

@@ -3,15 +3,15 @@
 use crate::rows::Row;
 use fe2o3_scram::hmac::Meter;
 
-/// The digest of an input: `VERSION INPUT`.
+/// Says the digest of an input: `VERSION INPUT`.
 pub fn digest(row: &mut Row<'_>) {
     let (alloc, version, input) = (row.alloc, row.version(), row.digits());
     let digest = row.made(version.h(alloc, &input), Vec::new(alloc));
     row.say_digits(&digest);
 }
 
-/// The HMAC value of an input under a key, and whether the digest of the key gives the same, as it
-/// does for a long key: `VERSION KEY INPUT`.
+/// Says the HMAC value of an input under a key, and whether the digest of the key gives the same, like that of a long
+/// key: `VERSION KEY INPUT`.
 pub fn hmac(row: &mut Row<'_>) {
     let (alloc, version) = (row.alloc, row.version());
     let (key, input) = (row.digits(), row.digits());
@@ -22,8 +22,7 @@ pub fn hmac(row: &mut Row<'_>) {
     row.say(if mac == by_digest { "long" } else { "short" });
 }
 
-/// The first bytes of a salted password, and the HMAC values that it costs:
-/// `VERSION PASSWORD SALT COUNT BYTES`.
+/// Says the first bytes of a salted password, and the HMAC values that it costs: `VERSION PASSWORD SALT COUNT BYTES`.
 pub fn salted_password(row: &mut Row<'_>) {
     let (alloc, version) = (row.alloc, row.version());
     let (password, salt) = (row.bytes(), row.bytes());

@@ -83,7 +83,7 @@ impl<C: ScramCredentialProvider + Drop> Answers for Sides<C> {
     }
 }
 
-/// Adds what the server answers, and hands a message on.
+/// Adds the server's answer, and passes a message on.
 pub fn say_served(
     row: &mut Row<'_>,
     answer: Result<Option<Vec<u8>>, ServerScramErrorKind>,
@@ -99,14 +99,14 @@ pub fn say_served(
     Vec::new(row.alloc)
 }
 
-/// The credential of `user` with the salt of 32 bytes 03.
+/// Returns the credential of `user` with the salt of 32 bytes 03.
 pub fn credential(alloc: Global) -> io::Result<SingleScramCredential> {
     let (user, version) = ("user".to_string(alloc)?, ScramVersion::Sha256);
     let credential = SingleScramCredential::new(alloc, user, "pencil", version, [3; 32]);
     credential.ok().ok_or(io::ErrorKind::Other.into())
 }
 
-/// The same user behind another, and before a further record of the name.
+/// Returns the store with the user after another one, and before a further record of the name.
 pub fn credentials(alloc: Global) -> io::Result<RecordStore> {
     let version = ScramVersion::Sha256;
     let mut users = RecordStore::new(alloc, version);

@@ -1,6 +1,5 @@
-//! Answers the rows of `data/`, values and texts of SCRAM and of SASLprep from outside, and prints one
-//! line a file. A row that the libraries answer otherwise is printed with that answer, and the program
-//! then ends with status 1.
+//! Answers the rows of `data/`, values and texts of SCRAM and of SASLprep from outside, and prints one line a file. A
+//! row that the libraries answer otherwise is printed with that answer, and the program then ends with status 1.
 #![tactic(auto)]
 
 mod hashes;
@@ -21,7 +20,7 @@ use std::io::{self, Write};
 use std::process::ExitCode;
 use std::rc::Rc;
 
-/// What the rows of a file ask for.
+/// The question of a file's rows.
 #[derive(Clone, Copy)]
 enum Table {
     Digests,
@@ -100,8 +99,8 @@ impl Answers for Table {
     }
 }
 
-/// Checks a row of a file, behind the words that are given to it and others, prints an answer that is not
-/// the wanted one, and tells whether it is.
+/// Checks a row of a file, after the given words and others, prints an answer that is not the wanted one, and returns
+/// whether it is.
 fn check<W: Write, A: Answers>(
     answers: &mut A,
     (alloc, file, given): (Global, &str, &str),
@@ -119,8 +118,8 @@ fn check<W: Write, A: Answers>(
     Ok(true)
 }
 
-/// Checks each row of a file, and prints how many there are. A line that begins with `given ` has words for
-/// the rows behind it.
+/// Checks each row of a file, and prints how many there are. A line that begins with `given ` has words for the rows
+/// after it.
 fn replay<W: Write, A: Answers>(
     alloc: Global,
     answers: &mut A,

@@ -1,4 +1,4 @@
-//! The four messages of an exchange, as those who read them answer or refuse them.
+//! The four messages of an exchange, as their readers answer or reject them.
 
 use crate::rows::Row;
 use fe2o3_scram::cached_keys::CachedKeys;
@@ -7,7 +7,7 @@ use fe2o3_scram::credentials::{RecordStore, StoredPassword};
 use fe2o3_scram::hmac::Meter;
 use fe2o3_scram::passwords::Password;
 
-/// What a server says that keeps these lines of users: `VERSION LINES SERVER-NONCE MESSAGE`.
+/// Says the answer of a server with these lines of users: `VERSION LINES SERVER-NONCE MESSAGE`.
 pub fn client_first(row: &mut Row<'_>) {
     let (alloc, version, lines) = (row.alloc, row.version(), row.text());
     let (nonce, message) = (row.word(), row.bytes());
@@ -26,13 +26,13 @@ pub fn client_first(row: &mut Row<'_>) {
     }
 }
 
-/// The client-first message of `user` without its GS2 header.
+/// Returns the client-first message of `user` without its GS2 header.
 fn bare(row: &mut Row<'_>, nonce: &str) -> String {
     let bare = format!(in row.alloc; "n=user,r={nonce}");
     row.made(bare, String::new(row.alloc))
 }
 
-/// What a client of `user` says that has a password: `VERSION NONCE PASSWORD LIMIT MESSAGE`.
+/// Says the answer of a client of `user` with a password: `VERSION NONCE PASSWORD LIMIT MESSAGE`.
 pub fn server_first(row: &mut Row<'_>) {
     let (alloc, version, nonce, password) = (row.alloc, row.version(), row.word(), row.text());
     let (limit, message, bare) = (row.number(), row.word(), bare(row, nonce));
@@ -56,8 +56,8 @@ pub fn server_first(row: &mut Row<'_>) {
     row.say(meter.count());
 }
 
-/// What a client of `user` says by a secret:
-/// `VERSION NONCE MESSAGE LEAST MOST SECRET PASSWORD KEYS`, of which a secret has one or both.
+/// Says the answer of a client of `user` by a secret: `VERSION NONCE MESSAGE LEAST MOST SECRET PASSWORD KEYS`, of which
+/// a secret has one or both.
 pub fn client_secret(row: &mut Row<'_>) {
     let (alloc, version, nonce, message) = (row.alloc, row.version(), row.word(), row.word());
     let (min_iterations, max_iterations, kind) = (row.number(), row.number(), row.word());
@@ -97,7 +97,7 @@ pub fn client_secret(row: &mut Row<'_>) {
     }
 }
 
-/// The secret of a kind.
+/// Returns the secret of a kind.
 fn secret_of<'a>(
     kind: &str,
     password: &'a str,
@@ -115,14 +115,14 @@ fn secret_of<'a>(
     })
 }
 
-/// Kept keys: `VERSION SALT COUNT CLIENT-KEY SERVER-KEY`.
+/// Returns cached keys: `VERSION SALT COUNT CLIENT-KEY SERVER-KEY`.
 fn keys_of(row: &mut Row<'_>) -> Option<CachedKeys> {
     let (version, salt, count) = (row.version(), row.base64(), row.number());
     let (client_key, server_key) = (row.base64(), row.base64());
     CachedKeys::from_parts(version, salt, count, &client_key, &server_key).ok()
 }
 
-/// Adds the words of kept keys to the answer.
+/// Adds the words of cached keys to the answer.
 fn say_keys(row: &mut Row<'_>, keys: &CachedKeys) {
     row.say(keys.scram_version().mechanism());
     row.say_base64(keys.salt());
@@ -131,8 +131,8 @@ fn say_keys(row: &mut Row<'_>, keys: &CachedKeys) {
     row.say_base64(keys.server_key());
 }
 
-/// What a server says, and the HMAC values that it costs:
-/// `VERSION NONCE CLIENT-FIRST-BARE SERVER-FIRST STORED-KEY SERVER-KEY MESSAGE`.
+/// Says the answer of a server, and the HMAC values that it costs: `VERSION NONCE CLIENT-FIRST-BARE SERVER-FIRST
+/// STORED-KEY SERVER-KEY MESSAGE`.
 pub fn client_final(row: &mut Row<'_>) {
     let (alloc, version, nonce) = (row.alloc, row.version(), row.word());
     let (client_first_bare, server_first) = (row.word(), row.word());
@@ -157,7 +157,7 @@ pub fn client_final(row: &mut Row<'_>) {
     row.say(meter.count());
 }
 
-/// What a client says that waits for a signature: `VERSION SIGNATURE MESSAGE`.
+/// Says the answer of a client that waits for a signature: `VERSION SIGNATURE MESSAGE`.
 pub fn server_final(row: &mut Row<'_>) {
     let (alloc, version) = (row.alloc, row.version());
     let (signature, message) = (row.base64(), row.bytes());

@@ -7,7 +7,7 @@ use fe2o3_scram::saslprep_ascii::saslprep;
 use fe2o3_scram::scram_messages::{escape_username, unescape_username};
 use std::borrow::CowStr;
 
-/// The version of a mechanism, by both calls: `NAME`.
+/// Says the version of a mechanism, by both calls: `NAME`.
 pub fn mechanism(row: &mut Row<'_>) {
     let name = row.word();
     let version = ScramVersion::from_mechanism(name);
@@ -23,7 +23,7 @@ pub fn mechanism(row: &mut Row<'_>) {
     }
 }
 
-/// Whether a password is prepared, and whether a credential is made of it: `PASSWORD`.
+/// Says whether a password is prepared, and whether a credential is made of it: `PASSWORD`.
 pub fn password(row: &mut Row<'_>) {
     let (alloc, password) = (row.alloc, row.text());
     row.say(match saslprep(&password) {
@@ -36,13 +36,13 @@ pub fn password(row: &mut Row<'_>) {
     row.judge(&made, "a credential");
 }
 
-/// How a name is sent: `NAME`.
+/// Says how a name is sent: `NAME`.
 pub fn user_name(row: &mut Row<'_>) {
     let (alloc, name) = (row.alloc, row.text());
     row.say_answer(&escape_username(alloc, name.as_bytes()));
 }
 
-/// The name that is read of what is sent, and whether it is borrowed: `NAME`.
+/// Says the name that is unescaped, and whether it is borrowed: `NAME`.
 pub fn sent_name(row: &mut Row<'_>) {
     let (alloc, sent) = (row.alloc, row.text());
     match &unescape_username(alloc, &sent) {

@@ -8,9 +8,8 @@ use fe2o3_scram::scram_client::ScramClient;
 use fe2o3_scram::scram_server::ScramAuthenticator;
 use std::rc::Rc;
 
-/// A login with the password `pencil`, a client's nonce of 32 bytes 01 and a server's of 32 bytes
-/// 02, by the same record in three stores:
-/// `VERSION NAME SALT COUNT STORED-KEY SERVER-KEY CLIENT-FINAL`.
+/// Plays a login with the password `pencil`, a client's nonce of 32 bytes 01 and a server's of 32 bytes 02, by the same
+/// record in three stores: `VERSION NAME SALT COUNT STORED-KEY SERVER-KEY CLIENT-FINAL`.
 pub fn odd_record(row: &mut Row<'_>) {
     let (version, name) = (row.version(), row.text());
     let (mut many, mut shared) = (row.again(), row.again());
@@ -26,13 +25,13 @@ pub fn odd_record(row: &mut Row<'_>) {
     row.compare(&shared);
 }
 
-/// The record with these very values: `SALT COUNT STORED-KEY SERVER-KEY`.
+/// Returns the record with these very values: `SALT COUNT STORED-KEY SERVER-KEY`.
 fn record_of(row: &mut Row<'_>, version: ScramVersion) -> ScramRecord {
     let (salt, count) = (row.base64(), row.number());
     ScramRecord::from_parts(version, salt, count, row.base64(), row.base64())
 }
 
-/// The user as one of many.
+/// Returns the user as one of many.
 fn users_of(row: &mut Row<'_>, version: ScramVersion, name: &str) -> RecordStore {
     let (user, record) = (row.own(name), record_of(row, version));
     let mut users = RecordStore::new(row.alloc, version);
@@ -40,7 +39,7 @@ fn users_of(row: &mut Row<'_>, version: ScramVersion, name: &str) -> RecordStore
     users
 }
 
-/// A login of the user, whose record this store has.
+/// Plays a login of the user, whose record this store has.
 fn log_in<C: ScramCredentialProvider + Drop>(
     row: &mut Row<'_>,
     version: ScramVersion,
@@ -52,8 +51,8 @@ fn log_in<C: ScramCredentialProvider + Drop>(
     play(row, &mut client, &mut ScramAuthenticator::new(credentials));
 }
 
-/// The messages and the verdicts of a login. In place of the client's answer the server gets the message
-/// of the row, where there is one.
+/// Says the messages and the verdicts of a login. The server gets the message of the row, if there is one, in place of
+/// the client's answer.
 fn play<C: ScramCredentialProvider>(
     row: &mut Row<'_>,
     client: &mut ScramClient,

@@ -1,11 +1,11 @@
-//! What SASLprep makes of texts, by the answers of other programs. Texts stand as code points in hexadecimal
-//! digits, with `+` between them.
+//! What SASLprep makes of texts, by the answers of other programs. Texts are code points in hexadecimal digits, with
+//! `+` between them.
 
 use crate::rows::Row;
 use saslprep::{SaslprepError, Unassigned, saslprep};
 use std::borrow::CowStr;
 
-/// Each code point by itself, stored and as a query: `FIRST-LAST`.
+/// Checks each code point by itself, stored and as a query: `FIRST-LAST`.
 pub fn code_points(row: &mut Row<'_>) {
     let (points, wanted) = (row.word(), row.wanted);
     let (first, last) = points.split_once('-').unwrap_or((points, points));
@@ -28,7 +28,7 @@ pub fn code_points(row: &mut Row<'_>) {
     }
 }
 
-/// A text in a mode: `TEXT MODE`. Behind the mode and a comma may stand what others answer.
+/// Checks a text in a mode: `TEXT MODE`. A comma and the answers of others may follow the mode.
 pub fn text(row: &mut Row<'_>) {
     let (points, wanted, mut text) = (row.word(), row.wanted, String::new(row.alloc));
     for point in points.split('+') {
@@ -44,7 +44,7 @@ pub fn text(row: &mut Row<'_>) {
     }
 }
 
-/// Asks for a text, and tells an answer that is not the wanted one.
+/// Prepares a text, and reports an answer that is not the wanted one.
 fn check(row: &mut Row<'_>, text: &str, mode: Unassigned, wanted: &str) {
     let answer = saslprep(row.alloc, text, mode);
     if !is_answered(wanted, text, &answer) {
@@ -52,8 +52,8 @@ fn check(row: &mut Row<'_>, text: &str, mode: Unassigned, wanted: &str) {
     }
 }
 
-/// Whether this is what `text` was to be answered: `kept`, `changed` to any other text, `nothing`, the
-/// text of these code points, or the word of a refusal, behind which its code point may stand.
+/// Returns whether this is what `text` was to be answered: `kept`, `changed` to any other text, `nothing`, the text of
+/// these code points, or the word of an error, which its code point may follow.
 fn is_answered(words: &str, text: &str, answer: &Result<CowStr<'_>, SaslprepError>) -> bool {
     match answer {
         Ok(out) => match words {
@@ -69,7 +69,7 @@ fn is_answered(words: &str, text: &str, answer: &Result<CowStr<'_>, SaslprepErro
     }
 }
 
-/// Whether these are the code points of the text.
+/// Returns whether these are the code points of the text.
 fn spells(points: &str, text: &str) -> bool {
     let mut chars = text.chars();
     for point in points.split('+') {
@@ -80,7 +80,7 @@ fn spells(points: &str, text: &str) -> bool {
     chars.next().is_none()
 }
 
-/// Whether the words are this refusal's, of this character where they name one.
+/// Returns whether the words are this error's, of this character if they name one.
 fn is_refusal(words: &str, refusal: &str, c: char) -> bool {
     match words.split_once(' ') {
         Some((word, point)) => word == refusal && code_of(point) == Some(u32::from(c)),
@@ -88,7 +88,7 @@ fn is_refusal(words: &str, refusal: &str, c: char) -> bool {
     }
 }
 
-/// The number of hexadecimal digits.
+/// Returns the number of hexadecimal digits.
 fn code_of(digits: &str) -> Option<u32> {
     u32::from_str_radix(digits, 16).ok()
 }

@@ -1,4 +1,4 @@
-//! Texts of records, lines of users, and records that are made up.
+//! Texts of records, lines of users, and mock records.
 
 use crate::rows::Row;
 use fe2o3_scram::credentials::{RecordError, RecordStore, ScramRecord};
@@ -6,7 +6,7 @@ use fe2o3_scram::hmac::{Meter, ScramVersion};
 use fe2o3_scram::passwords::Password;
 use saslprep::{Unassigned, saslprep};
 
-/// The text of a record that was made, or the name of what was refused.
+/// Returns the text of a record that was made, or the name of the error.
 fn text_of(row: &mut Row<'_>, made: &Result<ScramRecord, RecordError>) -> String {
     let text = match made {
         Ok(record) => record.to_text(row.alloc),
@@ -15,7 +15,7 @@ fn text_of(row: &mut Row<'_>, made: &Result<ScramRecord, RecordError>) -> String
     row.made(text, String::new(row.alloc))
 }
 
-/// Whether a record is written as it was read, and made again of its password: `RECORD PASSWORD`.
+/// Says whether a record is written as it was read, and made again of its password: `RECORD PASSWORD`.
 pub fn record(row: &mut Row<'_>) {
     let (alloc, text, password) = (row.alloc, row.word(), row.text());
     let read = ScramRecord::parse(alloc, text);
@@ -32,8 +32,8 @@ pub fn record(row: &mut Row<'_>) {
     row.compare_text(&made, text, "made again");
 }
 
-/// What a typed password is prepared to, whether that meets the record and makes it again, and which record
-/// the typed password has: `RECORD TYPED`.
+/// Says what a typed password is prepared to, whether that meets the record and makes it again, and which record the
+/// typed password has: `RECORD TYPED`.
 pub fn prepared_record(row: &mut Row<'_>) {
     let (alloc, text, typed) = (row.alloc, row.word(), row.text());
     let read = ScramRecord::parse(alloc, text);
@@ -59,14 +59,13 @@ pub fn prepared_record(row: &mut Row<'_>) {
     row.say("by the plain call");
 }
 
-/// Why a text is no record: `TEXT`.
+/// Says why a text is no record: `TEXT`.
 pub fn record_fault(row: &mut Row<'_>) {
     let (alloc, text) = (row.alloc, row.text());
     row.judge(&ScramRecord::parse(alloc, &text), "a record");
 }
 
-/// Which line is not read and why, of a text and of the same behind other lines:
-/// `VERSION LINES TEXT`.
+/// Says which line is not read and why, of a text and of the same after other lines: `VERSION LINES TEXT`.
 pub fn record_lines(row: &mut Row<'_>) {
     let (version, mut lines, text) = (row.version(), row.text(), row.text());
     refusal(row, version, &text);
@@ -74,7 +73,7 @@ pub fn record_lines(row: &mut Row<'_>) {
     refusal(row, version, &lines);
 }
 
-/// The first line of a text that is not read, and why.
+/// Says the first line of a text that is not read, and why.
 fn refusal(row: &mut Row<'_>, version: ScramVersion, text: &str) {
     match &RecordStore::parse_lines(row.alloc, version, text) {
         Ok(_) => row.say("users"),
@@ -85,8 +84,8 @@ fn refusal(row: &mut Row<'_>, version: ScramVersion, text: &str) {
     }
 }
 
-/// The record that is made up for a name, and the HMAC values that it costs:
-/// `VERSION SECRET NAME LENGTH COUNT`, of which the length is the salt's.
+/// Says the mock record of a name, and the HMAC values that it costs: `VERSION SECRET NAME LENGTH COUNT`, of which the
+/// length is the salt's.
 pub fn made_up(row: &mut Row<'_>) {
     let (alloc, version, secret, name) = (row.alloc, row.version(), row.bytes(), row.text());
     let (len, count) = (row.number() as usize, row.number());

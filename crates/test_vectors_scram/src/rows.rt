@@ -5,14 +5,14 @@ use fe2o3_scram::hmac::ScramVersion;
 use std::alloc::Global;
 use std::fmt::{Debug, Display, Write};
 
-/// A row while it is answered. Where a word is not of its form or a value cannot be made, an empty one
-/// stands in its place, the answer says why, and the row is confirmed no more.
+/// A row while it is answered. For a malformed word, or a value that cannot be made, an empty one is used, the answer
+/// says why, and the row is no longer confirmed.
 #[derive(Drop)]
 pub struct Row<'a> {
-    /// What the values of the row are made in.
+    /// The allocator for the row's values.
     pub alloc: Global,
 
-    /// What is to be answered.
+    /// The wanted answer.
     pub wanted: &'a str,
 
     /// The words that are not read yet.
@@ -26,7 +26,7 @@ pub struct Row<'a> {
 }
 
 impl<'a> Row<'a> {
-    /// A row of these words, which is not answered yet.
+    /// Returns a row of these words, which is not answered yet.
     pub fn new(alloc: Global, words: &'a str, wanted: &'a str) -> Row<'a> {
         Row {
             alloc,
@@ -37,12 +37,12 @@ impl<'a> Row<'a> {
         }
     }
 
-    /// A row of the words that are left, which is not answered yet.
+    /// Returns a row of the words that are left, which is not answered yet.
     pub fn again(&self) -> Row<'a> {
         Row::new(self.alloc, self.words, self.wanted)
     }
 
-    /// Tells another answer to the same words, where it is another.
+    /// Reports another answer to the same words, if it is another.
     pub fn compare(&mut self, other: &Row<'_>) {
         if !other.is_sound || other.answer != self.answer {
             self.refuse("and");
@@ -50,7 +50,7 @@ impl<'a> Row<'a> {
         }
     }
 
-    /// The answer, where it is not the wanted one or the row is not sound.
+    /// Returns the answer, if it is not the wanted one or the row is not sound.
     pub fn other_answer(&self) -> Option<&str> {
         let (is_read, answer) = (self.words.trim_start().is_empty(), self.answer.as_str());
         if self.is_sound && is_read && answer == self.wanted {
@@ -59,7 +59,7 @@ impl<'a> Row<'a> {
         Some(answer)
     }
 
-    /// The next word. One in quotation marks may be empty and may have spaces.
+    /// Returns the next word. One in quotation marks may be empty and may have spaces.
     pub fn word(&mut self) -> &'a str {
         let words = self.words.trim_start();
         self.is_sound &= !words.is_empty();
@@ -79,7 +79,7 @@ impl<'a> Row<'a> {
         words
     }
 
-    /// The bytes of the next word, where `\x` and two hexadecimal digits stand for a byte.
+    /// Returns the bytes of the next word, where `\x` and two hexadecimal digits are one byte.
     pub fn bytes(&mut self) -> Vec<u8> {
         let (alloc, word) = (self.alloc, self.word());
         let mut bytes = Vec::new(alloc);
@@ -95,43 +95,43 @@ impl<'a> Row<'a> {
         bytes
     }
 
-    /// The text of the next word, with bytes as `bytes` has them.
+    /// Returns the text of the next word, in the form of `bytes`.
     pub fn text(&mut self) -> String {
         let text = String::from_utf8(self.bytes());
         self.made(text, String::new(self.alloc))
     }
 
-    /// The bytes of the hexadecimal digits of the next word.
+    /// Returns the bytes of the hexadecimal digits of the next word.
     pub fn digits(&mut self) -> Vec<u8> {
         let bytes = hex::decode(self.alloc, self.word());
         self.made(bytes, Vec::new(self.alloc))
     }
 
-    /// The bytes of the base64 of the next word.
+    /// Returns the bytes of the base64 of the next word.
     pub fn base64(&mut self) -> Vec<u8> {
         let bytes = STANDARD.decode(self.alloc, self.word().as_bytes());
         self.made(bytes, Vec::new(self.alloc))
     }
 
-    /// The version that the next word names.
+    /// Returns the version that the next word names.
     pub fn version(&mut self) -> ScramVersion {
         let version = self.word().parse::<ScramVersion>();
         self.made(version, ScramVersion::Sha1)
     }
 
-    /// The number of the next word.
+    /// Returns the number of the next word.
     pub fn number(&mut self) -> u32 {
         let number = self.word().parse::<u32>();
         self.made(number, 0)
     }
 
-    /// A text of its own.
+    /// Copies a text.
     pub fn own(&mut self, text: &str) -> String {
         let text = text.to_string(self.alloc);
         self.made(text, String::new(self.alloc))
     }
 
-    /// The value that was made, or this one in its place.
+    /// Returns the value that was made, or this one in its place.
     pub fn made<T: Drop, E: Debug + Drop>(&mut self, made: Result<T, E>, instead: T) -> T {
         match made {
             Ok(value) => value,
@@ -181,7 +181,7 @@ impl<'a> Row<'a> {
         self.say(text);
     }
 
-    /// Adds a word to the answer where something went well, and else the name of what was refused.
+    /// Adds a word to the answer if something went well, and otherwise the name of the error.
     pub fn judge<T, E: Debug>(&mut self, verdict: &Result<T, E>, word: &str) {
         match verdict {
             Ok(_) => self.say(word),
@@ -189,7 +189,7 @@ impl<'a> Row<'a> {
         }
     }
 
-    /// Adds a message to the answer, or the name of what was refused.
+    /// Adds a message to the answer, or the name of the error.
     pub fn say_answer<E: Debug>(&mut self, answer: &Result<Vec<u8>, E>) {
         match answer {
             Ok(message) => self.say_message(message),
@@ -197,13 +197,13 @@ impl<'a> Row<'a> {
         }
     }
 
-    /// Adds a word to the answer where a text is this one, and else the text.
+    /// Adds a word to the answer if a text is this one, and otherwise the text.
     pub fn compare_text(&mut self, text: &str, wanted: &str, word: &str) {
         self.say(if text == wanted { word } else { text });
     }
 }
 
-/// What answers rows.
+/// A type that answers rows.
 pub trait Answers {
     /// Reads the words of a row, and says the answer.
     fn answer(&mut self, row: &mut Row<'_>);

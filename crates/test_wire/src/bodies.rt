@@ -6,7 +6,7 @@ use std::process::Abort;
 /// An outcome of code ok without data.
 pub const OUTCOME_OK: &str = "02010000005344c003015000";
 
-/// The same with code auth.
+/// An outcome of code auth without data.
 pub const OUTCOME_AUTH: &str = "02010000005344c003015001";
 
 /// An init of PLAIN, user `user`, password `example`.
@@ -36,7 +36,7 @@ pub const CHALLENGE_7: &str = "02010000005342c00401a00107";
 /// A response of the byte 7.
 pub const RESPONSE_7: &str = "02010000005343c00401a00107";
 
-/// The same in 32-bit forms.
+/// A response of the byte 7 in 32-bit forms.
 pub const RESPONSE_7_WIDE: &str = "02010000005343d00000000a00000001b00000000107";
 
 /// The first body of a login by SCRAM-SHA-256: the mechanism. User `user`, password `pencil`, salt 32 bytes 03,
@@ -66,12 +66,12 @@ pub const LOGIN_RESPONSE: &str =
 pub const LOGIN_OUTCOME: &str = "02010000005344c033025000a02e763d5833774d497a6167624a352b73786430\
         46526b376c5a3558303755425a41384b464b4c3431424d7254776f3d";
 
-/// The bytes of hexadecimal digits.
+/// Returns the bytes of hexadecimal digits.
 pub fn bytes_of<R: Abort + AllocGlobal>(rt: &R, digits: &str) -> Vec<u8> {
     hex::decode(rt.alloc(), digits).expect(rt, "hexadecimal digits")
 }
 
-/// A buffer that holds the bytes of hexadecimal digits.
+/// Returns a buffer that holds the bytes of hexadecimal digits.
 pub fn buffer_of<R: Abort + AllocGlobal>(rt: &R, digits: &str) -> BytesMut {
     BytesMut::copy_from_slice(rt.alloc(), &bytes_of(rt, digits)).expect(rt, "memory")
 }

@@ -1,10 +1,10 @@
-//! The texts of the faults, those of `fe2o3-amqp` 0.18.4, and what want of memory becomes.
+//! The texts of the errors, those of `fe2o3-amqp` 0.18.4, and the conversions of a failed allocation.
 
 use fe2o3_sasl_wire::{Error, NegotiationError, SymbolError};
 use std::alloc::{AllocError, Global};
 use std::fmt::Display;
 
-/// Whether the fault has this text.
+/// Returns whether the error has this text.
 fn says<D: Display>(alloc: Global, fault: &D, wanted: &str) -> bool {
     match fault.to_string(alloc) {
         Ok(text) => text.as_str() == wanted,
@@ -12,7 +12,7 @@ fn says<D: Display>(alloc: Global, fault: &D, wanted: &str) -> bool {
     }
 }
 
-/// The faults of frames, and their texts.
+/// The errors of frames, and their texts.
 static ERRORS: [(Error, &str); 4] = [
     (Error::DecodeError, "Decode Error"),
     (Error::NotImplemented, "AmqpError: NotImplemented"),

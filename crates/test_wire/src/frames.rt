@@ -23,7 +23,7 @@ fn reads_the_code_of_a_byte(rt: HostRuntime) {
     }
 }
 
-/// Whether this body is written for a frame.
+/// Returns whether this body is written for a frame.
 fn writes<R: Abort + AllocGlobal>(rt: &R, frame: Frame, digits: &str) -> bool {
     let mut buffer = BytesMut::new(rt.alloc());
     FrameCodec {}
@@ -47,7 +47,7 @@ fn writes_the_worked_bodies(rt: HostRuntime) {
     assert!(rt; writes(&rt, Frame::Init(init), INIT_PLAIN));
 }
 
-/// Whether a value equals its clone.
+/// Returns whether a value equals its clone.
 pub fn equals_its_clone<T: PartialEq + Clone + Drop>(value: &T) -> bool {
     match value.clone() {
         Ok(copy) => copy == *value,
@@ -55,7 +55,7 @@ pub fn equals_its_clone<T: PartialEq + Clone + Drop>(value: &T) -> bool {
     }
 }
 
-/// Whether an array equals its clone.
+/// Returns whether an array equals its clone.
 fn array_equals_its_clone(array: &Array<Symbol>) -> bool {
     match array.clone() {
         Ok(copy) => copy == *array,
@@ -63,7 +63,7 @@ fn array_equals_its_clone(array: &Array<Symbol>) -> bool {
     }
 }
 
-/// Whether what is in a frame equals its clone.
+/// Returns whether what is in a frame equals its clone.
 fn parts_equal_their_clones(frame: &Frame) -> bool {
     match frame {
         Frame::Mechanisms(mechanisms) => {
@@ -101,7 +101,7 @@ fn frames_are_copied_and_written_again(rt: HostRuntime) {
     }
 }
 
-/// Whether a view shows these mechanisms, and no other.
+/// Returns whether a view shows these mechanisms, and no other.
 fn offers(view: &FrameView<'_>, names: &[&str]) -> bool {
     let FrameView::Mechanisms(symbols) = view else {
         return false;

@@ -1,6 +1,5 @@
-//! Tests of the public calls of `fe2o3_sasl_wire`. Expected values come from the standard, from worked
-//! examples, and from other programs. Bodies that are read, written and refused stand in the data of
-//! `test_vectors_sasl`.
+//! Tests of the public calls of `fe2o3_sasl_wire`. Expected values come from the standard, from worked examples, and
+//! from other programs. Bodies that are read, written and rejected are in the data of `test_vectors_sasl`.
 #![tactic(auto)]
 
 #[cfg(test)]

@@ -1,4 +1,4 @@
-//! What `Debug` prints of frames: a response, which may be a password, by its length alone.
+//! The `Debug` texts of frames: of a response, which may be a password, only the length.
 
 use crate::bodies::*;
 use fe2o3_sasl_wire::view_frame;
@@ -51,7 +51,7 @@ static PRINTED: [(&str, &str, &str); 8] = [
     ),
 ];
 
-/// Whether this is printed of a value.
+/// Returns whether this is printed of a value.
 fn is_printed<T: Debug>(alloc: Global, value: &T, wanted: &str) -> bool {
     match format!(in alloc; "{value:?}") {
         Ok(text) => text.as_str() == wanted,

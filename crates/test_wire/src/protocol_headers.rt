@@ -5,7 +5,7 @@ use bytes::BytesMut;
 use fe2o3_sasl_wire::{ProtocolHeader, ProtocolHeaderCodec, ProtocolId};
 use std::process::Abort;
 
-/// Whether a header is of these bytes, and of the one kind.
+/// Returns whether a header has these bytes, and is of the one kind.
 fn is_made<R: Abort + AllocGlobal>(
     rt: &R,
     header: ProtocolHeader,
@@ -22,7 +22,7 @@ fn is_made<R: Abort + AllocGlobal>(
         && ProtocolId::try_from(bytes[4]) == Ok(header.id)
 }
 
-/// Whether these bytes are written for a header, and read as it.
+/// Returns whether these bytes are written for a header, and read as it.
 fn is_written<R: Abort + AllocGlobal>(rt: &R, header: ProtocolHeader, bytes: [u8; 8]) -> bool {
     let mut buffer = BytesMut::new(rt.alloc());
     ProtocolHeaderCodec::new()

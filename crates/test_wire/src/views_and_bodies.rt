@@ -1,9 +1,9 @@
-//! What may be done with a body once its view is no longer used. The edits in `refused/` use the view
-//! once more behind it, and `tools/refused.sh` shows that the borrow checker refuses them.
+//! What may be done with a body once its view is no longer used. The edits in `refused/` use the view once more after
+//! it, and `tools/refused.sh` shows that the borrow checker rejects them.
 
 use fe2o3_sasl_wire::{Error, FrameView, view_frame};
 
-/// Whether a view shows an outcome.
+/// Returns whether a view shows an outcome.
 fn is_outcome(view: &FrameView<'_>) -> bool {
     match view {
         FrameView::Outcome { .. } => true,
@@ -11,7 +11,7 @@ fn is_outcome(view: &FrameView<'_>) -> bool {
     }
 }
 
-/// Whether a body begins with an outcome. Empties the body.
+/// Returns whether a body begins with an outcome, and empties it.
 fn changed_body(body: &mut Vec<u8>) -> Result<bool, Error> {
     let (view, _) = view_frame(body.as_slice())?;
     let found = is_outcome(&view);
@@ -19,7 +19,7 @@ fn changed_body(body: &mut Vec<u8>) -> Result<bool, Error> {
     Ok(found)
 }
 
-/// Whether a body begins with an outcome. Drops the body.
+/// Returns whether a body begins with an outcome, and drops it.
 fn dropped_body(body: Vec<u8>) -> Result<bool, Error> {
     let (view, _) = view_frame(body.as_slice())?;
     let found = is_outcome(&view);

@@ -34,7 +34,7 @@ use Rattle.connection_laws.proofs.lemmas.OneFrameLemmas.{response_of}
 
 -- ---- replies
 
--- a reply that leaves a server waiting is no refusal
+-- a reply that leaves a server waiting is no rejection
 goes_on_is_no_refusal : (says : ServerSays) (answer : SideOutput) → ServerOutputs says turns.Init answer
     → answer.progress ≡ InProgress → ¬ IsRefusal says
 goes_on_is_no_refusal (Challenged body) answer said waits refused = refused
@@ -52,7 +52,7 @@ goes_on_is_no_refusal (Failed faults.TooLarge) answer is waits refused = closes_
 ok_is_no_refusal : (says : ServerSays) → IsOkSent says → ¬ IsRefusal says
 ok_is_no_refusal says (body, same, fits) refused = subst IsRefusal same refused
 
--- no reply is a refusal
+-- no reply is a rejection
 abbrev NoneRefuses : List ServerSays → Type 0
 NoneRefuses replies = AllByRecursion (λ (says : ServerSays). ¬ IsRefusal says) replies
 
@@ -94,7 +94,7 @@ module _ {S T : Type 0} (names : S → List (List ℕ)) (others : T → List (Li
   abbrev whole : Machine (BothStates S T)
   whole = any_mechanism_machine names others machine other
 
-  -- what was answered without a refusal went to the part that is now the one asked
+  -- what was answered without a rejection went to the part that is now the one asked
   asked_now : (parts next : BothStates S T) (mark : Option Selected) (nonce : List ℕ) (frame : SaslFrame) (says : ServerSays)
       → ¬ IsRefusal says
       → AcceptorAnswers (λ (at : BothStates S T). PartReplies machine other at mark) parts nonce frame says next
@@ -244,7 +244,7 @@ run_count Step state last [] replies run = ap length run.0
 run_count Step state last (event ∷ events) replies run =
     ap length run.4 ∙ ap suc (run_count Step run.1 last events run.2 run.5)
 
--- where none is refused all were passed on
+-- where none is rejected all were passed on
 all_passed : (marks : List Bool) (events : List Given) (replies : List ServerSays) → length marks ≡ length events
     → length replies ≡ length events → NoneRefuses replies → AllByRecursion IsRefusal (those not marks replies)
     → (those (λ mark. mark) marks events ≡ events) × (those (λ mark. mark) marks replies ≡ replies)

@@ -24,15 +24,15 @@ changed secret limits hostname =
 abbrev pub asks : List ℕ → Given
 asks bytes = event_of client_bytes (frames.Challenge (joined (salted bytes both)))
 
--- what the client of the first examples makes of the one with the salt of the record
+-- what the client of the first examples makes of the challenge with the record's salt
 abbrev pub made : Answering
 made = answer_to unaltered
 
--- its init
+-- the init of these clients
 abbrev pub starts : ClientSays
 starts = Started (body_of (sends_init (joined (names (codes "user")))))
 
--- its response, and its report of the outcome Ok
+-- the response of these clients, and their report of the outcome Ok
 abbrev pub logs_in : List ClientSays
 logs_in = Answered (body_of (sends_response (joined (binds both)) (proof_at login made)))
     ∷ Reported outcomes.Ok (Some (verifier made)) ∷ []
@@ -46,15 +46,15 @@ is_served = asks salt ∷ event_of client_bytes (sends_ok made) ∷ []
 abbrev pub with_keys : Login
 with_keys = changed (Keys (keys_of Sha256 (codes "pencil") salt 4096)) login.limits None
 
--- they say what the password says
+-- a client with the keys replies like one with the password
 abbrev pub KeysLogIn : Type 0
 KeysLogIn = ClientHistory with_keys (event_of client_bytes offers ∷ is_served) (starts ∷ logs_in)
 
--- another salt than the keys are of
+-- a salt other than that of the keys
 abbrev pub other_salt : List ℕ
 other_salt = replicate 32 4
 
--- a challenge with it is refused, and stays due: the next one with the salt of the keys logs in
+-- a challenge with another salt is rejected, and stays expected: the next one with the salt of the keys logs in
 abbrev pub StaleKeysLogInLater : Type 0
 StaleKeysLogInLater = ClientHistory with_keys (event_of client_bytes offers ∷ asks other_salt ∷ is_served)
     (starts ∷ Refused StaleKeys ∷ logs_in)

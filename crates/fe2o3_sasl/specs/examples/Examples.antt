@@ -1,5 +1,5 @@
--- Worked examples: one login over frame bodies, as it is sent, and with a text that is shifted on the way. Hashes stay as
--- they are.
+-- Worked examples: one login over frame bodies, as it is sent, and with a text that is shifted on the way. Hashes are
+-- not computed.
 use Rattle.std.specs.Prelude.{◌≢◌, ℕ, Some, None, List, [], ◌∷◌, ◌++◌, replicate, codes, false}
 use Rattle.fe2o3_sasl_wire.specs.declared.amqp_types.SaslCode.TheVariants as outcomes
 use Rattle.fe2o3_sasl_wire.specs.SaslFrames.{canonical, SaslFrame}
@@ -28,11 +28,11 @@ client_bytes = replicate 32 1
 abbrev pub server_bytes : List ℕ
 server_bytes = replicate 32 2
 
--- what the client sends for it
+-- the nonce that the client sends
 abbrev pub client_nonce : List ℕ
 client_nonce = base64_text client_bytes
 
--- what the server sends for it
+-- the nonce that the server sends
 abbrev pub server_nonce : List ℕ
 server_nonce = base64_text server_bytes
 
@@ -54,11 +54,11 @@ login = record {
   hostname = None;
 }
 
--- the record of its password
+-- the record of the login's password
 abbrev pub stored : Record
 stored = record_of Sha256 (codes "pencil") salt 4096
 
--- a provider with that record alone
+-- a provider with only that record
 abbrev pub provider : Provider
 provider = serving false (record { version = Sha256; records = (codes "user", stored) ∷ [] })
 
@@ -72,7 +72,7 @@ names user = (codes "n=" ++ user) ∷ (codes "r=" ++ client_nonce) ∷ []
 abbrev pub salted : List ℕ → List ℕ → List (List ℕ)
 salted bytes nonce = (codes "r=" ++ nonce) ∷ (codes "s=" ++ base64_text bytes) ∷ codes "i=4096" ∷ []
 
--- the same with the salt of the record
+-- the parts of a server-first message with the salt of the record
 abbrev pub values : List ℕ → List (List ℕ)
 values nonce = salted salt nonce
 
@@ -108,7 +108,7 @@ offers = frames.Mechanisms (codes "SCRAM-SHA-256" ∷ [])
 abbrev pub sends_init : List ℕ → SaslFrame
 sends_init bare = frames.Init (codes "SCRAM-SHA-256") (Some (codes "n,," ++ bare)) None
 
--- a response with what stands before its proof
+-- a response with the text before its proof
 abbrev pub sends_response : List ℕ → List ℕ → SaslFrame
 sends_response without proof = frames.Response (joined (without ∷ (codes "p=" ++ base64_text proof) ∷ []))
 
@@ -116,7 +116,7 @@ sends_response without proof = frames.Response (joined (without ∷ (codes "p=" 
 abbrev pub verifier : Answering → List ℕ
 verifier answer = codes "v=" ++ base64_text (answer_at login answer).signature
 
--- the outcome Ok with it
+-- the outcome Ok with the verifier
 abbrev pub sends_ok : Answering → SaslFrame
 sends_ok answer = frames.Outcome outcomes.Ok (Some (verifier answer))
 
@@ -124,48 +124,48 @@ sends_ok answer = frames.Outcome outcomes.Ok (Some (verifier answer))
 abbrev pub body_of : SaslFrame → List ℕ
 body_of frame = carried [] (λ body. body) (canonical frame)
 
--- a frame that arrives in its body, with these bytes for a nonce
+-- a frame that arrives in its body, with these bytes as the nonce
 abbrev pub event_of : List ℕ → SaslFrame → Given
 event_of nonce frame = record { body = body_of frame; nonce = nonce }
 
--- ---- a login to which somebody on the way may add
+-- ---- a login to which a man in the middle may add
 
--- what is added: to the client's nonce, where the server adds its own; and parts behind the client's first message,
--- behind the server's, and in front of the proof
+-- the texts that are added: to the client's nonce, where the server adds its own; and parts after the client's first
+-- message, after the server's, and before the proof
 pub record Added : Type 0 where
   pub nonce : List ℕ
   pub init : List (List ℕ)
   pub challenge : List (List ℕ)
   pub response : List (List ℕ)
 
--- the nonce of both sides that the client is told
+-- the nonce of both sides that the client receives
 abbrev pub told : Added → List ℕ
 told added = client_nonce ++ added.nonce
 
--- the client's first message as the server gets it
+-- the client's first message as the server receives it
 abbrev pub init_text : Added → List ℕ
 init_text added = joined (names (codes "user") ++ added.init)
 
--- the server's first message as the client gets it
+-- the server's first message as the client receives it
 abbrev pub challenge_text : Added → List ℕ
 challenge_text added = joined (values (told added) ++ added.challenge)
 
--- what stands before the proof in the client's last message, as the server gets it
+-- the text before the proof in the client's last message, as the server receives it
 abbrev pub response_text : Added → List ℕ
 response_text added = joined (binds both ++ added.response)
 
--- what the client makes of it all
+-- what the client makes of all that it receives
 abbrev pub answer_to : Added → Answering
 answer_to added = answering (challenge_text added) (told added)
 
--- and the server
+-- what the server makes of all that it receives
 abbrev pub accepted_with : Added → Accepted
 accepted_with added = record {
   challenge = challenging (init_text added);
   final = record { without = response_text added; proof = proof_at login (answer_to added) };
 }
 
--- what both sides are given, and what they say: each reports Ok
+-- what both sides receive and reply: each reports Ok
 abbrev pub sides_with : Added → Sides
 sides_with added =
     let answer = answer_to added in
@@ -184,7 +184,7 @@ sides_with added =
           ∷ Concluded outcomes.Ok (body_of (sends_ok answer)) ∷ [];
     }
 
--- ---- nobody adds anything
+-- ---- nothing is added
 
 abbrev pub unaltered : Added
 unaltered = record { nonce = server_nonce; init = []; challenge = []; response = [] }
@@ -197,9 +197,8 @@ PremisesCanBeMet =
 
 -- ---- the shifted text
 
--- behind the client's first message stand the parts of a server-first message with another nonce, which the client is
--- told; what the server says for itself comes to the client behind those, and the rest of it to the server before the
--- proof
+-- the client's first message is followed by the parts of a server-first message with another nonce, which the client
+-- receives; the server's own parts reach the client after those, and the rest reaches the server before the proof
 abbrev pub shifted : Added
 shifted =
     let nonce = client_nonce ++ codes "x" in
@@ -210,7 +209,7 @@ shifted =
       response = binds nonce;
     }
 
--- the two lists are histories, the client takes the server's verifier and shows it the proof that it accepts, and both
+-- the two lists are histories; the client takes the server's verifier and shows it the proof that it accepts; and both
 -- are judged to agree on user name and client nonce, and on nothing more: the init has five parts, and the sides mean
 -- two nonces
 pub record IsShifted (sides : Sides) (answer : Answering) (accepted : Accepted) : Type 0 where
@@ -225,6 +224,6 @@ pub record IsShifted (sides : Sides) (answer : Answering) (accepted : Accepted) 
   pub five : HasParts accepted.challenge.client.bare 5
   pub apart : answer.first.nonce ≢ full_nonce accepted.challenge
 
--- agreement on more than user name and client nonce cannot be had where the init has five parts
+-- agreement on more than user name and client nonce is impossible where the init has five parts
 abbrev pub ShiftedTextsPass : Type 0
 ShiftedTextsPass = IsShifted (sides_with shifted) (answer_to shifted) (accepted_with shifted)

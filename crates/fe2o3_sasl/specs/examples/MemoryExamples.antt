@@ -1,5 +1,5 @@
--- Worked examples of frames at which no memory is asked for, so that running out of memory is no answer to them (AMQP 1.0,
--- part 5, section 5.3.2).
+-- Worked examples of frames at which nothing is allocated, so that running out of memory is no answer to them (AMQP
+-- 1.0, part 5, section 5.3.2).
 use Rattle.std.specs.Prelude.{◌≡◌, ℕ, Bool, Option, Some, None, List, [], ◌∷◌, codes, Ok, Err}
 use Rattle.fe2o3_sasl_wire.specs.declared.amqp_types.SaslCode.{SaslCode}
 use Rattle.fe2o3_sasl_wire.specs.declared.amqp_types.SaslCode.TheVariants as outcomes
@@ -19,7 +19,7 @@ use Rattle.fe2o3_sasl_core.specs.Profiles.{Profile, ScramProfile, PlainProfile, 
 use Rattle.fe2o3_sasl_core.specs.SaslAcceptor.{ScramAcceptor, PlainAcceptor, AnonymousAcceptor, acceptor_allocates}
 use Rattle.fe2o3_sasl_core.specs.ServerHistory.{ServerAllocates}
 
--- SCRAM's acceptor asks for none at an init of another mechanism, at one without a text, and at a response where no
+-- SCRAM's acceptor allocates nothing at an init of another mechanism, at one without a text, and at a response where no
 -- challenge is open; that of PLAIN and that of ANONYMOUS at no frame
 abbrev pub AcceptorsAskForNone : Type 0
 AcceptorsAskForNone = ((provider : Provider) (state : ServerState) (text : List ℕ) (hostname : Option (List ℕ))
@@ -34,8 +34,9 @@ AcceptorsAskForNone = ((provider : Provider) (state : ServerState) (text : List 
     → ¬ acceptor_allocates (PlainAcceptor user password accepted) frame)
     × ((frame : SaslFrame) → ¬ acceptor_allocates AnonymousAcceptor frame)
 
--- a profile asks for none at an empty list, at a challenge that is not UTF-8, at one that is not due, at one that is
--- not for SCRAM, at an outcome without data, and at one of code Ok whose data are not UTF-8, or which is not due
+-- a profile allocates nothing at an empty list, at a challenge that is not UTF-8, at one that is not expected, at one
+-- that is not for SCRAM, at an outcome without data, and at one of code Ok whose data are not UTF-8, or which is not
+-- expected
 abbrev pub AskForNone : (Profile → SaslFrame → Type 0) → Type 0
 AskForNone Allocates = ((profile : Profile) → ¬ Allocates profile (frames.Mechanisms []))
     × ((client : ClientSide) → ¬ Allocates (ScramProfile client) (frames.Challenge (0xff ∷ [])))
@@ -47,7 +48,7 @@ AskForNone Allocates = ((profile : Profile) → ¬ Allocates profile (frames.Mec
     × ((client : ClientSide) (text : List ℕ) → client.state ≡ client_states.ClientInitial
     → ¬ Allocates (ScramProfile client) (frames.Outcome outcomes.Ok (Some text)))
 
--- where the frame is owned, also at an outcome of code Auth, and at one that is not for SCRAM
+-- a profile allocates nothing at an owned outcome of code Auth, nor at one that is not for SCRAM
 abbrev pub OwnedAskForNone : Type 0
 OwnedAskForNone = AskForNone FrameAllocates
     × ((client : ClientSide) (more : Option (List ℕ))
@@ -55,7 +56,7 @@ OwnedAskForNone = AskForNone FrameAllocates
     × ((user password : List ℕ) (code : SaslCode) (more : Option (List ℕ))
     → ¬ FrameAllocates (PlainProfile user password) (frames.Outcome code more))
 
--- in a server's history it runs out at no fault of a body, at no list, at no challenge and at no outcome
+-- a server's history does not run out of memory at an error of a body, at a list, at a challenge or at an outcome
 abbrev pub ServersWantNone : Type 0
 ServersWantNone = ((fault : Error) → ¬ ServerAllocates (Err fault))
     × ((names : List (List ℕ)) → ¬ ServerAllocates (Ok (frames.Mechanisms names))
@@ -64,8 +65,8 @@ ServersWantNone = ((fault : Error) → ¬ ServerAllocates (Err fault))
     × ((code : SaslCode) (more : Option (List ℕ)) → ¬ ServerAllocates (Ok (frames.Outcome code more))
     × ¬ WantsAtServer (frames.Outcome code more))
 
--- in a client's history at no fault of a body, not at an empty list, at a challenge that is not UTF-8, at an outcome
--- without data, or at a response
+-- a client's history does not run out of memory at an error of a body, at an empty list, at a challenge that is not
+-- UTF-8, at an outcome without data, or at a response
 abbrev pub ClientsWantNone : Type 0
 ClientsWantNone = (login : Login) → ((fault : Error) → ¬ ClientAllocates login (Err fault))
     × (¬ ClientAllocates login (Ok (frames.Mechanisms [])))

@@ -1,4 +1,4 @@
--- What the pass over a client's run knows and keeps. Contracts of private functions alone cite this.
+-- What the pass over a client's run knows and keeps. Only contracts of private functions cite this.
 use Rattle.std.specs.Prelude.{◌≡◌, ℕ, Option, Some, None, List, [], ◌∷◌, ◌++◌, Ok}
 use Rattle.std.specs.Str.{IsUtf8}
 use Rattle.fe2o3_sasl_wire.specs.declared.amqp_types.SaslCode.{SaslCode}
@@ -26,7 +26,7 @@ pub record ClientSoFar (login : Login) (events : List Given) (replies : List Cli
   pub answered : (j : ℕ) → IsLastOpen is_answer ends_answer replies i j
       → (front : List ClientReceipt) × (last : ClientReceipt) × (shown ≡ front ++ last ∷ []) × (last.place ≡ j)
 
--- a receipt that was made of the body of a challenge, for an answer to the start with this nonce
+-- a receipt made of the body of a challenge, for an answer to the start with this nonce
 abbrev pub ShownFor : Login → ℕ → List ℕ → List ℕ → ClientReceipt → Type 0
 ShownFor login place nonce body receipt =
     (text : List ℕ) × (first : ServerFirst) × SpellsBody body (Ok (frames.Challenge text)) × IsUtf8 text
@@ -43,7 +43,7 @@ pub record TakenFor (position : ℕ) (text : List ℕ) (answer receipt : ClientR
   pub stored_key : receipt.stored_key ≡ answer.stored_key
   pub server_key : receipt.server_key ≡ answer.server_key
 
--- what an outcome leaves: that of code Ok with data a receipt of the last answer, and every other nothing
+-- the receipt that an outcome adds: of code Ok with data one of the last answer, and otherwise none
 abbrev pub OutcomeKeeps : ℕ → SaslCode → Option (List ℕ) → List ClientReceipt → List ClientReceipt
     → List ClientReceipt → Type 0
 OutcomeKeeps place outcomes.Ok (Some text) shown taken taken' =
@@ -51,7 +51,7 @@ OutcomeKeeps place outcomes.Ok (Some text) shown taken taken' =
     × (shown ≡ front ++ last ∷ []) × TakenFor place text last receipt × (taken' ≡ taken ++ receipt ∷ [])
 OutcomeKeeps place code more shown taken taken' = taken' ≡ taken
 
--- what the reply at a position leaves: from the start, the receipts of responses and those of reported Oks so far
+-- the receipts that the reply at a position adds: from the start, those of responses and those of reported Oks so far
 abbrev pub ClientKeeps : Login → ℕ → Given → Given → ClientSays → ℕ → ℕ → List ClientReceipt → List ClientReceipt
     → List ClientReceipt → List ClientReceipt → Type 0
 ClientKeeps login place init event (Started body) start next shown shown' taken taken' =
@@ -68,15 +68,15 @@ ClientKeeps login place init event (Refused fault) start next shown shown' taken
 
 -- ---- the keys that are kept
 
--- the login of these words
+-- the login with these words
 abbrev pub login_at : Words → Login
 login_at words = login_of words.version words.user.now words.password.now words.limit
 
--- the keys that the password has with this salt and this count
+-- the keys of the password with this salt and this count
 abbrev pub AreKeys : Words → List ℕ → ℕ → ClientKeys → Type 0
 AreKeys words salt count keys = keys ≡ keys_of words.version words.password.now salt count
 
--- what is kept, if anything, are the keys of its salt and its count
+-- the cached keys, if any, are those of their salt and count
 abbrev pub KeptKeys : Words → Option ClientKeys → Type 0
 KeptKeys words None = Unit {0}
 KeptKeys words (Some keys) = AreKeys words keys.salt keys.count keys

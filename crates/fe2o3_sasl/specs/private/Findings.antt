@@ -1,4 +1,4 @@
--- What is found of two receipts. Contracts of private functions alone cite this.
+-- The findings of two receipts. Only contracts of private functions cite this.
 use Rattle.std.specs.Prelude.{ℕ, Bool, List, [], ◌∷◌, map, option_map, if◌then◌else◌, nat_eq, string_bytes, Vec}
 use Rattle.std.specs.List.{flat_map}
 use Rattle.std.specs.BTreeMap.{BTreeMap, get_by}
@@ -48,7 +48,7 @@ server_receipt receipt = record {
 abbrev pub same : List ℕ → List ℕ → Bool
 same left right = pointwise nat_eq left right
 
--- what both sides agree on
+-- the verdict with the values that both sides agree on
 abbrev pub agreed_on : ServerReceipt → Verdict
 agreed_on server = Agreed server.user server.nonce server.parameters
 
@@ -76,7 +76,7 @@ is_taken client server = same client.shown server.verifier
 abbrev pub is_shown : ClientReceipt → ServerReceipt → Bool
 is_shown client server = same client.shown server.proof
 
--- what is found of a verifier
+-- the finding of a verifier
 abbrev pub verifier_finding : ClientReceipt → ServerReceipt → Finding
 verifier_finding client server = record {
   kind = OfVerifier;
@@ -85,7 +85,7 @@ verifier_finding client server = record {
   verdict = verifier_verdict client server;
 }
 
--- what is found of a proof
+-- the finding of a proof
 abbrev pub proof_finding : ClientReceipt → ServerReceipt → Finding
 proof_finding client server = record {
   kind = OfProof;
@@ -94,31 +94,31 @@ proof_finding client server = record {
   verdict = proof_verdict client server;
 }
 
--- what is found of two receipts
+-- the findings of two receipts
 abbrev pub found : {A B F : Type 0} → (A → B → Bool) → (A → B → F) → A → B → List F
 found meets finding left right = if meets left right then (finding left right ∷ []) else []
 
--- what is found of two lists of receipts
+-- the findings of two lists of receipts
 abbrev pub findings_of : {A B F : Type 0} → (A → B → Bool) → (A → B → F) → List A → List B → List F
 findings_of meets finding lefts rights = flat_map (λ left. flat_map (found meets finding left) rights) lefts
 
 -- ---- the same for both kinds, with the server's receipts in an index
 
--- what a finding of this kind compares with what the client has
+-- the bytes of the server that a finding of this kind compares with the client's
 abbrev pub compared_by : FindingKind → ServerReceipt → List ℕ
 compared_by OfVerifier server = server.verifier
 compared_by OfProof server = server.proof
 
--- the receipts meet in it
+-- the receipts meet in the compared bytes
 abbrev pub meets_on : FindingKind → ClientReceipt → ServerReceipt → Bool
 meets_on kind client server = same client.shown (compared_by kind server)
 
--- the verdict
+-- the verdict of a finding of this kind
 abbrev pub verdict_on : FindingKind → ClientReceipt → ServerReceipt → Verdict
 verdict_on OfVerifier client server = verifier_verdict client server
 verdict_on OfProof client server = proof_verdict client server
 
--- what is found
+-- the finding of this kind
 abbrev pub finding_on : FindingKind → ClientReceipt → ServerReceipt → Finding
 finding_on kind client server = record {
   kind = kind;

@@ -1,4 +1,4 @@
--- What an audit keeps of positions, as plain data. Contracts of private functions alone cite this.
+-- The receipts of an audit, as plain data. Only contracts of private functions cite this.
 use Rattle.std.specs.Prelude.{◌≡◌, ◌⊎◌, ℕ, ◌<◌, Option, Some, List, [], ◌∷◌, slice_get}
 use Rattle.std.specs.List.{AllByRecursion}
 use Rattle.fe2o3_sasl_wire.specs.declared.amqp_types.SaslCode.TheVariants as outcomes
@@ -11,7 +11,7 @@ use Rattle.fe2o3_sasl_core.specs.Events.{Given, Login, IsRecord, ServerSays, Con
 use Rattle.fe2o3_sasl_core.specs.ServerHistory.{Accepted, AcceptsAt, final_message}
 use Rattle.fe2o3_sasl_core.specs.TwoSides.{client_message, server_message, keys_at, proof_at}
 
--- of a position of the client: what it showed or took there, and the AuthMessage and the keys of its answer
+-- the receipt of a position of the client: what it showed or took there, and the AuthMessage and the keys of its answer
 pub record ClientReceipt : Type 0 where
   pub place : ℕ
   pub shown : List ℕ
@@ -20,8 +20,8 @@ pub record ClientReceipt : Type 0 where
   pub stored_key : List ℕ
   pub server_key : List ℕ
 
--- of a position where the server answered Ok: the verifier that it gave, the proof that it accepted, and what both
--- were about
+-- the receipt of a position where the server answered Ok: the verifier that it gave, the proof that it accepted, and
+-- the values of both
 pub record ServerReceipt : Type 0 where
   pub place : ℕ
   pub verifier : List ℕ
@@ -76,15 +76,15 @@ IsOkReceipt provider events replies receipt =
     × (slice_get replies receipt.place ≡ Some (Concluded outcomes.Ok body))
     × AcceptsAt provider events replies receipt.place accepted × OfAccepted provider accepted receipt
 
--- a response at this position
+-- the reply at this position is a response
 abbrev pub RespondsAt : List ClientSays → ℕ → Type 0
 RespondsAt replies k = (body : List ℕ) × (slice_get replies k ≡ Some (Answered body))
 
--- a reported Ok
+-- the reply at this position is a reported Ok
 abbrev pub ReportsAt : List ClientSays → ℕ → Type 0
 ReportsAt replies k = (more : Option (List ℕ)) × (slice_get replies k ≡ Some (Reported outcomes.Ok more))
 
--- an Ok of the server
+-- the reply at this position is an Ok of the server
 abbrev pub ConcludesAt : List ServerSays → ℕ → Type 0
 ConcludesAt replies k = (body : List ℕ) × (slice_get replies k ≡ Some (Concluded outcomes.Ok body))
 
@@ -98,7 +98,7 @@ abbrev pub Rising : {X : Type 0} → (X → ℕ) → List X → Type 0
 Rising place [] = Unit {0}
 Rising place (first ∷ items) = AllByRecursion (λ item. place first < place item) items × Rising place items
 
--- of the positions before i, exactly those of which At holds have a receipt, one each, in order
+-- exactly those positions before i of which At holds have a receipt, one each, in order
 pub record Covers {X : Type 0} (Is : X → Type 0) (place : X → ℕ) (At : ℕ → Type 0) (i : ℕ) (receipts : List X)
     : Type 0 where
   pub each : AllByRecursion Is receipts

@@ -1,4 +1,4 @@
--- What the pass over a server's run knows and keeps. Contracts of private functions alone cite this.
+-- What the pass over a server's run knows and keeps. Only contracts of private functions cite this.
 use Rattle.std.specs.Prelude.{◌≡◌, ℕ, Option, Some, List, [], ◌∷◌, ◌++◌, Ok, string_bytes}
 use Rattle.fe2o3_sasl_wire.specs.declared.amqp_types.SaslCode.TheVariants as outcomes
 use Rattle.fe2o3_sasl_wire.specs.declared.sasl_frames.error.Error.TheVariants as faults
@@ -33,7 +33,7 @@ opened_challenge opened = record {
   stored = kept opened.stored_password;
 }
 
--- the server-first message in it is that of the challenge
+-- the server-first message of a value is that of its challenge
 abbrev pub HoldsMessage : Opened → Type 0
 HoldsMessage opened =
     let challenge = opened_challenge opened in
@@ -49,7 +49,7 @@ pub record OpenedFor (provider : Provider) (init : Given) (challenge : Challengi
   pub known : provider.records challenge.client.user ≡ Some challenge.stored
   pub nonce : challenge.nonce ≡ base64_text init.nonce
 
--- a receipt that was made of the body of a response to this challenge
+-- a receipt made of the body of a response to this challenge
 pub record OkFor (provider : Provider) (position : ℕ) (challenge : Challenging) (body : List ℕ)
     (receipt : ServerReceipt) : Type 0 where
   pub place : receipt.place ≡ position
@@ -59,7 +59,7 @@ pub record OkFor (provider : Provider) (position : ℕ) (challenge : Challenging
   pub proof : HasProof text final
   pub accepted : OfAccepted provider (record { challenge = challenge; final = final }) receipt
 
--- an Ok leaves its receipt
+-- an Ok adds its receipt
 abbrev pub KeepsOk : Provider → ℕ → Given → Given → List ServerReceipt → List ServerReceipt → Type 0
 KeepsOk provider place init event oks oks' =
     (opened : Challenging) × (receipt : ServerReceipt) × OpenedFor provider init opened

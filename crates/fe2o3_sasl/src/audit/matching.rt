@@ -1,5 +1,5 @@
-//! The findings of two lists of receipts. The server's stand in an index by what they are compared by,
-//! so that the work grows with the receipts and the findings, and not with the pairs.
+//! The findings of two lists of receipts. The server's are in an index by the compared bytes, so that the work grows
+//! with the receipts and the findings, and not with the pairs.
 
 ghost use Rattle.std.specs.Prelude.{◌≡◌, ◌++◌, ◌∷◌, [], ℕ, List, if◌then◌else◌, map, filter, IfOk, OnOk};
 ghost use Rattle.fe2o3_sasl.specs.Audit.{finding_of, finding_kind};
@@ -14,11 +14,11 @@ use crate::audit::{Finding, FindingKind};
 use std::alloc::Global;
 use std::collections::BTreeMap;
 
-/// The server's receipts by the bytes that a finding of some kind compares, each row in the list's
-/// order. It is a tree, since these bytes come from strangers, who could flood a hash table.
+/// The server's receipts by the bytes that a finding of some kind compares, each row in the list's order. The index is
+/// a tree, since these bytes come from strangers, who could flood a hash table.
 type Index<'a> = BTreeMap<&'a [u8], Vec<&'a ServerReceipt>>;
 
-/// The bytes of a server's receipt that a finding of this kind compares.
+/// Returns the bytes of a server's receipt that a finding of this kind compares.
 fn compared_bytes(kind: FindingKind, server: &ServerReceipt) -> &[u8]
     ensures { result.now ≡ compared_by (finding_kind kind) (server_receipt server.now) }
 {
@@ -28,7 +28,7 @@ fn compared_bytes(kind: FindingKind, server: &ServerReceipt) -> &[u8]
     }
 }
 
-/// Puts the receipt behind those that the index has at these bytes. Refuses with `OutOfMemory`.
+/// Appends the receipt to those that the index has at these bytes. The only error is `OutOfMemory`.
 fn put<'a>(
     index: &mut Index<'a>,
     bytes: &'a [u8],
@@ -42,7 +42,7 @@ fn put<'a>(
     Ok(())
 }
 
-/// The index of the receipts for findings of this kind. Refuses with `OutOfMemory`.
+/// Returns the index of the receipts for findings of this kind. The only error is `OutOfMemory`.
 fn index_of<'a>(
     alloc: Global,
     kind: FindingKind,
@@ -58,8 +58,8 @@ fn index_of<'a>(
     Ok(index)
 }
 
-/// Adds the findings of a client's receipt, one for each receipt that the index has at its bytes.
-/// Refuses with `OutOfMemory`.
+/// Adds the findings of a client's receipt, one for each receipt that the index has at its bytes. The only error is
+/// `OutOfMemory`.
 fn match_client<'a>(
     alloc: Global,
     kind: FindingKind,
@@ -85,8 +85,7 @@ fn match_client<'a>(
     Ok(())
 }
 
-/// Adds the findings of this kind, by the client's position and then by the server's. Refuses with
-/// `OutOfMemory`.
+/// Adds the findings of this kind, by the client's position and then by the server's. The only error is `OutOfMemory`.
 fn match_receipts(
     alloc: Global,
     kind: FindingKind,
@@ -105,7 +104,7 @@ fn match_receipts(
     Ok(())
 }
 
-/// Adds the findings of the verifiers, by the client's position and then by the server's. Refuses with
+/// Adds the findings of the verifiers, by the client's position and then by the server's. The only error is
 /// `OutOfMemory`.
 pub(crate) fn match_verifiers(
     alloc: Global,
@@ -119,8 +118,7 @@ pub(crate) fn match_verifiers(
     match_receipts(alloc, FindingKind::Verifier, findings, taken, oks)
 }
 
-/// Adds the findings of the proofs, by the client's position and then by the server's. Refuses with
-/// `OutOfMemory`.
+/// Adds the findings of the proofs, by the client's position and then by the server's. The only error is `OutOfMemory`.
 pub(crate) fn match_proofs(
     alloc: Global,
     findings: &mut Vec<Finding>,

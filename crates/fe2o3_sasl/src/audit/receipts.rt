@@ -1,11 +1,11 @@
-//! What is kept of the positions of two runs.
+//! The receipts of positions of two runs.
 
 use crate::audit::Parameters;
 use fe2o3_scram::cached_keys::CachedKeys;
 use fe2o3_scram::hmac::DigestBytes;
 
-/// Of a position of the client: the proof that it showed there or the verifier that it took, and
-/// what its answer was about.
+/// The receipt of a position of the client: the proof that it showed there or the verifier that it took, and the values
+/// of its answer.
 #[derive(Drop)]
 pub(crate) struct ClientReceipt {
     pub place: usize,
@@ -15,8 +15,8 @@ pub(crate) struct ClientReceipt {
     pub stored_key: DigestBytes,
 }
 
-/// Of a position where the server answered Ok: the verifier that it gave, the proof that it
-/// accepted, and what both were about.
+/// The receipt of a position where the server answered Ok: the verifier that it gave, the proof that it accepted, and
+/// the values of both.
 #[derive(Drop)]
 pub(crate) struct ServerReceipt {
     pub place: usize,

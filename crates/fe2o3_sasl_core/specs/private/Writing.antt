@@ -1,4 +1,4 @@
--- Which frames are answered, and how replies are written in bodies. Contracts of private functions alone cite this.
+-- Which frames are answered, and how replies are written in bodies. Only contracts of private functions cite this.
 use Rattle.std.specs.Prelude.{◌≡◌, ℕ, List, Option, Some, None, Result, Ok, Err}
 use Rattle.fe2o3_sasl_wire.specs.SaslFrames as frames
 use Rattle.fe2o3_sasl_wire.specs.SaslFrames.{SaslFrame}
@@ -8,18 +8,18 @@ use Rattle.fe2o3_sasl_core.specs.declared.sasl_profile.error.ProfileError.{Profi
 use Rattle.fe2o3_sasl_core.specs.declared.sasl_profile.error.ProfileError.TheVariants as profile_faults
 use Rattle.fe2o3_sasl_core.specs.Profiles.{Profile, FrameAllocates, ProfileAnswers, profile_machine}
 
--- what a profile answers to a frame, whatever the hostname and the nonce are
+-- what a profile answers to a frame, for any hostname and nonce
 abbrev pub AnswersAlways : Profile → SaslFrame → Result SaslFrame ProfileError → Profile → Type 0
 AnswersAlways profile frame answer next =
     (hostname : Option (List ℕ)) (nonce : List ℕ)
     → ProfileAnswers FrameAllocates profile hostname nonce frame answer next
 
--- what the machine of a profile replies to a frame by which the profile stays, whatever the hostname and the nonce are
+-- what the machine of a profile replies to a frame that leaves the profile unchanged, for any hostname and nonce
 abbrev pub RefusesAlways : Profile → SaslFrame → ProfileError → Type 0
 RefusesAlways profile frame fault = (hostname : Option (List ℕ)) (nonce : List ℕ)
     → profile_machine profile hostname nonce frame (Err fault) profile
 
--- an init or a response
+-- the frame is an init or a response
 abbrev pub IsRequest : SaslFrame → Type 0
 IsRequest (frames.Init mechanism response hostname) = Unit {0}
 IsRequest (frames.Response text) = Unit {0}
@@ -32,7 +32,7 @@ Writes view says body (Err faults.TooLarge) = body ≡ None
 Writes view says body (Err faults.OutOfMemory) = Unit {0}
 Writes view says body (Err fault) = ⊥
 
--- the same of a client's frame
+-- a client's frame is written in its canonical body; it has none; or memory runs out
 abbrev pub WritesBody : {X : Type 0} → (X → List ℕ) → Option (List ℕ) → Result X ProfileError → Type 0
 WritesBody view body (Ok written) = body ≡ Some (view written)
 WritesBody view body (Err profile_faults.OutOfMemory) = Unit {0}

@@ -8,21 +8,21 @@ use fe2o3_sasl_wire::Error;
 use fe2o3_scram::scram_messages::ScramErrorKind;
 use std::alloc::AllocError;
 
-/// Why a profile does not answer. Want of memory is always `OutOfMemory`, and other keys are always
-/// `StaleKeys`: neither is inside another fault.
+/// Why a profile does not answer. A failed allocation is always `OutOfMemory`, and stale keys are always `StaleKeys`:
+/// neither is inside another error.
 #[derive(Clone, Copy, Debug, PartialEq, Eq, thiserror::Error)]
 pub enum ProfileError {
-    /// The frame is none that the profile answers, or the server does not have its mechanism.
+    /// The profile does not answer this frame, or the server does not have its mechanism.
     #[error("Not implemented")]
     NotImplemented,
 
-    /// SCRAM refuses the message.
+    /// SCRAM rejects the message.
     #[error("Scram")]
     Scram(ScramErrorKind),
 
-    /// The server names another salt or another iteration count than the kept keys are of, and the client
-    /// has no password, which is needed. Nothing signs that message, so whoever is on the way can bring
-    /// this about: keep the keys until a login by the password was verified.
+    /// The server names another salt or iteration count than that of the cached keys, and the client has no password,
+    /// which is needed. Nothing signs that message, so a man in the middle can cause this: keep the keys until a login
+    /// by the password is verified.
     #[error("The keys are of another salt or iteration count")]
     StaleKeys,
 
@@ -30,7 +30,7 @@ pub enum ProfileError {
     #[error("Frame")]
     Frame(Error),
 
-    /// There was no memory for the answer. The call can be made again.
+    /// An allocation failed. The call can be repeated.
     #[error("OutOfMemory")]
     OutOfMemory,
 }
@@ -73,7 +73,7 @@ pub enum UrlError {
     #[error("NoCredentials")]
     NoCredentials,
 
-    /// There was no memory for the two. The call can be made again.
+    /// An allocation failed. The call can be repeated.
     #[error("OutOfMemory")]
     OutOfMemory,
 }

@@ -18,7 +18,7 @@ use std::alloc::{AllocError, Global};
 use std::fmt;
 use std::marker::{Model, PhantomData};
 
-/// SCRAM-SHA-1 (RFC 5802). New applications should take SHA-256.
+/// SCRAM-SHA-1 (RFC 5802). New applications should use SHA-256.
 pub type SaslScramSha1 = SaslScram<OfSha1>;
 
 /// SCRAM-SHA-256 (RFC 7677).
@@ -27,11 +27,11 @@ pub type SaslScramSha256 = SaslScram<OfSha256>;
 /// SCRAM-SHA-512.
 pub type SaslScramSha512 = SaslScram<OfSha512>;
 
-/// A version of SCRAM as a type. It has no public path, so there are these three and no others.
+/// A version of SCRAM as a type. It has no public path, so there are only these three.
 pub trait OfVersion {
     ghost version: { ScramVersion };
 
-    /// The version.
+    /// Returns the version.
     fn version() -> ScramVersion
         ensures { result ≡ version };
 }
@@ -99,7 +99,7 @@ impl<V: OfVersion> SaslScram<V> {
         }
     }
 
-    /// A client of this user with this password, which accepts every iteration count from 1 on.
+    /// Makes a client of this user with this password, which accepts every iteration count from 1 on.
     pub fn new(username: String, password: String) -> Self
         ensures { ScramProfile result ≡ scram_profile (login_of V.version (string_bytes username)
             (string_bytes password) no_limit) }
@@ -107,12 +107,11 @@ impl<V: OfVersion> SaslScram<V> {
         Self::of(ScramClient::new(username, password, V::version()))
     }
 
-    /// Returns a client of this user that proves who it is by a copy of this secret (RFC 5802, section 3), and
-    /// accepts every iteration count from 1 on. [`ScramClient::with_secret`] says how each kind of secret
-    /// answers a challenge.
+    /// Returns a client of this user that proves who it is by a copy of this secret (RFC 5802, section 3), and accepts
+    /// every iteration count from 1 on. [`ScramClient::with_secret`] says how each kind of secret answers a challenge.
     ///
-    /// The errors are, in this order: `VersionMismatch` where the secret has keys of another version than
-    /// `V`, and `OutOfMemory`.
+    /// The errors are, in this order: `VersionMismatch` if the secret has keys of another version than `V`, and
+    /// `OutOfMemory`.
     pub fn with_secret(
         alloc: Global,
         username: String,
@@ -129,23 +128,23 @@ impl<V: OfVersion> SaslScram<V> {
         }
     }
 
-    /// The same client, which refuses an iteration count above the limit. The limit is one for each
-    /// challenge: how many challenges are answered it does not bound.
+    /// Returns this client, but with a maximum iteration count, above which it rejects a challenge. The limit is for
+    /// each challenge: it does not bound how many challenges are answered.
     pub fn with_iteration_limit(self, limit: u32) -> Self
         ensures { result ≡ with_limits self (record { min_iterations = self.limits.min_iterations; max_iterations = limit }) }
     {
         Self::of(self.client.with_iteration_limit(limit))
     }
 
-    /// The same client, which refuses an iteration count below this one by `IterationCountTooSmall`. RFC
-    /// 7677, section 4, asks for 4096 at least.
+    /// Returns this client, but with a minimum iteration count, below which it rejects a challenge by
+    /// `IterationCountTooSmall`. RFC 7677, section 4, asks for at least 4096.
     pub fn with_min_iterations(self, min_iterations: u32) -> Self
         ensures { result ≡ with_limits self (record { min_iterations = min_iterations; max_iterations = self.limits.max_iterations }) }
     {
         Self::of(self.client.with_min_iterations(min_iterations))
     }
 
-    /// The keys of the login, once its server was verified, and `None` before (RFC 5802, section 3).
+    /// Returns the keys of the login, once its server is verified, and `None` before that (RFC 5802, section 3).
     pub fn keys(&self) -> Option<&CachedKeys>
         ensures { MatchOption result (login_keys self.now.state ≡ None)
             (λ keys. login_keys self.now.state ≡ Some keys.now) }
@@ -163,7 +162,7 @@ impl<V: OfVersion> Clone for SaslScram<V> {
 }
 
 impl<V: OfVersion> fmt::Debug for SaslScram<V> {
-    /// The name of the version's profile, and the client, which hides its secrets.
+    /// Writes the name of the version's profile, and the client without its secrets.
     fn fmt<W: fmt::Write>(&self, f: &mut fmt::Formatter<W>) -> fmt::Result {
         let name = match V::version() {
             ScramVersion::Sha1 => "SaslScramSha1",

@@ -18,7 +18,7 @@ use fe2o3_scram::scram_client::ScramClient;
 use fe2o3_scram::scram_messages::ScramErrorKind;
 use std::alloc::Global;
 
-/// A fresh start: the client-first message. The client has not started before it is copied.
+/// Restarts the exchange with the client-first message. The client has not started before it is copied.
 pub(super) fn first_message(
     client: &mut ScramClient,
     alloc: Global,
@@ -37,7 +37,7 @@ pub(super) fn first_message(
     Ok(Binary(message))
 }
 
-/// Why a challenge is refused before a part of it is read: it is not UTF-8, or it is not due.
+/// Returns why a challenge is rejected before a part of it is read: it is not UTF-8, or it is not expected.
 pub(super) fn refusal_unread(client: &ScramClient, challenge: &[u8]) -> Option<ProfileError>
     ensures { MatchOption result (StepAllocates (ScramProfile client.now) (Challenge challenge.now))
         (λ fault. RefusesAlways (ScramProfile client.now) (Challenge challenge.now) fault) }
@@ -51,8 +51,8 @@ pub(super) fn refusal_unread(client: &ScramClient, challenge: &[u8]) -> Option<P
     }
 }
 
-/// Why an outcome is refused before its data are read: they are what SCRAM reads of code Ok, and are not
-/// due, or not UTF-8.
+/// Returns why an outcome is rejected before its data are read: SCRAM reads the data of code Ok, and they are not
+/// expected, or not UTF-8.
 pub(super) fn outcome_refusal_unread(
     client: &ScramClient,
     code: SaslCode,
@@ -77,7 +77,7 @@ pub(super) fn outcome_refusal_unread(
     }
 }
 
-/// The answer to a challenge, which is tested for UTF-8 before the client's state and its own tests.
+/// Returns the answer to a challenge, which is tested for UTF-8 before the client's state and its own tests.
 pub(super) fn answer(
     client: &mut ScramClient,
     alloc: Global,
@@ -102,8 +102,8 @@ pub(super) fn answer(
     }
 }
 
-/// Whether an outcome is verified. One of code Ok is tested for data before the client's state and
-/// its own tests; others are not tested.
+/// Verifies an outcome. One of code Ok is tested for data before the client's state and its own tests; others are not
+/// tested.
 pub(super) fn verify(
     client: &mut ScramClient,
     alloc: Global,

@@ -25,7 +25,7 @@ use Rattle.fe2o3_sasl_negotiation.proofs.lemmas.CutLemmas.{nothing_is_part, Ends
 use Rattle.fe2o3_sasl_negotiation.proofs.lemmas.UnitLemmas.{length-framed}
 use Rattle.fe2o3_sasl_core.specs.declared.sasl_profile.error.ProfileError.TheVariants.{NotImplemented, Scram, StaleKeys, Frame as FrameFault, OutOfMemory}
 
--- an answer sends no more than is left to it, and leaves to what is expected behind it what is left of that
+-- an answer sends no more than is left to it, and leaves to what is expected after it what is left of that
 abbrev pub Keeps : (Expected → ℕ) → ℕ → SideOutput → Type 0
 Keeps budget most answer = (length answer.sent ≤ most)
     × (answer.progress ≡ InProgress → length answer.sent + budget answer.expected ≤ most)
@@ -49,7 +49,7 @@ closes_keeps : {why : CloseReason} {expected : Expected} (budget : Expected → 
     → answer ≡ closes why expected → Keeps budget most answer
 closes_keeps {why} {expected} budget most answer same = silent budget most answer (closes why expected) same refl (closed why)
 
--- a body is sent in a frame of at most 512 bytes, and 512 less are left for what is expected behind it
+-- a body is sent in a frame of at most 512 bytes, and 512 less are left for what is expected after it
 sends_keeps : (budget : Expected → ℕ) (most : ℕ) (body : List ℕ) (progress : Progress) (expected : Expected) (answer : SideOutput)
     → 512 ≤ most → (progress ≡ InProgress → 512 + budget expected ≤ most) → Sends body progress expected answer
     → Keeps budget most answer
@@ -73,7 +73,7 @@ module _ {S : Type 0} (Answers : Expected → S → List ℕ → List ℕ → Si
   ended_is_silent side last (nonce ∷ nonces) bytes sent ended
       (taken, first, next, behind, wants, no_part, receives, more, all) = absurd (ended wants)
 
-  -- what is behind an answer
+  -- what is after an answer
   behind_answer_sent : (answer : SideOutput) (next last : Side S) (nonces : List (List ℕ)) (bytes behind : List ℕ)
       (most : ℕ)
       → next.progress ≡ answer.progress → Keeps budget most answer
@@ -217,7 +217,7 @@ server_says (Failed faults.DecodeError) turn answer same = closes_keeps server_b
 server_says (Failed faults.NotImplemented) turn answer same = closes_keeps server_budget _ answer same
 server_says (Failed faults.TooLarge) turn answer same = closes_keeps server_budget _ answer same
 
--- what is offered goes behind the header
+-- what is offered follows the header
 offers_keep : (offer : Option (List ℕ)) (answer : SideOutput) → of_server.Offers offer answer
     → Keeps server_budget (3 * 512) answer
 offers_keep None answer same = closes_keeps server_budget _ answer same

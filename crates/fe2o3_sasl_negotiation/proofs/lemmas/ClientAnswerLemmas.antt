@@ -33,7 +33,7 @@ pub asked : (hostname : Option (List ℕ)) (turn : FrameKind) (state next : Prof
 asked hostname turn state next event says old new step (frame, spells, in_turn) steps (sent, appended, holds) =
     (sent, appended, (Ok frame, spells, inr (in_turn, (says, steps, holds))))
 
--- and what it refuses
+-- and what it rejects
 pub asked_in_vain : {E : Type 0} (hostname : Option (List ℕ)) (turn : FrameKind)
     (state next : Profile) (event : Given) (fault : ProfileError) (old : List ℕ) (result : Result Step E)
     → SpellsTurn turn event.body → ProfileSteps hostname state event (Refused fault) next

@@ -1,4 +1,4 @@
--- What a connection of a SCRAM client costs: behind its answer to a challenge no other is in turn.
+-- What a connection of a SCRAM client costs: after its answer to a challenge no other is in turn.
 use Rattle.std.proofs.Common.{◌≡◌, ◌⊎◌, ℕ, ◌+◌, ◌≤◌, Option, List, ◌++◌, drop, take, refl, ap, ◌∙◌, subst, sym, inl, inr, Result, Ok, Err}
 use Rattle.std.specs.Prelude.{IsUtf8}
 use Rattle.fe2o3_sasl_wire.specs.declared.amqp_types.SaslCode.TheVariants as outcomes
@@ -61,7 +61,8 @@ closed_ends why progress closed wants = let apart = sym closed ∙ wants in absu
 ended : {why : CloseReason} {expected : Expected} (answer : SideOutput) → answer ≡ closes why expected → Later answer
 ended answer same = inl (closed_ends _ answer.progress (progress_of answer _ same))
 
--- behind what a profile says, but for an init to a list of mechanisms, an outcome is expected, or the negotiation has ended
+-- after what a profile says, but for an init to a list of mechanisms, an outcome is expected, or the negotiation has
+-- ended
 said_later : (says : ClientSays) (turn : FrameKind) (answer : SideOutput)
     → ((body : List ℕ) → says ≡ Started body → turn ≡ turns.Mechanisms → ⊥) → ClientOutputs says turn answer → Later answer
 said_later (Started body) turns.Mechanisms answer other sends = absurd (other body refl refl)
@@ -87,7 +88,7 @@ said_later (ClientRefused (Scram fault)) turn answer other closed = ended answer
 said_later (ClientRefused StaleKeys) turn answer other closed = ended answer closed
 said_later (ClientRefused (FrameFault fault)) turn answer other closed = ended answer closed
 
--- behind an answer to a list of mechanisms a challenge may be expected, too
+-- after an answer to a list of mechanisms a challenge may be expected, too
 said_by : (says : ClientSays) (answer : SideOutput) → ClientOutputs says turns.Mechanisms answer
     → Later answer ⊎ (answer.expected ≡ Frame turns.Challenge)
 said_by (Started body) answer (inl (fits, same)) = inr (due_of answer _ same)
@@ -149,7 +150,7 @@ outcome_answer hostname profile next nonce unit answer (Ok frame, spells, inl ou
 outcome_answer hostname profile next nonce unit answer (Ok frame, spells, inr asks) =
     said_later asks.1.0 turns.Outcome answer (λ b same turn. absurd (cc)) asks.1.2
 
--- what a frame costs in its turn: a challenge as many as the limit and four more at most, all else none
+-- what a frame costs in its turn: a challenge as many as the limit and four more at most, all others none
 challenge_costs : {A F : Type 0} (client : ClientSide) (text : List ℕ) (result : Result A F) (before after : ℕ)
     → ProfileCosts (frames.Challenge text) (ScramProfile client) result before after
     → (before ≤ after) × (after ≤ before + (client.limits.max_iterations + 4))
@@ -189,7 +190,7 @@ costs_over profile event frame result before after spells costs =
     subst (λ (s : Result SaslFrame Error). ProfileCostsOf s profile result before after)
     (one_spelling event.body costs.0 (Ok frame) costs.1 spells) costs.2
 
--- behind an answer to a challenge, too
+-- after an answer to a challenge, too
 challenge_answer : (hostname : Option (List ℕ)) (most : ℕ) (profile next : Profile) (nonce unit : List ℕ)
     (answer : SideOutput) → IsScram most profile
     → ClientSideAnswers hostname (Frame turns.Challenge) profile nonce unit answer next → Later answer
@@ -205,7 +206,7 @@ one_turn turn other same = cc
 
 module _ (hostname : Option (List ℕ)) (most : ℕ) (side next : Side Profile) (bytes nonce sent : List ℕ)
     (taken before after : ℕ) (receives : Receives (ClientSideAnswers hostname) side bytes nonce taken sent next) where
-  -- behind an answer
+  -- after an answer
   behind : (answer : SideOutput) → next.progress ≡ answer.progress → next.expected ≡ answer.expected → Later answer → Done next
   behind answer stands dues (inl ends) = inl (λ wants. ends (sym stands ∙ wants))
   behind answer stands dues (inr outcome) = inr (dues ∙ outcome)

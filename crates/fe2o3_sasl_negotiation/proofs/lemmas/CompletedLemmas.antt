@@ -1,4 +1,4 @@
--- Which frame bytes complete of a side that is set down.
+-- Which frame bytes complete of a side that is saved.
 use Rattle.std.proofs.Common.{◌≡◌, ℕ, ◌≤◌, List, ◌++◌, length, take, drop, ap, ◌∙◌, subst, arith}
 use Rattle.std.proofs.lemmas.List.{length-take-le}
 use Rattle.fe2o3_sasl_negotiation.specs.declared.snapshot.Snapshot.{Snapshot}
@@ -18,7 +18,7 @@ part_completes_none kept bytes part turn body done =
     whole_is_no_part (Frame turn) kept.limit (kept.held.now ++ bytes) done.2
     (subst (λ (d : Expected). IsPart d kept.limit (kept.held.now ++ bytes)) done.1 part)
 
--- and so does a size that is refused
+-- and so does a size that is not allowed
 pub refused_completes_none : (kept : Snapshot) (bytes : List ℕ)
     → IsRefused kept.expected kept.limit (kept.held.now ++ bytes) → (turn : FrameKind) (body : List ℕ)
     → ¬ Completes (side_kept kept) bytes turn body

@@ -192,7 +192,7 @@ module _ {S A : Type 0} (Answers : Expected → S → List ℕ → List ℕ → 
           (ap (λ (s : Side S). s.state) ends.2 ∙ kept)
           (inr (inr (drop 4 unit, spelled, why, come ∙ is, fits, spells, unanswered, refl)))
 
-      -- where its last byte stands
+      -- where its last byte is
       place : (a b : ℕ) → length taken ≡ 8 + (a + length tail) → length (drop 4 unit) ≡ b
           → length taken + (k - 1) ≡ 8 + (a + (b + 3))
       place a b all same =

@@ -1,4 +1,4 @@
--- What calls cost in sum: one of them at most is of a cost, and behind it none is.
+-- What calls cost in sum: one of them at most is of a cost, and after it none is.
 use Rattle.std.proofs.Common.{◌≡◌, ◌⊎◌, ℕ, ◌+◌, ◌<◌, ◌≤◌, List, [], ◌∷◌, ◌++◌, length, take, drop, refl, ap, ◌∙◌, subst, sym, inl, inr, arith}
 use Rattle.fe2o3_sasl_negotiation.specs.declared.progress.Expected.{Expected}
 use Rattle.fe2o3_sasl_negotiation.specs.declared.progress.Expected.TheVariants.{Frame}
@@ -10,7 +10,7 @@ use Rattle.fe2o3_sasl_negotiation.specs.Framing.{size_of, unit_size, IsPart, IsR
 use Rattle.fe2o3_sasl_negotiation.specs.Laws.{Call}
 use Rattle.fe2o3_sasl_negotiation.specs.Negotiations.{Side, SideOutput, Receives, ReceivesAt}
 
--- no more came to a meter, or no less and at most so many
+-- a meter grew by no more, or by no less and at most that many
 pub none : (before after most : ℕ) → after ≡ before → (before ≤ after) × (after ≤ before + most)
 none before after most same = (omega (arith, same), omega (arith, same))
 
@@ -63,7 +63,7 @@ module _ {S : Type 0} (Answers : Expected → S → List ℕ → List ℕ → Si
 
 module _ {S : Type 0} (Answers : Expected → S → List ℕ → List ℕ → SideOutput → S → Type 0)
     (Costs : Side S → List ℕ → List ℕ → ℕ → ℕ → Type 0) (MayCost : Side S → ℕ → Type 0) where
-  -- a call to a side that may cost so many takes what it costs from them
+  -- a call to a side that may cost that many takes what it costs from them
   abbrev pub PaidSteps : Type 0
   PaidSteps = (side next : Side S) (bytes nonce sent : List ℕ) (taken before after may : ℕ) → MayCost side may
       → Receives Answers side bytes nonce taken sent next → Costs side bytes nonce before after
@@ -88,7 +88,7 @@ module _ {S : Type 0} (Answers : Expected → S → List ℕ → List ℕ → Si
   rests Authenticated side next bytes nonce sent taken ended holds = holds.2
   rests (Failed why) side next bytes nonce sent taken ended holds = holds.2
 
-  -- a call leaves the state, the unit that is expected and how the side stands, or closes, or answers a whole unit
+  -- a call leaves the state, the unit that is expected and the side's progress, or closes, or answers a whole unit
   abbrev pub Left : Side S → List ℕ → List ℕ → Side S → Type 0
   Left side bytes nonce next =
       ((next.progress ≡ side.progress) × (next.expected ≡ side.expected) × (next.state ≡ side.state))

@@ -56,7 +56,7 @@ whole_is_taken expected limit come more whole =
     whole_within Header limit come whole = whole
     whole_within (Frame turn) limit come whole = whole.1
 
--- and so is a refused size
+-- and so is a size that is not allowed
 pub refused_stays : (expected : Expected) (limit : ℕ) (come more : List ℕ) → IsRefused expected limit come
     → IsRefused expected limit (take 4 come ++ more)
 refused_stays Header limit come more refused = refused
@@ -70,7 +70,7 @@ refused_stays (Frame turn) limit come more refused =
       λ (fits : Fits limit (size_of (take 4 come ++ more))). refused.1 (subst (λ (n : ℕ). Fits limit n) same fits),
     )
 
--- neither a whole unit nor a refused size is less than a unit
+-- neither a whole unit nor a size that is not allowed is less than a unit
 pub whole_is_no_part : (expected : Expected) (limit : ℕ) (come : List ℕ) → IsWhole expected limit come → ¬ IsPart expected limit come
 whole_is_no_part Header limit come whole part = omega (arith, whole, part)
 whole_is_no_part (Frame turn) limit come whole part =
@@ -152,7 +152,7 @@ module _ {S : Type 0} (Answers : Expected → S → List ℕ → List ℕ → Si
       refused_is_no_part side.expected side.limit come refused.0
   unit_is_no_part side next come nonce sent n taken (inr whole) = whole_is_no_part side.expected side.limit come whole.2
 
-  -- the unit stands in what has come, and in front of it what was held
+  -- the unit is in what has arrived, and in front of it what was held
   pub unit_within : (side next : Side S) (bytes nonce sent : List ℕ) (n taken : ℕ) → IsPart side.expected side.limit side.held
       → EndsUnit side (side.held ++ bytes) nonce n taken sent next
       → (length side.held ≤ n) × (n ≤ length (side.held ++ bytes)) × (taken ≡ n - length side.held)

@@ -34,7 +34,7 @@ kept_and_left xs ys n k fits is =
     ∙ (ap (λ z. z ++ drop m ys) start
     ∙ (append_assoc xs (take m ys) (drop m ys) ∙ ap (λ z. xs ++ z) (take-append-drop m ys))))
 
--- a size is told by the first four bytes
+-- the first four bytes give the size
 pub size_of-append : (xs ys : List ℕ) → 4 ≤ length xs → size_of (xs ++ ys) ≡ size_of xs
 unfolding size_of
 size_of-append xs ys four = ap (from_be_bytes w32) (take-append-le 4 xs ys four)
@@ -55,7 +55,7 @@ pub part_is_short : (expected : Expected) (limit : ℕ) (part rest : List ℕ) �
 part_is_short expected limit part rest less whole =
     let short = part_is_shorter expected limit part rest less whole in omega arith
 
--- and less than four bytes where a size is refused
+-- and less than four bytes where a size is not allowed
 pub refused_is_short : (expected : Expected) (limit : ℕ) (part rest : List ℕ) → IsPart expected limit part
     → IsRefused expected limit (part ++ rest) → length part < 4
 refused_is_short Header limit part rest less refused = absurd refused
@@ -91,7 +91,7 @@ fits_in_none : (limit size : ℕ) → IsOut limit size → ¬ Fits limit size
 fits_in_none limit size (inl few) fits = omega (arith, few, fits.0)
 fits_in_none limit size (inr many) fits = omega (arith, many.1, fits.1)
 
--- a size that is refused
+-- a size that is not allowed
 pub frame_refused : (old new bytes : List ℕ) (taken limit size : ℕ)
     → (4 ≤ length old → Fits limit (size_of old) × (length old < size_of old))
     → new ++ drop taken bytes ≡ old ++ bytes → (new ≡ old) ⊎ (length new ≤ 4) → 4 ≤ length new → size ≡ size_of new

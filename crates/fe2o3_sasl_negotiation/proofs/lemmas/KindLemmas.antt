@@ -9,7 +9,7 @@ use Rattle.fe2o3_sasl_negotiation.specs.declared.progress.Progress.TheVariants.{
 use Rattle.fe2o3_sasl_negotiation.specs.declared.progress.FrameKind.{FrameKind}
 use Rattle.fe2o3_sasl_negotiation.specs.Negotiations.{SideOutput, Sends, closes}
 
--- how an answer stands, and what is expected after it
+-- the progress after an answer, and what is expected then
 pub progress_of : (answer other : SideOutput) → answer ≡ other → answer.progress ≡ other.progress
 progress_of answer other same = ap (λ (a : SideOutput). a.progress) same
 

@@ -26,7 +26,7 @@ use Rattle.fe2o3_sasl_negotiation.proofs.lemmas.ConnectionLemmas.{failed_is_not_
 use Rattle.fe2o3_sasl_negotiation.proofs.lemmas.KindLemmas.{closes_waits_not, sends_ends}
 use Rattle.fe2o3_sasl_negotiation.proofs.lemmas.LoginLemmas.{servers_log_in}
 
--- Auth and a fault are refusals, in whatever body
+-- Auth and an error are rejections, in any body
 auth_is_refusal : (body : Option (List ℕ))
     → IsRefusal (carried (Failed faults.TooLarge) (server_says (ends_with outcomes.Auth)) body)
 auth_is_refusal None = tt
@@ -56,7 +56,7 @@ response_of body frame (frames.Mechanisms names, spells, in_turn) spelled = absu
 response_of body frame (frames.Challenge text, spells, in_turn) spelled = absurd in_turn
 response_of body frame (frames.Outcome code more, spells, in_turn) spelled = absurd in_turn
 
--- what leaves a server waiting is no refusal
+-- what leaves a server waiting is no rejection
 goes_on_is_no_refusal : (says : ServerSays) (answer : SideOutput) → ServerOutputs says turns.Init answer
     → answer.progress ≡ InProgress → ¬ IsRefusal says
 goes_on_is_no_refusal (Challenged body) answer said waits refused = refused
@@ -148,7 +148,7 @@ module _ {S T : Type 0} (names : S → List (List ℕ)) (others : T → List (Li
   steps_of_response event text First parts next says spells answers = (Ok (frames.Response text), spells, answers)
   steps_of_response event text Second parts next says spells answers = (Ok (frames.Response text), spells, answers)
 
-  -- a step that does not refuse is one of the part that the frame goes to
+  -- a step that does not reject is one of the part that the frame goes to
   abbrev Kept : BothStates S T → Given → ServerSays → BothStates S T → Type 0
   Kept parts event says next = (frame : SaslFrame) × SpellsBody event.body (Ok frame)
       × ((part : Selected) × (part_for names others parts frame ≡ Some part) × (next.selected ≡ Some part)

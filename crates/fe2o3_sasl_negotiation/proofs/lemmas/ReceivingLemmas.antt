@@ -57,7 +57,7 @@ module _ {S : Type 0} (Answers : Expected → S → List ℕ → List ℕ → Si
   part_is_kept kept takes = wants (length bytes) [] (record side { held = kept })
       (inl (takes.0, (refl, refl, ap (λ (h : List ℕ). record side { held = h }) takes.1)))
 
-  -- a size is refused
+  -- a size is not allowed
   pub size_is_refused : (kept left : List ℕ) (taken : ℕ) → TakesUnit side.expected side.limit (side.held ++ bytes) Refused kept
       → taken ≡ length kept - length side.held → left ≡ []
       → Receives Answers side bytes nonce taken []
@@ -142,7 +142,7 @@ pub same_side : {S : Type 0} (progress : Progress) (expected : Expected) (limit 
 same_side progress expected limit same kept = λ i.
     record { progress = progress; expected = expected; limit = limit; held = same i; state = kept i }
 
--- a call takes one byte at least where it completes a size that is refused, or a unit
+-- a call takes one byte at least where it completes a size that is not allowed, or a unit
 pub refused_moves : (expected : Expected) (limit : ℕ) (held bytes kept : List ℕ) (had taken : ℕ) → IsPart expected limit held
     → TakesUnit expected limit (held ++ bytes) Refused kept → had ≡ length held → taken ≡ length kept - had → 0 < taken
 refused_moves expected limit held bytes kept had taken part takes held_before is =

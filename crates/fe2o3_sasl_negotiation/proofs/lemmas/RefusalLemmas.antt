@@ -1,4 +1,4 @@
--- A profile that refuses is as it was, and so is an acceptor.
+-- A profile that rejects is as it was, and so is an acceptor.
 use Rattle.std.proofs.Common.{◌≡◌, ℕ, Option, Some, None, List, ap, ◌∙◌, inl, inr, Result, Ok, Err}
 use Rattle.fe2o3_sasl_wire.specs.declared.amqp_types.SaslCode.TheVariants as outcomes
 use Rattle.fe2o3_sasl_wire.specs.declared.sasl_frames.error.Error.{Error}
@@ -106,7 +106,7 @@ reply_refused profile moved next hostname nonce frame (Ok (frames.Response text)
     unsent_stays (λ body. Answered body) (canonical (frames.Response text)) profile moved next fault
     (λ b apart. absurd (cc)) says
 
--- a step that refuses leaves the profile
+-- a step that rejects leaves the profile
 pub step_refused : (hostname : Option (List ℕ)) (profile next : Profile) (event : Given) (fault : ProfileError)
     → ProfileSteps hostname profile event (Refused fault) next → next ≡ profile
 step_refused hostname profile next event fault (Err kind, spells, gives) = gives.1

@@ -18,7 +18,7 @@ use Rattle.fe2o3_sasl_negotiation.specs.private.Units.{Appends, CompletesUnit, S
 use Rattle.fe2o3_sasl_negotiation.specs.Connections.{SpellsTurn}
 use Rattle.fe2o3_sasl_negotiation.proofs.lemmas.ReceivingLemmas.{completes_body}
 
--- behind its header it sends what it offers
+-- after its header it sends what it offers
 pub opened : (names : List (List ℕ)) (header out mid new : List ℕ) (step : Step) → header ≡ sasl_header
     → mid ≡ out ++ sasl_header → Appends (Offers (offer_body names)) mid new step
     → Appends (ServerOpens names header) out new step

@@ -68,7 +68,7 @@ keeps provider side next bytes nonce early (inr (inl closed)) = (early.0, closed
 keeps provider side next bytes nonce early (inr (inr whole)) =
     answer_keeps provider side.expected side.state next.state nonce whole.1 whole.0 early whole.2
 
--- how an answer to a response stands: it ends
+-- the progress after an answer to a response: it ends
 closed_ends : (why : CloseReason) (progress : Progress) → progress ≡ HasFailed why → progress ≡ InProgress → ⊥
 closed_ends why progress closed wants = let apart = sym closed ∙ wants in absurd (cc)
 
@@ -133,7 +133,7 @@ init_goes_on acceptor next nonce unit answer (Ok frame, spells, inl out) wants =
 init_goes_on acceptor next nonce unit answer (Ok frame, spells, inr asks) wants =
     said_goes_on asks.1.0 answer asks.1.2 wants
 
--- what a frame costs in its turn: an init the look-up at most, a response two, and all else none
+-- what a frame costs in its turn: an init the look-up at most, a response two, and all others none
 abbrev TurnCosts : Provider → FrameKind → ℕ → ℕ → Type 0
 TurnCosts provider turn before after = (after ≡ before)
     ⊎ (((turn ≡ turns.Init) × ((before ≤ after) × (after ≤ before + provider.look_up_cost)))

@@ -34,7 +34,7 @@ length-framed body =
 pub body_of-framed : (body : List ℕ) → drop 4 (framed body) ≡ body
 body_of-framed body = drop_at (to_be_bytes w32 (length body + 4)) body 4 refl
 
--- a whole unit is not refused
+-- a whole unit is not rejected
 whole_is_not_refused : (expected : Expected) (limit : ℕ) (come : List ℕ) → IsWhole expected limit come → ¬ IsRefused expected limit come
 whole_is_not_refused Header limit come whole refused = refused
 whole_is_not_refused (Frame turn) limit come whole refused = refused.1 whole.0
@@ -43,13 +43,13 @@ whole_is_not_refused (Frame turn) limit come whole refused = refused.1 whole.0
 abbrev pub awaiting : {S : Type 0} → Expected → ℕ → S → Side S
 awaiting expected limit state = record { progress = InProgress; expected = expected; limit = limit; held = []; state = state }
 
--- the side behind an answer
+-- the side after an answer
 abbrev pub behind_answer : {S : Type 0} → SideOutput → ℕ → S → Side S
 behind_answer answer limit state =
     record { progress = answer.progress; expected = answer.expected; limit = limit; held = []; state = state }
 
 module _ {S : Type 0} (Answers : Expected → S → List ℕ → List ℕ → SideOutput → S → Type 0) where
-  -- it answers the unit, and goes on with the bytes behind it
+  -- it answers the unit, and goes on with the bytes after it
   pub record AnswersUnit (expected : Expected) (limit : ℕ) (state : S) (unit more sent : List ℕ) (last : Side S) : Type 0 where
     pub nonces : List (List ℕ)
     pub nonce : List ℕ
@@ -91,7 +91,7 @@ module _ {S : Type 0} (Answers : Expected → S → List ℕ → List ℕ → Si
             all = all ∙ ap (λ l. l ++ behind) ends.1;
           }
 
-  -- a size that is refused closes
+  -- a size that is not allowed closes
   refused_closes : (turn : FrameKind) (limit : ℕ) (state : S) (nonces : List (List ℕ)) (come sent : List ℕ) (last : Side S)
       → IsRefused (Frame turn) limit come → Negotiates Answers (awaiting (Frame turn) limit state) nonces come sent last
       → last.progress ≡ Failed FrameSize
@@ -114,7 +114,7 @@ module _ {S : Type 0} (Answers : Expected → S → List ℕ → List ℕ → Si
           apart same = cc
       go (n, inr whole) = absurd (whole_is_not_refused (Frame turn) limit come whole.2 refused)
 
-  -- a frame is answered, unless it is refused for its size
+  -- a frame is answered, unless it is rejected for its size
   pub one_frame : (turn : FrameKind) (limit : ℕ) (state : S) (nonces : List (List ℕ)) (body more sent : List ℕ)
       (last : Side S) → length body + 4 ≤ 512 → last.progress ≢ Failed FrameSize
       → Negotiates Answers (awaiting (Frame turn) limit state) nonces (framed body ++ more) sent last

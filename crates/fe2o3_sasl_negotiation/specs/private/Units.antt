@@ -1,4 +1,4 @@
--- What private contracts cite: what is taken of a unit, and what a function appends.
+-- What private contracts cite: the bytes that are taken of a unit, and what a function appends.
 use Rattle.std.specs.Prelude.{◌≡◌, ◌⊎◌, ℕ, List, ◌++◌, take, Result, Ok, Err}
 use Rattle.fe2o3_sasl_wire.specs.declared.sasl_frames.error.Error.{Error}
 use Rattle.fe2o3_sasl_wire.specs.FrameView.{viewed_frame}
@@ -16,13 +16,13 @@ use Rattle.fe2o3_sasl_negotiation.specs.declared.progress.Progress.TheVariants.{
 use Rattle.fe2o3_sasl_negotiation.specs.Framing.{unit_size, IsPart, IsRefused, IsWhole}
 use Rattle.fe2o3_sasl_negotiation.specs.Negotiations.{Side, SideOutput, IsInTurn}
 
--- what has come of the unit that is expected, and what of it is kept
+-- what has arrived of the expected unit, and what of it is kept
 abbrev pub TakesUnit : Expected → ℕ → List ℕ → Arrived → List ℕ → Type 0
 TakesUnit expected limit come Part kept = IsPart expected limit come × (kept ≡ come)
 TakesUnit expected limit come Refused kept = IsRefused expected limit come × (kept ≡ take 4 come)
 TakesUnit expected limit come Whole kept = IsWhole expected limit come × (kept ≡ take (unit_size expected come) come)
 
--- an answer is appended to what is to be sent
+-- an answer is appended to the bytes to send
 abbrev pub Appends : (SideOutput → Type 0) → List ℕ → List ℕ → Step → Type 0
 Appends Answers old new step = (sent : List ℕ) × (new ≡ old ++ sent)
     × Answers (record { sent = sent; progress = step.progress; expected = step.expected })
@@ -33,7 +33,7 @@ Screens turn body (Ok view) = SpellsBody body (Ok (viewed_frame view)) × IsInTu
 Screens turn body (Err why) = ((fault : Error) × SpellsBody body (Err fault) × (why ≡ MalformedFrame fault))
     ⊎ ((frame : SaslFrame) × SpellsBody body (Ok frame) × ¬ IsInTurn turn frame × (why ≡ UnexpectedFrame))
 
--- these bytes complete this unit, with those that have come of it
+-- these bytes complete this unit, with those that have arrived of it
 abbrev pub CompletesUnit : {S : Type 0} → Side S → List ℕ → Expected → List ℕ → Type 0
 CompletesUnit side bytes expected unit = let come = side.held ++ bytes in
     (side.progress ≡ InProgress) × (side.expected ≡ expected) × IsWhole expected side.limit come

@@ -5,7 +5,7 @@ use Rattle.fe2o3_sasl_wire.specs.declared.sasl_frames.fields.Field.{Field as Hel
 use Rattle.fe2o3_sasl_wire.specs.declared.sasl_frames.fields.Field.TheVariants as held
 use Rattle.fe2o3_sasl_wire.specs.SaslFrames.{Field, Null, Ubyte, Binary, Text, Symbol, Symbols}
 
--- the field that is held
+-- the field that a value holds
 abbrev pub shown_field : HeldField → Field
 shown_field held.Null = Null
 shown_field (held.Ubyte n) = Ubyte n
@@ -14,7 +14,7 @@ shown_field (held.Text text) = Text text.now
 shown_field (held.Symbol text) = Symbol text.now
 shown_field (held.Symbols symbols) = Symbols symbols.now
 
--- the fields with nulls behind them, up to three
+-- the fields followed by nulls, up to three
 abbrev pub filled : List Field → List Field
 filled fields = fields ++ replicate (3 - length fields) Null
 

@@ -5,7 +5,7 @@ use Rattle.fe2o3_sasl_wire.specs.declared.sasl_frames.forms.Kind.{Kind}
 use Rattle.fe2o3_sasl_wire.specs.declared.sasl_frames.forms.Kind.TheVariants as kinds
 use Rattle.fe2o3_sasl_wire.specs.SaslFrames.{SaslFrame, Mechanisms, Init, Challenge, Response, Outcome, limit, fields_of, SpellsItems, SpellsList, SpellsDescriptor}
 
--- which of the five a frame is
+-- the kind of a frame
 abbrev pub kind_of : SaslFrame → Kind
 kind_of (Mechanisms names) = kinds.Mechanisms
 kind_of (Init mechanism response hostname) = kinds.Init
@@ -37,7 +37,7 @@ SpellsKind kind b = SpellsDescriptor (code_of kind, name_of kind) b
 abbrev pub IsElement : Form → List ℕ → Type 0
 IsElement form symbol = IsAscii symbol × (length symbol < limit form)
 
--- the bytes after the first four of a body: a described list
+-- the body after its first four bytes: a described list
 pub record SpellsValue (frame : SaslFrame) (b : List ℕ) : Type 0 where
   pub descriptor : List ℕ
   pub count : ℕ

@@ -1,5 +1,5 @@
--- Reading from left to right, as the private functions do. The proofs join it to the relation `Spells`.
--- A step answers a value and the bytes after it, or nothing where the bytes do not begin with such a value.
+-- Parsing from left to right, like the private functions. The proofs join it to the relation `Spells`. A parser returns
+-- a value and the bytes after it, or nothing if the bytes do not begin with such a value.
 use Rattle.std.specs.Prelude.{ℕ, zero, suc, ◌-◌, Bool, ◌&&◌, List, [], ◌∷◌, length, take, drop, Option, Some, None, nat_lt, ◌==◌, if◌then◌else◌, bytes_eq}
 use Rattle.std.specs.Str.{is_utf8}
 use Rattle.std.specs.List.{list_all}
@@ -13,7 +13,7 @@ use Rattle.fe2o3_sasl_wire.specs.declared.sasl_frames.forms.Kind.TheVariants as 
 use Rattle.fe2o3_sasl_wire.specs.SaslFrames.{SaslFrame, Mechanisms, Init, Challenge, Response, Outcome}
 use Rattle.fe2o3_sasl_wire.specs.private.Kinds.{name_of}
 
--- the next step, where there is a value
+-- the next parser, if there is a value
 infixl 10 ◌>>=◌
 abbrev pub ◌>>=◌ : {A B : Type 0} → Option A → (A → Option B) → Option B
 None >>= f = None
@@ -78,7 +78,7 @@ string_at bytes = do
   x ← variable_at 0xa1 0xb1 bytes
   if is_utf8 x.0 then Some x else None
 
--- so many symbols without their constructor (part 1, section 1.2.4)
+-- that many symbols without their constructor (part 1, section 1.2.4)
 unfoldable pub elements_at : Form → ℕ → List ℕ → Option (List (List ℕ) × List ℕ)
 elements_at form zero bytes = Some ([], bytes)
 elements_at form (suc n) bytes = do
@@ -86,7 +86,7 @@ elements_at form (suc n) bytes = do
   others ← elements_at form n first.1
   Some (first.0 ∷ others.0, others.1)
 
--- behind the constructor of an array (part 1, section 1.2.4)
+-- an array after its constructor (part 1, section 1.2.4)
 unfoldable pub array_at : Form → List ℕ → Option (List (List ℕ) × List ℕ)
 array_at form bytes = do
   inner ← content_at form bytes
@@ -96,11 +96,11 @@ array_at form bytes = do
   names ← elements_at element count.0 constructor.1
   if length names.1 == 0 then Some (names.0, inner.1) else None
 
--- behind the constructor of a symbol, which stands for a list of one (part 1, section 1.4)
+-- a list of one symbol, after the symbol's constructor (part 1, section 1.4)
 unfoldable pub one_at : Form → List ℕ → Option (List (List ℕ) × List ℕ)
 one_at form bytes = elements_at form 1 bytes
 
--- an array of symbols, or one symbol, which stands for a list of one (part 1, sections 1.4 and 1.6.24)
+-- an array of symbols, or one symbol, which is read as a list of one (part 1, sections 1.4 and 1.6.24)
 unfoldable pub symbols_at : List ℕ → Option (List (List ℕ) × List ℕ)
 symbols_at [] = None
 symbols_at (constructor ∷ rest) =
@@ -131,7 +131,7 @@ code_at bytes = do
 abbrev pub Items : Type 0
 Items = ℕ × List ℕ
 
--- the next item, which has to be there (part 1, section 1.4)
+-- the next item, which must be present (part 1, section 1.4)
 unfoldable pub required : {A : Type 0} → (List ℕ → Option (A × List ℕ)) → Items → Option (A × Items)
 required read items = if items.0 == 0 then None else (read items.1 >>= λ x. Some (x.0, (items.0 - 1, x.1)))
 
@@ -140,7 +140,7 @@ abbrev pub null_at : List ℕ → Option (List ℕ)
 null_at [] = None
 null_at (b ∷ rest) = if b == 0x40 then Some rest else None
 
--- no value where a null was read, else what the reader of the value says (part 1, section 1.4)
+-- no value if a null was read, otherwise the result of the value's parser (part 1, section 1.4)
 abbrev pub unless_null : {A : Type 0} → Option (List ℕ) → ℕ → Option (A × List ℕ) → Option (Option A × Items)
 unless_null (Some rest) count read = Some (None, (count - 1, rest))
 unless_null None count read = read >>= λ x. Some (Some x.0, (count - 1, x.1))
@@ -179,7 +179,7 @@ fields_at kinds.Outcome items = do
   bytes ← optional_at binary_at code.1
   ended bytes.1 >>= λ _. Some (Outcome code.0 bytes.0)
 
--- a list with a size and a count, behind its constructor (part 1, section 1.2.3)
+-- a list with a size and a count, after its constructor (part 1, section 1.2.3)
 abbrev pub sized_at : ℕ → List ℕ → Option (Items × List ℕ)
 sized_at constructor bytes = do
   form ← form_at 0xc0 0xd0 constructor

@@ -1,4 +1,4 @@
--- That the test `same_frame` decides equality, and so is an equivalence, as the impls of `PartialEq` and `Eq` cite.
+-- The test `same_frame` decides equality, so it is an equivalence, as the impls of `PartialEq` and `Eq` cite.
 use Rattle.std.specs.Prelude.{◌≡◌, ℕ, ◌&&◌, List, Option, Some, None, bytes_eq}
 use Rattle.std.specs.Option.{option_eq}
 use Rattle.std.specs.Bool.{Decides, one_answer}
@@ -28,7 +28,7 @@ same_code SysPerm SysPerm same = refl
 same_code SysTemp SysTemp same = refl
 same_code _ _ same = cc
 
--- the test is true exactly of two frames that are one
+-- the test is true exactly of two equal frames
 pub same_frame_decides : (left right : SaslFrame) → Decides (same_frame left right) (left ≡ right)
 same_frame_decides (Mechanisms names) (Mechanisms others) =
     let decided = pointwise_decides bytes_decides names others in

@@ -8,7 +8,7 @@ use std::alloc::{AllocError, AllocFailed, Global};
 use std::marker::Model;
 use thiserror::Error;
 
-/// A symbol: a text of ASCII characters, of any length.
+/// A text of ASCII characters, of any length.
 #[derive(Debug, Drop)]
 pub struct Symbol {
     text: String,
@@ -24,14 +24,14 @@ impl Model for Symbol {
     ghost invariant = { λ symbol. IsAscii (string_bytes symbol.text) };
 }
 
-/// Why no symbol is made of a text.
+/// Why a text is not a symbol.
 #[derive(Clone, Copy, Debug, PartialEq, Eq, Error)]
 pub enum SymbolError {
     /// A byte of the text is not ASCII.
     #[error("NotAscii")]
     NotAscii,
 
-    /// There was no memory for the symbol. The call can be made again.
+    /// An allocation failed. The call can be repeated.
     #[error("OutOfMemory")]
     OutOfMemory,
 }
@@ -55,8 +55,8 @@ impl<T: Drop> From<AllocFailed<T>> for SymbolError {
 impl Symbol {
     ghost use Rattle.fe2o3_sasl_wire.specs.AmqpTypes.{RefusesText};
 
-    /// The symbol of a text. NotAscii where a byte of the text is 128 or more (AMQP 1.0, part 1,
-    /// section 1.6.21); OutOfMemory where all are ASCII and there is no memory for a copy of them.
+    /// Returns the symbol of a text. NotAscii if a byte of the text is 128 or more (AMQP 1.0, part 1, section 1.6.21);
+    /// OutOfMemory if all are ASCII and allocation fails.
     pub fn new(alloc: Global, text: &str) -> Result<Symbol, SymbolError>
         ensures ok { IfOk result (λ symbol. symbol ≡ text.now) }
         ensures ascii { IfOk result (λ _. IsAscii text.now) }
@@ -68,7 +68,7 @@ impl Symbol {
         Ok(Symbol::of_ascii(alloc, text)?)
     }
 
-    /// The symbol of a text that is ASCII.
+    /// Returns the symbol of a text that is ASCII.
     pub(crate) fn of_ascii(alloc: Global, text: &str) -> Result<Symbol, OutOfMemory>
         requires { IsAscii text.now }
         ensures { IfOk result (λ symbol. symbol ≡ text.now) }
@@ -78,7 +78,7 @@ impl Symbol {
         })
     }
 
-    /// The text of the symbol, which is ASCII.
+    /// Returns the text of the symbol, which is ASCII.
     pub fn as_str(&self) -> &str
         ensures text { result.now ≡ self.now }
         ensures ascii { IsAscii self.now }

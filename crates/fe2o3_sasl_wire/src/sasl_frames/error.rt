@@ -16,11 +16,11 @@ pub enum Error {
     #[error("AmqpError: NotImplemented")]
     NotImplemented,
 
-    /// A size of the frame is more than 32 bits can say.
+    /// A size of the frame has more than 32 bits.
     #[error("Too large")]
     TooLarge,
 
-    /// There was no memory for the answer. The call can be made again.
+    /// An allocation failed. The call can be repeated.
     #[error("OutOfMemory")]
     OutOfMemory,
 }

@@ -1,4 +1,4 @@
-//! The fields of a frame that is to be written. Nothing here takes memory.
+//! The fields of a frame to be written. Nothing here allocates.
 
 ghost use Rattle.std.specs.Prelude.{◌≡◌, ◌≤◌, ◌<◌, ◌+◌, ◌^◌, ◌-◌, ◌++◌, length, map, min, option_map, string_bytes};
 ghost use Rattle.std.specs.List.{flat_map, AllByRecursion};
@@ -39,7 +39,7 @@ pub(crate) enum Field<'a> {
     Symbols(&'a [Symbol]),
 }
 
-/// The code of the frame's descriptor.
+/// Returns the code of the frame's descriptor.
 pub(crate) fn code_of(frame: &Frame) -> u8
     ensures { result ≡ code_of (kind_of (owned_frame frame.now)) }
 {
@@ -52,7 +52,7 @@ pub(crate) fn code_of(frame: &Frame) -> u8
     }
 }
 
-/// The binary, if there is one.
+/// Returns the binary, or null.
 fn optional_binary(binary: &Option<Binary>) -> Field<'_>
     ensures { shown_field result ≡ optional BinaryField (option_map binary_bytes binary.now) }
 {
@@ -62,7 +62,7 @@ fn optional_binary(binary: &Option<Binary>) -> Field<'_>
     }
 }
 
-/// The string, if there is one.
+/// Returns the string, or null.
 fn optional_text(text: &Option<String>) -> Field<'_>
     ensures { shown_field result ≡ optional TextField (option_map string_bytes text.now) }
 {
@@ -72,7 +72,7 @@ fn optional_text(text: &Option<String>) -> Field<'_>
     }
 }
 
-/// The fields of the frame, with nulls up to three.
+/// Returns the fields of the frame, followed by nulls up to three.
 pub(crate) fn fields_of(frame: &Frame) -> [Field<'_>; 3]
     ensures { map shown_field result ≡ filled (fields_of (owned_frame frame.now)) }
 {
@@ -105,7 +105,7 @@ pub(crate) fn fields_of(frame: &Frame) -> [Field<'_>; 3]
     }
 }
 
-/// How many fields there are up to the last one that has a value.
+/// Returns how many fields there are up to the last one with a value.
 pub(crate) fn count_of(frame: &Frame) -> usize
     ensures count { result ≡ count_of (owned_frame frame.now) }
     ensures most { result ≤ 3 }
@@ -124,7 +124,7 @@ pub(crate) fn count_of(frame: &Frame) -> usize
     }
 }
 
-/// How long a field is when it is written, or the largest number where that is larger.
+/// Returns the encoded length of a field, or the largest number if that is larger.
 fn field_len(field: Field<'_>) -> usize
     ensures len { result ≡ min (length (canonical_field (shown_field field.entry))) (2 ^ 64 - 1) }
     ensures texts { IsText (shown_field field.entry) }
@@ -139,7 +139,7 @@ fn field_len(field: Field<'_>) -> usize
     }
 }
 
-/// How long the fields are when they are written, or the largest number where that is larger.
+/// Returns the encoded length of the fields, or the largest number if that is larger.
 pub(crate) fn items_len(fields: &[Field<'_>]) -> usize
     ensures len { result ≡ min (length (flat_map canonical_field (map shown_field fields.now))) (2 ^ 64 - 1) }
     ensures texts { AllByRecursion IsText (map shown_field fields.now) }
@@ -170,7 +170,7 @@ fn put_field(out: &mut BytesMut, field: Field<'_>)
     }
 }
 
-/// Writes the fields one after the other.
+/// Writes the fields in order.
 pub(crate) fn put_items(out: &mut BytesMut, fields: &[Field<'_>])
     requires fits { length (flat_map canonical_field (map shown_field fields.now)) < 2 ^ 32 }
     requires room { length (flat_map canonical_field (map shown_field fields.now)) ≤ out.old.spare }

@@ -1,7 +1,7 @@
 //! The forms of encodings, the kinds of frames, and the bytes that name them (AMQP 1.0, part 1,
 //! section 1.6, and part 5, section 5.3.3).
 
-/// What stands before the descriptor of a value.
+/// The byte before a descriptor.
 pub(crate) const DESCRIBED: u8 = 0x00;
 
 /// A field without a value.
@@ -43,7 +43,7 @@ pub(crate) const SYMBOL_8: u8 = 0xa3;
 
 pub(crate) const SYMBOL_32: u8 = 0xb3;
 
-/// How wide a size, a length or a count is.
+/// The width of a size, a length or a count.
 #[derive(Clone, Copy, Debug, PartialEq, Eq)]
 pub enum Form {
     /// One byte.
@@ -53,7 +53,7 @@ pub enum Form {
     ThirtyTwo,
 }
 
-/// Which of the five frames it is.
+/// One of the five kinds of frames.
 #[derive(Clone, Copy, Debug, PartialEq, Eq)]
 pub enum Kind {
     /// The server's list of mechanisms.

@@ -1,4 +1,4 @@
-//! Frames read in place (AMQP 1.0, part 5, section 5.3). Nothing here takes memory.
+//! Frames read in place (AMQP 1.0, part 5, section 5.3). Nothing here allocates.
 
 ghost use Rattle.std.specs.Prelude.{◌≡◌, IsErrOf, option_map};
 ghost use Rattle.fe2o3_sasl_wire.specs.declared.sasl_frames.error.Error.TheVariants.{OutOfMemory, TooLarge};
@@ -16,8 +16,8 @@ use crate::sasl_frames::symbols_view::SymbolsView;
 use crate::sasl_frames::{DATA_OFFSET, FRAME_TYPE_SASL};
 use std::fmt;
 
-/// A SASL frame whose texts and bytes are slices of its body (AMQP 1.0, part 5, section 5.3.3). Its
-/// `Debug` shows a response by its length alone, since it may be a password.
+/// A SASL frame whose texts and bytes are slices of its body (AMQP 1.0, part 5, section 5.3.3). Its `Debug` shows only
+/// the length of a response, which may be a password.
 #[derive(Drop)]
 pub enum FrameView<'a> {
     /// The mechanisms that the server offers.
@@ -28,7 +28,7 @@ pub enum FrameView<'a> {
         /// The name of the mechanism.
         mechanism: &'a str,
 
-        /// What the client says first.
+        /// The client's first message.
         initial_response: Option<&'a [u8]>,
 
         /// The host that the client asks for.
@@ -46,7 +46,7 @@ pub enum FrameView<'a> {
         /// How it ended.
         code: SaslCode,
 
-        /// What the mechanism says at its end.
+        /// The message of the mechanism at its end.
         additional_data: Option<&'a [u8]>,
     },
 }
@@ -84,7 +84,7 @@ impl fmt::Debug for FrameView<'_> {
     }
 }
 
-/// The kind of frame with this code.
+/// Returns the kind of frame with this code.
 fn kind_of_code(code: u64) -> Option<Kind>
     ensures { result ≡ kind_of_code code }
 {
@@ -98,7 +98,7 @@ fn kind_of_code(code: u64) -> Option<Kind>
     }
 }
 
-/// The kind of frame with this name.
+/// Returns the kind of frame with this name.
 #[tactic(auto, unfolding(crate::specs::private::Reading::kind_of_name))]
 fn kind_of_name(name: &str) -> Option<Kind>
     ensures { result ≡ kind_of_name name.now }
@@ -118,7 +118,7 @@ fn kind_of_name(name: &str) -> Option<Kind>
     }
 }
 
-/// A descriptor: a code as smallulong or as ulong, or a name.
+/// Reads a descriptor: a code as smallulong or as ulong, or a name.
 #[inline(always)]
 #[tactic(auto, unfolding(crate::specs::private::Reading::descriptor_at))]
 fn descriptor_at(bytes: &[u8]) -> Option<(Kind, &[u8])>
@@ -144,7 +144,7 @@ fn descriptor_at(bytes: &[u8]) -> Option<(Kind, &[u8])>
     }
 }
 
-/// The frame of this kind that the items are.
+/// Returns the frame of this kind with these items.
 #[inline(always)]
 #[tactic(auto, unfolding(crate::specs::private::Reading::fields_at))]
 fn fields_at<'a>(kind: Kind, mut items: Items<'a>) -> Option<FrameView<'a>>
@@ -189,7 +189,7 @@ fn fields_at<'a>(kind: Kind, mut items: Items<'a>) -> Option<FrameView<'a>>
     }
 }
 
-/// A described list.
+/// Reads a described list.
 #[inline(always)]
 #[tactic(auto, unfolding(crate::specs::private::Reading::value_at))]
 fn value_at(bytes: &[u8]) -> Option<(FrameView<'_>, &[u8])>
@@ -205,11 +205,10 @@ fn value_at(bytes: &[u8]) -> Option<(FrameView<'_>, &[u8])>
     Some((frame, rest))
 }
 
-/// Reads a body without its four-byte size (AMQP 1.0, part 5, section 5.3.1): the frame, and how many
-/// bytes it takes, from the data offset on. Bytes after the frame are left alone. In this order: fewer
-/// than four bytes are a DecodeError, another type than 1 or data offset than 2 is NotImplemented, and
-/// anything else that begins with no frame is a DecodeError. Takes no memory, so it answers neither
-/// OutOfMemory nor TooLarge.
+/// Reads a body without its four-byte size (AMQP 1.0, part 5, section 5.3.1). Returns the frame, and how many bytes it
+/// takes, from the data offset on. Bytes after the frame are ignored. Errors, in this order: DecodeError for fewer than
+/// four bytes, NotImplemented for another type than 1 or data offset than 2, and DecodeError for any other bytes that
+/// begin with no frame. The call allocates nothing, so it returns neither OutOfMemory nor TooLarge.
 #[inline(always)]
 pub fn view_frame(bytes: &[u8]) -> Result<(FrameView<'_>, usize), Error>
     ensures reads { ReadsBody bytes.now (viewed_answer result) }

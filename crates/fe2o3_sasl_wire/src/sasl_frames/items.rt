@@ -1,4 +1,4 @@
-//! The items of a list, read from the first on. Nothing here takes memory.
+//! The items of a list, read from the first on. Nothing here allocates.
 
 ghost use Rattle.std.specs.Prelude.{◌≡◌, ◌≤◌, ◌-◌, Some, None, option_map, length, ◌==◌, ◌&&◌, if◌then◌else◌};
 ghost use Rattle.fe2o3_sasl_wire.specs.private.Reading.{required, optional_at, binary_at, symbol_at, string_at, symbols_at, code_at, list_at, null_at, ended};
@@ -11,7 +11,7 @@ use crate::sasl_frames::reading::{
 use crate::sasl_frames::symbols_view::{SymbolsView, symbols_at};
 use std::marker::Model;
 
-/// The bytes after a null.
+/// Returns the bytes after a null.
 fn null_at(bytes: &[u8]) -> Option<&[u8]>
     ensures { option_map (λ x. x.now) result ≡ null_at bytes.now }
 {
@@ -21,7 +21,7 @@ fn null_at(bytes: &[u8]) -> Option<&[u8]>
     }
 }
 
-/// The items of a list that are still to be read.
+/// The items of a list that are not read yet.
 #[derive(Drop)]
 pub(crate) struct Items<'a> {
     count: u32,
@@ -36,7 +36,7 @@ impl<'a> Model for Items<'a> {
     ghost view = { λ items. (items.count, items.bytes.now) };
 }
 
-/// A list.
+/// Reads a list.
 #[inline(always)]
 #[tactic(auto, unfolding(crate::specs::private::Reading::list_at))]
 pub(crate) fn list_at(bytes: &[u8]) -> Option<(Items<'_>, &[u8])>
@@ -59,7 +59,7 @@ pub(crate) fn list_at(bytes: &[u8]) -> Option<(Items<'_>, &[u8])>
 }
 
 impl<'a> Items<'a> {
-    /// Moves past an item, behind which these bytes stand.
+    /// Moves past an item that these bytes follow.
     #[inline(always)]
     fn pass(&mut self, rest: &'a [u8])
         requires { 1 ≤ self.old.0 }
@@ -69,7 +69,7 @@ impl<'a> Items<'a> {
         self.bytes = rest;
     }
 
-    /// The next item, which has to be a binary.
+    /// Returns the next item, which must be a binary.
     #[inline(always)]
     #[tactic(auto, unfolding(crate::specs::private::Reading::required))]
     pub(crate) fn binary(&mut self) -> Option<&'a [u8]>
@@ -83,7 +83,7 @@ impl<'a> Items<'a> {
         Some(value)
     }
 
-    /// The next item, which has to be an outcome's code.
+    /// Returns the next item, which must be an outcome's code.
     #[inline(always)]
     #[tactic(auto, unfolding(crate::specs::private::Reading::required))]
     pub(crate) fn code(&mut self) -> Option<SaslCode>
@@ -97,7 +97,7 @@ impl<'a> Items<'a> {
         Some(value)
     }
 
-    /// The next item, which has to be a symbol.
+    /// Returns the next item, which must be a symbol.
     #[inline(always)]
     #[tactic(auto, unfolding(crate::specs::private::Reading::required))]
     pub(crate) fn symbol(&mut self) -> Option<&'a str>
@@ -111,7 +111,7 @@ impl<'a> Items<'a> {
         Some(value)
     }
 
-    /// The next item, which has to be an array of symbols or one symbol.
+    /// Returns the next item, which must be an array of symbols or one symbol.
     #[inline(always)]
     #[tactic(auto, unfolding(crate::specs::private::Reading::required))]
     pub(crate) fn symbols(&mut self) -> Option<SymbolsView<'a>>
@@ -125,7 +125,7 @@ impl<'a> Items<'a> {
         Some(value)
     }
 
-    /// The next item, which may be a binary, null or absent.
+    /// Returns the next item, which may be a binary, null or absent.
     #[inline(always)]
     #[tactic(auto, unfolding(crate::specs::private::Reading::optional_at))]
     pub(crate) fn optional_binary(&mut self) -> Option<Option<&'a [u8]>>
@@ -144,7 +144,7 @@ impl<'a> Items<'a> {
         Some(Some(value))
     }
 
-    /// The next item, which may be a string, null or absent.
+    /// Returns the next item, which may be a string, null or absent.
     #[inline(always)]
     #[tactic(auto, unfolding(crate::specs::private::Reading::optional_at))]
     pub(crate) fn optional_string(&mut self) -> Option<Option<&'a str>>
@@ -163,7 +163,7 @@ impl<'a> Items<'a> {
         Some(Some(value))
     }
 
-    /// That no item and no byte is left.
+    /// Succeeds if no item and no byte is left.
     pub(crate) fn end(self) -> Option<()>
         ensures { option_map (λ _. tt) result ≡ ended self.entry }
     {

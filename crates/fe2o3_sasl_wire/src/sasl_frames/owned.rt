@@ -1,4 +1,4 @@
-//! Frames with copies of the texts and bytes that a view shows.
+//! Owned copies of the frames that views show.
 
 ghost use Rattle.std.specs.Prelude.{◌≡◌, option_map, IfOk, IfErr, IsAscii, string_bytes};
 ghost use Rattle.fe2o3_sasl_wire.specs.SaslFrames.{Init};
@@ -16,14 +16,14 @@ use crate::sasl_frames::frame_view::FrameView;
 use crate::sasl_frames::symbols_view::SymbolsView;
 use std::alloc::Global;
 
-/// A binary of these bytes.
+/// Copies these bytes into a binary.
 fn owned_binary(alloc: Global, bytes: &[u8]) -> Result<Binary, OutOfMemory>
     ensures { IfOk result (λ binary. binary_bytes binary ≡ bytes.now) }
 {
     Ok(Binary(Vec::from_slice(alloc, bytes)?))
 }
 
-/// A binary of these bytes, if there are any.
+/// Copies these bytes into a binary, if there are any.
 fn owned_data(alloc: Global, bytes: Option<&[u8]>) -> Result<Option<Binary>, OutOfMemory>
     ensures { IfOk result (λ owned. option_map binary_bytes owned ≡ shown bytes.entry) }
 {
@@ -33,7 +33,7 @@ fn owned_data(alloc: Global, bytes: Option<&[u8]>) -> Result<Option<Binary>, Out
     }
 }
 
-/// A string of this text, if there is one.
+/// Copies this text into a string, if there is one.
 fn owned_text(alloc: Global, text: Option<&str>) -> Result<Option<String>, OutOfMemory>
     ensures { IfOk result (λ owned. option_map string_bytes owned ≡ shown text.entry) }
 {
@@ -43,7 +43,7 @@ fn owned_text(alloc: Global, text: Option<&str>) -> Result<Option<String>, OutOf
     }
 }
 
-/// The symbols of a view.
+/// Copies the symbols of a view.
 fn owned_symbols(alloc: Global, symbols: &SymbolsView<'_>) -> Result<Array<Symbol>, OutOfMemory>
     ensures { IfOk result (λ array. array.0.items ≡ symbols.now) }
 {
@@ -54,7 +54,7 @@ fn owned_symbols(alloc: Global, symbols: &SymbolsView<'_>) -> Result<Array<Symbo
     Ok(Array(owned))
 }
 
-/// An init with an ASCII mechanism.
+/// Makes an init with an ASCII mechanism.
 fn owned_init(
     alloc: Global,
     mechanism: &str,
@@ -73,9 +73,8 @@ fn owned_init(
 }
 
 impl FrameView<'_> {
-    /// The frame with copies of its texts and bytes. In this order: DecodeError where the mechanism
-    /// of an init is not ASCII (AMQP 1.0, part 1, section 1.6.21), which no view of `view_frame` has;
-    /// OutOfMemory where there is no memory for the copies.
+    /// Returns an owned copy of the frame. Errors, in this order: DecodeError if the mechanism of an init is not ASCII
+    /// (AMQP 1.0, part 1, section 1.6.21), which no view from `view_frame` has; OutOfMemory if allocation fails.
     pub fn to_frame(&self, alloc: Global) -> Result<Frame, Error>
         ensures ok { IfOk result (λ frame. owned_frame frame ≡ viewed_frame self.now) }
         ensures ascii { IfOk result (λ _. HasAsciiMechanism (viewed_frame self.now)) }

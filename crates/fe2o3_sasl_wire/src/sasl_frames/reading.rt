@@ -1,5 +1,4 @@
-//! Reading one encoding from the front of a slice: its value and the bytes after it. Nothing here
-//! takes memory.
+//! Reads one encoding from the front of a slice: its value and the bytes after it. Nothing here allocates.
 
 ghost use Rattle.std.specs.Prelude.{◌≡◌, Some, None, option_map, if◌then◌else◌, IfSome, IsAscii};
 ghost use Rattle.std.specs.Str.{is_utf8};
@@ -10,7 +9,7 @@ use crate::sasl_frames::forms::{
     BINARY_8, BINARY_32, Form, STRING_8, STRING_32, SYMBOL_8, SYMBOL_32, UBYTE,
 };
 
-/// One byte.
+/// Reads one byte.
 pub(crate) fn byte_at(bytes: &[u8]) -> Option<(u8, &[u8])>
     ensures { option_map (λ x. (x.0, x.1.now)) result ≡ byte_at bytes.now }
 {
@@ -20,7 +19,7 @@ pub(crate) fn byte_at(bytes: &[u8]) -> Option<(u8, &[u8])>
     }
 }
 
-/// A number of four bytes.
+/// Reads a number of four bytes.
 pub(crate) fn u32_at(bytes: &[u8]) -> Option<(u32, &[u8])>
     ensures { option_map (λ x. (x.0, x.1.now)) result ≡ four_at bytes.now }
 {
@@ -29,7 +28,7 @@ pub(crate) fn u32_at(bytes: &[u8]) -> Option<(u32, &[u8])>
     Some((number, rest))
 }
 
-/// A number of eight bytes.
+/// Reads a number of eight bytes.
 pub(crate) fn u64_at(bytes: &[u8]) -> Option<(u64, &[u8])>
     ensures { option_map (λ x. (x.0, x.1.now)) result ≡ eight_at bytes.now }
 {
@@ -38,7 +37,7 @@ pub(crate) fn u64_at(bytes: &[u8]) -> Option<(u64, &[u8])>
     Some((number, rest))
 }
 
-/// A size, a length or a count.
+/// Reads a size, a length or a count.
 pub(crate) fn number_at(form: Form, bytes: &[u8]) -> Option<(u32, &[u8])>
     ensures { option_map (λ x. (x.0, x.1.now)) result ≡ number_at form bytes.now }
 {
@@ -51,7 +50,7 @@ pub(crate) fn number_at(form: Form, bytes: &[u8]) -> Option<(u32, &[u8])>
     }
 }
 
-/// A length, and that many bytes.
+/// Reads a length, and that many bytes.
 #[tactic(auto, unfolding(crate::specs::private::Reading::content_at))]
 pub(crate) fn content_at(form: Form, bytes: &[u8]) -> Option<(&[u8], &[u8])>
     ensures { option_map (λ x. (x.0.now, x.1.now)) result ≡ content_at form bytes.now }
@@ -64,7 +63,7 @@ pub(crate) fn content_at(form: Form, bytes: &[u8]) -> Option<(&[u8], &[u8])>
     Some(rest.split_at(len))
 }
 
-/// The form that a constructor names.
+/// Returns the form of a constructor.
 pub(crate) fn form_at(short: u8, long: u8, constructor: u8) -> Option<Form>
     ensures { result ≡ form_at short long constructor }
 {
@@ -77,7 +76,7 @@ pub(crate) fn form_at(short: u8, long: u8, constructor: u8) -> Option<Form>
     }
 }
 
-/// A constructor of either form, a length, and that many bytes.
+/// Reads a constructor of either form, a length, and that many bytes.
 #[inline(always)]
 #[tactic(auto, unfolding(crate::specs::private::Reading::variable_at))]
 pub(crate) fn variable_at(short: u8, long: u8, bytes: &[u8]) -> Option<(&[u8], &[u8])>
@@ -88,7 +87,7 @@ pub(crate) fn variable_at(short: u8, long: u8, bytes: &[u8]) -> Option<(&[u8], &
     content_at(form, rest)
 }
 
-/// A binary.
+/// Reads a binary.
 #[inline(always)]
 #[tactic(auto, unfolding(crate::specs::private::Reading::binary_at))]
 pub(crate) fn binary_at(bytes: &[u8]) -> Option<(&[u8], &[u8])>
@@ -97,7 +96,7 @@ pub(crate) fn binary_at(bytes: &[u8]) -> Option<(&[u8], &[u8])>
     variable_at(BINARY_8, BINARY_32, bytes)
 }
 
-/// An outcome's code, as a ubyte.
+/// Reads an outcome's code, as a ubyte.
 #[inline(always)]
 #[tactic(auto, using(crate::proofs::lemmas::CodeLemmas::no_code), unfolding(crate::specs::private::Reading::code_at))]
 pub(crate) fn code_at(bytes: &[u8]) -> Option<(SaslCode, &[u8])>
@@ -112,14 +111,14 @@ pub(crate) fn code_at(bytes: &[u8]) -> Option<(SaslCode, &[u8])>
     Some((code, rest))
 }
 
-/// Whether bytes are ASCII.
+/// Returns whether bytes are ASCII.
 fn is_ascii(bytes: &[u8]) -> bool
     ensures { result ≡ is_ascii bytes.now }
 {
     bytes.is_ascii()
 }
 
-/// The text of bytes that are ASCII.
+/// Returns the text of ASCII bytes.
 #[inline(always)]
 pub(crate) fn ascii_text(bytes: &[u8]) -> Option<&str>
     ensures ascii { IfSome result (λ text. IsAscii text.now) }
@@ -131,7 +130,7 @@ pub(crate) fn ascii_text(bytes: &[u8]) -> Option<&str>
     str::from_utf8(bytes).ok()
 }
 
-/// The text of bytes that are UTF-8.
+/// Returns the text of UTF-8 bytes.
 #[inline(always)]
 pub(crate) fn utf8_text(bytes: &[u8]) -> Option<&str>
     ensures { option_map (λ x. x.now) result ≡ (if is_utf8 bytes.now then Some bytes.now else None) }
@@ -139,7 +138,7 @@ pub(crate) fn utf8_text(bytes: &[u8]) -> Option<&str>
     str::from_utf8(bytes).ok()
 }
 
-/// The bytes after a symbol without its constructor.
+/// Returns the bytes after a symbol without its constructor.
 #[inline(always)]
 #[tactic(auto, unfolding(crate::specs::private::Reading::element_at))]
 pub(crate) fn element_rest(form: Form, bytes: &[u8]) -> Option<&[u8]>
@@ -152,7 +151,7 @@ pub(crate) fn element_rest(form: Form, bytes: &[u8]) -> Option<&[u8]>
     Some(rest)
 }
 
-/// A symbol without its constructor, as it stands in an array.
+/// Reads a symbol without its constructor, like an element of an array.
 #[inline(always)]
 #[tactic(auto, unfolding(crate::specs::private::Reading::element_at))]
 pub(crate) fn element_at(form: Form, bytes: &[u8]) -> Option<(&str, &[u8])>
@@ -164,7 +163,7 @@ pub(crate) fn element_at(form: Form, bytes: &[u8]) -> Option<(&str, &[u8])>
     Some((text, rest))
 }
 
-/// A symbol.
+/// Reads a symbol.
 #[inline(always)]
 #[tactic(auto, unfolding(crate::specs::private::Reading::symbol_at))]
 pub(crate) fn symbol_at(bytes: &[u8]) -> Option<(&str, &[u8])>
@@ -175,7 +174,7 @@ pub(crate) fn symbol_at(bytes: &[u8]) -> Option<(&str, &[u8])>
     element_at(form, rest)
 }
 
-/// A string.
+/// Reads a string.
 #[inline(always)]
 #[tactic(auto, unfolding(crate::specs::private::Reading::string_at))]
 pub(crate) fn string_at(bytes: &[u8]) -> Option<(&str, &[u8])>

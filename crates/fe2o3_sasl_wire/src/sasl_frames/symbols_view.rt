@@ -1,4 +1,4 @@
-//! The symbols of a mechanisms frame, read where they stand. Nothing here takes memory.
+//! The symbols of a mechanisms frame, read in place. Nothing here allocates.
 
 ghost use Rattle.std.specs.Prelude.{◌≡◌, ◌↔◌, [], Some, option_map, length, slice_get, IfSome, IsAscii, IsTrue, Contains};
 ghost use Rattle.std.specs.List.{AllByRecursion};
@@ -11,7 +11,7 @@ use crate::sasl_frames::reading::{
 use std::fmt;
 use std::marker::Model;
 
-/// The symbols of a mechanisms frame (AMQP 1.0, part 5, section 5.3.3.1), where they stand in its body.
+/// The symbols of a mechanisms frame (AMQP 1.0, part 5, section 5.3.3.1), borrowed from its body.
 #[derive(Drop)]
 pub struct SymbolsView<'a> {
     form: Form,
@@ -36,7 +36,7 @@ impl fmt::Debug for SymbolsView<'_> {
     }
 }
 
-/// The bytes after this many elements.
+/// Returns the bytes after this many elements.
 #[inline(always)]
 fn elements_rest(form: Form, count: u32, bytes: &[u8]) -> Option<&[u8]>
     ensures { option_map (λ x. x.now) result ≡ option_map (λ x. x.1) (elements_at form count bytes.now) }
@@ -49,7 +49,7 @@ fn elements_rest(form: Form, count: u32, bytes: &[u8]) -> Option<&[u8]>
     Some(rest)
 }
 
-/// This many elements.
+/// Reads this many elements.
 #[inline(always)]
 pub(crate) fn elements_at(
     form: Form,
@@ -70,21 +70,21 @@ pub(crate) fn elements_at(
 }
 
 impl<'a> SymbolsView<'a> {
-    /// How many symbols there are.
+    /// Returns how many symbols there are.
     pub fn len(&self) -> usize
         ensures { result ≡ length self.now }
     {
         self.count as usize
     }
 
-    /// Whether there is no symbol.
+    /// Returns whether there is no symbol.
     pub fn is_empty(&self) -> bool
         ensures { IsTrue result ↔ (self.now ≡ []) }
     {
         self.count == 0
     }
 
-    /// The symbols from the first to the last, each once. Each step takes one symbol's time.
+    /// Returns an iterator over the symbols, in order. Each step takes one symbol's time.
     pub fn iter(&self) -> SymbolsIter<'a>
         ensures symbols { result ≡ self.now }
         ensures ascii { AllByRecursion IsAscii self.now }
@@ -96,8 +96,8 @@ impl<'a> SymbolsView<'a> {
         }
     }
 
-    /// The symbol at an index, from 0, or None at `len` and above. It reads over all before it:
-    /// `iter` walks them in one pass.
+    /// Returns the symbol at an index, from 0, or None at `len` and above. The call reads all symbols before it: `iter`
+    /// walks them in one pass.
     pub fn get(&self, index: usize) -> Option<&'a str>
         ensures value { option_map (λ x. x.now) result ≡ slice_get self.now index }
         ensures ascii { IfSome result (λ x. IsAscii x.now) }
@@ -113,7 +113,7 @@ impl<'a> SymbolsView<'a> {
         None
     }
 
-    /// Whether a symbol is this text.
+    /// Returns whether a symbol is this text.
     pub fn contains(&self, name: &str) -> bool
         ensures { IsTrue result ↔ Contains self.now name.now }
     {
@@ -131,7 +131,7 @@ impl<'a> SymbolsView<'a> {
     }
 }
 
-/// The symbols of a view that are still to come. It keeps the bytes of those alone.
+/// An iterator over the symbols of a view. It keeps only the bytes of the rest.
 #[derive(Drop)]
 pub struct SymbolsIter<'a> {
     form: Form,
@@ -172,7 +172,7 @@ impl<'a> Iterator for SymbolsIter<'a> {
     }
 }
 
-/// An array behind its constructor.
+/// Reads an array after its constructor.
 #[inline(always)]
 #[tactic(auto, unfolding(crate::specs::private::Reading::array_at))]
 fn array_at(form: Form, bytes: &[u8]) -> Option<(SymbolsView<'_>, &[u8])>
@@ -189,7 +189,7 @@ fn array_at(form: Form, bytes: &[u8]) -> Option<(SymbolsView<'_>, &[u8])>
     Some((symbols, after))
 }
 
-/// A symbol behind its constructor, which stands for a list of one.
+/// Reads a list of one symbol, after the symbol's constructor.
 #[inline(always)]
 #[tactic(auto, unfolding(crate::specs::private::Reading::one_at))]
 fn one_at(form: Form, bytes: &[u8]) -> Option<(SymbolsView<'_>, &[u8])>
@@ -198,7 +198,7 @@ fn one_at(form: Form, bytes: &[u8]) -> Option<(SymbolsView<'_>, &[u8])>
     elements_at(form, 1, bytes)
 }
 
-/// An array of symbols, or one symbol.
+/// Reads an array of symbols, or one symbol.
 #[inline(always)]
 #[tactic(auto, unfolding(crate::specs::private::Reading::symbols_at))]
 pub(crate) fn symbols_at(bytes: &[u8]) -> Option<(SymbolsView<'_>, &[u8])>

@@ -1,4 +1,4 @@
-//! Writing one encoding at the end of a buffer that has room for it. Nothing here takes memory.
+//! Writes one encoding at the end of a buffer that has room for it. Nothing here allocates.
 
 ghost use Rattle.std.specs.Prelude.{◌≡◌, ◌≤◌, ◌<◌, ◌+◌, ◌^◌, ◌-◌, ◌++◌, ◌∷◌, [], length, min, IsAscii};
 ghost use Rattle.std.specs.List.{AllByRecursion};
@@ -12,7 +12,7 @@ use crate::sasl_frames::forms::{
 use crate::sasl_frames::{DATA_OFFSET, FRAME_TYPE_SASL};
 use bytes::BytesMut;
 
-/// The form of a length or a size.
+/// Returns the form of a length or a size.
 pub(crate) fn shortest(len: usize) -> Form
     ensures { result ≡ shortest len }
 {
@@ -23,7 +23,7 @@ pub(crate) fn shortest(len: usize) -> Form
     }
 }
 
-/// How many bytes a size, a length or a count has.
+/// Returns how many bytes a size, a length or a count has.
 pub(crate) fn width(form: Form) -> usize
     ensures { result ≡ width form }
 {
@@ -33,7 +33,7 @@ pub(crate) fn width(form: Form) -> usize
     }
 }
 
-/// The constructor of a form.
+/// Returns the constructor of a form.
 pub(crate) fn choice(short: u8, long: u8, form: Form) -> u8
     ensures { result ≡ choice short long form }
 {
@@ -43,8 +43,7 @@ pub(crate) fn choice(short: u8, long: u8, form: Form) -> u8
     }
 }
 
-/// Writes what stands before the size of a frame's list: data offset, type, two zeros, and the
-/// descriptor with this code.
+/// Writes the bytes before the size of a frame's list: data offset, type, two zeros, and the descriptor with this code.
 pub(crate) fn put_start(out: &mut BytesMut, code: u8, form: Form)
     requires { 8 ≤ out.old.spare }
     ensures items { out.new.items
@@ -88,7 +87,7 @@ pub(crate) fn put_content(out: &mut BytesMut, form: Form, bytes: &[u8])
     out.extend_reserved(bytes);
 }
 
-/// How long a binary, a string or a symbol is when it is written.
+/// Returns the encoded length of a binary, a string or a symbol.
 pub(crate) fn variable_len(bytes: &[u8]) -> usize
     ensures { result ≡ 1 + width (shortest (length bytes.now)) + length bytes.now }
 {
@@ -107,7 +106,7 @@ pub(crate) fn put_variable(out: &mut BytesMut, short: u8, long: u8, bytes: &[u8]
     put_content(out, form, bytes);
 }
 
-/// The form of the elements of an array.
+/// Returns the form of the elements of an array.
 fn inner_form(symbols: &[Symbol]) -> Form
     ensures { result ≡ inner_form symbols.now }
 {
@@ -119,7 +118,7 @@ fn inner_form(symbols: &[Symbol]) -> Form
     Form::Eight
 }
 
-/// How long the elements are, or the largest number where that is larger.
+/// Returns the encoded length of the elements, or the largest number if that is larger.
 fn elements_len(form: Form, symbols: &[Symbol]) -> usize
     ensures len { result ≡ min (length (elements form symbols.now)) (2 ^ 64 - 1) }
     ensures ascii { AllByRecursion IsAscii symbols.now }
@@ -145,7 +144,7 @@ fn put_elements(out: &mut BytesMut, form: Form, symbols: &[Symbol])
     }
 }
 
-/// How long an array of symbols is when it is written, or the largest number where that is larger.
+/// Returns the encoded length of an array of symbols, or the largest number if that is larger.
 pub(crate) fn array_len(symbols: &[Symbol]) -> usize
     ensures len { result ≡ min (length (canonical_array symbols.now)) (2 ^ 64 - 1) }
     ensures ascii { AllByRecursion IsAscii symbols.now }

@@ -1,5 +1,5 @@
--- Worked examples of the words of memory: texts to which running out of memory is no answer, since each is refused before a
--- call comes to ask for any. The law is `laws::texts_without_memory`.
+-- Worked examples of texts for which a call never runs out of memory, since each is rejected before the call allocates.
+-- The law is `laws::texts_without_memory`.
 use Rattle.std.specs.Prelude.{ℕ, List, [], ◌∷◌, ◌++◌, Bool, Option, codes}
 use Rattle.fe2o3_scram.specs.declared.hmac.ScramVersion.{ScramVersion}
 use Rattle.fe2o3_scram.specs.declared.scram_messages.channel_binding_flag.ChannelBindingFlag.TheVariants.{NotSupported}
@@ -22,12 +22,12 @@ abbrev pub AnsweredClientsTakeNone : Type 0
 AnsweredClientsTakeNone = (signature text : List ℕ) (keys : Option ClientKeys)
     → ¬ ReachesSaltIn (ClientFinalSent signature keys) text
 
--- a client-first message without escapes, of a user whom the server does not know (RFC 5802, section 5.1)
+-- a client-first message without escapes, of an unknown user (RFC 5802, section 5.1)
 abbrev pub UnknownUsersTakeNone : Type 0
 UnknownUsersTakeNone = (version : ScramVersion) (cbind_flag_y : Bool)
     → ¬ ReachesChallenge (serving cbind_flag_y (record { version = version; records = [] })) (codes "n,,n=user,r=abc")
 
--- the challenge with the nonce abc, to whatever user
+-- the challenge with the nonce abc, to any user
 abbrev pub challenge_abc : List ℕ → List ℕ → List ℕ → ServerChallenge
 challenge_abc user bare first =
     record { user = user; header = NotSupported; bare = bare; first = first; nonce = codes "abc" }

@@ -1,4 +1,4 @@
--- What the code answers on the way.
+-- Intermediate answers of the code.
 use Rattle.std.specs.Prelude.{ℕ, List, ◌≡◌, ◌+◌, length, Result, Ok, Err}
 use Rattle.fe2o3_scram.specs.Hmac.{digest_len}
 use Rattle.fe2o3_scram.specs.Readings.{IsFirst}
@@ -11,14 +11,14 @@ use Rattle.fe2o3_scram.specs.declared.scram_messages.error.ServerScramErrorKind.
 abbrev pub IsMet : Server → ClientFinal → Type 0
 IsMet server final = (length final.proof ≡ digest_len server.version) × Meets server final
 
--- what the server answers to a proof that was read
+-- what the server answers to a parsed proof
 abbrev pub AnswersProof : Server → ClientFinal → Result (List ℕ) ServerScramErrorKind → Type 0
 AnswersProof server final (Ok message) = (length final.proof ≡ digest_len server.version) × Meets server final
     × (message ≡ server_final_of server final)
 AnswersProof server final (Err fault) = IsFirst (proof_tests server final) fault
 
--- the HMAC values of that answer, as a meter shows them before and after: two where the proof meets the stored key,
--- also where memory runs out behind it, one where it alone is refused, and none where its length is
+-- the HMAC values of the answer to a parsed proof, as a meter shows them before and after: two if the proof meets the
+-- stored key, also if memory runs out after it, one if only it is rejected, and none if its length is
 abbrev pub ProofCosts : {A : Type 0} → Result A ServerScramErrorKind → ℕ → ℕ → Type 0
 ProofCosts (Ok message) before after = after ≡ before + 2
 ProofCosts (Err AuthenticationFailed) before after = after ≡ before + 1

@@ -19,7 +19,7 @@ salt_tests text =
     ∷ (kinds.Base64DecodeError, (salt : List ℕ) → ¬ HasBase64 text 1 (codes "s=") salt)
     ∷ []
 
--- its tests of the iteration count
+-- the client's tests of the iteration count
 abbrev pub count_tests : IterationLimits → List ℕ → List (ScramErrorKind × Type 0)
 count_tests limits text =
     (kinds.IterationCountNotFound, (rest : List ℕ) → ¬ Part text 2 (codes "i=" ++ rest))
@@ -36,14 +36,14 @@ binding_tests header text =
     ∷ (server_kinds.InvalidChannelBinding, ¬ HasBase64 text 0 (codes "c=") (header_text header))
     ∷ []
 
--- its tests of the nonce
+-- the server's tests of the nonce
 abbrev pub final_nonce_tests : List ℕ → List ℕ → List (ServerScramErrorKind × Type 0)
 final_nonce_tests nonce text =
     (server_kinds.CannotParseClientFinalMessage, (rest : List ℕ) → ¬ Part text 1 (codes "r=" ++ rest))
     ∷ (server_kinds.IncorrectClientFinalNonce, ¬ Part text 1 (codes "r=" ++ nonce))
     ∷ []
 
--- its tests of how the proof is spelled
+-- the server's tests of how the proof is spelled
 abbrev pub spelling_tests : List ℕ → List (ServerScramErrorKind × Type 0)
 spelling_tests text =
     (server_kinds.ProofNotFoundInClientFinal, (before rest : List ℕ) → ¬ LastPart text before (codes "p=" ++ rest))

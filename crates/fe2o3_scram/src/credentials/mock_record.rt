@@ -1,4 +1,4 @@
-//! The mock record of a name.
+//! The mock record of a user name.
 
 ghost use Rattle.std.specs.Prelude.{◌≡◌, ◌≤◌, ◌<◌, ◌+◌, ◌^◌, ◌++◌, IfOk, codes, take};
 ghost use Rattle.fe2o3_scram.specs.Credentials.{kept, versioned};
@@ -26,23 +26,22 @@ const STORED_KEY_LABEL: &[u8] = b"StoredKey:";
 const SERVER_KEY_LABEL: &[u8] = b"ServerKey:";
 
 impl ScramRecord {
-    /// Returns the mock record of a name. A server that does not know a user takes it in place of a
-    /// stored record, so that the login goes on as that of a known user and fails at its proof. A
-    /// name has one mock record for each mechanism and secret.
+    /// Returns the mock record of a name. A server uses it for an unknown user in place of a stored record, so that the
+    /// login goes on like that of a known user and fails at its proof. A name has one mock record for each mechanism
+    /// and secret.
     ///
     /// - StoredKey: `HMAC(secret, "StoredKey:" + username)`, with the hash of the version.
     /// - ServerKey: `HMAC(secret, "ServerKey:" + username)`, with the hash of the version.
-    /// - Salt: the first `salt_len` bytes of `HMAC(secret, "Salt:" + mechanism + ":" + username)`,
-    ///   with SHA-512 for each version. A `salt_len` above 64 is taken as 64.
+    /// - Salt: the first `salt_len` bytes of `HMAC(secret, "Salt:" + mechanism + ":" + username)`, with SHA-512 for
+    ///   each version. A `salt_len` above 64 is taken as 64.
     ///
-    /// The mechanism is the name that `ScramVersion::mechanism` returns, as `SCRAM-SHA-256`, so that a
-    /// name has another salt under each mechanism, as a user with several stored records has. The user
-    /// name is plain, and not escaped.
+    /// The mechanism is the name that `ScramVersion::mechanism` returns, such as `SCRAM-SHA-256`, so that a name has
+    /// another salt under each mechanism, like a user with several stored records. The user name is plain, not escaped.
     ///
-    /// The secret is random, has at least 32 bytes, and may serve several mechanisms. Keep it beside
-    /// the records: with another secret the salts of unknown users change and those of known users do
-    /// not. Keep it to yourself: a reader of the secret can tell mock salts from stored ones. Salt
-    /// length and count are those of the server's other records.
+    /// The secret is random, has at least 32 bytes, and may serve several mechanisms. Keep it beside the records: with
+    /// another secret the salts of unknown users change and those of known users do not. Keep it to yourself: a reader
+    /// of the secret can tell mock salts from stored ones. Salt length and count are those of the server's other
+    /// records.
     ///
     /// The only error is `OutOfMemory`.
     pub fn mock(
@@ -71,8 +70,7 @@ impl ScramRecord {
         )
     }
 
-    /// Like `mock`, with a meter. The meter, of at most 2^63, counts three HMAC values, also where
-    /// the call runs out of memory.
+    /// Like `mock`; the meter, of at most 2^63, counts three HMAC values, also if the call runs out of memory.
     pub fn mock_metered(
         alloc: Global,
         scram_version: ScramVersion,
@@ -103,7 +101,7 @@ impl ScramRecord {
     }
 }
 
-/// The values of a mock record, which take no memory.
+/// The values of a mock record, computed without an allocation.
 #[derive(Drop)]
 pub(crate) struct MockValues {
     salt: DigestBytes,
@@ -129,8 +127,8 @@ impl Model for MockValues {
 }
 
 impl MockValues {
-    /// Computes the mock record of a name, as `ScramRecord::mock` does. The meter, of at most 2^63,
-    /// counts three HMAC values.
+    /// Computes the mock record of a name, like `ScramRecord::mock`. The meter, of at most 2^63, counts three HMAC
+    /// values.
     pub(crate) fn new(
         scram_version: ScramVersion,
         secret: &[u8],
@@ -176,8 +174,8 @@ impl MockValues {
     }
 }
 
-/// Returns the 64 bytes of which a mock salt is the beginning. A function of its own, since an array of
-/// slices needs one lifetime for all of them.
+/// Returns the 64 bytes of which a mock salt is the prefix. Split off, since an array of slices needs one lifetime for
+/// all of them.
 fn mock_salt<'a>(
     secret: &[u8],
     mechanism: &'a [u8],
@@ -195,7 +193,7 @@ fn mock_salt<'a>(
     )
 }
 
-/// The first `len` bytes, or all where there are fewer.
+/// Returns the first `len` bytes, or all if there are fewer.
 fn first_bytes(bytes: &[u8], len: usize) -> &[u8]
     ensures { result.now ≡ take len bytes.now }
 {

@@ -1,4 +1,4 @@
-//! The records of several users, of several versions, as the lines of a text.
+//! Reads and writes records of several users and versions as the lines of a text.
 
 ghost use Rattle.std.specs.Prelude.{◌≡◌, ◌≢◌, ◌↔◌, ◌<◌, ◌++◌, [], ◌∷◌, ℕ, List, IsTrue, IfOk, IfErr, OnErr, OnOk, length};
 ghost use Rattle.std.specs.List.{AllByRecursion};
@@ -14,15 +14,13 @@ use crate::credentials::record_lines::{
 use std::alloc::Global;
 
 impl MultiRecordStore {
-    /// Reads a text with a line for each user, as `RecordStore::parse_lines` does, but each
-    /// line's record is for whatever version it names (RFC 5803, section 2). The empty text has no
-    /// user.
+    /// Reads a text with a line for each user, like `RecordStore::parse_lines`, but each record may be of any version
+    /// (RFC 5803, section 2). The empty text has no user.
     ///
-    /// Refused is the first line that is not such a line, by its number from 1 and the first of:
-    /// `LineFeedMissing`, `SpaceMissing`, `InvalidName`, and `InvalidRecord` with what
-    /// `ScramRecord::parse` refuses. `VersionMismatch` is never answered, and `OutOfMemory` only for a
-    /// line with a line feed and a space, and no comma before its last space, behind lines that are
-    /// read.
+    /// The error is that of the first malformed line. It has the line's number, from 1, and the first kind that
+    /// applies: `LineFeedMissing`, `SpaceMissing`, `InvalidName`, or `InvalidRecord` with the error of
+    /// `ScramRecord::parse`. `VersionMismatch` is never returned. `OutOfMemory` is returned only for a line with a line
+    /// feed and a space, no comma before its last space, and no malformed line before it.
     pub fn parse_lines(alloc: Global, text: &str) -> Result<Self, ReadLinesError>
         ensures ok { IfOk result (SpellsMixed text.now) }
         ensures err { IfErr result (λ error. error.kind ≢ ReadLinesErrorKind.OutOfMemory
@@ -44,8 +42,7 @@ impl MultiRecordStore {
         Ok(store)
     }
 
-    /// Reads the first line of a text that is not empty, adds its user behind the others, and hands
-    /// out what follows the line.
+    /// Reads the first line of a text that is not empty, adds its user, and returns what follows the line.
     fn read_line<'a>(&mut self, alloc: Global, text: &'a str) -> Result<&'a str, ReadLinesErrorKind>
         requires { text.now ≢ [] }
         ensures ok { IfOk result (λ rest. (user : List ℕ × VersionedRecord) × IsMixedReadable user
@@ -60,11 +57,12 @@ impl MultiRecordStore {
         Ok(rest)
     }
 
-    /// Writes the users' text in UTF-8, a line for each, in one spelling. `parse_lines` reads it again.
-    /// The text of users that `parse_lines` has read is the text that it read.
+    /// Writes the users as UTF-8 text, a line for each, in one spelling. `parse_lines` reads the text again.
     ///
-    /// The errors are `UserNotWritable`, exactly if a user's name has a line feed or a record has the
-    /// count 0 or a key that is not as long as a digest, and `OutOfMemory`, only if there is a user.
+    /// Users that `parse_lines` has read are written as the text that it read.
+    ///
+    /// The errors are `UserNotWritable`, exactly if a name has a line feed, a count is 0, or a key is not as long as a
+    /// digest, and `OutOfMemory`, only if there is a user.
     pub fn to_lines(&self, alloc: Global) -> Result<Vec<u8>, WriteLinesError>
         ensures ok { IfOk result (λ text. text.items ≡ mixed_text self.now) }
         ensures refused { (result ≡ Err WriteLinesError.UserNotWritable)
@@ -81,7 +79,7 @@ impl MultiRecordStore {
 }
 
 impl MultiUser {
-    /// Whether the user's line is read again.
+    /// Returns whether `parse_lines` would read the user's line again.
     fn is_writable(&self) -> bool
         ensures { IsTrue result ↔ IsMixedWritable self.now }
     {
@@ -93,7 +91,7 @@ impl MultiUser {
         )
     }
 
-    /// Writes the user's line at the end of the text, and its line feed.
+    /// Appends the user's line and its line feed to the text.
     fn push_line(&self, alloc: Global, text: &mut Vec<u8>) -> Result<(), OutOfMemory>
         ensures { OnOk result (text.new.items ≡ text.old.items
             ++ (mixed_line self.now ++ (10 ∷ []))) }
@@ -109,7 +107,7 @@ impl MultiUser {
     }
 }
 
-/// Whether each user's line is read again.
+/// Returns whether `parse_lines` would read each user's line again.
 #[tactic(auto, using(crate::proofs::lemmas::messages::RecordLinesLemmas::each_user))]
 fn are_writable(users: &[MultiUser]) -> bool
     ensures { IsTrue result ↔ AllByRecursion IsMixedWritable users.now }
@@ -122,7 +120,7 @@ fn are_writable(users: &[MultiUser]) -> bool
     true
 }
 
-/// Writes the users' lines at the end of the text.
+/// Appends the users' lines to the text.
 #[tactic(auto, using(crate::proofs::lemmas::messages::MixedLinesLemmas::mixed_writing))]
 fn push_users(alloc: Global, text: &mut Vec<u8>, users: &[MultiUser]) -> Result<(), OutOfMemory>
     ensures ok { OnOk result (text.new.items ≡ text.old.items ++ mixed_text users.now) }

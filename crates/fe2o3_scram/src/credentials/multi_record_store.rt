@@ -1,4 +1,4 @@
-//! The records of several users, of several versions, as a provider of each version.
+//! A store for the records of several users and versions.
 
 ghost use Rattle.std.specs.Prelude.{◌≡◌, ◌≢◌, ◌++◌, ◌∷◌, [], IfOk, OnErr, OnOk, map, nat_eq};
 ghost use Rattle.std.specs.Borrow.{Bor};
@@ -16,7 +16,7 @@ use std::fmt;
 use std::marker::Model;
 use std::sync::Arc;
 
-/// A user and one record of the user's password, which is shared.
+/// A user and a shared record of the user's password.
 #[derive(Drop)]
 pub(crate) struct MultiUser {
     username: String,
@@ -34,21 +34,21 @@ impl Model for MultiUser {
 }
 
 impl MultiUser {
-    /// The name, plain, and not escaped.
+    /// Returns the user name, plain, not escaped.
     pub(crate) fn username(&self) -> &str
         ensures { result.now ≡ self.now.0 }
     {
         &self.username
     }
 
-    /// The record.
+    /// Returns the user's record.
     pub(crate) fn record(&self) -> &ScramRecord
         ensures { result.now ≡ self.now.1 }
     {
         &self.kept
     }
 
-    /// Whether this is the user's name.
+    /// Returns whether this is the user's name.
     fn is_named(&self, username: &str) -> bool
         ensures { result ≡ pointwise nat_eq self.now.0 username.now }
     {
@@ -56,12 +56,11 @@ impl MultiUser {
     }
 }
 
-/// The records of several users, for several versions, as a file that was moved from one version to
-/// another has them (RFC 5803, section 2). A user may have several, also for one version: of two with
-/// one name and one version the first counts.
+/// The records of several users and versions, like a file that was migrated from one version to another (RFC 5803,
+/// section 2). A user may have several, also for one version: of two with one name and one version the first counts.
 ///
-/// The records of one version are a store of that version, which a login asks. Each record is kept
-/// once, and each name three times: here in the order of all, and twice in the store of its version.
+/// Each version has a store of its own, in which a login looks users up. Each record is stored once, and each name
+/// three times: in the order of all users, and twice in the store of its version.
 #[derive(Drop)]
 pub struct MultiRecordStore {
     alloc: Global,
@@ -99,8 +98,8 @@ impl MultiRecordStore {
         }
     }
 
-    /// Adds a user's record, of any version, after the others. The name is plain, and not escaped. If
-    /// an earlier record has the name and the version, that one counts.
+    /// Adds a user's record, of any version, after the others. The name is plain, not escaped. If an earlier record has
+    /// the name and the version, that one counts.
     ///
     /// The only error is `OutOfMemory`, which leaves the store as it was.
     pub fn add(&mut self, username: String, kept: ScramRecord) -> Result<(), OutOfMemory>
@@ -125,8 +124,8 @@ impl MultiRecordStore {
         added
     }
 
-    /// The records of this version, in their order, as a provider. A clone of it shares the users, and
-    /// asks for no memory; a name is found by a map.
+    /// Returns the records of this version, in their order, as a provider. A clone of it shares the users and allocates
+    /// nothing. Names are looked up in a map.
     pub fn for_version(&self, scram_version: ScramVersion) -> &RecordStore
         ensures { result.now ≡ provider_for scram_version self.now }
     {
@@ -137,8 +136,8 @@ impl MultiRecordStore {
         }
     }
 
-    /// Returns the records of the name, for every version, in their order. The name is plain, and not
-    /// escaped. Each user's name is compared.
+    /// Returns the records of the name, for every version, in their order. The name is plain, not escaped. Each user's
+    /// name is compared.
     ///
     /// The only error is `OutOfMemory`, for a name that has a record.
     pub fn records(&self, username: &str) -> Result<Vec<&ScramRecord>, OutOfMemory>
@@ -164,7 +163,7 @@ impl MultiRecordStore {
 }
 
 impl fmt::Debug for MultiRecordStore {
-    /// No more than the name of the type: who has the keys can play the server.
+    /// Writes only the name of the type: with the keys anyone can impersonate the server.
     fn fmt<W: fmt::Write>(&self, f: &mut fmt::Formatter<W>) -> fmt::Result {
         f.write_str("MultiRecordStore { .. }")
     }

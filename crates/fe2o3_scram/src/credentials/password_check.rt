@@ -1,4 +1,4 @@
-//! Whether a password is that of a record (RFC 5802, section 3).
+//! Tests a password against a record (RFC 5802, section 3).
 
 ghost use Rattle.std.specs.Prelude.{◌≡◌, ◌≤◌, ◌+◌, ◌^◌, ◌↔◌, IsTrue};
 ghost use Rattle.fe2o3_scram.specs.Credentials.{CheckingCosts, MeetsRecord, kept, record_of};
@@ -10,16 +10,16 @@ use crate::provider::StoredPassword;
 use crate::same_bytes::same_bytes;
 
 impl StoredPassword<'_> {
-    /// Returns whether this was kept of the password, for the version of its provider: what a server asks
-    /// that receives the password itself, as by PLAIN (RFC 4616). The answer is `false` for a typed password
-    /// that is not printable ASCII, and for every password where the iteration count is 0 or a key is not as
-    /// long as a digest. It takes no memory.
+    /// Returns whether this record is of the password, for the provider's version. A server that receives the password
+    /// itself, for example by PLAIN (RFC 4616), asks this. The result is `false` for a typed password that is not
+    /// printable ASCII, and for every password if the iteration count is 0 or a key is not as long as a digest. The
+    /// call allocates nothing.
     ///
-    /// The meter, of at most 2^63, counts the HMAC values: two more than the iterations, and none for a typed
-    /// password that is not printable ASCII or where the count is 0.
+    /// The meter, of at most 2^63, counts the HMAC values: two more than the iterations, and none for a typed password
+    /// that is not printable ASCII or if the count is 0.
     ///
-    /// That keys are compared over the whole length, whatever the bytes are, is read in the code and
-    /// not proved; no claim is made about time.
+    /// Keys are compared over the whole length, whatever the bytes are. That is read in the code and not proved; no
+    /// claim is made about time.
     pub fn verify_password(
         &self,
         scram_version: ScramVersion,
@@ -39,7 +39,7 @@ impl StoredPassword<'_> {
         self.has_keys_of(scram_version, text, meter)
     }
 
-    /// Whether the keys are those of the password with this salt and this count, of at least 1.
+    /// Returns whether the keys are those of the password with this salt and this count, of at least 1.
     fn has_keys_of(&self, scram_version: ScramVersion, password: &str, meter: &mut Meter) -> bool
         requires some { 1 ≤ self.now.iterations }
         requires room { meter.old ≤ 2 ^ 63 }

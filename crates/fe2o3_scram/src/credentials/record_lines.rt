@@ -1,4 +1,4 @@
-//! The records of several users as the lines of a text.
+//! Reads and writes the records of several users as the lines of a text.
 
 ghost use Rattle.std.specs.Prelude.{◌≡◌, ◌≢◌, ◌↔◌, ◌⊎◌, ◌<◌, ◌+◌, ◌++◌, [], ◌∷◌, ℕ, List, IsTrue, IfOk, IfErr, OnErr, OnOk, MatchOption, length, string_bytes};
 ghost use Rattle.std.specs.List.{AllByRecursion};
@@ -23,35 +23,35 @@ use crate::texts::cut;
 use std::alloc::{AllocError, AllocFailed, Global};
 use thiserror::Error;
 
-/// Why a line is not read as a user's.
+/// Why a line is not read as a user.
 #[derive(Debug, Clone, Copy, PartialEq, Eq, Error)]
 pub enum ReadLinesErrorKind {
-    /// No line feed ends the line, which is the last.
+    /// The last line does not end with a line feed.
     #[error("Line feed missing")]
     LineFeedMissing,
 
-    /// No space stands in the line.
+    /// The line has no space.
     #[error("Space missing")]
     SpaceMissing,
 
-    /// What stands before the last space is no escaped name.
+    /// The text before the last space is not an escaped name.
     #[error("Cannot parse username")]
     InvalidName,
 
-    /// What stands behind the last space is no record.
+    /// The text after the last space is not a record.
     #[error("{0}")]
     InvalidRecord(RecordTextError),
 
-    /// The record is for another version than the one that was asked for.
+    /// The record is for another version than the requested one.
     #[error("Version mismatch")]
     VersionMismatch,
 
-    /// A request for memory was refused.
+    /// An allocation failed.
     #[error("Out of memory")]
     OutOfMemory,
 }
 
-/// The first line that is not read, and why.
+/// The first malformed line, and why.
 #[derive(Debug, Clone, Copy, PartialEq, Eq, Error)]
 #[error("Line {line}: {kind}")]
 pub struct ReadLinesError {
@@ -65,12 +65,12 @@ pub struct ReadLinesError {
 /// Why users are not written as lines.
 #[derive(Debug, Clone, Copy, PartialEq, Eq, Error)]
 pub enum WriteLinesError {
-    /// A user whose line would not be read again: a line feed stands in the name, the count is 0, or
-    /// a key is not as long as a digest.
+    /// A user's line would not be read again: the name has a line feed, the count is 0, or a key is not as long as a
+    /// digest.
     #[error("User not writable")]
     UserNotWritable,
 
-    /// A request for memory was refused.
+    /// An allocation failed.
     #[error("Out of memory")]
     OutOfMemory,
 }
@@ -100,16 +100,16 @@ impl From<AllocError> for WriteLinesError {
 }
 
 impl RecordStore {
-    /// Reads a text with a line for each user: the name, with each comma as `=2C` and each equals
-    /// sign as `=3D` (RFC 5802, section 5.1), a space, the text of the record (RFC 5803, section 2),
-    /// and a line feed. The users stand in the order of their lines. A name may be empty and may
-    /// hold spaces: the last space of a line is the one behind the name. The empty text has no user.
+    /// Reads a text with a line for each user: the name, with each comma as `=2C` and each equals sign as `=3D` (RFC
+    /// 5802, section 5.1), a space, the text of the record (RFC 5803, section 2), and a line feed. The users keep the
+    /// order of their lines. A name may be empty and may have spaces, since only the last space of a line ends it. The
+    /// empty text has no user.
     ///
-    /// Refused is the first line that is not such a line, by its number from 1 and the first of:
-    /// `LineFeedMissing`, `SpaceMissing`, `InvalidName`, `InvalidRecord` with what `ScramRecord::parse`
-    /// refuses, `VersionMismatch` where the record is for another version than this. `OutOfMemory`
-    /// is answered only for a line with a line feed and a space, and no comma before its last space,
-    /// behind lines that are read.
+    /// The error is that of the first malformed line. It has the line's number, from 1, and the first kind that
+    /// applies: `LineFeedMissing`, `SpaceMissing`, `InvalidName`, `InvalidRecord` with the error of
+    /// `ScramRecord::parse`, or `VersionMismatch` if the record is for another version than this. `OutOfMemory` is
+    /// returned only for a line with a line feed and a space, no comma before its last space, and no malformed line
+    /// before it.
     pub fn parse_lines(
         alloc: Global,
         scram_version: ScramVersion,
@@ -136,8 +136,7 @@ impl RecordStore {
         Ok(store)
     }
 
-    /// Reads the first line of a text that is not empty, adds its user behind the others, and hands
-    /// out what follows the line.
+    /// Reads the first line of a text that is not empty, adds its user, and returns what follows the line.
     fn read_line<'a>(&mut self, alloc: Global, text: &'a str) -> Result<&'a str, ReadLinesErrorKind>
         requires { text.now ≢ [] }
         ensures ok { IfOk result (λ rest. (user : List ℕ × Record) × IsLineReadable self.old.version user
@@ -156,10 +155,10 @@ impl RecordStore {
         }
     }
 
-    /// Writes the users' text in UTF-8, a line for each, in one spelling. `parse_lines` reads it again.
+    /// Writes the users as UTF-8 text, a line for each, in one spelling. `parse_lines` reads the text again.
     ///
-    /// The errors are `UserNotWritable`, exactly if a user's name has a line feed or a record has the
-    /// count 0 or a key that is not as long as a digest, and `OutOfMemory`, only if there is a user.
+    /// The errors are `UserNotWritable`, exactly if a name has a line feed, a count is 0, or a key is not as long as a
+    /// digest, and `OutOfMemory`, only if there is a user.
     pub fn to_lines(&self, alloc: Global) -> Result<Vec<u8>, WriteLinesError>
         ensures ok { IfOk result (λ text. text.items ≡ users_text self.now.version self.now.records) }
         ensures refused { (result ≡ Err WriteLinesError.UserNotWritable)
@@ -176,7 +175,7 @@ impl RecordStore {
     }
 }
 
-/// What stands before the last separator, which is ASCII, and what follows it.
+/// Splits the text at its last separator, which is ASCII.
 fn last_cut(text: &str, separator: char) -> Option<(&str, &str)>
     requires { separator < 128 }
     ensures { MatchOption result ((before rest : List ℕ) → ¬ LastCut separator text.now before rest)
@@ -185,8 +184,8 @@ fn last_cut(text: &str, separator: char) -> Option<(&str, &str)>
     text.rsplit_once(separator)
 }
 
-/// The name and the record, for whatever version, of the first line of a text that is not empty, and
-/// what follows the line.
+/// Returns the name and the record, of any version, of the first line of a text that is not empty, and the text after
+/// the line.
 pub(crate) fn read_head(
     alloc: Global,
     text: &str,
@@ -205,7 +204,7 @@ pub(crate) fn read_head(
     Ok((username, kept, rest))
 }
 
-/// The name and the record, for whatever version, of a line, which stands here without its line feed.
+/// Returns the name and the record, of any version, of a line without its line feed.
 fn read_user(alloc: Global, line: &str) -> Result<(String, ScramRecord), ReadLinesErrorKind>
     requires { Without 10 line.now }
     ensures ok { IfOk result (λ user. IsMixedReadable (string_bytes user.0, user.1)
@@ -223,7 +222,7 @@ fn read_user(alloc: Global, line: &str) -> Result<(String, ScramRecord), ReadLin
     Ok((username, kept))
 }
 
-/// The name that is escaped so.
+/// Returns the name that the text escapes.
 #[tactic(auto, using(crate::proofs::lemmas::messages::RecordLinesLemmas::read_names))]
 fn read_name(alloc: Global, name: &str) -> Result<String, ReadLinesErrorKind>
     ensures ok { IfOk result (λ plain. escaped (string_bytes plain) ≡ name.now) }
@@ -239,7 +238,7 @@ fn read_name(alloc: Global, name: &str) -> Result<String, ReadLinesErrorKind>
     }
 }
 
-/// The record that is written so.
+/// Returns the record that the text spells.
 fn read_record(alloc: Global, text: &str) -> Result<ScramRecord, ReadLinesErrorKind>
     ensures ok { IfOk result (λ read. ReadsRecord text.now (Ok read)) }
     ensures err { IfErr result (λ kind. (kind ≡ ReadLinesErrorKind.OutOfMemory)
@@ -254,7 +253,7 @@ fn read_record(alloc: Global, text: &str) -> Result<ScramRecord, ReadLinesErrorK
     }
 }
 
-/// Whether the line of a user is read again.
+/// Returns whether the user's line would be read again.
 pub(crate) fn is_writable(
     username: &str,
     scram_version: ScramVersion,
@@ -269,7 +268,7 @@ pub(crate) fn is_writable(
         && stored_password.server_key.len() == digest_len
 }
 
-/// Writes the line of a user at the end of the text, and its line feed.
+/// Appends a user's line and its line feed to the text.
 pub(crate) fn push_line(
     alloc: Global,
     text: &mut Vec<u8>,
@@ -288,7 +287,7 @@ pub(crate) fn push_line(
     Ok(())
 }
 
-/// Whether no line feed stands in the name.
+/// Returns whether the name has no line feed.
 #[tactic(auto, using(crate::proofs::lemmas::texts::CutLemmas::cuts))]
 fn has_no_line_feed(name: &str) -> bool
     ensures { IsTrue result ↔ Without 10 name.now }
@@ -296,7 +295,7 @@ fn has_no_line_feed(name: &str) -> bool
     cut(name, '\n').is_none()
 }
 
-/// Whether each user's line is read again.
+/// Returns whether each user's line would be read again.
 #[tactic(auto, using(crate::proofs::lemmas::messages::RecordLinesLemmas::each_user))]
 fn are_writable(users: &[User], scram_version: ScramVersion) -> bool
     ensures { IsTrue result ↔ AllByRecursion (IsWritable scram_version) users.now }
@@ -309,7 +308,7 @@ fn are_writable(users: &[User], scram_version: ScramVersion) -> bool
     true
 }
 
-/// Writes the users' lines at the end of the text.
+/// Appends the users' lines to the text.
 #[tactic(auto, using(crate::proofs::lemmas::messages::RecordLinesLemmas::writing))]
 fn push_users(
     alloc: Global,

@@ -1,4 +1,4 @@
-//! The records of several users as a provider.
+//! A store for the records of several users.
 
 ghost use Rattle.std.specs.Prelude.{◌≡◌, ◌≢◌, ◌↔◌, ◌++◌, [], ◌∷◌, IfOk, OnErr, OnOk, is_some, option_map, true};
 ghost use Rattle.std.specs.String.{string_bytes};
@@ -19,11 +19,11 @@ use thiserror::Error;
 /// Why a record is not added.
 #[derive(Debug, Clone, Copy, PartialEq, Eq, Error)]
 pub enum AddRecordError {
-    /// The record is for another version than the others.
+    /// The record is for another version than the store.
     #[error("Version mismatch")]
     VersionMismatch,
 
-    /// A request for memory was refused.
+    /// An allocation failed.
     #[error("Out of memory")]
     OutOfMemory,
 }
@@ -46,13 +46,11 @@ impl<T: Drop> From<AllocFailed<T>> for AddRecordError {
 
 /// The records of several users, all for one version. Of two with one name the first counts.
 ///
-/// A clone shares the users and asks for no memory; it may be in another thread. A change of a store
-/// whose users are shared copies them first, once, with about two requests for memory for each user:
-/// for their names and places, while their records stay shared. From then on the store has its own
-/// users, and the other stores are unchanged.
+/// A clone shares the users and allocates nothing; another thread may have it. The first change of a store whose users
+/// are shared copies them, with about two allocations for each user: for names and places, while the records stay
+/// shared. From then on the store has its own users, and the other stores are unchanged.
 ///
-/// A name is found by a map, in a time that grows with the logarithm of the number of users. Each
-/// name is kept twice for it.
+/// Names are looked up in a map, in time logarithmic in the number of users. Each name is stored twice for it.
 #[derive(Drop)]
 pub struct RecordStore {
     alloc: Global,
@@ -88,8 +86,8 @@ impl RecordStore {
         }
     }
 
-    /// Adds a user after the others. The name is plain, and not escaped. If an earlier user has the
-    /// name, the record of that one counts.
+    /// Adds a user after the others. The name is plain, not escaped. If an earlier user has the name, the record of
+    /// that one counts.
     ///
     /// The errors are, in this order: `VersionMismatch` if the record is for another version, and
     /// `OutOfMemory`. An error leaves the store as it was.
@@ -130,9 +128,9 @@ impl RecordStore {
         Ok(())
     }
 
-    /// Replaces the record that counts for the name, and returns whether there was one. An unknown
-    /// name changes nothing. The name is plain, and not escaped. The other records stay, in their
-    /// order, also further ones of the name. Names are compared up to the first of this one.
+    /// Replaces the record that counts for the name, and returns whether there was one. An unknown name changes
+    /// nothing. The name is plain, not escaped. The other records stay, in their order, also further ones of the name.
+    /// Names are compared up to the first of this one.
     ///
     /// The errors are, in this order: `VersionMismatch` if the record is for another version, and
     /// `OutOfMemory`, only for a name that has a record. An error leaves the store as it was.
@@ -162,12 +160,12 @@ impl RecordStore {
         Ok(found)
     }
 
-    /// Removes every record of the name, so that none of them counts later, and returns whether there
-    /// was one. The name is plain, and not escaped. The other records stay, in their order. Each
-    /// user's name is compared where there is one to remove.
+    /// Removes every record of the name, so that none of them counts later, and returns whether there was one. The name
+    /// is plain, not escaped. The other records keep their order. Each user's name is compared if there is one to
+    /// remove.
     ///
-    /// The only error is `OutOfMemory`, for a name that has a record, in a store whose users are
-    /// shared: memory is asked for only to copy them. An error leaves the store as it was.
+    /// The only error is `OutOfMemory`, for a name that has a record, in a store whose users are shared: it allocates
+    /// only to copy them. An error leaves the store as it was.
     #[tactic(auto, using(crate::proofs::lemmas::providers::ByNameLemmas::without_mock))]
     pub fn remove(&mut self, username: &str) -> Result<bool, OutOfMemory>
         ensures ok { IfOk result (λ found.
@@ -188,9 +186,8 @@ impl RecordStore {
         Ok(true)
     }
 
-    /// Returns the record that counts for the name, or `None` for an unknown name. The name is plain,
-    /// and not escaped. To move a user, add a clone of the record to another store, and remove the
-    /// name here.
+    /// Returns the record that counts for the name, or `None` for an unknown name. The name is plain, not escaped. To
+    /// move a user, add a clone of the record to another store, and remove the name here.
     pub fn record(&self, username: &str) -> Option<&ScramRecord>
         ensures { option_map (λ found. found.now) result
             ≡ option_map (versioned self.now.version) (record_at self.now.records username.now) }

@@ -1,4 +1,4 @@
-//! The text of a record (RFC 5803, section 2).
+//! Reads and writes the text of a record (RFC 5803, section 2).
 
 ghost use Rattle.std.specs.Prelude.{◌≡◌, ◌≢◌, ◌⊎◌, ◌↔◌, IsTrue, ℕ, List, length, IfOk, IfErr, MatchOption, string_bytes};
 ghost use Rattle.fe2o3_scram.specs.Credentials.{VersionedRecord, kept};
@@ -16,21 +16,21 @@ use crate::texts::{base64_len, bytes_of, cut, plain_count_of, push_base64};
 use std::alloc::{AllocError, Global};
 use thiserror::Error;
 
-/// What the separators and the longest count take.
+/// The length of the separators and of the longest count.
 const FIXED_LEN: usize = 14;
 
-/// Why a text is not read as a record.
+/// Why a text is not a record.
 #[derive(Debug, Clone, Copy, PartialEq, Eq, Error)]
 pub enum RecordTextError {
     /// The text does not have five fields: parts are missing or left over.
     #[error("Parts missing or left over")]
     PartsMismatch,
 
-    /// The first field is the name of no mechanism that is known here.
+    /// The first field is not the name of a known mechanism.
     #[error("Unknown SCRAM mechanism")]
     UnknownMechanism,
 
-    /// The second field is no number from 1 to 4294967295 in decimal without a sign or leading zeros.
+    /// The second field is not a number from 1 to 4294967295 in decimal without a sign or leading zeros.
     #[error("Cannot parse iteration count")]
     IterationCountParseError,
 
@@ -42,7 +42,7 @@ pub enum RecordTextError {
     #[error("Key length mismatch")]
     KeyLengthMismatch,
 
-    /// A request for memory was refused.
+    /// An allocation failed.
     #[error("Out of memory")]
     OutOfMemory,
 }
@@ -55,7 +55,7 @@ impl From<AllocError> for RecordTextError {
     }
 }
 
-/// The fields of a record's text, as they stand there.
+/// The fields of a record's text, still encoded.
 #[derive(Drop)]
 pub(crate) struct RecordFields<'a> {
     mechanism: &'a str,
@@ -66,15 +66,18 @@ pub(crate) struct RecordFields<'a> {
 }
 
 impl ScramRecord {
-    /// Reads the text of a record (RFC 5803, section 2), which has one spelling: the name of the
-    /// mechanism, a dollar sign, the count in decimal, a colon, the salt, a dollar sign, the stored
-    /// key, a colon and the server key, with salt and keys in base64, and no spaces.
+    /// Reads the text of a record (RFC 5803, section 2), which has one spelling: the name of the mechanism, a dollar
+    /// sign, the count in decimal, a colon, the salt, a dollar sign, the stored key, a colon and the server key. Salt
+    /// and keys are base64, and there are no spaces.
     ///
-    /// Refused are, in this order: `PartsMismatch` where the text does not have these five fields,
-    /// `UnknownMechanism`, `IterationCountParseError` (a count of 0 and one with a sign or a leading
-    /// zero too), `Base64DecodeError` for the salt, the stored key or the server key, and
-    /// `KeyLengthMismatch` where a key is not as long as a digest. `OutOfMemory` is answered only
-    /// where none of the first three holds.
+    /// The errors are, in this order:
+    /// - `PartsMismatch` if the text does not have these five fields;
+    /// - `UnknownMechanism`;
+    /// - `IterationCountParseError`, also for a count of 0 or with a sign or a leading zero;
+    /// - `Base64DecodeError` for the salt, the stored key or the server key;
+    /// - `KeyLengthMismatch` if a key is not as long as a digest.
+    ///
+    /// `OutOfMemory` is returned only if none of the first three applies.
     pub fn parse(alloc: Global, text: &str) -> Result<Self, RecordTextError>
         ensures { Gives RecordTextError.OutOfMemory (ReachesValues text.now) (λ (read : VersionedRecord). read) result
             (ReadsRecord text.now) }
@@ -86,10 +89,10 @@ impl ScramRecord {
         read_values(alloc, &fields, scram_version, iterations)
     }
 
-    /// The one text of the record (RFC 5803, section 2). It is read again by `parse` where the count
-    /// is not 0 and the keys are as long as a digest, as those of a password are.
+    /// Writes the record's one text (RFC 5803, section 2). `parse` reads it again if the count is not 0 and the keys
+    /// are as long as a digest, like those of a password.
     ///
-    /// `OutOfMemory` is the only refusal.
+    /// The only error is `OutOfMemory`.
     pub fn to_text(&self, alloc: Global) -> Result<String, OutOfMemory>
         ensures { IfOk result (λ text. string_bytes text ≡ text_of_record self.now) }
     {
@@ -97,7 +100,7 @@ impl ScramRecord {
     }
 }
 
-/// The text of a record of this version.
+/// Writes the text of a record of this version.
 pub(crate) fn record_text(
     alloc: Global,
     scram_version: ScramVersion,
@@ -126,7 +129,7 @@ pub(crate) fn record_text(
     Ok(text)
 }
 
-/// The five fields of the text, with a separator between any two.
+/// Returns the five fields of the text, split at the separators.
 fn fields_of(text: &str) -> Option<RecordFields<'_>>
     ensures { MatchOption result ((fields : Fields) → ¬ HasFields text.now fields)
         (λ fields. HasFields text.now (fields_values fields)) }
@@ -157,7 +160,7 @@ fn fields_of(text: &str) -> Option<RecordFields<'_>>
 }
 
 impl RecordFields<'_> {
-    /// Whether no field holds a separator.
+    /// Returns whether no field has a separator.
     fn are_plain(&self) -> bool
         ensures { IsTrue result ↔ ArePlain (fields_values self.now) }
     {
@@ -169,7 +172,7 @@ impl RecordFields<'_> {
     }
 }
 
-/// Whether the text holds no separator.
+/// Returns whether the text has no separator.
 #[tactic(auto, using(crate::proofs::lemmas::texts::CutLemmas::cuts))]
 fn is_plain(text: &str) -> bool
     ensures { IsTrue result ↔ Plain text.now }
@@ -177,7 +180,7 @@ fn is_plain(text: &str) -> bool
     cut(text, '$').is_none() && cut(text, ':').is_none()
 }
 
-/// The version and the count that the fields name.
+/// Returns the version and the count that the fields name.
 fn read_head(fields: &RecordFields<'_>) -> Result<(ScramVersion, u32), RecordTextError>
     ensures tested { IfOk result (λ _. NoneHolds (head_tests (fields_values fields.now))) }
     ensures version { IfOk result (λ head. mechanism_name head.0 ≡ (fields_values fields.now).mechanism) }
@@ -193,7 +196,7 @@ fn read_head(fields: &RecordFields<'_>) -> Result<(ScramVersion, u32), RecordTex
     Ok((scram_version, iterations))
 }
 
-/// The bytes that a field spells.
+/// Returns the bytes that a field encodes.
 fn bytes_in(alloc: Global, field: &str) -> Result<Vec<u8>, RecordTextError>
     ensures ok { IfOk result (λ bytes. IsBase64 field.now bytes.items) }
     ensures err { IfErr result (λ error. (error ≡ RecordTextError.OutOfMemory)
@@ -205,14 +208,14 @@ fn bytes_in(alloc: Global, field: &str) -> Result<Vec<u8>, RecordTextError>
     }
 }
 
-/// Whether the key is as long as a digest of the version.
+/// Returns whether the key is as long as a digest of the version.
 fn is_sized(key: &[u8], scram_version: ScramVersion) -> bool
     ensures { IsTrue result ↔ (length key.now ≡ digest_len scram_version) }
 {
     key.len() == scram_version.digest_len()
 }
 
-/// The salt and the keys of the fields, which name this version and this count.
+/// Returns the record of fields that name this version and this count.
 #[tactic(auto, using(crate::proofs::lemmas::messages::RecordTextLemmas::keys))]
 fn read_values(
     alloc: Global,

@@ -1,4 +1,4 @@
-//! What is kept of one password, owned (RFC 5802, section 3).
+//! An owned record of one password (RFC 5802, section 3).
 
 ghost use Rattle.std.specs.Prelude.{◌≡◌, ◌≤◌, ◌^◌};
 ghost use Rattle.fe2o3_scram.specs.Credentials.{MakesRecord, MakingCosts, VersionedRecord, kept, making_tests};
@@ -13,8 +13,7 @@ use std::alloc::{AllocError, Global};
 use std::fmt;
 use std::marker::Model;
 
-/// What a server keeps of one password, and the version that it is for. The password itself is not
-/// in it.
+/// What a server stores for one password, and the version that it is for. It does not contain the password.
 #[derive(Drop)]
 pub struct ScramRecord {
     scram_version: ScramVersion,
@@ -42,15 +41,15 @@ impl Model for ScramRecord {
 }
 
 impl ScramRecord {
-    /// Returns the record of a password (RFC 5802, section 3). The salt is any bytes, and has to be fresh for
-    /// each record. Of the password only the keys are kept. Of printable ASCII a typed and a prepared password
-    /// have one record; with another prepared password a client logs in by that very text only.
+    /// Makes the record of a password (RFC 5802, section 3). The salt is any bytes, and has to be new for each record.
+    /// Only the keys are kept, not the password. Printable ASCII has one record, typed or prepared. With another
+    /// prepared password a client logs in by that very text only.
     ///
-    /// The errors are, in this order: `NormalizeError` for a typed password that is not printable ASCII (RFC
-    /// 4013, section 2), `ZeroIterations` where the count is 0, and `OutOfMemory`.
+    /// The errors are, in this order: `NormalizeError` for a typed password that is not printable ASCII (RFC 4013,
+    /// section 2), `ZeroIterations` if the count is 0, and `OutOfMemory`.
     ///
-    /// The meter, of at most 2^63, counts the HMAC values: two more than the iterations, none where the
-    /// password or the count is rejected, and at most that many where memory runs out.
+    /// The meter, of at most 2^63, counts the HMAC values: two more than the iterations, none if the password or the
+    /// count is rejected, and at most that many if memory runs out.
     pub fn from_password(
         alloc: Global,
         scram_version: ScramVersion,
@@ -91,8 +90,8 @@ impl ScramRecord {
         })
     }
 
-    /// The record with these very values, of any lengths. No proof meets a stored key that is not
-    /// as long as a digest, and a client refuses a count of 0.
+    /// Makes a record of these very values, of any lengths. No proof meets a stored key that is not as long as a
+    /// digest, and a client rejects a count of 0.
     pub fn from_parts(
         scram_version: ScramVersion,
         salt: Vec<u8>,
@@ -119,14 +118,14 @@ impl ScramRecord {
         }
     }
 
-    /// The version that the record is for.
+    /// Returns the version that the record is for.
     pub fn scram_version(&self) -> &ScramVersion
         ensures { result.now ≡ self.now.version }
     {
         &self.scram_version
     }
 
-    /// What is kept of the password, as a provider lends it.
+    /// Returns the record as a provider lends it.
     pub fn as_stored_password(&self) -> StoredPassword<'_>
         ensures { kept result ≡ self.now.stored }
     {
@@ -140,7 +139,7 @@ impl ScramRecord {
 }
 
 impl fmt::Debug for ScramRecord {
-    /// The version and the iteration count: who has the keys can play the server.
+    /// Writes the version and the iteration count, and no key: with the keys anyone can impersonate the server.
     fn fmt<W: fmt::Write>(&self, f: &mut fmt::Formatter<W>) -> fmt::Result {
         write!(
             f,

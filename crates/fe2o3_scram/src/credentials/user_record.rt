@@ -1,4 +1,4 @@
-//! The record of one user as a provider.
+//! A provider with the record of one user.
 
 ghost use Rattle.std.specs.Prelude.{◌≡◌, ℕ, List, [], ◌∷◌, map};
 ghost use Rattle.std.specs.String.{string_bytes};
@@ -11,11 +11,10 @@ use std::alloc::AllocError;
 use std::fmt;
 use std::marker::Model;
 
-/// One user and the record of the user's password: what a server with a store of its own makes for
-/// one exchange, once `ClientFirst::parse` has told it whose record to fetch.
+/// One user and the record of the user's password. A server with its own storage makes one for an exchange, once
+/// `ClientFirst::parse` has returned whose record to fetch.
 ///
-/// A server that is not to show which names it knows takes the record of `ScramRecord::mock` for
-/// a name that it does not know.
+/// A server that is not to show which names it knows uses `ScramRecord::mock` for an unknown name.
 #[derive(Drop)]
 pub struct UserRecord {
     username: String,
@@ -36,7 +35,7 @@ impl Model for UserRecord {
 }
 
 impl UserRecord {
-    /// The credential of a user with this record. The user name is plain, and not escaped.
+    /// Makes the credential of a user with this record. The user name is plain, not escaped.
     pub fn new(username: String, kept: ScramRecord) -> Self
         ensures { result ≡ record {
           version = kept.version;
@@ -46,14 +45,14 @@ impl UserRecord {
         Self { username, kept }
     }
 
-    /// The user name, plain, and not escaped.
+    /// Returns the user name, plain, not escaped.
     pub(crate) fn username(&self) -> &str
         ensures { map (λ (entry : List ℕ × Record). entry.0) self.now.records ≡ result.now ∷ [] }
     {
         &self.username
     }
 
-    /// The iteration count of the record.
+    /// Returns the iteration count of the record.
     pub(crate) fn iterations(&self) -> u32
         ensures { map (λ (entry : List ℕ × Record). entry.1.count) self.now.records ≡ result ∷ [] }
     {
@@ -62,7 +61,7 @@ impl UserRecord {
 }
 
 impl fmt::Debug for UserRecord {
-    /// The user name, and of the record what its own `Debug` shows.
+    /// Writes the user name, and the record's own `Debug` text.
     fn fmt<W: fmt::Write>(&self, f: &mut fmt::Formatter<W>) -> fmt::Result {
         write!(
             f,

@@ -1,4 +1,4 @@
-//! The users of a store, in the order in which they came, and by name.
+//! The users of a store, in insertion order and by name.
 
 ghost use Rattle.std.specs.Prelude.{◌≡◌, ◌++◌, ◌∷◌, [], OnErr, OnOk, is_some, option_map, true, not, nat_eq};
 ghost use Rattle.std.specs.Cmp.Lexicographic.{pointwise};
@@ -14,7 +14,7 @@ use std::collections::BTreeMap;
 use std::marker::Model;
 use std::sync::Arc;
 
-/// A user and the record of the user's password, which is shared.
+/// A user and a shared record of the user's password.
 #[derive(Drop)]
 pub(crate) struct User {
     username: String,
@@ -32,21 +32,21 @@ impl Model for User {
 }
 
 impl User {
-    /// Whether this is the user's name.
+    /// Returns whether this is the user's name.
     fn is_named(&self, username: &str) -> bool
         ensures { result ≡ pointwise nat_eq self.now.0 username.now }
     {
         self.username.as_str() == username
     }
 
-    /// The name, plain, and not escaped.
+    /// Returns the user name, plain, not escaped.
     pub(crate) fn username(&self) -> &str
         ensures { result.now ≡ self.now.0 }
     {
         &self.username
     }
 
-    /// What is kept of the user's password.
+    /// Returns what is stored for the user's password.
     pub(crate) fn stored_password(&self) -> StoredPassword<'_>
         ensures { kept result ≡ self.now.1 }
     {
@@ -65,8 +65,7 @@ impl Clone for User {
     }
 }
 
-/// Users in the order in which they came, and the record of each name: that of the first user who
-/// has it.
+/// Users in insertion order, and a map from each name to the record of the first user who has it.
 #[derive(Drop)]
 pub(crate) struct Users {
     scram_version: ScramVersion,
@@ -91,7 +90,7 @@ impl Model for Users {
 }
 
 impl Users {
-    /// No user, for records of this version.
+    /// Returns no users, for records of this version.
     pub(crate) fn new(alloc: Global, scram_version: ScramVersion) -> Self
         ensures { result ≡ record { version = scram_version; records = [] } }
     {
@@ -102,14 +101,14 @@ impl Users {
         }
     }
 
-    /// The users in the order in which they came.
+    /// Returns the users in insertion order.
     pub(crate) fn in_order(&self) -> &[User]
         ensures { result.now ≡ self.now.records }
     {
         &self.in_order
     }
 
-    /// The record of the name.
+    /// Returns the record of the name.
     pub(crate) fn record(&self, username: &str) -> Option<&ScramRecord>
         ensures { option_map (λ found. found.now) result
             ≡ option_map (versioned self.now.version) (record_at self.now.records username.now) }
@@ -120,7 +119,7 @@ impl Users {
         }
     }
 
-    /// Adds a user behind the others, whose record is for their version.
+    /// Adds a user after the others. The record is for their version.
     pub(crate) fn add(
         &mut self,
         alloc: Global,
@@ -150,8 +149,7 @@ impl Users {
         }
     }
 
-    /// Puts this record, which is for the users' version, in the place of the first of the name,
-    /// which somebody has.
+    /// Replaces the first record of the name, which a user has, by this one, which is for the users' version.
     pub(crate) fn replace(
         &mut self,
         alloc: Global,
@@ -174,7 +172,7 @@ impl Users {
         Ok(())
     }
 
-    /// Takes out every user of the name.
+    /// Removes every user of the name.
     pub(crate) fn remove(&mut self, username: &str)
         ensures { self.new ≡ record {
           version = self.old.version;
@@ -199,7 +197,7 @@ impl Clone for Users {
     }
 }
 
-/// Puts this record in the place of the first of the name.
+/// Replaces the first record of the name by this one.
 fn put_first(users: &mut [User], username: &str, kept: Arc<ScramRecord>)
     ensures { users.new ≡ records_with users.old username.now kept.value.stored }
 {

@@ -1,4 +1,4 @@
-//! The three hashes as types, and their digests. None of this takes memory.
+//! The three hashes as types, and their digests. Nothing here allocates.
 
 ghost use Rattle.std.specs.Prelude.{◌≡◌, ◌≢◌, ◌++◌, ℕ, List, [], length, IfOk, MatchResult};
 ghost use Rattle.fe2o3_scram.specs.declared.hmac.ScramVersion.{ScramVersion};
@@ -11,13 +11,12 @@ use crate::hmac::ScramVersion;
 use sha2::{Digest, Sha256, Sha512};
 use thiserror::Error;
 
-/// The two texts of an exclusive or have different lengths.
+/// The two inputs of an XOR have different lengths.
 #[derive(Debug, Clone, Copy, PartialEq, Eq, Error)]
 #[error("XorLengthMismatch")]
 pub struct XorLengthMismatch;
 
-/// A digest or an HMAC value of one of the three hashes, which may be a secret: it has no `Debug`,
-/// and no `==`.
+/// A digest or an HMAC value of one of the three hashes. It may be a secret, so it has no `Debug` and no `==`.
 #[derive(Clone, Copy)]
 pub enum DigestBytes {
     /// 20 bytes of SHA-1.
@@ -31,7 +30,7 @@ pub enum DigestBytes {
 }
 
 impl DigestBytes {
-    /// The digest of this version that has these bytes, where they are as many as it has.
+    /// Returns the digest of this version with these bytes, if their number is that of the version.
     pub(crate) fn from_slice(
         version: ScramVersion,
         bytes: &[u8],
@@ -48,7 +47,7 @@ impl DigestBytes {
         digest.map_err(|_| XorLengthMismatch)
     }
 
-    /// The version whose digest it is.
+    /// Returns the version of the digest.
     pub(crate) fn version(&self) -> ScramVersion
         ensures { result ≡ version_of self.now }
     {
@@ -59,7 +58,7 @@ impl DigestBytes {
         }
     }
 
-    /// The bytes, 20, 32 or 64.
+    /// Returns the 20, 32 or 64 bytes.
     pub fn as_slice(&self) -> &[u8]
         ensures { result.now ≡ digest_bytes self.now }
     {
@@ -70,7 +69,7 @@ impl DigestBytes {
         }
     }
 
-    /// Turns the bits that another digest of the same hash has set.
+    /// XORs another digest of the same version into this one.
     pub(crate) fn xor(&mut self, other: &DigestBytes)
         requires { version_of self.old ≡ version_of other.now }
         ensures bytes { digest_bytes self.new ≡ exclusive_or (digest_bytes self.old) (digest_bytes other.now) }
@@ -85,7 +84,7 @@ impl DigestBytes {
     }
 }
 
-/// Turns the bits of `lhs` that `rhs` has set.
+/// XORs `rhs` into `lhs`.
 pub(crate) fn xor(lhs: &mut [u8], rhs: &[u8])
     requires { length lhs.old ≡ length rhs.now }
     ensures { lhs.new ≡ exclusive_or lhs.old rhs.now }
@@ -97,29 +96,29 @@ pub(crate) fn xor(lhs: &mut [u8], rhs: &[u8])
 
 /// A hasher of one of the three hashes, whose digest has `N` bytes.
 pub(crate) trait Hasher<const N: usize>: Drop {
-    // The version whose hash it is.
+    // The version of the hash.
     ghost hash: { ScramVersion };
 
-    // The hasher has taken in this message.
+    // The hasher has absorbed this message.
     ghost has_taken: { Self → List ℕ → Type 0 };
 
-    /// The version whose hash it is.
+    /// Returns the version of the hash.
     fn version() -> ScramVersion
         ensures { result ≡ hash };
 
-    /// A hasher that has taken in nothing.
+    /// Returns a hasher that has absorbed nothing.
     fn start() -> Self
         ensures { has_taken result [] };
 
-    /// Another hasher that has taken in the same.
+    /// Returns another hasher that has absorbed the same message.
     fn copy(&self) -> Self
         ensures { (message : List ℕ) → has_taken self.now message → has_taken result message };
 
-    /// Takes in the input.
+    /// Absorbs the input.
     fn take_in(&mut self, input: &[u8])
         ensures { (message : List ℕ) → has_taken self.old message → has_taken self.new (message ++ input.now) };
 
-    /// The digest of what was taken in.
+    /// Returns the digest of the absorbed message.
     fn into_digest(self) -> [u8; N]
         ensures { (message : List ℕ) → has_taken self message → result ≡ digest hash message };
 }
@@ -205,7 +204,7 @@ impl Hasher<64> for Sha512 {
     }
 }
 
-/// The digest of the message under one hash.
+/// Returns the digest of the message under the hash `H`.
 fn digest_by<const N: usize, H: Hasher<N>>(message: &[u8]) -> [u8; N]
     ensures { result ≡ digest H.hash message.now }
 {
@@ -214,7 +213,7 @@ fn digest_by<const N: usize, H: Hasher<N>>(message: &[u8]) -> [u8; N]
     hasher.into_digest()
 }
 
-/// The digest of the message.
+/// Returns the digest of the message.
 pub(crate) fn digest_of(version: ScramVersion, message: &[u8]) -> DigestBytes
     ensures { digest_bytes result ≡ digest version message.now }
 {

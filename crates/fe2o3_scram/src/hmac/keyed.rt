@@ -1,4 +1,4 @@
-//! HMAC with the pads of a key taken in once (RFC 2104, section 4). None of this takes memory.
+//! HMAC whose pads are hashed once for each key (RFC 2104, section 4). Nothing here allocates.
 
 ghost use Rattle.std.specs.Prelude.{◌≡◌, ◌≤◌, ◌<◌, ◌+◌, ◌^◌, ◌++◌, ℕ, List, length};
 ghost use Rattle.fe2o3_scram.specs.declared.hmac.ScramVersion.{ScramVersion};
@@ -14,20 +14,20 @@ use sha2::{Sha256, Sha512};
 /// The longest block of the three hashes, in bytes.
 const MAX_BLOCK_LEN: usize = 128;
 
-/// The byte of which the inner pad is made.
+/// The byte that fills the inner pad.
 const INNER_MASK: u8 = 0x36;
 
-/// The byte of which the outer pad is made.
+/// The byte that fills the outer pad.
 const OUTER_MASK: u8 = 0x5c;
 
-/// A key of one hash, as the two hashers that have taken in its pads.
+/// A key of one hash, as the two hashers that have absorbed its pads.
 #[derive(Drop)]
 pub(crate) struct PaddedKey<const N: usize, H> {
     inner: H,
     outer: H,
 }
 
-/// A hasher that has taken in one pad: the key, filled with zeros to a block, with the bits of the mask turned.
+/// Returns a hasher that has absorbed one pad: the key, padded with zeros to a block, XORed with the mask.
 fn pad_taken<const N: usize, H: Hasher<N>>(key: &[u8], mask: u8) -> H
     requires { length key.now ≤ block_len H.hash }
     ensures { H.has_taken result (masked mask (zero_filled (block_len H.hash) key.now)) }
@@ -42,7 +42,7 @@ fn pad_taken<const N: usize, H: Hasher<N>>(key: &[u8], mask: u8) -> H
 }
 
 impl<const N: usize, H: Hasher<N>> PaddedKey<N, H> {
-    /// The key of any length. One that is longer than a block is hashed first.
+    /// Prepares a key of any length. A key longer than a block is hashed first.
     #[tactic(auto, unfolding(crate::specs::Hmac::key_block))]
     fn new(key: &[u8]) -> PaddedKey<N, H>
         ensures { HasPads H.has_taken H.hash result.inner result.outer key.now }
@@ -62,7 +62,7 @@ impl<const N: usize, H: Hasher<N>> PaddedKey<N, H> {
         }
     }
 
-    /// The HMAC of the message that the pieces make, one behind the other. The meter counts it.
+    /// Computes the HMAC of the concatenated pieces. The meter counts it.
     pub fn mac(&self, message: &[&[u8]], meter: &mut Meter) -> [u8; N]
         requires { meter.old + 1 < 2 ^ 64 }
         ensures value { (key : List ℕ) → HasPads H.has_taken H.hash self.now.inner self.now.outer key
@@ -76,7 +76,7 @@ impl<const N: usize, H: Hasher<N>> PaddedKey<N, H> {
         self.close(inner, meter)
     }
 
-    /// The HMAC of a message in one piece. The meter counts it.
+    /// Computes the HMAC of a message in one piece. The meter counts it.
     pub fn mac_one(&self, message: &[u8], meter: &mut Meter) -> [u8; N]
         requires { meter.old + 1 < 2 ^ 64 }
         ensures value { (key : List ℕ) → HasPads H.has_taken H.hash self.now.inner self.now.outer key
@@ -88,8 +88,8 @@ impl<const N: usize, H: Hasher<N>> PaddedKey<N, H> {
         self.close(inner, meter)
     }
 
-    /// The HMAC of a message that the inner hasher has taken in behind the inner pad. Every HMAC value is made here,
-    /// and the meter counts it.
+    /// Computes the HMAC of a message that the inner hasher has absorbed after the inner pad. Every HMAC value is made
+    /// here, and the meter counts it.
     #[tactic(auto, unfolding(crate::specs::Hmac::hmac_of))]
     fn close(&self, inner: H, meter: &mut Meter) -> [u8; N]
         requires { meter.old + 1 < 2 ^ 64 }
@@ -114,7 +114,7 @@ pub(crate) enum HmacKey {
 }
 
 impl HmacKey {
-    /// The key of any length.
+    /// Prepares a key of any length.
     pub fn new(version: ScramVersion, key: &[u8]) -> HmacKey
         ensures { IsKeyOf result version key.now }
     {
@@ -125,7 +125,7 @@ impl HmacKey {
         }
     }
 
-    /// The HMAC of the message that the pieces make, one behind the other. The meter counts it.
+    /// Computes the HMAC of the concatenated pieces. The meter counts it.
     pub fn mac(&self, message: &[&[u8]], meter: &mut Meter) -> DigestBytes
         requires { meter.old + 1 < 2 ^ 64 }
         ensures value { (version : ScramVersion) (key : List ℕ) → IsKeyOf self.now version key

@@ -1,10 +1,10 @@
-//! A count of HMAC values.
+//! Counts HMAC values.
 
 ghost use Rattle.std.specs.Prelude.{◌≡◌, ◌+◌, ◌<◌, ◌^◌};
 
 use std::marker::Model;
 
-/// Counts the HMAC values that were made, as the cost of a stranger's message.
+/// Counts computed HMAC values, as the cost of a stranger's message.
 #[derive(Debug, Drop)]
 pub struct Meter {
     count: u64,
@@ -19,21 +19,21 @@ impl Model for Meter {
 }
 
 impl Meter {
-    /// A meter that has counted none.
+    /// Returns a meter at zero.
     pub fn new() -> Meter
         ensures { result ≡ 0 }
     {
         Meter { count: 0 }
     }
 
-    /// How many HMAC values were made.
+    /// Returns how many HMAC values were computed.
     pub fn count(&self) -> u64
         ensures { result ≡ self.now }
     {
         self.count
     }
 
-    /// Counts one more.
+    /// Counts one more value.
     pub(crate) fn add_one(&mut self)
         requires { self.old + 1 < 2 ^ 64 }
         ensures { self.new ≡ self.old + 1 }

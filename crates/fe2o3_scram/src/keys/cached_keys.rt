@@ -1,4 +1,4 @@
-//! The keys that a client keeps in place of its password (RFC 5802, section 3).
+//! The keys that a client keeps instead of its password (RFC 5802, section 3).
 
 ghost use Rattle.std.specs.Prelude.{◌≡◌, ◌≤◌, ◌+◌, ◌<◌, ◌^◌, ◌&&◌, nat_eq, MatchResult};
 ghost use Rattle.std.specs.Cmp.Lexicographic.{pointwise};
@@ -18,10 +18,9 @@ use std::alloc::{AllocError, Global};
 use std::fmt;
 use std::marker::Model;
 
-/// What a client keeps of its password: the ClientKey and the ServerKey, and the version, the salt and
-/// the iteration count that they are of. The password itself is not in it, but who has the ClientKey can
-/// log in where the server keeps that salt and that count, and who has the ServerKey can play the
-/// server.
+/// What a client keeps of its password: the ClientKey and the ServerKey, with their version, salt and iteration count.
+/// It does not contain the password. With the ClientKey anyone can log in to a server that keeps that salt and count,
+/// and with the ServerKey anyone can impersonate the server.
 #[derive(Drop)]
 pub struct CachedKeys {
     salt: Vec<u8>,
@@ -41,14 +40,14 @@ impl Model for CachedKeys {
 }
 
 impl CachedKeys {
-    /// Returns the keys of a password with this salt and this iteration count (RFC 5802, section 3). Of
-    /// printable ASCII a typed and a prepared password have the same keys.
+    /// Computes the keys of a password with this salt and this iteration count (RFC 5802, section 3). Printable ASCII
+    /// has the same keys, typed or prepared.
     ///
-    /// The errors are, in this order: `NormalizeError` for a typed password that is not printable ASCII (RFC
-    /// 4013, section 2), `ZeroIterations` where the count is 0, and `OutOfMemory`.
+    /// The errors are, in this order: `NormalizeError` for a typed password that is not printable ASCII (RFC 4013,
+    /// section 2), `ZeroIterations` if the count is 0, and `OutOfMemory`.
     ///
-    /// The meter, of at most 2^63, counts the HMAC values: two more than the iterations, none where the
-    /// password or the count is rejected, and at most that many where memory runs out.
+    /// The meter, of at most 2^63, counts the HMAC values: two more than the iterations, none if the password or the
+    /// count is rejected, and at most that many if memory runs out.
     pub fn from_password(
         alloc: Global,
         scram_version: ScramVersion,
@@ -85,9 +84,8 @@ impl CachedKeys {
         ))
     }
 
-    /// The keys of a salted password (RFC 5802, section 3), which is of this salt and this iteration
-    /// count: two HMAC values. The salted password is any bytes, and that of a login is as long as a
-    /// digest.
+    /// Computes the keys of a salted password (RFC 5802, section 3) of this salt and iteration count: two HMAC values.
+    /// The salted password is any bytes, and that of a login is as long as a digest.
     pub fn from_salted_password(
         scram_version: ScramVersion,
         salt: Vec<u8>,
@@ -109,10 +107,9 @@ impl CachedKeys {
         }
     }
 
-    /// The keys with these very values. No HMAC value is made.
+    /// Makes keys of these very values. No HMAC value is made.
     ///
-    /// The one refusal is `XorLengthMismatch`, of a ClientKey or a ServerKey that is not as long as a
-    /// digest.
+    /// The only error is `XorLengthMismatch`, if the ClientKey or the ServerKey is not as long as a digest.
     pub fn from_parts(
         scram_version: ScramVersion,
         salt: Vec<u8>,
@@ -133,49 +130,49 @@ impl CachedKeys {
         })
     }
 
-    /// The version that the keys are of.
+    /// Returns the version of the keys.
     pub fn scram_version(&self) -> ScramVersion
         ensures { result ≡ self.now.version }
     {
         self.client_key.version()
     }
 
-    /// The salt that the keys are of.
+    /// Returns the salt of the keys.
     pub fn salt(&self) -> &[u8]
         ensures { result.now ≡ self.now.salt }
     {
         &self.salt
     }
 
-    /// The iteration count that the keys are of.
+    /// Returns the iteration count of the keys.
     pub fn iterations(&self) -> u32
         ensures { result ≡ self.now.count }
     {
         self.iterations
     }
 
-    /// The ClientKey, a secret.
+    /// Returns the ClientKey, a secret.
     pub fn client_key(&self) -> &[u8]
         ensures { result.now ≡ self.now.client_key }
     {
         self.client_key.as_slice()
     }
 
-    /// The ServerKey, a secret.
+    /// Returns the ServerKey, a secret.
     pub fn server_key(&self) -> &[u8]
         ensures { result.now ≡ self.now.server_key }
     {
         self.server_key.as_slice()
     }
 
-    /// Whether the keys are of this salt and this iteration count.
+    /// Returns whether the keys are of this salt and this iteration count.
     pub(crate) fn are_of(&self, salt: &[u8], iterations: u32) -> bool
         ensures { result ≡ (pointwise nat_eq salt.now self.now.salt && nat_eq iterations self.now.count) }
     {
         salt == self.salt() && iterations == self.iterations()
     }
 
-    /// The same keys, with their salt in this room of it.
+    /// Returns a copy that takes over `salt`, an equal buffer that is already allocated.
     pub(crate) fn with_salt(&self, salt: Vec<u8>) -> Self
         requires { salt.items ≡ self.now.salt }
         ensures { result ≡ self.now }
@@ -188,7 +185,7 @@ impl CachedKeys {
         }
     }
 
-    /// The ClientProof of a message in pieces: one HMAC value.
+    /// Computes the ClientProof of an AuthMessage in pieces: one HMAC value.
     pub(crate) fn client_proof(&self, auth_message: &[&[u8]], meter: &mut Meter) -> DigestBytes
         requires { meter.old + 1 < 2 ^ 64 }
         ensures proof { digest_bytes result
@@ -208,7 +205,7 @@ impl CachedKeys {
 }
 
 impl fmt::Debug for CachedKeys {
-    /// The version and the iteration count: who has the keys can log in.
+    /// Writes the version and the iteration count, and no key: with the ClientKey anyone can log in.
     fn fmt<W: fmt::Write>(&self, f: &mut fmt::Formatter<W>) -> fmt::Result {
         write!(
             f,

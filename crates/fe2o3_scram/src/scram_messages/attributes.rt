@@ -3,14 +3,13 @@
 /// The GS2 header of a client that binds no channel and acts for itself.
 pub(crate) const GS2_HEADER: &str = "n,,";
 
-/// The GS2 header in base64, as the channel binding data of that client spell it.
+/// The base64 text of that client's GS2 header, as its channel binding data.
 pub(crate) const GS2_HEADER_BASE64: &str = "biws";
 
-/// The GS2 header of a client that could bind a channel, assumes that the server cannot, and acts for
-/// itself.
+/// The GS2 header `y,,`: the client supports channel binding, assumes that the server does not, and acts for itself.
 pub(crate) const UNOFFERED_GS2_HEADER: &str = "y,,";
 
-/// That GS2 header in base64.
+/// The base64 text of the GS2 header `y,,`.
 pub(crate) const UNOFFERED_GS2_HEADER_BASE64: &str = "eSws";
 
 /// The user name.
@@ -34,5 +33,5 @@ pub(crate) const PROOF_KEY: &str = "p=";
 /// The server's signature, in base64.
 pub(crate) const VERIFIER_KEY: &str = "v=";
 
-/// Reserved for mandatory extensions, of which there are none.
+/// The reserved attribute of mandatory extensions, of which there are none.
 pub(crate) const RESERVED_MEXT: &str = "m=";

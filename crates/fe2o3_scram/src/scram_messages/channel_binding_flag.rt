@@ -15,13 +15,12 @@ pub enum ChannelBindingFlag {
     /// `n,,`: the client does not support channel binding.
     NotSupported,
 
-    /// `y,,`: the client supports it, and assumes that the server does not, which offered no mechanism
-    /// with `-PLUS`.
+    /// `y,,`: the client supports it, and assumes that the server does not, which offered no mechanism with `-PLUS`.
     ClientSupports,
 }
 
 impl ChannelBindingFlag {
-    /// The header as it stands in front of a client-first message.
+    /// Returns the header as the prefix of a client-first message.
     pub fn text(self) -> &'static str
         ensures { result.now ≡ header_text self }
     {
@@ -31,7 +30,7 @@ impl ChannelBindingFlag {
         }
     }
 
-    /// The header in base64, as a client-final message repeats it.
+    /// Returns the header in base64, as a client-final message repeats it.
     pub(crate) fn base64(self) -> &'static str
         ensures { result.now ≡ base64_text (header_text self) }
     {
@@ -42,8 +41,7 @@ impl ChannelBindingFlag {
     }
 }
 
-/// The header of a client-first message and what stands behind it, where the header is taken: that of a
-/// client that supports channel binding only where `accept_cbind_flag_y` says so.
+/// Splits the header off a client-first message, if it is accepted: `y,,` only with `accept_cbind_flag_y`.
 pub(crate) fn cut_header(
     text: &str,
     accept_cbind_flag_y: bool,

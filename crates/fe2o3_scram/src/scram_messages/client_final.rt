@@ -22,10 +22,10 @@ use crate::scram_messages::server_first_reading::ServerFirst;
 use crate::texts::{base64_len, push_base64};
 use std::alloc::Global;
 
-/// What `c=biws,r=,p=` takes, that is, all but the nonce and the proof.
+/// The length of `c=biws,r=,p=`: all but the nonce and the proof.
 const FIXED_LEN: usize = 12;
 
-/// An answer of a client to a server-first message (RFC 5802, sections 3 and 5).
+/// A client's answer to a server-first message (RFC 5802, sections 3 and 5).
 #[derive(Drop)]
 pub struct ClientAnswer {
     /// The client-final message.
@@ -34,23 +34,21 @@ pub struct ClientAnswer {
     /// The signature that the server-final message has to show.
     pub signature: Vec<u8>,
 
-    /// The keys that the answer was made by, with the salt and the iteration count that the server
-    /// named. Keep them once the server has shown the signature, and not before: until then anybody may
-    /// have named that salt.
+    /// The keys that the answer was made by, with the salt and the iteration count that the server named. Keep them
+    /// only once the server has shown the signature: until then anybody may have named that salt.
     pub keys: CachedKeys,
 }
 
 impl ScramVersion {
-    /// Answers a server-first message (RFC 5802, sections 3 and 5): the client-final message, and
-    /// the signature that the server-final message has to show. Every iteration count from 1 on is
-    /// accepted.
+    /// Answers a server-first message (RFC 5802, sections 3 and 5). Returns the client-final message and the signature
+    /// that the server-final message has to show. Every iteration count from 1 on is accepted.
     ///
-    /// `client_nonce` is the nonce of the client-first message, and `client_first_message_bare` that
-    /// message without its GS2 header, both as they were sent; `server_first` is the server's text as
-    /// it came. The password is not prepared, and has to be printable ASCII (RFC 4013, section 2).
+    /// `client_nonce` is the nonce of the client-first message, and `client_first_message_bare` that message without
+    /// its GS2 header, both as they were sent. `server_first` is the server's text as received. The password is not
+    /// prepared, and has to be printable ASCII (RFC 4013, section 2).
     ///
-    /// The refusals are those of `ServerFirst::parse`, in its order. `OutOfMemory` is answered only
-    /// where none of those before `Base64DecodeError` holds.
+    /// The errors are those of `ServerFirst::parse`, in its order. `OutOfMemory` is returned only if no error before
+    /// `Base64DecodeError` applies.
     pub fn compute_client_final_message(
         &self,
         alloc: Global,
@@ -73,8 +71,7 @@ impl ScramVersion {
         )
     }
 
-    /// As `compute_client_final_message`. The meter, of at most 2^63, counts the HMAC values, also of
-    /// a refusal.
+    /// Like `compute_client_final_message`; the meter, of at most 2^63, counts the HMAC values, also of an error.
     pub fn compute_client_final_message_metered(
         &self,
         alloc: Global,
@@ -103,8 +100,8 @@ impl ScramVersion {
         )
     }
 
-    /// As `compute_client_final_message_metered`, and refuses an iteration count above the limit
-    /// before any HMAC value is made.
+    /// Like `compute_client_final_message_metered`, but rejects an iteration count above the limit before any HMAC
+    /// value is made.
     pub fn compute_client_final_message_limited(
         &self,
         alloc: Global,
@@ -135,18 +132,17 @@ impl ScramVersion {
         Ok((answer.message, answer.signature))
     }
 
-    /// Answers a server-first message by a secret, where its iteration count is within the limits. The
-    /// other arguments are those of `compute_client_final_message`. The version is that of an answer by
-    /// the password; one by keys is of theirs.
+    /// Answers a server-first message by a secret, if its iteration count is within the limits. The other arguments are
+    /// those of `compute_client_final_message`. The version is that of an answer by the password; an answer by keys has
+    /// theirs.
     ///
-    /// Refused are, in this order: what `ServerFirst::parse` refuses up to `IterationCountParseError`;
-    /// `IterationCountTooSmall` and `IterationCountTooLarge`; and of the secret `NormalizeError`, where a
-    /// typed password is needed and is not printable ASCII, or `StaleKeys`, where there are keys alone
-    /// and the message names another salt or another count than they are of. `OutOfMemory` is answered only
-    /// where none of those before `Base64DecodeError` holds.
+    /// The errors are, in this order: those of `ServerFirst::parse` up to `IterationCountParseError`;
+    /// `IterationCountTooSmall` and `IterationCountTooLarge`; `NormalizeError` if a typed password is needed and is not
+    /// printable ASCII, or `StaleKeys` if the secret is only keys and the message names another salt or count than
+    /// theirs. `OutOfMemory` is returned only if no error before `Base64DecodeError` applies.
     ///
-    /// The meter, of at most 2^63, counts the HMAC values: two by keys, by the password four and those of
-    /// the count, and none for a refusal.
+    /// The meter, of at most 2^63, counts the HMAC values: two by keys, by the password four more than the iterations,
+    /// and none for an error.
     pub fn answer_server_first(
         &self,
         alloc: Global,
@@ -178,7 +174,7 @@ impl ScramVersion {
         Ok(answer)
     }
 
-    /// The keys that a message is answered by, where the secret serves for it.
+    /// Returns the keys to answer a message by. The secret has to serve for it.
     fn keys_for(
         &self,
         secret: ClientSecret<'_>,
@@ -205,7 +201,7 @@ impl ScramVersion {
         }
     }
 
-    /// The keys of a password with the salt and the count that a message names.
+    /// Computes the keys of a password with the salt and the count that a message names.
     fn keys_of(
         &self,
         password: Password<'_>,
@@ -234,7 +230,7 @@ impl ScramVersion {
 }
 
 impl CachedKeys {
-    /// The answer by the keys (RFC 5802, section 3), of what stands before the proof: two HMAC values.
+    /// Computes the answer by the keys (RFC 5802, section 3), from the text before the proof: two HMAC values.
     fn answer(
         self,
         alloc: Global,
@@ -270,11 +266,11 @@ impl CachedKeys {
 }
 
 impl ServerFirst<'_> {
-    /// The AuthMessage of an answer to this message (RFC 5802, section 3), for whoever makes its proof or tests
-    /// it anew. `client_first_message_bare` and `server_first_message` are the texts as they were sent, and are not
-    /// read; the client-final message is the one that binds no channel and names the nonce of both sides.
+    /// Concatenates the AuthMessage of an answer to this message (RFC 5802, section 3), for code that makes or tests
+    /// its proof. `client_first_message_bare` and `server_first_message` are the texts as they were sent, and are not
+    /// parsed. The client-final message is that of a client without channel binding.
     ///
-    /// `OutOfMemory` is the only refusal.
+    /// The only error is `OutOfMemory`.
     pub fn auth_message(
         &self,
         alloc: Global,
@@ -294,8 +290,8 @@ impl ServerFirst<'_> {
     }
 }
 
-/// What stands before the proof: the GS2 header in base64, and the nonce of both sides. There is room for a proof of
-/// this length behind it.
+/// Writes the text before the proof: the GS2 header in base64, and the nonce of both sides. Reserves room for a proof
+/// of this length.
 fn without_proof(
     alloc: Global,
     client_server_nonce: &str,
@@ -315,7 +311,7 @@ fn without_proof(
     Ok(text)
 }
 
-/// Makes the client-final message of what stands before the proof.
+/// Appends the proof, which completes the client-final message.
 fn push_proof(text: &mut String, client_proof: &[u8]) -> Result<(), OutOfMemory>
     ensures { OnOk result (string_bytes text.new ≡ client_final_of (string_bytes text.old) client_proof.now) }
 {

@@ -1,4 +1,4 @@
-//! The client-final message, as the server reads it, up to the test of its proof.
+//! Reads the client-final message, up to the test of its proof.
 
 ghost use Rattle.std.specs.Prelude.{◌≡◌, ◌≢◌, ◌++◌, ℕ, List, IfOk, IfErr, OnOk, codes};
 ghost use Rattle.fe2o3_scram.specs.private.Tests.{binding_tests, final_nonce_tests, spelling_tests};
@@ -16,7 +16,7 @@ use std::alloc::Global;
 /// What a client-final message names (RFC 5802, section 7).
 #[derive(Debug, Drop)]
 pub struct ClientFinal<'a> {
-    /// What stands before the proof and its comma, as it was sent.
+    /// The text before the proof and its comma, as it was sent.
     pub without_proof: &'a str,
 
     /// The client's proof, of any length.
@@ -24,16 +24,14 @@ pub struct ClientFinal<'a> {
 }
 
 impl<'a> ClientFinal<'a> {
-    /// Reads a client-final message (RFC 5802, sections 5.1 and 7), up to the test of its proof. The
-    /// nonce is that of both sides, as the server-first message named it. The GS2 header of the
-    /// client-first message was `n,,`.
+    /// Reads a client-final message (RFC 5802, sections 5.1 and 7), up to the test of its proof. The nonce is that of
+    /// both sides, as the server-first message named it. The GS2 header of the client-first message was `n,,`.
     ///
-    /// Refused are, in this order: `Utf8Error` where the text is not UTF-8 (RFC 3629); for the
-    /// channel binding `CannotParseClientFinalMessage`, `Base64DecodeError` and
-    /// `InvalidChannelBinding`; for the nonce `CannotParseClientFinalMessage` and
-    /// `IncorrectClientFinalNonce`; for the proof `ProofNotFoundInClientFinal` and
-    /// `Base64DecodeError`. Parts between the nonce and the proof say nothing. `OutOfMemory` is
-    /// answered only for a channel binding other than `biws`, or where the proof is read.
+    /// The errors are, in this order: `Utf8Error` if the text is not UTF-8 (RFC 3629); for the channel binding
+    /// `CannotParseClientFinalMessage`, `Base64DecodeError` and `InvalidChannelBinding`; for the nonce
+    /// `CannotParseClientFinalMessage` and `IncorrectClientFinalNonce`; for the proof `ProofNotFoundInClientFinal` and
+    /// `Base64DecodeError`. Parts between the nonce and the proof are ignored. `OutOfMemory` is returned only for a
+    /// channel binding other than `biws`, or if the proof is read.
     pub fn parse(
         alloc: Global,
         client_server_nonce: &[u8],
@@ -51,8 +49,8 @@ impl<'a> ClientFinal<'a> {
         )
     }
 
-    /// As `parse`, behind a client-first message with this GS2 header: in place of `biws` the channel
-    /// binding has to be the header in base64.
+    /// Like `parse`, after a client-first message with this GS2 header: the channel binding has to be that header in
+    /// base64 instead of `biws`.
     pub fn parse_with_gs2_header(
         alloc: Global,
         header: ChannelBindingFlag,
@@ -90,7 +88,7 @@ fn test_binding(
     if base64_binding == header.base64() {
         return Ok(());
     }
-    // Only to tell which of the two refusals it is.
+    // The base64 is read only to choose between the two errors.
     let Some(_) = bytes_of(alloc, base64_binding)? else {
         return Err(ServerScramErrorKind::Base64DecodeError);
     };
@@ -112,7 +110,7 @@ fn test_nonce(client_server_nonce: &[u8], client_final: &str) -> Result<(), Serv
     Ok(())
 }
 
-/// The proof, and what stands before it.
+/// Returns the proof, and the text before it.
 fn read_proof(alloc: Global, client_final: &str) -> Result<ClientFinal<'_>, ServerScramErrorKind>
     ensures tested { IfOk result (λ _. NoneHolds (spelling_tests client_final.now)) }
     ensures named { IfOk result (λ final. HasProof client_final.now (client_final_values final)) }

@@ -10,15 +10,15 @@ use crate::scram_messages::escape::{escaped_len, push_escaped};
 use bytes::Bytes;
 use std::alloc::Global;
 
-/// What `n,,n=,r=` takes, that is, all but the user name and the nonce.
+/// The length of `n,,n=,r=`: all but the user name and the nonce.
 const FIXED_LEN: usize = 8;
 
 impl ScramVersion {
-    /// The client-first message of a user (RFC 5802, section 7), and the same without its GS2
-    /// header, which the other calls take as `client_first_message_bare`.
+    /// Writes the client-first message of a user (RFC 5802, section 7). Returns it with and without its GS2 header;
+    /// other calls take the latter as `client_first_message_bare`.
     ///
-    /// The user name is plain, any list of bytes, and is escaped here. The nonce is a text without
-    /// commas, and is written as it is handed in. `OutOfMemory` is the only refusal.
+    /// The user name is plain, any list of bytes, and is escaped here. The nonce is a text without commas, and is
+    /// written unchanged. The only error is `OutOfMemory`.
     pub fn client_first_message(
         &self,
         alloc: Global,

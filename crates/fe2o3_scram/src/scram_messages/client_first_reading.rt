@@ -1,4 +1,4 @@
-//! The client-first message, as the server reads it.
+//! Reads the client-first message.
 
 ghost use Rattle.std.specs.Prelude.{IfOk, false};
 ghost use Rattle.std.specs.Cow.{IsBorrowedStr};
@@ -19,8 +19,7 @@ pub struct ClientFirst<'a> {
     /// The GS2 header.
     pub header: ChannelBindingFlag,
 
-    /// The plain name of the user, as `unescape_username` gives it: borrowed where the client escaped
-    /// nothing.
+    /// The plain user name, unescaped like by `unescape_username`. It is borrowed if the client escaped nothing.
     pub username: CowStr<'a>,
 
     /// The client's nonce.

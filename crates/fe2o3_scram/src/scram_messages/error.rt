@@ -1,4 +1,4 @@
-//! Why a SCRAM message is refused. Kinds and texts are those of `fe2o3-amqp` 0.18.4.
+//! Why a SCRAM message is rejected. Kinds and texts are those of `fe2o3-amqp` 0.18.4.
 
 ghost use Rattle.std.specs.Prelude.{◌≡◌};
 ghost use Rattle.fe2o3_scram.specs.declared.scram_messages.error.ScramErrorKind.TheVariants.{OutOfMemory as ClientOutOfMemory, XorLengthMismatch as ClientXorLengthMismatch};
@@ -10,7 +10,7 @@ use crate::pbkdf2_hi::KeyError;
 use std::alloc::AllocError;
 use thiserror::Error;
 
-/// Why the client refuses a message.
+/// Why the client rejects a message.
 #[derive(Debug, Clone, Copy, PartialEq, Eq, Error)]
 pub enum ScramErrorKind {
     /// The message is not UTF-8.
@@ -45,15 +45,15 @@ pub enum ScramErrorKind {
     #[error("Iteration count is not found in challenge")]
     IterationCountNotFound,
 
-    /// The iteration count is no number from 1 to 4294967295.
+    /// The iteration count is not a number from 1 to 4294967295.
     #[error("Cannot parse iteration count")]
     IterationCountParseError,
 
-    /// The iteration count is below the least that the client accepts.
+    /// The iteration count is below the client's minimum.
     #[error("Iteration count too small")]
     IterationCountTooSmall,
 
-    /// The iteration count is above the client's limit.
+    /// The iteration count is above the client's maximum.
     #[error("Iteration count too large")]
     IterationCountTooLarge,
 
@@ -61,21 +61,20 @@ pub enum ScramErrorKind {
     #[error("Error normalizing password")]
     NormalizeError,
 
-    /// The message names another salt or another iteration count than the client's keys are of, and the
-    /// client has no password. Whoever is on the way can bring this about: it is no reason to forget the
-    /// keys.
+    /// The client has only keys, and the message names another salt or iteration count than theirs. A man in the middle
+    /// can cause this: it is no reason to forget the keys.
     #[error("The keys are of another salt or iteration count")]
     StaleKeys,
 
-    /// Never answered, since HMAC takes keys of every length.
+    /// Never returned, since HMAC takes keys of every length.
     #[error("Invalid length")]
     HmacErrorInvalidLength,
 
-    /// Never answered by the client, whose texts of an exclusive or are digests of one hash.
+    /// Never returned by the client, which XORs only digests of one hash.
     #[error("LHS and RHS of XOR have different length")]
     XorLengthMismatch,
 
-    /// The message does not come in this state of the client.
+    /// The client does not expect the message in this state.
     #[error("Illegal SCRAM client state")]
     IllegalClientState,
 
@@ -83,7 +82,7 @@ pub enum ScramErrorKind {
     #[error("Server signature mismatch")]
     ServerSignatureMismatch,
 
-    /// A request for memory was refused.
+    /// An allocation failed.
     #[error("Out of memory")]
     OutOfMemory,
 }
@@ -104,7 +103,7 @@ impl From<XorLengthMismatch> for ScramErrorKind {
     }
 }
 
-/// Why the server refuses a message.
+/// Why the server rejects a message.
 #[derive(Debug, Clone, Copy, PartialEq, Eq, Error)]
 pub enum ServerScramErrorKind {
     /// The message is not UTF-8.
@@ -115,8 +114,8 @@ pub enum ServerScramErrorKind {
     #[error("Cannot parse GS2-header")]
     CannotParseGs2Header,
 
-    /// The client-first message does not name a user: the first part behind the header does not
-    /// begin with `n=`, or goes on with a text that no user name is escaped to.
+    /// The client-first message does not name a user: the first part after the header does not begin with `n=`, or goes
+    /// on with a text that escapes no user name.
     #[error("Error parsing username field")]
     CannotParseUsername,
 
@@ -124,7 +123,7 @@ pub enum ServerScramErrorKind {
     #[error("Error parsing client nonce")]
     CannotParseClientNonce,
 
-    /// Never answered, since HMAC takes keys of every length.
+    /// Never returned, since HMAC takes keys of every length.
     #[error("Invalid length")]
     HmacErrorInvalidLength,
 
@@ -165,7 +164,7 @@ pub enum ServerScramErrorKind {
     #[error("Illegal SCRAM client state")]
     IllegalAuthenticatorState,
 
-    /// A request for memory was refused.
+    /// An allocation failed.
     #[error("Out of memory")]
     OutOfMemory,
 }

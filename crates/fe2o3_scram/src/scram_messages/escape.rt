@@ -1,4 +1,4 @@
-//! User names as SCRAM messages send them (RFC 5802, section 5.1).
+//! Escapes and unescapes user names (RFC 5802, section 5.1).
 
 ghost use Rattle.std.specs.Prelude.{◌≡◌, ◌≢◌, ◌↔◌, ◌⊎◌, ◌++◌, ◌∷◌, IfOk, IfErr, OnOk, MatchOption, IsTrue, ℕ, List, string_bytes};
 ghost use Rattle.std.specs.Cow.{cow_str_bytes, IsBorrowedStr};
@@ -12,14 +12,14 @@ use std::alloc::{AllocError, Global};
 use std::borrow::CowStr;
 use thiserror::Error;
 
-/// Why a text is not read as a user name.
+/// Why a text is not an escaped user name.
 #[derive(Debug, Clone, Copy, PartialEq, Eq, Error)]
 pub enum UnescapeError {
-    /// The text holds a comma, or an equals sign that neither `2C` nor `3D` follows.
+    /// The text has a comma, or an equals sign that neither `2C` nor `3D` follows.
     #[error("Invalid")]
     Invalid,
 
-    /// A request for memory was refused.
+    /// An allocation failed.
     #[error("OutOfMemory")]
     OutOfMemory,
 }
@@ -32,10 +32,10 @@ impl From<AllocError> for UnescapeError {
     }
 }
 
-/// The user name with each comma as `=2C` and each equals sign as `=3D` (RFC 5802, section 5.1,
-/// `saslname`). The name is any list of bytes: it is not prepared, and need not be UTF-8.
+/// Escapes the user name: each comma as `=2C` and each equals sign as `=3D` (RFC 5802, section 5.1, `saslname`). The
+/// name is any list of bytes: it is not prepared, and need not be UTF-8.
 ///
-/// `OutOfMemory` is the only refusal.
+/// The only error is `OutOfMemory`.
 pub fn escape_username(alloc: Global, username: &[u8]) -> Result<Vec<u8>, OutOfMemory>
     ensures { IfOk result (λ text. text.items ≡ escaped username.now) }
 {
@@ -44,7 +44,7 @@ pub fn escape_username(alloc: Global, username: &[u8]) -> Result<Vec<u8>, OutOfM
     Ok(text)
 }
 
-/// Writes the escaped user name at the end of the text.
+/// Appends the escaped user name to the text.
 #[tactic(auto, using(crate::proofs::lemmas::texts::EscapingLemmas::escaping))]
 pub(crate) fn push_escaped(text: &mut Vec<u8>, username: &[u8]) -> Result<(), OutOfMemory>
     ensures { OnOk result (text.new.items ≡ text.old.items ++ escaped username.now) }
@@ -59,7 +59,7 @@ pub(crate) fn push_escaped(text: &mut Vec<u8>, username: &[u8]) -> Result<(), Ou
     Ok(())
 }
 
-/// How long the escaped user name is. Room is reserved by it, and nothing rests on it.
+/// Returns the length of the escaped user name. It only sizes a buffer: no contract rests on it.
 pub(crate) fn escaped_len(username: &[u8]) -> usize {
     let mut len = username.len();
     for byte in username {
@@ -70,22 +70,23 @@ pub(crate) fn escaped_len(username: &[u8]) -> usize {
     len
 }
 
-/// Returns the user name that the text spells (RFC 5802, section 5.1, `saslname`), borrowed if the text
-/// has no equals sign. The text is what follows `n=` in a client-first message.
+/// Returns the user name that the text spells (RFC 5802, section 5.1, `saslname`), borrowed if the text has no equals
+/// sign. The text is what follows `n=` in a client-first message.
 ///
-/// The errors are `Invalid`, for a text with a comma, or with an equals sign that neither `2C` nor `3D`
-/// follows in these very letters (`=2c` is invalid), and `OutOfMemory`, only for a text that spells a
-/// name and has an equals sign.
+/// The errors are
+/// - `Invalid`, for a text with a comma, or with an equals sign that neither `2C` nor `3D` follows in these very
+///   letters (`=2c` is invalid);
+/// - `OutOfMemory`, only for a text that spells a name and has an equals sign.
 #[tactic(auto, using(crate::proofs::lemmas::texts::EscapingLemmas::names))]
 pub fn unescape_username(alloc: Global, text: &str) -> Result<CowStr<'_>, UnescapeError>
     ensures ok { IfOk result (λ name. escaped (cow_str_bytes name) ≡ text.now) }
     ensures borrowed { IfOk result (λ name. IsBorrowedStr name ↔ NoEquals text.now) }
 
-    // A text without an equals sign takes no memory.
+    // A text without an equals sign allocates nothing.
     ensures err { IfErr result (λ error. ((error ≡ UnescapeError.Invalid) × ((name : List ℕ) → escaped name ≢ text.now))
         ⊎ ((error ≡ UnescapeError.OutOfMemory) × ¬ NoEquals text.now)) }
 
-    // Nor does one with a comma, or with an equals sign that begins no escape.
+    // A text with a comma, or with an equals sign that begins no escape, allocates nothing either.
     ensures memory { IfErr result (λ error. error ≡ UnescapeError.OutOfMemory → NoComma text.now) }
     ensures spells { IfErr result (λ error. error ≡ UnescapeError.OutOfMemory → SpellsName text.now) }
 {
@@ -101,8 +102,8 @@ pub fn unescape_username(alloc: Global, text: &str) -> Result<CowStr<'_>, Unesca
     Ok(CowStr::Borrowed(text))
 }
 
-/// Returns whether a text without commas spells a name. It asks for no memory, so that an invalid text is
-/// never answered by `OutOfMemory`.
+/// Returns whether a text without commas spells a name. It allocates nothing, so that an invalid text never fails with
+/// `OutOfMemory`.
 #[tactic(auto, using(crate::proofs::lemmas::texts::EscapingLemmas::unescaping))]
 fn spells_name(text: &str) -> bool
     requires { NoComma text.now }
@@ -121,7 +122,7 @@ fn spells_name(text: &str) -> bool
     true
 }
 
-/// The name that a text without commas spells.
+/// Unescapes a text without commas that spells a name.
 #[tactic(auto, using(crate::proofs::lemmas::texts::EscapingLemmas::unescaping))]
 fn unescape(alloc: Global, text: &str) -> Result<String, UnescapeError>
     requires { NoComma text.now }
@@ -147,7 +148,7 @@ fn unescape(alloc: Global, text: &str) -> Result<String, UnescapeError>
     Ok(name)
 }
 
-/// What stands before the first equals sign, and what follows it.
+/// Splits the text at its first equals sign.
 fn at_equals(text: &str) -> Option<(&str, &str)>
     ensures { MatchOption result (NoEquals text.now) (λ both. NoEquals both.0.now
         × (text.now ≡ both.0.now ++ (61 ∷ both.1.now))) }

@@ -23,17 +23,17 @@ use crate::texts::{base64_len, push_base64};
 use std::alloc::Global;
 
 impl ScramVersion {
-    /// Answers a client-final message (RFC 5802, sections 3 and 5), which has to fit the challenge,
-    /// and whose proof has to meet the stored key. That keys are compared over the whole length,
-    /// whatever the bytes are, is read in the code and not proved; no claim is made about time.
+    /// Answers a client-final message (RFC 5802, sections 3 and 5), which has to fit the challenge, and whose proof has
+    /// to meet the stored key. Keys are compared over the whole length, whatever the bytes are. That is read in the
+    /// code and not proved; no claim is made about time.
     ///
-    /// The texts are those of the challenge, as they were sent: the nonce of both sides, the
-    /// client-first message without its GS2 header, which was `n,,`, and the server-first message. The
-    /// version is that of the stored password.
+    /// The texts are those of the challenge, as they were sent: the nonce of both sides, the client-first message
+    /// without its GS2 header, which was `n,,`, and the server-first message. The version is that of the stored
+    /// password.
     ///
-    /// The refusals are those of `ClientFinal::parse`, in its order, then `XorLengthMismatch` where
-    /// the proof is not as long as a digest, and `AuthenticationFailed` where it does not meet the
-    /// stored key. `OutOfMemory` is answered only where `ClientFinal::parse` takes memory.
+    /// The errors are those of `ClientFinal::parse`, in its order, then `XorLengthMismatch` if the proof is not as long
+    /// as a digest, and `AuthenticationFailed` if it does not meet the stored key. `OutOfMemory` is returned only where
+    /// `ClientFinal::parse` allocates.
     pub fn compute_server_final_message(
         &self,
         alloc: Global,
@@ -60,8 +60,7 @@ impl ScramVersion {
         )
     }
 
-    /// As `compute_server_final_message`. The meter, of at most 2^63, counts the HMAC values, also of
-    /// a refusal.
+    /// Like `compute_server_final_message`; the meter, of at most 2^63, counts the HMAC values, also of an error.
     pub fn compute_server_final_message_metered(
         &self,
         alloc: Global,
@@ -94,7 +93,7 @@ impl ScramVersion {
         )
     }
 
-    /// As `compute_server_final_message_metered`, behind a client-first message with this GS2 header
+    /// Like `compute_server_final_message_metered`, after a client-first message with this GS2 header
     /// (`ClientFinal::parse_with_gs2_header`).
     pub fn compute_server_final_message_with_gs2_header(
         &self,
@@ -132,7 +131,7 @@ impl ScramVersion {
         )
     }
 
-    /// Tests the proof of a message that was read, and signs.
+    /// Tests the proof of a parsed message, and signs.
     fn answer_proof(
         &self,
         alloc: Global,
@@ -169,7 +168,7 @@ impl ScramVersion {
         Ok(self.server_final(alloc, stored_password.server_key, &auth_message, meter)?)
     }
 
-    /// The server-final message, which takes one HMAC value.
+    /// Writes the server-final message: one HMAC value.
     fn server_final(
         &self,
         alloc: Global,

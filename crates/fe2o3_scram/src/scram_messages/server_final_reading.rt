@@ -1,4 +1,4 @@
-//! The server-final message, as the client reads it.
+//! Reads the server-final message.
 
 ghost use Rattle.fe2o3_scram.specs.Readings.{Gives};
 ghost use Rattle.fe2o3_scram.specs.ServerFinal.{ReachesVerifier, ReadsServerFinal, ReadsSignature};
@@ -18,12 +18,11 @@ pub struct ServerFinal {
 }
 
 impl ServerFinal {
-    /// Reads a server-final message (RFC 5802, sections 5.1 and 7), whose signature is not tested.
+    /// Reads a server-final message (RFC 5802, sections 5.1 and 7), without a test of its signature.
     ///
-    /// Refused are, in this order: `Utf8Error` where the text is not UTF-8 (RFC 3629),
-    /// `ServerSignatureMismatch` where the first part does not begin with `v=`, and
-    /// `Base64DecodeError`. Parts behind the first say nothing. `OutOfMemory` is answered only where
-    /// neither of the first two refusals holds.
+    /// The errors are, in this order: `Utf8Error` if the text is not UTF-8 (RFC 3629), `ServerSignatureMismatch` if the
+    /// first part does not begin with `v=`, and `Base64DecodeError`. Parts after the first are ignored. `OutOfMemory`
+    /// is returned only if neither of the first two errors applies.
     pub fn parse(alloc: Global, text: &[u8]) -> Result<Self, ScramErrorKind>
         ensures { Gives ScramErrorKind.OutOfMemory (ReachesVerifier text.now)
             (λ message. message.signature.items) result (ReadsSignature text.now) }
@@ -42,14 +41,13 @@ impl ServerFinal {
 }
 
 impl ScramVersion {
-    /// Tests that the server-final message has this signature (RFC 5802, section 5), which is the
-    /// second value of the client's answer, and not in base64. Parts after the first say nothing.
-    /// That the signature is compared over its whole length, whatever the bytes are, is read in the
-    /// code and not proved; no claim is made about time.
+    /// Tests that the server-final message has this signature (RFC 5802, section 5), which is the second value of the
+    /// client's answer, and not in base64. Parts after the first are ignored. The signature is compared over its whole
+    /// length, whatever the bytes are. That is read in the code and not proved; no claim is made about time.
     ///
-    /// Refused are, in this order: `Utf8Error`; `ServerSignatureMismatch` where the first part does
-    /// not begin with `v=`; `Base64DecodeError`; `ServerSignatureMismatch` for another signature.
-    /// `OutOfMemory` is answered only where neither of the first two refusals holds.
+    /// The errors are, in this order: `Utf8Error`; `ServerSignatureMismatch` if the first part does not begin with
+    /// `v=`; `Base64DecodeError`; `ServerSignatureMismatch` for another signature. `OutOfMemory` is returned only if
+    /// neither of the first two errors applies.
     pub fn validate_server_final(
         &self,
         alloc: Global,

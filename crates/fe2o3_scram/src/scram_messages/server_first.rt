@@ -18,13 +18,13 @@ use bytes::Bytes;
 use std::alloc::Global;
 use std::borrow::CowStr;
 
-/// What `r=,s=,i=` and the digits of a count take at most, that is, all but the nonce and the salt.
+/// The maximum length of `r=,s=,i=` and the digits of a count: all but the nonce and the salt.
 const FIXED_LEN: usize = 18;
 
 /// A server-first message, and what the server keeps of the exchange so far.
 #[derive(Debug, Drop)]
 pub struct ServerFirstMessage<'a> {
-    /// The plain name of the user, as `ClientFirst::parse` gives it.
+    /// The plain user name, as `ClientFirst::parse` returns it.
     pub username: CowStr<'a>,
 
     /// The GS2 header of the client-first message.
@@ -41,14 +41,14 @@ pub struct ServerFirstMessage<'a> {
 }
 
 impl ScramVersion {
-    /// Answers a client-first message with a challenge (RFC 5802, sections 5 and 7), or with `None`
-    /// where the user is unknown.
+    /// Answers a client-first message with a challenge (RFC 5802, sections 5 and 7), or with `None` if the user is
+    /// unknown.
     ///
-    /// `client_first` is the message as it came, with its GS2 header. The server's nonce is a text
-    /// without commas, and is written behind the client's. `self` plays no part.
+    /// `client_first` is the message as received, with its GS2 header. The server's nonce is a text without commas, and
+    /// is written after the client's. `self` is not used.
     ///
-    /// The refusals are those of `ClientFirst::parse`, in its order. `OutOfMemory` is answered only
-    /// where the user name is escaped, or to a known user.
+    /// The errors are those of `ClientFirst::parse`, in its order. `OutOfMemory` is returned only if the user name is
+    /// escaped, or for a known user.
     pub fn compute_server_first_message<'a, C: ScramCredentialProvider>(
         &self,
         alloc: Global,
@@ -64,8 +64,8 @@ impl ScramVersion {
         challenge(alloc, client_first, base64_server_nonce, false, credentials)
     }
 
-    /// As `compute_server_first_message`, and where `accept_cbind_flag_y` says so the GS2 header may be `y,,`
-    /// too (`ClientFirst::parse_with_cbind_flag_y`).
+    /// Like `compute_server_first_message`, but with `accept_cbind_flag_y` the GS2 header may be `y,,` too
+    /// (`ClientFirst::parse_with_cbind_flag_y`).
     pub fn compute_server_first_message_with_cbind_flag_y<'a, C: ScramCredentialProvider>(
         &self,
         alloc: Global,
@@ -90,7 +90,7 @@ impl ScramVersion {
     }
 }
 
-/// The challenge to a client-first message, or `None` where the user is unknown.
+/// Returns the challenge to a client-first message, or `None` if the user is unknown.
 fn challenge<'a, C: ScramCredentialProvider>(
     alloc: Global,
     client_first: &'a [u8],
@@ -116,7 +116,7 @@ fn challenge<'a, C: ScramCredentialProvider>(
     Ok(Some(message))
 }
 
-/// The challenge to a client-first message that was read, of a user with this record.
+/// Returns the challenge to a parsed client-first message of a user with this record.
 pub(crate) fn challenge_to<'a>(
     alloc: Global,
     client_first: ClientFirst<'a>,
@@ -141,7 +141,7 @@ pub(crate) fn challenge_to<'a>(
     })
 }
 
-/// The server-first message, and the nonce of both sides, which is a part of it.
+/// Writes the server-first message. Returns it with the nonce of both sides, which is a part of it.
 fn server_first(
     alloc: Global,
     client_nonce: &str,

@@ -1,4 +1,4 @@
-//! The server-first message, as the client reads it.
+//! Reads the server-first message.
 
 ghost use Rattle.std.specs.Prelude.{◌≡◌, ◌≢◌, ◌≤◌, ◌++◌, ℕ, List, IfOk, IfErr, MatchResult, codes};
 ghost use Rattle.fe2o3_scram.specs.private.Tests.{salt_tests, count_tests};
@@ -30,15 +30,15 @@ pub struct ServerFirst<'a> {
 }
 
 impl<'a> ServerFirst<'a> {
-    /// Reads a server-first message (RFC 5802, sections 5.1 and 7) as a client does that has sent
-    /// this nonce, and accepts no iteration count above the limit. The nonce is the one of the
-    /// client-first message, as it was sent; the password is tested alone (RFC 4013, section 2).
+    /// Reads a server-first message (RFC 5802, sections 5.1 and 7) for a client that has sent this nonce, and accepts
+    /// no iteration count above the limit. The nonce is that of the client-first message, as it was sent. The password
+    /// is only tested (RFC 4013, section 2).
     ///
-    /// Refused are, in this order: `InsufficientParts`, `ExtensionNotSupported`, `NonceNotFound`,
+    /// The errors are, in this order: `InsufficientParts`, `ExtensionNotSupported`, `NonceNotFound`,
     /// `ClientNonceMismatch`, `SaltNotFound`, `Base64DecodeError`, `IterationCountNotFound`,
-    /// `IterationCountParseError`, `IterationCountTooLarge`, and `NormalizeError` for the password.
-    /// Parts behind the count say nothing. Memory is taken for the salt alone: `OutOfMemory` is
-    /// answered only where none of the first five refusals holds.
+    /// `IterationCountParseError`, `IterationCountTooLarge`, and `NormalizeError` for the password. Parts after the
+    /// count are ignored. Only the salt is allocated: `OutOfMemory` is returned only if none of the first five errors
+    /// applies.
     pub fn parse(
         alloc: Global,
         client_nonce: &str,
@@ -62,13 +62,11 @@ impl<'a> ServerFirst<'a> {
         Ok(first)
     }
 
-    /// Reads a server-first message as `parse` does, for a client with this secret, which accepts the
-    /// counts within these limits.
+    /// Like `parse`, for a client with this secret, which accepts the counts within these limits.
     ///
-    /// Refused are, in this order: what `parse` refuses up to `IterationCountParseError`;
-    /// `IterationCountTooSmall` and `IterationCountTooLarge`; and of the secret `NormalizeError` where a
-    /// typed password is needed and is not printable ASCII, or `StaleKeys` where there are keys alone
-    /// and the message names another salt or another count than they are of.
+    /// The errors are, in this order: those of `parse` up to `IterationCountParseError`; `IterationCountTooSmall` and
+    /// `IterationCountTooLarge`; `NormalizeError` if a typed password is needed and is not printable ASCII, or
+    /// `StaleKeys` if the secret is only keys and the message names another salt or count than theirs.
     pub(super) fn read(
         alloc: Global,
         client_nonce: &str,
@@ -95,7 +93,7 @@ impl<'a> ServerFirst<'a> {
     }
 }
 
-/// The nonce of both sides.
+/// Returns the nonce of both sides.
 #[tactic(auto, using(crate::proofs::lemmas::messages::ServerFirstLemmas::nonces))]
 fn read_nonce<'a>(client_nonce: &str, server_first: &'a str) -> Result<&'a str, ScramErrorKind>
     ensures tested { IfOk result (λ _. NoneHolds (nonce_tests client_nonce.now server_first.now)) }
@@ -117,7 +115,7 @@ fn read_nonce<'a>(client_nonce: &str, server_first: &'a str) -> Result<&'a str, 
     Ok(nonce)
 }
 
-/// The salt.
+/// Returns the salt.
 #[tactic(auto, using(crate::proofs::lemmas::messages::ServerFirstLemmas::salts))]
 fn read_salt(alloc: Global, server_first: &str) -> Result<Vec<u8>, ScramErrorKind>
     ensures tested { IfOk result (λ _. NoneHolds (salt_tests server_first.now)) }
@@ -136,7 +134,7 @@ fn read_salt(alloc: Global, server_first: &str) -> Result<Vec<u8>, ScramErrorKin
     Ok(salt)
 }
 
-/// The iteration count, from 1 on and within the limits.
+/// Returns the iteration count, from 1 on and within the limits.
 #[tactic(auto, using(crate::proofs::lemmas::messages::ServerFirstLemmas::counts))]
 fn read_count(limits: IterationLimits, server_first: &str) -> Result<u32, ScramErrorKind>
     ensures tested { IfOk result (λ _. NoneHolds (count_tests limits server_first.now)) }
@@ -159,7 +157,7 @@ fn read_count(limits: IterationLimits, server_first: &str) -> Result<u32, ScramE
     Ok(iterations)
 }
 
-/// Tests the secret for what the message names: a password that is needed, and keys alone.
+/// Tests the secret against the message's values: a password that is needed, or keys without a password.
 fn test_secret(secret: ClientSecret<'_>, first: &ServerFirst<'_>) -> Result<(), ScramErrorKind>
     ensures { MatchResult result (λ _. Serves (secret_of secret.entry) (server_first_values first.now))
         (ServesNot (secret_of secret.entry) (server_first_values first.now)) }

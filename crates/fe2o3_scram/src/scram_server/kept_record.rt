@@ -32,8 +32,8 @@ impl Model for KeptRecord {
 }
 
 impl KeptRecord {
-    /// Copies a client-first message and the record of its user into one block. Both need as many
-    /// requests for memory as the message by itself.
+    /// Copies a client-first message and the record of its user into one block, with as many allocations as the message
+    /// by itself.
     pub(crate) fn behind(
         alloc: Global,
         client_first_message_bare: &[u8],

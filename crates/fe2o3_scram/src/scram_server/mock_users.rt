@@ -57,14 +57,12 @@ impl Clone for MockUsers {
 }
 
 impl<C: ScramCredentialProvider> ScramAuthenticator<C> {
-    /// Returns this server with mock authentication: it answers an unknown user as a known one, by
-    /// the mock record of the name (`ScramRecord::mock`), which no login is known to meet. Known and
-    /// unknown users cost three HMAC values each at their client-first message, and make the same
-    /// requests for memory.
+    /// Returns this server with mock authentication: it answers an unknown user like a known one, by the mock record of
+    /// the name (`ScramRecord::mock`), which no login is known to meet. Known and unknown users cost three HMAC values
+    /// each at their client-first message, and make the same allocations.
     ///
-    /// The secret is that of `ScramRecord::mock`: at least 32 random bytes, stored beside the
-    /// records. `salt_len` is the length of the salts of the store's records, in bytes, and
-    /// `iterations` their iteration count.
+    /// The secret is that of `ScramRecord::mock`: at least 32 random bytes, stored beside the records. `salt_len` is
+    /// the length of the salts of the store's records, in bytes, and `iterations` their iteration count.
     ///
     /// The only error is `SaltTooLong`, for salts of more than 64 bytes.
     pub fn mock_unknown_users(
@@ -100,9 +98,8 @@ impl<C: ScramCredentialProvider> ScramAuthenticator<C> {
     }
 }
 
-/// Returns the mock record of a user, where there are settings of mock authentication. It needs no
-/// memory, and no store is a parameter: a known user has the same cost. The meter counts three HMAC
-/// values.
+/// Computes the mock record of a user, if mock authentication is set. It allocates nothing, and no store is a
+/// parameter: a known user has the same cost. The meter counts three HMAC values.
 pub(crate) fn mock_values(
     mock: &Option<MockUsers>,
     username: &str,
@@ -123,8 +120,8 @@ pub(crate) fn mock_values(
     ))
 }
 
-/// Returns the record of a user from the store, or the mock record where the store does not have the
-/// user. This is the one look-up of a login.
+/// Returns the record of a user from the store, or the mock record for an unknown user. This is the one look-up of a
+/// login.
 pub(crate) fn look_up<'a, C: ScramCredentialProvider>(
     credentials: &'a C,
     username: &str,

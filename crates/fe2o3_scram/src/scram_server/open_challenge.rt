@@ -12,11 +12,11 @@ use crate::scram_server::{ScramAuthenticator, ScramAuthenticatorState};
 use bytes::Bytes;
 use std::alloc::Global;
 
-/// An open challenge: what a server keeps between its two messages, each text as it was sent or received.
-/// These texts hold no key and no record, and of the user only the name.
+/// An open challenge: what a server keeps between its two messages, each text as it was sent or received. The texts
+/// hold no key and no record, and of the user only the name.
 #[derive(Drop)]
 pub struct OpenChallenge<'a> {
-    /// The user's name, plain, and not escaped.
+    /// The user's name, plain, not escaped.
     pub username: &'a str,
 
     /// The GS2 header of the client-first message.
@@ -25,7 +25,7 @@ pub struct OpenChallenge<'a> {
     /// The client-first message without its GS2 header.
     pub client_first_message_bare: &'a [u8],
 
-    /// The nonce of both sides, the client's in front.
+    /// The nonce of both sides, the client's first.
     pub client_server_nonce: &'a [u8],
 
     /// The server-first message.
@@ -67,7 +67,7 @@ impl<C: ScramCredentialProvider> ScramAuthenticator<C> {
     /// `AuthenticationFailed`. Texts that no server has sent are a challenge like any other, and a
     /// client has to prove its password for it. The caller vouches for the texts: they name the user.
     ///
-    /// `OutOfMemory` is the only error.
+    /// The only error is `OutOfMemory`.
     pub fn restore_challenge(
         self,
         alloc: Global,
@@ -103,11 +103,11 @@ impl<C: ScramCredentialProvider> ScramAuthenticator<C> {
         })
     }
 
-    /// Returns this server as a login of this user leaves it: it names that user. The caller vouches for
-    /// the name, since no message is checked. Pass the name that `authenticated_user` returned when the server was
-    /// saved. No password, key or record is needed beside it.
+    /// Returns this server in the state after a login of this user, whom it then names. The caller vouches for the
+    /// name, since no message is checked. Pass the name that `authenticated_user` returned when the server was saved.
+    /// No password, key or record is needed.
     ///
-    /// `OutOfMemory` is the only error.
+    /// The only error is `OutOfMemory`.
     pub fn restore_authenticated(self, alloc: Global, username: &str) -> Result<Self, OutOfMemory>
         ensures provider { IfOk result (λ server. provider_in server ≡ provider_in self) }
         ensures cbind_flag_y { IfOk result (λ server. cbind_flag_y_in server ≡ cbind_flag_y_in self) }

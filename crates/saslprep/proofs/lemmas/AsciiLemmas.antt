@@ -1,4 +1,4 @@
--- SASLprep on ASCII: printable characters stay, and controls are refused.
+-- SASLprep on ASCII: printable characters stay, and controls are rejected.
 use Rattle.std.proofs.Common.{◌≡◌, ℕ, zero, ◌<◌, ◌≤◌, Bool, true, false, not, ◌&&◌, nat_le, List, [], ◌∷◌, ◌++◌, All, Option, Some, None, refl, sym, ap, ◌∙◌, arith, chars, encode_utf8, encode_utf8_all, suc-le-suc, zero-le}
 use Rattle.std.proofs.lemmas.Bool.{not-true}
 use Rattle.std.proofs.lemmas.Bool.Decides.{nat_tests}

@@ -1,4 +1,4 @@
--- The rules one by one: what a refusal that is none says of each, and the law of what is accepted.
+-- The rules one by one: what an error that is none says of each, and the law of what is accepted.
 use Rattle.std.proofs.Common.{◌≡◌, ◌↔◌, ℕ, Bool, true, false, ◌||◌, List, [], ◌∷◌, ◌++◌, All, Any, Option, Some, None, if◌then◌else◌, IsSomeAnd, refl, inl, inr, not-suc-le-zero}
 use Rattle.std.proofs.lemmas.Bool.{and_parts, and_from, cases_Bool, not-true}
 use Rattle.std.proofs.lemmas.List.Folds.{Any-from_list_any, list_any-from_Any, list_any_none}

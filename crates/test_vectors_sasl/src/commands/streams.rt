@@ -1,22 +1,22 @@
-//! An output that has room for so much, and an input that can fail.
+//! An output with limited room, and an input that can fail.
 
 use std::alloc::Global;
 use std::io;
 use std::io::{Read, Write};
 
-/// A writer with room for so many bytes, which then refuses every write.
+/// A writer with room for that many bytes, which then rejects every write.
 #[derive(Drop)]
 pub struct Full {
     most: usize,
 
-    /// What it holds.
+    /// The bytes that it holds.
     pub written: Vec<u8>,
 
     refused: u32,
 }
 
 impl Full {
-    /// A writer with this much room.
+    /// Returns a writer with this much room.
     pub fn new(alloc: Global, most: usize) -> Full {
         Full {
             most,
@@ -25,8 +25,8 @@ impl Full {
         }
     }
 
-    /// Whether it holds this text and refused nothing, or, where it has not so much room, whether it holds what
-    /// it has room for, and refused one write.
+    /// Returns whether the writer holds this text and rejected nothing or, if it has not that much room, whether it
+    /// holds what it has room for, and rejected one write.
     pub fn holds(&self, text: &[u8]) -> bool {
         match text.get(..self.most) {
             Some(beginning) if beginning.len() < text.len() => {
@@ -54,7 +54,7 @@ impl Write for Full {
     }
 }
 
-/// A reader that gives its bytes, and then fails where it has a fault.
+/// A reader that returns its bytes, and then fails if it has an error.
 #[derive(Drop)]
 pub struct Text<'a> {
     bytes: &'a [u8],
@@ -62,7 +62,7 @@ pub struct Text<'a> {
 }
 
 impl<'a> Text<'a> {
-    /// A reader of these bytes, with this fault.
+    /// Returns a reader of these bytes, with this error.
     pub fn new(bytes: &'a [u8], fault: Option<io::ErrorKind>) -> Text<'a> {
         Text { bytes, fault }
     }

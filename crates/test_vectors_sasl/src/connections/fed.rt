@@ -7,7 +7,7 @@ use fe2o3_sasl::hmac::Meter;
 use fe2o3_sasl_negotiation::{ConnectionSide, Endpoint, Progress, Role};
 use std::alloc::Global;
 
-/// A stream, and what came of it.
+/// A stream, and the results of its calls.
 #[derive(Drop)]
 pub struct Fed<'a> {
     stream: &'a [u8],

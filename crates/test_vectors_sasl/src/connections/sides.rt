@@ -13,9 +13,9 @@ use fe2o3_sasl_negotiation::{
 };
 use std::rc::Rc;
 
-/// Says which user a side has authenticated, where it is a server.
+/// Says the user that a side has authenticated, if it is a server.
 pub trait SaysUser {
-    /// Says it.
+    /// Says the user.
     fn say_user(&self, row: &mut Row<'_>);
 }
 
@@ -56,9 +56,9 @@ pub fn say_progress(row: &mut Row<'_>, progress: Progress) {
     }
 }
 
-/// What is done with a side that no connection has used.
+/// A call on a side that no connection has used.
 pub trait Play {
-    /// Does it.
+    /// Makes the call.
     fn play<E, R>(&mut self, row: &mut Row<'_>, side: &mut ConnectionSide<E, R>)
     where
         E: Endpoint<R>,
@@ -101,7 +101,7 @@ fn play_server<P: Play>(row: &mut Row<'_>, play: &mut P) {
     }
 }
 
-/// What a server of SCRAM keeps of its user: `USER PASSWORD SALT COUNT`.
+/// Returns the record of a SCRAM server's user: `USER PASSWORD SALT COUNT`.
 pub fn stored(row: &mut Row<'_>, version: &str) -> Option<UserRecord> {
     let version = ScramVersion::from_mechanism(version)?;
     let (user, password, salt, count) = (row.text(), row.text(), row.bytes(), row.number());

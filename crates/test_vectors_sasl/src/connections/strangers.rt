@@ -1,6 +1,5 @@
-//! Connections as a stranger makes them: the bytes of logins of count 1, cut, doubled, swapped, flipped, mixed
-//! and given other nonces, and handed in in pieces, by a generator with a fixed seed. What comes of them is
-//! counted.
+//! Connections of a stranger: the bytes of logins of count 1, cut, doubled, swapped, flipped, mixed and with other
+//! nonces, passed in pieces, by a generator with a fixed seed. The results are counted.
 
 mod counts;
 mod logins;
@@ -12,10 +11,10 @@ use crate::connections::strangers::logins::{Login, altered, login_of};
 use crate::numbers::Numbers;
 use crate::rows::Row;
 
-/// How many connections each side is given.
+/// How many connections each side receives.
 const CONNECTIONS: usize = 5000;
 
-/// Plays the connections of the side and of the logins of a paragraph, and tells what came of them.
+/// Plays the connections of the side and of the logins of a paragraph, and returns the results.
 pub fn play(row: &mut Row<'_>) -> String {
     let paragraph = row.rest();
     let (side, lines) = paragraph.split_once('\n').unwrap_or((paragraph, ""));
@@ -34,7 +33,7 @@ pub fn play(row: &mut Row<'_>) -> String {
     row.made(text, String::new(row.alloc))
 }
 
-/// Plays a connection, and counts what came of it.
+/// Plays a connection, and counts the result.
 fn play_one<'a>(
     row: &mut Row<'a>,
     side: &'a str,
@@ -55,7 +54,7 @@ fn play_one<'a>(
     counts.add(row, &fed);
 }
 
-/// Where the pieces of so many bytes end, each of which has at least one.
+/// Returns where the pieces of that many bytes end, each of which has at least one.
 fn places(row: &mut Row<'_>, numbers: &mut Numbers, len: usize) -> Vec<usize> {
     let sizes = [4, 16, 64, 256, 1024];
     let most = sizes.get(numbers.below(5)).copied().unwrap_or(1);

@@ -55,7 +55,7 @@ pub fn check_plain(row: &mut Row<'_>, run: &Run<'_>) {
     );
 }
 
-/// The credential of a server: `USER PASSWORD SALT`.
+/// Returns the credential of a server: `USER PASSWORD SALT`.
 pub fn credential_of(
     row: &mut Row<'_>,
     version: ScramVersion,
@@ -64,8 +64,7 @@ pub fn credential_of(
     SingleScramCredential::new(row.alloc, user, &password, version, salt)
 }
 
-/// Checks a server of one user, which takes clients that could bind a channel or not:
-/// `VERSION USER PASSWORD SALT`.
+/// Checks a server of one user, which accepts the GS2 header `y,,` or not: `VERSION USER PASSWORD SALT`.
 pub fn check_one(row: &mut Row<'_>, run: &Run<'_>, accept_cbind_flag_y: bool) {
     let version = row.version();
     match credential_of(row, version) {
@@ -74,8 +73,8 @@ pub fn check_one(row: &mut Row<'_>, run: &Run<'_>, accept_cbind_flag_y: bool) {
     }
 }
 
-/// Checks a server whose store has these records, in their order: `VERSION RECORD..`, of which each is a name,
-/// a salt, a count, a stored key and a server key with colons between them.
+/// Checks a server whose store has these records, in order: `VERSION RECORD..`, each of which is a name, a salt, a
+/// count, a stored key and a server key with colons between them.
 pub fn check_records(row: &mut Row<'_>, run: &Run<'_>) {
     let version = row.version();
     let mut store = RecordStore::new(row.alloc, version);
@@ -104,7 +103,7 @@ fn check_shared<C: ScramCredentialProvider + Drop>(
     check_acceptor(row, run, fresh.accept_cbind_flag_y(accept_cbind_flag_y));
 }
 
-/// Checks what a server of these credentials answers in a run.
+/// Checks the answers of a server of these credentials in a run.
 fn check_run<C: ScramCredentialProvider>(
     row: &mut Row<'_>,
     run: &Run<'_>,

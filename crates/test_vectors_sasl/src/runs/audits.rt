@@ -1,5 +1,4 @@
-//! Audits of two transcripts by the calls of the library. A finding is a line as the program `sasl_lab`
-//! writes it.
+//! Audits of two transcripts by the calls of the library. A finding is a line as the program `sasl_lab` writes it.
 
 use crate::replies::{Reply, agree_all};
 use crate::rows::Row;
@@ -16,8 +15,8 @@ impl Reply for Finding {
     }
 }
 
-/// Checks an audit: `VERSION USER PASSWORD SERVER-USER SERVER-PASSWORD SALT`, and behind that the limit of
-/// the client, or `cbind_flag_y` where the server takes clients that could bind a channel.
+/// Checks an audit: `VERSION USER PASSWORD SERVER-USER SERVER-PASSWORD SALT`, followed by the limit of the client, or
+/// `cbind_flag_y` if the server accepts the GS2 header `y,,`.
 pub fn check(row: &mut Row<'_>, run: &Run<'_>) {
     let (alloc, version, user, password) = (row.alloc, row.version(), row.text(), row.text());
     let (client, server) = (run.client_events.as_slice(), run.events.as_slice());

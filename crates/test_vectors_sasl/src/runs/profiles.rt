@@ -32,7 +32,7 @@ impl Side for Profile {
         profile_step(row.alloc, &mut self.profile, event, hostname).say(row);
     }
 
-    /// A copy answers to the frame of a body, and a copy to its view, where it is read.
+    /// Compares the answers of a copy to the frame of a body, and of a copy to its view, if it is read.
     fn copies_answer(&self, row: &mut Row<'_>, event: &Event, wanted: &str) {
         let (alloc, hostname) = (row.alloc, self.hostname.as_deref());
         let Ok((view, _)) = view_frame(&event.body) else {
@@ -66,7 +66,7 @@ pub fn check(row: &mut Row<'_>, run: &Run<'_>, kind: &str) {
     }
 }
 
-/// The profile of a user by a secret of a kind:
+/// Returns the profile of a user by a secret of a kind:
 ///
 /// - `profile`: `MECHANISM USER PASSWORD LIMIT`;
 /// - `keyed`: `MECHANISM USER KEYS LIMIT`;
@@ -74,7 +74,7 @@ pub fn check(row: &mut Row<'_>, run: &Run<'_>, kind: &str) {
 /// - `prepared`: `MECHANISM USER PASSWORD`, with a prepared password;
 /// - `prepared-both`: `MECHANISM USER PASSWORD KEYS`, with prepared passwords.
 ///
-/// The iteration counts that it accepts go from the least to the limit.
+/// The profile accepts the iteration counts from `LEAST` to `LIMIT`.
 pub fn profile_of(row: &mut Row<'_>, kind: &str) -> Option<SaslProfile> {
     let (mechanism, user) = (row.word(), row.text());
     let password = match kind {
@@ -113,7 +113,7 @@ pub fn profile_of(row: &mut Row<'_>, kind: &str) -> Option<SaslProfile> {
     }
 }
 
-/// Keys: `PASSWORD SALT COUNT`, of a password that is prepared where that of the kind is.
+/// Returns keys: `PASSWORD SALT COUNT`, of a password that is prepared if that of the kind is.
 fn keys_of(row: &mut Row<'_>, mechanism: &str, kind: &str) -> Option<CachedKeys> {
     let (alloc, version) = (row.alloc, ScramVersion::from_mechanism(mechanism)?);
     let (password, salt, count) = (row.text(), row.bytes(), row.number());
@@ -125,7 +125,7 @@ fn keys_of(row: &mut Row<'_>, mechanism: &str, kind: &str) -> Option<CachedKeys>
     keys.ok()
 }
 
-/// The secret of a kind.
+/// Returns the secret of a kind.
 fn secret_of<'a>(
     kind: &str,
     password: &'a str,

@@ -1,4 +1,4 @@
-//! Logins, and the lists that a stranger makes of them.
+//! Logins, and a stranger's lists of them.
 
 use crate::numbers::{Numbers, cut, flip};
 use crate::rows::Row;
@@ -23,7 +23,7 @@ pub struct Login {
     pub outcome: Event,
 }
 
-/// A login: a nonce and a body for each event.
+/// Reads a login: a nonce and a body for each event.
 pub fn login_of(row: &mut Row<'_>) -> Login {
     Login {
         mechanisms: row.event(),
@@ -40,7 +40,7 @@ fn push_copy(row: &mut Row<'_>, events: &mut Vec<Event>, event: &Event) {
     row.push(events, Event { body, nonce });
 }
 
-/// What a client or a server is given in two of the logins, with none to three of the events altered.
+/// Returns the events of two of the logins for a client or a server, with none to three of them altered.
 pub fn altered(
     row: &mut Row<'_>,
     logins: &[Login],

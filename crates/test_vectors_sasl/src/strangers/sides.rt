@@ -1,4 +1,4 @@
-//! What may come of the lists of each side.
+//! The allowed results of the lists of each side.
 
 use crate::replies::Reply;
 use crate::rows::Row;
@@ -20,23 +20,23 @@ const USER: &str = "user";
 /// The password of the user.
 const PASSWORD: &str = "pencil";
 
-/// The limit of the client's on the count.
+/// The client's limit of the count.
 const LIMIT: u32 = 16;
 
-/// What came of all lists.
+/// The results of all lists.
 #[derive(Default)]
 pub struct Counts {
-    /// The outcomes of code ok that servers gave.
+    /// The number of outcomes of code ok that servers sent.
     pub accepted: usize,
 
-    /// The outcomes of code ok that clients reported.
+    /// The number of outcomes of code ok that clients reported.
     pub reported: usize,
 
-    /// The findings of the audits.
+    /// The number of findings of the audits.
     pub found: usize,
 }
 
-/// What a client and a server are given, and the logins that all of it was made of.
+/// What a client and a server receive, and the logins that all of it was made of.
 #[derive(Clone, Copy)]
 pub struct Sides<'a> {
     /// The server's credentials.
@@ -45,14 +45,14 @@ pub struct Sides<'a> {
     /// The logins.
     pub logins: &'a [Login],
 
-    /// What the client is given.
+    /// The client's events.
     pub client: &'a [Event],
 
-    /// What the server is given.
+    /// The server's events.
     pub server: &'a [Event],
 }
 
-/// Says replies one after the other.
+/// Returns the words of replies, in order.
 fn said<R: Reply>(row: &mut Row<'_>, replies: &[R]) -> String {
     for reply in replies {
         reply.say(row);
@@ -61,15 +61,15 @@ fn said<R: Reply>(row: &mut Row<'_>, replies: &[R]) -> String {
 }
 
 impl Sides<'_> {
-    /// Plays a list of each side, twice, and counts what came of it.
+    /// Plays a list of each side, twice, and counts the results.
     pub fn play(&self, row: &mut Row<'_>, counts: &mut Counts) {
         self.play_server(row, counts);
         self.play_client(row, counts);
         self.play_audit(row, counts);
     }
 
-    /// The server replies the same when it is asked again, and ends well at the response of a login whose
-    /// challenge it gave last, and nowhere else.
+    /// Checks that the server replies the same when it is asked again, and ends well only at the response of a login
+    /// whose challenge it sent last.
     fn play_server(&self, row: &mut Row<'_>, counts: &mut Counts) {
         let alloc = row.alloc;
         let again = scram_server_run(alloc, self.credentials, self.server);
@@ -95,8 +95,8 @@ impl Sides<'_> {
         }
     }
 
-    /// The client says the same when it is asked again, and reports that it ended well at the signature of a
-    /// login whose response it gave last, and nowhere else.
+    /// Checks that the client says the same when it is asked again, and reports that it ended well only at the
+    /// signature of a login whose response it sent last.
     fn play_client(&self, row: &mut Row<'_>, counts: &mut Counts) {
         let (alloc, events) = (row.alloc, self.client);
         let again = scram_client_run_limited(alloc, USER, PASSWORD, VERSION, LIMIT, events);
@@ -123,7 +123,7 @@ impl Sides<'_> {
         }
     }
 
-    /// Whether a body has the response of a login that has this challenge, or the signature of one that has
+    /// Returns whether a body has the response of a login that has this challenge, or the signature of one that has
     /// this response.
     fn is_login(&self, is_response: bool, before: Option<&[u8]>, body: &[u8]) -> bool {
         let (Some(before), Some(data)) = (before, data_of(body)) else {
@@ -141,7 +141,7 @@ impl Sides<'_> {
         false
     }
 
-    /// All that an audit of both sides finds is agreed.
+    /// Checks that all findings of an audit of both sides are agreed.
     fn play_audit(&self, row: &mut Row<'_>, counts: &mut Counts) {
         let (alloc, client, server) = (row.alloc, self.client, self.server);
         let credentials = self.credentials;
@@ -165,7 +165,7 @@ impl Sides<'_> {
     }
 }
 
-/// What a body says, if it is a response, or its signature, with its `v=`, if it is an outcome that has one.
+/// Returns the text of a response, or the signature with its `v=` of an outcome that has one.
 fn data_of(body: &[u8]) -> Option<&[u8]> {
     match view_frame(body) {
         Ok((FrameView::Response(data), _)) => Some(data),

@@ -2,7 +2,7 @@ use denote.Text.{Utf8}
 use denote.Shadow.{shadow}
 use Rattle.test_vectors_scram.proofs.replay.Given as goal
 
--- the words that are given are a text
+-- the given words are a text
 abbrev pub invariant-loop-line : goal.invariant-loop-line
 invariant-loop-line g l =
     (goal.iterator-loop-line g).can_next l.line-iterator ×

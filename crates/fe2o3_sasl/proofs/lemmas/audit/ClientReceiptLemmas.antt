@@ -22,7 +22,7 @@ use Rattle.fe2o3_sasl_core.proofs.lemmas.positions.PositionLemmas.{some_at, open
 use Rattle.fe2o3_sasl_core.proofs.lemmas.two_sides.HeadlineLemmas.{reports_ok_exactly}
 use Rattle.fe2o3_sasl_core.specs.declared.sasl_profile.error.ProfileError.TheVariants.{Frame, OutOfMemory}
 
--- ---- a response stands on a challenge that is due
+-- ---- a response answers a challenge that is expected
 
 module _ (login : Login) (Due : List ℕ → Type 0) (IsOpen : Answering → Type 0) where
   due_of : (event : Given) (spelled : Result SaslFrame Error) (body : List ℕ)
@@ -256,7 +256,7 @@ module _ (login : Login) (events : List Given) (replies : List ClientSays)
         let e : suc i ≡ i + 1 = omega arith in
         subst (λ (z : ℕ). SoFar z next shown' taken') e (step says at first here k h)
 
--- the last start stands before
+-- the last start is before
 pub start_behind : (login : Login) (i start next : ℕ) (shown shown' taken taken' : List ClientReceipt)
     (init event : Given) (says : ClientSays)
     → ClientKeeps login i init event says start next shown shown' taken taken' → start ≤ i → next ≤ i + 1

@@ -41,7 +41,7 @@ at index bytes = get_by (λ key. slice_cmp nat_cmp bytes key.now) index
 abbrev receipts : List (Bor code_server.ServerReceipt) → List ServerReceipt
 receipts row = map (λ server. server_receipt server.now) row
 
--- what stands there, none where there is no row
+-- what is there, none where there is no row
 abbrev items : Option Row → List (Bor code_server.ServerReceipt)
 items row = option_map_or (λ row. row.items) row []
 
@@ -53,7 +53,7 @@ same_row : (stored : Option Row) (row : Row) → UnwrapsOrElse stored (λ made. 
 same_row None row made = made.0
 same_row (Some other) row is = ap (λ (r : Row). r.items) is
 
--- a receipt that is put behind the others at its bytes
+-- a receipt that is put after the others at its bytes
 pub put_row : (entries : Entries) (index next : Rows) (bytes other : List ℕ) (stored : Option Row) (row longer : Row)
     (server : Bor code_server.ServerReceipt)
     → UpdatesBy (λ x y. slice_cmp nat_cmp x.now y.now) (λ key. slice_cmp nat_cmp bytes key.now) index next (Some longer)

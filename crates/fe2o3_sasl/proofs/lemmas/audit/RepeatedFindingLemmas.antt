@@ -112,7 +112,7 @@ shown_finding sides finding user nonce parameters is agreed =
 
 -- ---- who has logged in
 
--- behind an accepted response it is its user
+-- after an accepted response the user is that of the response
 logged : (sides : Sides) (n : ℕ) (accepted : Accepted) (user : List ℕ) → OkAt sides n accepted
     → user ≡ accepted.challenge.client.user
     → LoggedIn sides.provider sides.server_events sides.server_replies (suc n) user
@@ -153,7 +153,7 @@ no_new_start (Some (Answered body)) is = refl
 no_new_start (Some (Reported code more)) is = refl
 no_new_start (Some (Refused fault)) is = refl
 
--- i is before k, k itself, or behind it
+-- i is before k, k itself, or after it
 three : (i k : ℕ) → (i < k) ⊎ ((i ≡ k) ⊎ (k < i))
 three i k = grind arith
 

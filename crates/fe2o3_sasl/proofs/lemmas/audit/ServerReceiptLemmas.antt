@@ -26,7 +26,7 @@ use Rattle.fe2o3_sasl_core.proofs.lemmas.histories.OneServerHistoryLemmas.{one_f
 use Rattle.fe2o3_sasl_core.proofs.lemmas.histories.ServerLawLemmas.{ok_accepts, accepted_response}
 use Rattle.fe2o3_sasl_core.proofs.lemmas.positions.PositionLemmas.{opens_here, was_open, one_open}
 
--- ---- a first message of so many parts
+-- ---- a first message of that many parts
 
 pub HasParts-pieces : (text : List ℕ) (n : ℕ) → length (pieces text) ≡ n → HasParts text n
 HasParts-pieces text n is = (pieces text, Parts-pieces text, is)
@@ -222,7 +222,7 @@ module _ (provider : Provider) (events : List Given) (replies : List ServerSays)
       subst (λ (z : ℕ). ServerSoFar provider events replies z next oks') e
       (step i challenge next oks oks' init event says at first here keeps known)
 
--- the last challenge stands before the next position
+-- the last challenge is before the next position
 pub challenge_behind : (provider : Provider) (i challenge next : ℕ) (oks oks' : List ServerReceipt)
     (init event : Given) (says : ServerSays) → ServerKeeps provider i init event says challenge next oks oks'
     → challenge ≤ i → next ≤ i + 1

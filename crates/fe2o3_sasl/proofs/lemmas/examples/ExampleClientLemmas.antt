@@ -38,7 +38,7 @@ challenge_spelled bytes long = spells_body (frames.Challenge (joined (salted byt
     (challenge_bodied (joined (salted bytes both))
     (omega (arith, short_joined (salted bytes both) (short_salted bytes both long short_both))))
 
--- a refusal of it, where it is due
+-- an error for a challenge, where one is expected
 refuses : (some : Login) (events : List Given) (replies : List ClientSays) (k : ℕ) (bytes : List ℕ)
     (kind : ScramErrorKind) → length bytes ≡ 32 → IsDue events replies k client_nonce
     → ReadsServerFirst client_nonce some.secret some.limits (joined (salted bytes both)) (Err kind)
@@ -80,7 +80,7 @@ module _ (some : Login) (one : answer_at some made ≡ answer_at login made)
     inr (inl (made, challenge_read events replies k due, response_said)),
   )
 
-  -- the outcome behind it
+  -- the outcome after it
   reported : (events : List Given) (replies : List ClientSays) (k : ℕ) → slice_get events k ≡ Some (asks salt)
       → test_at is_answer (slice_get replies k) ≡ true → IsDue events replies k client_nonce
       → SaysAt some events replies (suc k) (event_of client_bytes (sends_ok made))

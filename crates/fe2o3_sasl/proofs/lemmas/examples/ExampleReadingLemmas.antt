@@ -85,7 +85,7 @@ plain_values nonce plain = plain_salted salt nonce plain
 pub plain_binds : (nonce : List ℕ) → Plain nonce → AllByRecursion Plain (binds nonce)
 plain_binds nonce plain = (plain-literal (codes "c=biws") refl refl, (plain_nonce nonce plain, tt))
 
--- ---- the client-first message, with more parts behind the nonce
+-- ---- the client-first message, with more parts after the nonce
 
 pub reads_names : (user : List ℕ) (more : List (List ℕ)) → escaped user ≡ user → Plain user → AllByRecursion Plain more
     → ReadsClientFirst false (codes "n,," ++ joined (names user ++ more))
@@ -98,7 +98,7 @@ reads_names user more sent plain too =
     (utf8_joined (names user ++ more) all)) tt refl user user client_nonce
     (names user ++ more, parts, refl) sent (names user ++ more, parts, refl)
 
--- ---- the server-first message, with more parts behind the count
+-- ---- the server-first message, with more parts after the count
 
 pub salt_bytes : IsBytes salt
 salt_bytes = IsBytes-replicate 32 3 (omega arith)
@@ -189,7 +189,7 @@ three_joined : (p : List ℕ) (ps : List (List ℕ)) (q : List ℕ) (qs : List (
 three_joined p ps q qs r rs = ap (λ (rest : List ℕ). joined (p ∷ ps) ++ 44 ∷ rest) (joined-append q qs r rs)
     ∙ joined-append p ps q (qs ++ r ∷ rs)
 
--- all parts of the client's, where the server-first message has more behind the count
+-- all parts of the client's, where the server-first message has more after the count
 pub client_joined : (nonce : List ℕ) (more : List (List ℕ))
     → client_message login (answering (joined (values nonce ++ more)) nonce)
     ≡ joined (names (codes "user") ++ ((values nonce ++ more) ++ binds nonce))
@@ -201,7 +201,7 @@ client_joined nonce more =
     ∙ three_joined (codes "n=user") ((codes "r=" ++ client_nonce) ∷ []) (codes "r=" ++ nonce)
     ((codes "s=" ++ base64_text salt) ∷ codes "i=4096" ∷ more) (codes "c=biws") ((codes "r=" ++ nonce) ∷ [])
 
--- and of the server's, where the client's messages have more behind the nonce
+-- and of the server's, where the client's messages have more after the nonce
 pub server_joined : (more others : List (List ℕ)) → auth_message (joined (names (codes "user") ++ more))
     (first_message (challenging (joined (names (codes "user") ++ more)))) (joined (binds both ++ others))
     ≡ joined ((names (codes "user") ++ more) ++ (values both ++ (binds both ++ others)))

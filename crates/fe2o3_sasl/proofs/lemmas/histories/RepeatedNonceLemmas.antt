@@ -131,7 +131,7 @@ two_challenges sides n o accepted other given apart closes too accepts also same
           again.2 one,
     )
 
--- the nonces of the server are equal, behind one nonce of the client
+-- the nonces of the server are equal, after one nonce of the client
 one_server_nonce : (sides : Sides) (k n o : ℕ) (answer another : Answering) (accepted other : Accepted)
     → IsRecord accepted.challenge.stored → IsRecord other.challenge.stored → IsPlainInit accepted → IsPlainInit other
     → AnswersAt sides.login sides.client_events sides.client_replies k answer

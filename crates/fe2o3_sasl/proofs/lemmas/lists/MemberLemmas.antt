@@ -9,7 +9,7 @@ member_front x [] ys m = absurd m
 member_front x (y ∷ xs) ys (inl e) = inl e
 member_front x (y ∷ xs) ys (inr m) = inr (member_front x xs ys m)
 
--- of what stands behind
+-- of what follows
 pub member_behind : {X : Type 0} (x : X) (xs ys : List X) → Member x ys → Member x (xs ++ ys)
 member_behind x [] ys m = m
 member_behind x (y ∷ xs) ys m = inr (member_behind x xs ys m)

@@ -151,7 +151,7 @@ module _ (user : List ℕ) (limits : IterationLimits) (keys : ClientKeys) (passw
   says_alike state after moved next (Ok (frames.Response text)) says m is =
       sent_alike state after moved next _ says _ (canonical (frames.Response text)) m is
 
-  -- a refusal by other keys is said
+  -- a rejection for stale keys is returned
   fits : (state : ClientState) (moved next : Profile) (reply : Result SaslFrame ProfileError) (says : ClientSays)
       → says ≢ Refused StaleKeys → Replies (keyed state) moved reply says next → reply ≢ Err StaleKeys
   fits state moved next reply says other is same =

@@ -28,7 +28,7 @@ pub the_one : (name other : List ℕ) → Contains (name ∷ []) other → name 
 the_one name other (zero, within, is) = is
 the_one name other (suc k, within, is) = absurd (omega (arith, within))
 
--- a name of SCRAM is that of its version alone
+-- a name of SCRAM is only that of its version
 one_version : (version other : ScramVersion) → mechanism_name version ≡ mechanism_name other → other ≡ version
 one_version Sha1 Sha1 same = refl
 one_version Sha1 Sha256 same = absurd (differ _ _ refl same)

@@ -118,7 +118,7 @@ gives_turns user password accepted event (Ok (frames.Response text)) says next (
 
 -- ---- a run
 
--- behind it the acceptor has accepted where it had before or some reply is an outcome Ok
+-- after a run the acceptor has accepted where it had before or some reply is an outcome Ok
 abbrev Behind : List ℕ → List ℕ → Bool → List ServerSays → Acceptor → Type 0
 Behind user password accepted replies last =
     (((accepted ≡ true) ⊎ SaysOk replies) × (last ≡ PlainAcceptor user password true))

@@ -58,7 +58,7 @@ same_head left right lefts rights before after (inr is) (inr too) =
     absurd (not_both left right (all_of (Before left) lefts right before too)
     (all_of (Before right) rights left after is))
 
--- and behind it the same elements
+-- and after it the same elements
 behind : (left right place : ℕ × ℕ) (lefts rights : List (ℕ × ℕ)) → left ≡ right → AllByRecursion (Before left) lefts
     → Contains lefts place → (right ≡ place) ⊎ Contains rights place → Contains rights place
 behind left right place lefts rights same before is (inl here) = absurd (not_before place

@@ -9,7 +9,7 @@ use crate::audit::receipts::{ClientReceipt, ServerReceipt};
 use crate::audit::{FindingKind, Parameters, Verdict};
 use std::alloc::Global;
 
-/// The verdict on two receipts that meet in what a finding of this kind compares. Refuses with
+/// Returns the verdict on two receipts that meet in what a finding of this kind compares. The only error is
 /// `OutOfMemory`.
 pub(super) fn judge(
     alloc: Global,
@@ -26,7 +26,7 @@ pub(super) fn judge(
     }
 }
 
-/// The parameters again.
+/// Copies the parameters.
 fn copy(alloc: Global, parameters: &Parameters) -> Result<Parameters, OutOfMemory>
     ensures { IfOk result (λ copy. parameters_of copy ≡ parameters_of parameters.now) }
 {
@@ -37,7 +37,7 @@ fn copy(alloc: Global, parameters: &Parameters) -> Result<Parameters, OutOfMemor
     })
 }
 
-/// What both sides agree on, as the server has it.
+/// Returns the values that both sides agree on, as the server has them.
 fn agreed(alloc: Global, server: &ServerReceipt) -> Result<Verdict, OutOfMemory>
     ensures { IfOk result (λ verdict. verdict_of verdict ≡ agreed_on (server_receipt server.now)) }
 {
@@ -52,7 +52,7 @@ fn agreed(alloc: Global, server: &ServerReceipt) -> Result<Verdict, OutOfMemory>
     })
 }
 
-/// The verdict on a verifier that the client took.
+/// Returns the verdict on a verifier that the client took.
 fn judge_verifier(
     alloc: Global,
     client: &ClientReceipt,
@@ -73,7 +73,7 @@ fn judge_verifier(
     }
 }
 
-/// The verdict on a proof that the client showed.
+/// Returns the verdict on a proof that the client showed.
 fn judge_proof(
     alloc: Global,
     client: &ClientReceipt,

@@ -1,4 +1,4 @@
-//! The receipt of an Ok, made of the open challenge and of the response that was accepted.
+//! The receipt of an Ok, from the open challenge and the response that was accepted.
 
 ghost use Rattle.std.specs.Prelude.{◌≡◌, ◌↔◌, ◌++◌, ℕ, List, Ok, true, codes, IfOk, option_map, Bool};
 ghost use Rattle.fe2o3_sasl_wire.specs.SaslFrames.{Response};
@@ -28,8 +28,8 @@ use fe2o3_scram::keys::auth_message;
 use fe2o3_scram::scram_messages::{ChannelBindingFlag, ClientFinal};
 use std::alloc::Global;
 
-/// The receipt of an Ok to the response in this body. The one refusal is `OutOfMemory`, also of a
-/// body that is no response to this challenge.
+/// Returns the receipt of an Ok to the response in this body. The only error is `OutOfMemory`, also for a body that is
+/// no response to this challenge.
 pub(crate) fn ok_receipt<C: ScramCredentialProvider>(
     alloc: Global,
     credentials: &C,
@@ -50,8 +50,8 @@ pub(crate) fn ok_receipt<C: ScramCredentialProvider>(
     receipt_of(alloc, credentials, place, opened, client_final)
 }
 
-/// What the response in this body names. The one refusal is `OutOfMemory`, also of a body that is no
-/// response with this header and this nonce.
+/// Reads the response in this body again. The only error is `OutOfMemory`, also for a body that is no response with
+/// this header and this nonce.
 fn response_again<'a>(
     alloc: Global,
     header: ChannelBindingFlag,
@@ -75,7 +75,7 @@ fn response_again<'a>(
     Ok(client_final)
 }
 
-/// The receipt of an Ok to a response that names these values.
+/// Returns the receipt of an Ok to a response with these values.
 fn receipt_of<C: ScramCredentialProvider>(
     alloc: Global,
     credentials: &C,
@@ -121,7 +121,7 @@ fn receipt_of<C: ScramCredentialProvider>(
     })
 }
 
-/// What is kept of a password is bytes, and a count of 32 bits.
+/// States that values of these types satisfy `IsRecord`. The function has no code: it is called for its clause.
 fn is_record(salt: &[u8], iterations: u32, stored_key: &[u8], server_key: &[u8])
     ensures { IsRecord (record {
       salt = salt.now;
@@ -131,7 +131,7 @@ fn is_record(salt: &[u8], iterations: u32, stored_key: &[u8], server_key: &[u8])
     }) }
 {}
 
-/// AuthMessage, as the server has it.
+/// Concatenates the AuthMessage, as the server has it.
 fn message(alloc: Global, opened: &Opened<'_>, without_proof: &str) -> Result<Vec<u8>, OutOfMemory>
     requires { HoldsMessage opened.now }
     ensures { IfOk result (λ text. text.items ≡ auth_message_of (opened_challenge opened.now).client.bare
@@ -145,7 +145,7 @@ fn message(alloc: Global, opened: &Opened<'_>, without_proof: &str) -> Result<Ve
     )
 }
 
-/// The server-final message.
+/// Returns the server-final message.
 fn verifier(
     alloc: Global,
     version: ScramVersion,
@@ -161,8 +161,8 @@ fn verifier(
     Ok(text.into_bytes())
 }
 
-/// The ClientKey that the proof gives away. The one refusal is `OutOfMemory`, also of a proof that is
-/// not as long as a digest.
+/// Recovers the ClientKey from the proof. The only error is `OutOfMemory`, also for a proof that is not as long as a
+/// digest.
 fn recovered_key(
     alloc: Global,
     version: ScramVersion,
@@ -179,7 +179,7 @@ fn recovered_key(
     }
 }
 
-/// The parameters, where the client-first message has the user name and the nonce alone.
+/// Returns the parameters, if the client-first message has only the user name and the nonce.
 fn parameters(alloc: Global, opened: &Opened<'_>) -> Result<Option<Parameters>, OutOfMemory>
     ensures { IfOk result (λ parameters. (final : Final) → AreParameters
         (record { challenge = opened_challenge opened.now; final = final }) (option_map parameters_of parameters)) }
@@ -196,7 +196,7 @@ fn parameters(alloc: Global, opened: &Opened<'_>) -> Result<Option<Parameters>, 
     }))
 }
 
-/// Whether a client-first message without its GS2 header has exactly two parts.
+/// Returns whether a client-first message without its GS2 header has exactly two parts.
 fn is_plain(bare: &str) -> bool
     ensures { result ≡ true ↔ HasParts bare.now 2 }
 {

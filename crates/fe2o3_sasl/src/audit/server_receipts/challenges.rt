@@ -1,4 +1,4 @@
-//! The challenge to an init, made again.
+//! The challenge to an init, recomputed.
 
 ghost use Rattle.std.specs.Prelude.{ℕ, List, Option, Some, Ok, IfOk, MatchOption, ⊤};
 ghost use Rattle.fe2o3_sasl_wire.specs.SaslFrames.{Init};
@@ -15,8 +15,8 @@ use fe2o3_scram::credentials::{ScramCredentialProvider, StoredPassword};
 use fe2o3_scram::scram_messages::{ClientFirst, ServerFirstMessage};
 use std::alloc::Global;
 
-/// A challenge again: what the client-first message names, the server's nonce, the server-first
-/// message, and what is kept of the user's password.
+/// A recomputed challenge: what the client-first message names, the server's nonce, the server-first message, and the
+/// stored password of the user.
 #[derive(Drop)]
 pub(crate) struct Opened<'a> {
     pub client_first: ClientFirst<'a>,
@@ -25,8 +25,8 @@ pub(crate) struct Opened<'a> {
     pub stored_password: StoredPassword<'a>,
 }
 
-/// The challenge to the init in this event. The one refusal is `OutOfMemory`, also of an event that
-/// is not answered with a challenge.
+/// Recomputes the challenge to the init in this event. The only error is `OutOfMemory`, also for an event that is not
+/// answered with a challenge.
 pub(crate) fn opened_again<'a, C: ScramCredentialProvider>(
     alloc: Global,
     accept_cbind_flag_y: bool,
@@ -66,7 +66,7 @@ pub(crate) fn opened_again<'a, C: ScramCredentialProvider>(
     })
 }
 
-/// The client-first message in the body of an init, or `None` where there is none.
+/// Returns the client-first message in the body of an init, or `None` if there is none.
 fn initial_response(body: &[u8]) -> Option<&[u8]>
     ensures { MatchOption result ⊤ (λ text. (mechanism : List ℕ) × (hostname : Option (List ℕ))
         × SpellsBody body.now (Ok (Init mechanism (Some text.now) hostname))) }

@@ -238,7 +238,7 @@ pub one_open_answer : (login : Login) (events : List Given) (replies : List Clie
 one_open_answer login events replies k = one_open_by is_answer ends_answer (AnswersAt login events replies) replies k
     (one_answers_at login events replies)
 
--- what is due at k depends on the replies before k alone, and so does what is open
+-- what is expected at k depends only on the replies before k, and so does what is open
 pub due_agrees : (events : List Given) (replies others : List ClientSays) (k : ℕ) → AgreeBelow replies others k
     → (nonce : List ℕ) → IsDue events replies k nonce → IsDue events others k nonce
 due_agrees events replies others k e = open_by_agrees is_start is_answer (NonceAt events)

@@ -108,7 +108,7 @@ one_challenge provider events replies k challenge other h i =
     one_fits_at provider events i.0 challenge other (subst (λ (j : ℕ). FitsAt provider events j challenge) place h.2)
     i.2
 
--- what is open at k depends on the replies before k alone
+-- what is open at k depends only on the replies before k
 pub challenge_agree : (provider : Provider) (events : List Given) (replies others : List ServerSays) (k : ℕ)
     → ((i : ℕ) → i < k → slice_get replies i ≡ slice_get others i) → (challenge : Challenging)
     → Open provider events replies k challenge → Open provider events others k challenge

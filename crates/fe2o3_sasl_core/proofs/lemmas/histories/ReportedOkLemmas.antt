@@ -1,4 +1,4 @@
--- What a reply of a client says of the position where it stands.
+-- What a reply of a client says of its position.
 use Rattle.std.proofs.Common.{◌≡◌, ℕ, Option, Some, None, List, refl, sym, ap, subst, arith, ⊎_elim, inl, inr, Result, Ok, Err}
 use Rattle.std.specs.Prelude.{slice_get, codes}
 use Rattle.std.proofs.lemmas.Option.{same_Some, slice_get_within}
@@ -61,7 +61,7 @@ module _ (login : Login) (Due : List ℕ → Type 0) (IsOpen : Answering → Typ
   reported event (Ok (frames.Outcome outcomes.SysPerm other)) more says = absurd (cc)
   reported event (Ok (frames.Outcome outcomes.SysTemp other)) more says = absurd (cc)
 
--- a reported Ok stands on the signature of the open answer
+-- a reported Ok is at the signature of the open answer
 pub signature_of_ok : (login : Login) (events : List Given) (replies : List ClientSays) (m : ℕ) (text : List ℕ)
     → ClientHistory login events replies → slice_get replies m ≡ Some (Reported outcomes.Ok (Some text))
     → (answer : Answering) × OpenAnswer login events replies m answer

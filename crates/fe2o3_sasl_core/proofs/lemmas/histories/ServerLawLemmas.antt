@@ -20,9 +20,9 @@ use Rattle.fe2o3_scram.proofs.lemmas.texts.PartsLemmas.{one_part}
 use Rattle.fe2o3_sasl_core.proofs.lemmas.positions.PositionLemmas.{some_at, stays_open, was_open}
 use Rattle.fe2o3_sasl_core.proofs.lemmas.frames.SpellingLemmas.{one_spelling, one_spelled_frame, carried_not}
 
--- ---- what a reply says of the position where it stands
+-- ---- what a reply says of its position
 
--- an Ok stands at a response that fits
+-- an Ok is at a response that fits
 ok_fits : (provider : Provider) (IsOpen : Challenging → Type 0) (event : Given) (spelled : Result SaslFrame Error)
     (body : List ℕ) → ServerAnswers provider IsOpen event spelled (Concluded outcomes.Ok body)
     → (frame : SaslFrame) × (spelled ≡ Ok frame) × ((accepted : Accepted)
@@ -225,7 +225,7 @@ one_response_one_nonce P es rs n k e f text p q x y spells too h i =
     (accepted_nonce P es rs n e text p x spells h) (accepted_nonce P es rs k f text q y too i) in
     cc
 
--- ---- refusals
+-- ---- rejections
 
 pub refusals_leave_open : RefusalsLeaveOpen
 refusals_leave_open P es rs k challenge c o = (

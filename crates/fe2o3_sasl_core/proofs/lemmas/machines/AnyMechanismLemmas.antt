@@ -15,7 +15,7 @@ use Rattle.fe2o3_sasl_core.specs.SaslAcceptor.{ends_with}
 use Rattle.fe2o3_sasl_core.specs.declared.any_mechanism.Selected.{Selected}
 use Rattle.fe2o3_sasl_core.specs.declared.any_mechanism.Selected.TheVariants.{First, Second}
 
--- what went to a part is a step of it, and the other stays; what went to neither is refused
+-- what went to a part is a step of it, and the other stays; what went to neither is rejected
 abbrev pub Goes : {S T : Type 0} → Machine S → Machine T → BothStates S T → Option Selected → Given → ServerSays → BothStates S T
     → Type 0
 Goes machine other parts None event says next = IsRefusal says × (next ≡ parts)
@@ -33,7 +33,7 @@ AnswersAs machine other parts (Some First) nonce frame says next =
 AnswersAs machine other parts (Some Second) nonce frame says next =
     AcceptorAnswers other parts.second nonce frame says next.second × (next.first ≡ parts.first)
 
--- Auth and a fault are refusals, in whatever body
+-- Auth and an error are rejections, in any body
 pub auth_is_refusal : (body : Option (List ℕ))
     → IsRefusal (carried (Failed faults.TooLarge) (server_says (ends_with outcomes.Auth)) body)
 auth_is_refusal None = tt

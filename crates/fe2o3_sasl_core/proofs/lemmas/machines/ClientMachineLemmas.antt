@@ -98,7 +98,7 @@ StepsTo login state due waits event spelled says next =
 leaves_refused : (says : ClientSays) (fault : ProfileError) → says ≡ Refused fault → Leaves says
 leaves_refused says fault e = (ap is_start e, ap is_answer e, ap ends_answer e)
 
--- what is refused stays
+-- what is rejected stays
 refused : (login : Login) (state : ClientState) (due : Option (List ℕ)) (waits : Option Answering) (event : Given)
     (spelled : Result SaslFrame Error) (says : ClientSays) (next : Profile) (fault : ProfileError) →
     says ≡ Refused fault → next ≡ profile_in login state → SaysRow login due waits event spelled says
@@ -145,7 +145,7 @@ answers_due login (ClientFirstSent nonce bare) due waits text message after stan
       h.3 ∙ ap (λ (x : Answer). side_in login (ClientFinalSent x.signature (Some x.keys))) same,
     )
 
--- and so is one that is refused, and the client stays
+-- and so is one that is rejected, and the client stays
 refuses_due : (login : Login) (state : ClientState) (due : Option (List ℕ)) (waits : Option Answering) (text : List ℕ)
     (kind : ScramErrorKind) (after : ClientSide) → StandsFor login state due waits → IsUtf8 text
     → AnswersIn state (side_in login state) text (Err kind) after →
@@ -175,7 +175,7 @@ verifies_open login (ClientFinalSent signature keys) due waits text verified aft
   h.1,
 )
 
--- and one that is refused leaves the client
+-- and one that is rejected leaves the client
 refuses_open : (login : Login) (state : ClientState) (due : Option (List ℕ)) (waits : Option Answering) (text : List ℕ)
     (kind : ScramErrorKind) (after : ClientSide) → StandsFor login state due waits
     → VerifiesIn state (side_in login state) text (Err kind) after →
@@ -340,7 +340,7 @@ profile_step login state due waits event (Ok frame) says next stands (inr h) =
 
 -- ---- runs
 
--- a history, and a state that stands for what is due and open behind it
+-- a history, and a state that represents what is expected and open after it
 pub record Running (login : Login) (events : List Given) (replies : List ClientSays)
     (state : ClientState) : Type 0 where
   pub history : ClientHistory login events replies
@@ -350,7 +350,7 @@ pub record Running (login : Login) (events : List Given) (replies : List ClientS
   pub holds_due : Holds is_start is_answer (NonceAt events) replies due
   pub holds_open : Holds is_answer ends_answer (AnswersAt login events replies) replies waits
 
--- the state behind the next reply stands for what is due and open then
+-- the state after the next reply represents what is expected and open then
 running_push : (login : Login) (events : List Given) (replies : List ClientSays) (state next : ClientState)
     (event : Given) (spelled : Result SaslFrame Error) (says : ClientSays)
     → (running : Running login events replies state) →

@@ -51,7 +51,7 @@ module _ (provider : Provider) (state : ServerState) (mechanism text : List ℕ)
       λ n takes. let is = answer_takes answer before after n from costs takes in omega (is, arith),
     )
 
-    -- a refusal, and running out of memory
+    -- an error, and running out of memory
     rises : (A : Type 0) (kind : ServerScramErrorKind) (before after : ℕ)
         → FirstCosts {A = A} provider text (Err kind) before after → before ≤ after
     rises A OutOfMemory before after costs = costs.0

@@ -67,7 +67,7 @@ servers_want_memory provider events replies k history is =
 
 -- ---- a SCRAM client
 
--- a refusal of SCRAM is not running out of memory
+-- an error of SCRAM is not running out of memory
 pub scram_tells : (kind : ScramErrorKind) → scram_fault kind ≢ OutOfMemory
 scram_tells kinds.StaleKeys is = cc
 scram_tells kind is = cc
@@ -116,7 +116,7 @@ clients_want_memory login events replies k history is =
 
 -- ---- any profile
 
--- neither a refusal of another kind nor an outcome is running out of memory
+-- neither an error of another kind nor an outcome is running out of memory
 refused_otherwise : (profile moved next : Profile) (reply : Result SaslFrame ProfileError) (fault : ProfileError)
     → reply ≡ Err fault → Refused OutOfMemory ≢ Refused fault → ¬ Replies profile moved reply (Refused OutOfMemory) next
 refused_otherwise profile moved next reply fault is apart said = apart (subst
@@ -140,7 +140,7 @@ not_unexpected is = absurd (cc)
 not_scram : (kind : ScramErrorKind) → Refused OutOfMemory ≢ Refused (scram_fault kind)
 not_scram kind is = absurd (scram_tells kind (same_refusal (scram_fault kind) OutOfMemory (sym is)))
 
--- what a client of SCRAM answers to a challenge, and whether it believes an outcome
+-- what a client of SCRAM answers to a challenge, and whether it accepts an outcome
 answered_otherwise : (profile moved next : Profile) (reply : Result SaslFrame ProfileError)
     (answer : Result (List ℕ) ScramErrorKind) → reply ≡ client_frame (λ message. frames.Response message) answer
     → ¬ Replies profile moved reply (Refused OutOfMemory) next

@@ -5,7 +5,7 @@ use Rattle.std.specs.Cmp.Lexicographic.{pointwise, same_text, other_text}
 use Rattle.std.proofs.lemmas.List.{take_more, map-append}
 use Rattle.fe2o3_sasl_core.specs.AnyMechanism.{has_name, both_names}
 
--- a name stands in one of two lists
+-- a name is in one of two lists
 pub has_name-append : (names others : List (List ℕ)) (name : List ℕ)
     → has_name (names ++ others) name ≡ (if has_name names name then true else has_name others name)
 has_name-append [] others name = refl

@@ -13,7 +13,7 @@ pub not_cut : (text : List ℕ) → ((before rest : List ℕ) → ¬ Cut 0 text 
     → ¬ SpellsPlain parts text
 not_cut text none parts is = none parts.identity (parts.user ++ 0 ∷ parts.password) (is.1, is.4)
 
--- what stands behind the first zero byte
+-- what follows the first zero byte
 rest_of : (text identity rest : List ℕ) (parts : PlainParts) → Cut 0 text identity rest → SpellsPlain parts text
     → Cut 0 rest parts.user parts.password
 rest_of text identity rest parts cut is =

@@ -13,7 +13,7 @@ use Rattle.fe2o3_sasl_core.specs.Runs.{Runs, AcceptorSteps, AcceptorAnswers, Acc
 use Rattle.fe2o3_sasl_core.specs.SaslAcceptor.{ends_with}
 use Rattle.fe2o3_sasl_core.proofs.lemmas.machines.AnyMechanismLemmas.{auth_is_refusal, marked_more, unmoved}
 
--- what is passed on is a step of the acceptor, and the rest is refused
+-- what is passed on is a step of the acceptor, and the rest is rejected
 abbrev Passes : {S : Type 0} → Machine S → Offering S → Bool → Given → ServerSays → Offering S → Type 0
 Passes machine offering true event says next = AcceptorSteps machine offering.inner event says next.inner
 Passes machine offering false event says next = IsRefusal says × (next ≡ offering)
@@ -53,7 +53,7 @@ as_step : {S : Type 0} (machine : Machine S) (offering : Offering S) (mark : Boo
 as_step machine offering true event frame says next steps is = steps offering.inner next.inner is
 as_step machine offering false event frame says next steps is = is
 
--- each step is one of the acceptor, or a refusal, as the state before it says
+-- each step is one of the acceptor, or a rejection, as the state before it says
 one_passes : {S : Type 0} (names : S → List (List ℕ)) (machine : Machine S) (offering : Offering S) (event : Given)
     (spelled : Result SaslFrame Error) (says : ServerSays) (next : Offering S) → SpellsBody event.body spelled
     → AcceptorGives (offering_machine names machine) offering event spelled says next

@@ -44,7 +44,7 @@ abbrev Logs : Provider → Option Challenging → Result SaslFrame Error → Lis
 Logs provider held spelled user = (frame : SaslFrame) × (spelled ≡ Ok frame) × (p : Accepted)
     × FitsAsResponse provider (λ c. held ≡ Some c) frame p × (user ≡ p.challenge.client.user)
 
--- a step, as a history has it: what it says, what is open behind it and who has logged in, and that the state has both
+-- a step, as a history has it: what it says, what is open after it and who has logged in, and that the state has both
 record Stepped (provider : Provider) (held : Option Challenging) (event : Given) (spelled : Result SaslFrame Error)
     (says : ServerSays) (state next : ServerState) : Type 0 where
   after : Option Challenging
@@ -157,7 +157,7 @@ ok_step provider held event frame p (Some body) says state moved next shown fits
           λ challenge stored e. let x = sym m ∙ (sym h.1 ∙ e) in absurd (cc);
     }
 
--- ---- the two rows with a machine behind them
+-- ---- the two rows with a machine after them
 
 init_step : (provider : Provider) (held : Option Challenging) (event : Given) (mechanism text : List ℕ)
     (hostname : Option (List ℕ)) (says : ServerSays) (state moved next : ServerState) (reply : SaslFrame)
@@ -251,7 +251,7 @@ closed_step provider event text says (ServerFinalSent user) moved next reply (Er
 
 -- ---- one step
 
--- the rows of the SCRAM acceptor, over its state alone
+-- the rows of the SCRAM acceptor, only over its state
 abbrev machine : Provider → ServerState → List ℕ → SaslFrame → SaslFrame → ServerState → Type 0
 machine provider state nonce (frames.Init mechanism (Some text) hostname) reply next =
     ((mechanism ≢ mechanism_name provider.version) × (reply ≡ ends_with outcomes.Auth) × (next ≡ state))
@@ -428,7 +428,7 @@ runs_on provider events (e ∷ more) replies others held state last h holds show
         )
     logged spelled says next there spells (inr t) = inr t
 
--- ---- the provider stays, and the state alone moves
+-- ---- the provider stays, and only the state moves
 
 stated : (provider : Provider) (state : ServerState) (nonce : List ℕ) (frame reply : SaslFrame) (next : Acceptor)
     → acceptor_machine (ScramAcceptor provider state) nonce frame reply next

@@ -249,7 +249,7 @@ some_verification (client_states.ClientFinalSent signature keys) side text =
     go (Ok verified) reads = (Ok verified, with_state side (client_states.Complete keys), (reads, refl))
     go (Err kind) reads = (Err kind, side, (reads, refl))
 
--- it is not a refusal for running out of memory
+-- it is not an error for running out of memory
 abbrev pub Told : Result SaslFrame ProfileError → Type 0
 Told (Ok frame) = Unit {0}
 Told (Err fault) = fault ≢ OutOfMemory

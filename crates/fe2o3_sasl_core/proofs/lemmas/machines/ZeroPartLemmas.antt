@@ -27,7 +27,7 @@ parts_are part (next ∷ more) apart =
     (All-from_recursion _ part (passes-none part apart.0)) refl
     ∙ ap (λ (rest : List (List ℕ)). part ∷ rest) (parts_are next more apart.1)
 
--- a part that a text has stands among the pieces
+-- a part that a text has is among the pieces
 pub among : (text part : List ℕ) (k : ℕ) → ZeroPart text k part → slice_get (between text) k ≡ Some part
 among text part k has = go has.0 has.1 has.2 has.3
   where
@@ -42,7 +42,7 @@ pub one_zero_part : (text : List ℕ) (k : ℕ) (part other : List ℕ) → Zero
     → part ≡ other
 one_zero_part text k part other is too = same_Some part other (sym (among text part k is) ∙ among text other k too)
 
--- a user and a password in words without zero bytes are named by their message, whatever parts come behind
+-- a user and a password in words without zero bytes are named by their message, whatever parts follow
 pub names_both : (user password : List ℕ) → NoZero user → NoZero password
     → NamesPlain user password (0 ∷ user ++ 0 ∷ password)
 names_both user password plain too =

@@ -1,4 +1,4 @@
--- What stands at the open position, and a state that holds it, for any two tests of replies.
+-- What is at the open position, and a state that holds it, for any two tests of replies.
 use Rattle.std.proofs.Common.{◌≡◌, ◌⊎◌, ℕ, suc, ◌<◌, ◌≤◌, Bool, true, false, true≢false, Option, Some, None, List, [], ◌∷◌, ◌++◌, length, sym, ap, ◌∙◌, subst, arith, inl, inr, length-append}
 use Rattle.std.specs.Prelude.{slice_get}
 use Rattle.std.proofs.lemmas.Option.{none-some, same_Some}
@@ -13,7 +13,7 @@ AreSame {X} P Q = ((x : X) → P x → Q x) × ((x : X) → Q x → P x)
 abbrev pub OfOne : {X : Type 0} → (X → Type 0) → Type 0
 OfOne {X} P = (x y : X) → P x → P y → x ≡ y
 
--- the same replies stand before k
+-- the same replies are before k
 abbrev pub AgreeBelow : {A : Type 0} → List A → List A → ℕ → Type 0
 AgreeBelow replies others k = (i : ℕ) → i < k → slice_get replies i ≡ slice_get others i
 
@@ -24,7 +24,7 @@ module _ {A X : Type 0} (opens closes : A → Bool) where
   one_open_by At replies k one x y h i =
       one i.0 x y (subst (λ (j : ℕ). At j x) (one_open opens closes replies k h.0 i.0 h.1 i.1) h.2) i.2
 
-  -- what is open at k depends on what stands before k alone
+  -- what is open at k depends only on what is before k
   pub open_by_agrees : (At Other : ℕ → X → Type 0) (replies others : List A) (k : ℕ) → AgreeBelow replies others k
       → ((j : ℕ) (x : X) → j < k → At j x → Other j x) → (x : X) → OpenBy opens closes At replies k x
       → OpenBy opens closes Other others k x
@@ -42,7 +42,7 @@ module _ {A X : Type 0} (opens closes : A → Bool) where
         (λ j x b. (same j b).1 x),
   )
 
-  -- the state is the value that is open behind the replies
+  -- the state is the value that is open after the replies
   pub record Holds (At : ℕ → X → Type 0) (replies : List A) (state : Option X) : Type 0 where
     pub found : (x : X) → state ≡ Some x → OpenBy opens closes At replies (length replies) x
     pub only : (x : X) → OpenBy opens closes At replies (length replies) x → state ≡ Some x

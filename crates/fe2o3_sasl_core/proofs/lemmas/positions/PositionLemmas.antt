@@ -16,7 +16,7 @@ some_at [] k h = absurd (omega arith)
 some_at (x ∷ xs) zero h = (x, refl)
 some_at (x ∷ xs) (suc k) h = some_at xs k (omega arith)
 
--- what stands in front stays where it is
+-- what is in front stays where it is
 pub slice_get-front : {A : Type 0} (xs ys : List A) (k : ℕ) → k < length xs → slice_get (xs ++ ys) k ≡ slice_get xs k
 slice_get-front [] ys k h = absurd (omega arith)
 slice_get-front (x ∷ xs) ys zero h = refl
@@ -63,7 +63,7 @@ module _ {A : Type 0} (opens closes : A → Bool) where
     kept = λ i a b. h.kept i a (omega arith);
   }
 
-  -- a reply that opens is open behind it
+  -- a reply that opens is open after it
   pub opens_here : (replies : List A) (k : ℕ) → test_at opens (slice_get replies k) ≡ true
       → IsLastOpen opens closes replies (suc k) k
   opens_here replies k o = record {
@@ -84,7 +84,7 @@ module _ {A : Type 0} (opens closes : A → Bool) where
       three : (i j : ℕ) → (i < j) ⊎ ((i ≡ j) ⊎ (j < i))
       three i j = grind arith
 
-  -- what is open at k depends on the replies before k alone
+  -- what is open at k depends only on the replies before k
   pub open_agree : (replies others : List A) (k j : ℕ) → ((i : ℕ) → i < k → slice_get replies i ≡ slice_get others i)
       → IsLastOpen opens closes replies k j → IsLastOpen opens closes others k j
   open_agree replies others k j e h = record {

@@ -29,7 +29,7 @@ pub init_answered : (provider other : Provider) (state next : ServerState) (nonc
 init_answered provider other state next nonce mechanism text hostname answer reply same name from is =
     inr (name, (answer, next, from, is, moved provider other next same))
 
--- what is replied to one that is refused, where memory does not run out
+-- what is replied to one that is rejected, where memory does not run out
 pub init_refused : {X V E Allocates : Type 0} (sent : X → SaslFrame) (view : V → Option (List ℕ))
     (provider other : Provider) (state next : ServerState) (nonce mechanism text : List ℕ) (hostname : Option (List ℕ))
     (kind : ServerScramErrorKind) (result : Result X E)
@@ -42,7 +42,7 @@ init_refused sent view provider other state next nonce mechanism text hostname k
     inr (name, (Err kind, next, from.1 is.0, is.1, moved provider other next same))
 init_refused sent view provider other state next nonce mechanism text hostname kind (Err fault) same name from is = tt
 
--- where it finds no memory, it has come to ask for it
+-- where it runs out of memory, it has reached an allocation
 pub init_wants : {X V E : Type 0} (view : V → Option (List ℕ)) (provider : Provider) (state next : ServerState)
     (nonce mechanism text : List ℕ) (hostname : Option (List ℕ)) (kind : ServerScramErrorKind) (result : Result X E)
     → mechanism ≡ mechanism_name provider.version
@@ -63,7 +63,7 @@ pub response_answered : (provider other : Provider) (state next : ServerState) (
 response_answered provider other state next nonce text answer reply same from is =
     (answer, next, from, is, moved provider other next same)
 
--- what is replied to one that is refused, where memory does not run out
+-- what is replied to one that is rejected, where memory does not run out
 pub response_refused : {X V E Allocates : Type 0} (sent : X → SaslFrame) (view : V → Option (List ℕ))
     (provider other : Provider) (state next : ServerState) (text : List ℕ) (kind : ServerScramErrorKind)
     (result : Result X E)
@@ -76,7 +76,7 @@ response_refused sent view provider other state next text kind (Ok frame) same f
     λ nonce. (Err kind, next, from.1 is.0, is.1, moved provider other next same)
 response_refused sent view provider other state next text kind (Err fault) same from is = tt
 
--- where it finds no memory, it has come to ask for it
+-- where it runs out of memory, it has reached an allocation
 pub response_wants : {X V E : Type 0} (view : V → Option (List ℕ)) (provider : Provider) (state next : ServerState)
     (text : List ℕ) (kind : ServerScramErrorKind) (result : Result X E)
     → Gives OutOfMemory (ReachesBase64In state text) view (Err kind)

@@ -52,7 +52,7 @@ pub challenge_costs : {A F B G : Type 0} (client : ClientSide) (text : List ℕ)
 challenge_costs client text result other before after utf8 fewer costs =
     (λ not. absurd (not utf8), λ _. again_in client.state client text result other before after fewer costs)
 
--- the same of what stands on an answer
+-- the same of what rests on an answer
 pub costs_again : {A F B G : Type 0} (frame : SaslFrame) (profile : Profile) (result : Result A F)
     (other : Result B G) (before after : ℕ) → (IsOk other → IsOk result)
     → ProfileCosts frame profile result before after → ProfileCosts frame profile other before after
@@ -60,7 +60,7 @@ costs_again (frames.Challenge text) (ScramProfile client) result other before af
     (costs.0, λ utf8. again_in client.state client text result other before after fewer (costs.1 utf8))
 costs_again frame profile result other before after fewer costs = costs
 
--- a refusal for which the meter stays
+-- an error for which the meter stays
 none_in : {F : Type 0} (A : Type 0) (state : ClientState) (client : ClientSide) (text : List ℕ) (fault : F) (meter : ℕ)
     → AnswerCostsIn {A = A} state client text (Err fault) meter meter
 none_in A (client_states.ClientFirstSent nonce bare) client text fault meter = record {

@@ -21,7 +21,7 @@ use Rattle.fe2o3_sasl_core.specs.private.Writing.{RefusesAlways}
 use Rattle.fe2o3_sasl_core.specs.declared.sasl_profile.error.ProfileError.{ProfileError}
 use Rattle.fe2o3_sasl_core.specs.declared.sasl_profile.error.ProfileError.TheVariants.{NotImplemented, Scram, StaleKeys, Frame, OutOfMemory}
 
--- a challenge that the client refuses: its fault is that of the machine, or running out of memory
+-- a challenge that the client rejects: its fault is that of the machine, or running out of memory
 pub challenge_refused : {V : Type 0} (view : V → List ℕ) (client next : ClientSide)
     (hostname : Option (List ℕ)) (nonce text : List ℕ) (kind : ScramErrorKind) → IsUtf8 text → next ≡ client
     → Gives kinds.OutOfMemory (ReachesSaltIn client.state text) view (Err kind)
@@ -35,7 +35,7 @@ challenge_refused view client next hostname nonce text kinds.StaleKeys utf8 same
 challenge_refused view client next hostname nonce text kind utf8 same from =
     inr (utf8, (Err kind, next, from.1 (λ e. absurd (cc)), refl, refl))
 
--- a client that comes to the signature has answered
+-- a client that reaches the signature has answered
 pub waiting : (state : ClientState) (text : List ℕ) → ReachesVerifierIn state text → IsUtf8 text × IsAnswered state
 waiting (client_states.ClientFinalSent signature keys) text reaches = (reaches.0, (signature, keys, refl))
 waiting state text reaches = absurd reaches
@@ -59,7 +59,7 @@ outcome_allocates (PlainProfile user password) code text has = tt
 outcome_allocates AnonymousProfile code text has = tt
 outcome_allocates ExternalProfile code text has = tt
 
--- what a profile refuses, it refuses of a view
+-- what a profile rejects, it rejects of a view
 pub view_refuses : (profile next : Profile) (hostname : Option (List ℕ)) (nonce : List ℕ) (frame : SaslFrame)
     (fault : ProfileError) → ProfileAnswers FrameAllocates profile hostname nonce frame (Err fault) next
     → ProfileAnswers ViewAllocates profile hostname nonce frame (Err fault) next
@@ -69,7 +69,7 @@ view_refuses profile next hostname nonce frame (Scram kind) h = h
 view_refuses profile next hostname nonce frame StaleKeys h = h
 view_refuses profile next hostname nonce frame (Frame fault) h = h
 
--- a challenge that is not due is refused
+-- a challenge that is not expected is rejected
 pub undue : (client : ClientSide) (text : List ℕ)
     → ((nonce bare : List ℕ) → client.state ≢ client_states.ClientFirstSent nonce bare)
     → AnswersIn client.state client text (Err kinds.IllegalClientState) client
@@ -80,7 +80,7 @@ undue client text none = go client.state none
     go (client_states.ClientFirstSent nonce bare) none = absurd (none nonce bare refl)
     go state none = (refl, refl)
 
--- an outcome Ok that is not due is refused, and then one whose data are not UTF-8
+-- an outcome Ok that is not expected is rejected, and then one whose data are not UTF-8
 pub undue_outcome : (client : ClientSide) (text : List ℕ)
     → ((signature : List ℕ) (keys : Option ClientKeys) → client.state ≢ client_states.ClientFinalSent signature keys)
     → RefusesAlways (ScramProfile client) (frames.Outcome outcomes.Ok (Some text)) (Scram kinds.IllegalClientState)
@@ -125,7 +125,7 @@ unread_outcome (PlainProfile user password) code text is = tt
 unread_outcome AnonymousProfile code text is = tt
 unread_outcome ExternalProfile code text is = tt
 
--- a challenge to a profile that is not of SCRAM is refused
+-- a challenge to a profile that is not of SCRAM is rejected
 pub unchallenged : (profile : Profile) (text : List ℕ) → is_scram profile ≡ false
     → RefusesAlways profile (frames.Challenge text) NotImplemented
 unchallenged (ScramProfile client) text is = absurd (cc)

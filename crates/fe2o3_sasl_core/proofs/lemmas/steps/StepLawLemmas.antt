@@ -25,7 +25,7 @@ use Rattle.fe2o3_sasl_core.specs.declared.sasl_profile.error.ProfileError.TheVar
 
 -- ---- a server
 
--- a reply is sent with the state behind it
+-- a reply is sent with the state after it
 abbrev SendsOk : SaslFrame → Acceptor → Acceptor → List ℕ → Acceptor → Type 0
 SendsOk reply state moved body next =
     SendsCanonical (Failed faults.TooLarge) (server_says reply) (canonical reply) state moved (Concluded outcomes.Ok body) next
@@ -158,7 +158,7 @@ plain_oks_log_in server next event body (Ok (frames.Response text), spells, inr 
 
 -- ---- a client
 
--- what a profile replies is no report, where it is a refusal, an init or a response
+-- what a profile replies is no report, where it is an error, an init or a response
 abbrev Reports : Profile → Profile → Result SaslFrame ProfileError → Option (List ℕ) → Profile → Type 0
 Reports profile moved reply more next = Replies profile moved reply (Reported outcomes.Ok more) next
 

@@ -18,7 +18,7 @@ use Rattle.fe2o3_sasl_core.specs.private.Writing.{RefusesAlways, WritesBody}
 use Rattle.fe2o3_sasl_core.proofs.lemmas.steps.ProfileReplyLemmas.{waiting}
 use Rattle.fe2o3_sasl_core.specs.declared.sasl_profile.error.ProfileError.TheVariants.{NotImplemented, Scram, StaleKeys, Frame, OutOfMemory}
 
--- a client that comes to the salt has been started
+-- a client that reaches the salt has been started
 started : (state : ClientState) (text : List ℕ) → ReachesSaltIn state text → IsStarted state
 started (client_states.ClientFirstSent nonce bare) text reaches = (nonce, bare, refl)
 started state text reaches = absurd reaches
@@ -30,7 +30,7 @@ step_allocates (ScramProfile client) (frames.Challenge text) has = (has.0, start
 step_allocates (ScramProfile client) (frames.Outcome outcomes.Ok (Some text)) has = waiting client.state text has
 step_allocates profile frame has = absurd has
 
--- a refusal of the profile is what it replies
+-- an error of the profile is what it replies
 pub refusal_replies : (hostname : Option (List ℕ)) (profile : Profile) (nonce : List ℕ) (frame : SaslFrame)
     (fault : ProfileError) (next : Profile)
     → ProfileAnswers FrameAllocates profile hostname nonce frame (Err fault) next
@@ -113,7 +113,7 @@ started_err view hostname profile begun nonce names init profile_faults.StaleKey
 
 -- ---- answers
 
--- a frame that is refused unread
+-- a frame that is rejected unread
 pub refused_unread : (hostname : Option (List ℕ)) (profile : Profile) (nonce : List ℕ) (frame : SaslFrame)
     (fault : ProfileError) → RefusesAlways profile frame fault
     → ProfileReplies hostname profile nonce frame (Refused fault) profile

@@ -189,7 +189,7 @@ one_answering login Due text answer other one is too =
     let same : other.text ≡ answer.text = too.1 ∙ sym is.1 in
     λ i. answering (nonce i) (same i) (first i)
 
--- a challenge that is read is not refused
+-- a challenge that is read is not rejected
 read_not_refused : (login : Login) (Due : List ℕ → Type 0) (text : List ℕ) (answer : Answering) (kind : ScramErrorKind)
     → ((nonce : List ℕ) → Due nonce → nonce ≡ answer.nonce)
     → ReadsChallenge login Due text (Ok answer) → ReadsChallenge login Due text (Err kind) → ⊥
@@ -297,7 +297,7 @@ server_accepts provider events replies k event text accepted body history at spe
 
 -- ---- the client reports
 
--- a verifier that is verified is not refused
+-- a verifier that is verified is not rejected
 not_refused : (signature text : List ℕ) (kind : ScramErrorKind) → ReadsServerFinal signature text (Ok tt)
     → ReadsServerFinal signature text (Err kind) → ⊥
 not_refused signature text kind reads refuses = differ

@@ -50,7 +50,7 @@ three_replies (x ∷ y ∷ []) a b c count first second third = absurd (omega (a
 three_replies (x ∷ y ∷ z ∷ []) a b c count first second third = cc
 three_replies (x ∷ y ∷ z ∷ w ∷ xs) a b c count first second third = absurd (omega (arith, count))
 
--- where such replies stand
+-- where such replies are
 only_report : (init response text other : List ℕ) (m : ℕ)
     → slice_get (Started init ∷ Answered response ∷ Reported outcomes.Ok (Some text) ∷ []) m
     ≡ Some (Reported outcomes.Ok (Some other)) → m ≡ 2
@@ -73,7 +73,7 @@ only_ok challenge outcome body zero at = absurd (cc)
 only_ok challenge outcome body (suc zero) at = refl
 only_ok challenge outcome body (suc (suc n)) at = absurd (cc)
 
--- one pair alone
+-- only one pair
 one_pair : (R : ℕ → ℕ → Type 0) (i j : ℕ) → R i j → ((m n : ℕ) → R m n → (m ≡ i) × (n ≡ j)) → Lists R ((i, j) ∷ [])
 one_pair R i j is only = record {
   each = (is, tt);

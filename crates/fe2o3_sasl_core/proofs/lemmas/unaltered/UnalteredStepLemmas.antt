@@ -119,7 +119,7 @@ module _ (sides : Sides) (password salt : List ℕ) (count : ℕ) (offer init : 
   meets : Succeeds exchange
   meets = succeeds exchange sound
 
-  -- what has come to a side and what it has said, first
+  -- what a side has received and what it has said, first
   abbrev pub Offered : Type 0
   Offered = (slice_get sides.client_events 0 ≡ Some offer)
       × (canonical (frames.Mechanisms (mechanism_name sides.login.version ∷ [])) ≡ Some offer.body)

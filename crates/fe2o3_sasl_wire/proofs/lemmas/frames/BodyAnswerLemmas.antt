@@ -12,13 +12,13 @@ use Rattle.fe2o3_sasl_wire.proofs.lemmas.reading.SpelledFramesAreReadLemmas.{val
 use Rattle.fe2o3_sasl_wire.proofs.lemmas.frames.PrefixLemmas.{no_spelling_begins_another}
 use Rattle.fe2o3_sasl_wire.proofs.lemmas.frames.ValueLemmas.{value_of, spelled_value, spells_with}
 
--- four bytes stand before the value, and they are those of a SASL frame
+-- four bytes precede the value, and they are those of a SASL frame
 pub record StartsSoundly (bytes : List ℕ) : Type 0 where
   pub long : 4 ≤ length bytes
   pub kind : get_or bytes 1 0 ≡ 1
   pub offset : get_or bytes 0 0 ≡ 2
 
--- what is read behind a sound start is spelled by the bytes before the rest
+-- what is read after a sound start is spelled by the bytes before the rest
 pub begins_read : (bytes : List ℕ) (frame : SaslFrame) (rest : List ℕ) → IsBytes bytes → StartsSoundly bytes
     → value_at (drop 4 bytes) ≡ Some (frame, rest) → Begins bytes frame (length bytes - length rest)
 begins_read [] frame rest fits start read = absurd (omega (arith, start.long))
@@ -47,7 +47,7 @@ rest_within bytes frame rest fits long read =
     let value = value_takes (drop 4 bytes) (frame, rest) (IsBytes-drop 4 bytes fits) read in
     omega (arith, ap length value.parts, length-append value.front rest, length-drop 4 bytes)
 
--- what a beginning spells is read behind a sound start
+-- what a beginning spells is read after a sound start
 pub record ReadBack (bytes : List ℕ) (frame : SaslFrame) : Type 0 where
   pub start : StartsSoundly bytes
   pub rest : List ℕ
@@ -75,7 +75,7 @@ read_back bytes frame n begins =
 is_none : {A : Type 0} {o : Option A} {x : A} → o ≡ None → o ≡ Some x → ⊥
 is_none p q = cc
 
--- ---- the four refusals, in their order
+-- ---- the four errors, in order
 
 -- fewer than four bytes are a DecodeError
 pub refuses_short : (bytes : List ℕ) → length bytes < 4 → ReadsBody bytes (Err faults.DecodeError)
@@ -99,7 +99,7 @@ refuses_offset bytes long kind other = (
   λ frame n begins. other (read_back bytes frame n begins).start.offset,
 )
 
--- a sound start with no value behind it is a DecodeError
+-- a sound start with no value after it is a DecodeError
 pub refuses_value : (bytes : List ℕ) → StartsSoundly bytes → value_at (drop 4 bytes) ≡ None
     → ReadsBody bytes (Err faults.DecodeError)
 unfolding fault_of

@@ -20,7 +20,7 @@ parts_of left right rest others same =
     let both : front_and_rest left rest ≡ front_and_rest right others = cc in
     (ap (λ (read : SaslFrame × List ℕ). read.0) both, ap (λ (read : SaslFrame × List ℕ). read.1) both)
 
--- what stands behind the first four bytes
+-- what follows the first four bytes
 values_of : (third fourth other next : ℕ) (value last : List ℕ)
     → 2 ∷ 1 ∷ third ∷ fourth ∷ value ≡ 2 ∷ 1 ∷ other ∷ next ∷ last
     → value ≡ last

@@ -47,7 +47,7 @@ rest-with_first name (Some x) = refl
 pub record Leaves (form : Form) (left : ℕ) (bytes : List ℕ) (total : Option (List ℕ)) : Type 0 where
   pub same : rest_of (elements_at form left bytes) ≡ total
 
--- what stands before the bytes after an element
+-- what precedes the bytes after an element
 pub rest_read : (read : Option (List ℕ × List ℕ)) {after : List ℕ} → Some after ≡ option_map (λ x. x.1) read
     → (name : List ℕ) × (read ≡ Some (name, after))
 rest_read None h = absurd cc
@@ -68,7 +68,7 @@ rest_goes_on {form} {count} {passed} {bytes} {name} {after} lt read so_far =
     let one = one_more form count passed bytes name after lt read in
     record { same = sym (rest-with_first name others) ∙ sym (ap rest_of one) ∙ so_far.same }
 
--- where an element cannot be read, nothing stands after all
+-- where an element cannot be read, nothing follows all
 pub rest_stops : {form : Form} {count passed : ℕ} {bytes : List ℕ} {total : Option (List ℕ)} → passed < count
     → element_at form bytes ≡ None → Leaves form (count - passed) bytes total → None ≡ total
 rest_stops {form} {count} {passed} {bytes} lt read so_far =

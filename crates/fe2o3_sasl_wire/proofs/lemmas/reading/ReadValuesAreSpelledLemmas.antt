@@ -186,7 +186,7 @@ symbol_takes bytes taken fits e =
 
 -- ---- arrays
 
--- so many symbols without their constructor were taken from the front
+-- that many symbols without their constructor were taken from the front
 pub record TakesElements (form : Form) (n : ℕ) (bytes : List ℕ) (xs : List (List ℕ)) (rest : List ℕ) : Type 0 where
   pub parts : bytes ≡ elements form xs ++ rest
   pub count : length xs ≡ n
@@ -278,7 +278,7 @@ array_takes form bytes taken fits e =
     } in
     subst (λ (y : List (List ℕ) × List ℕ). TakesArray form bytes y.0 y.1) (some_is (f.0.0, a.0.1) taken g.1) made
 
--- an array behind its constructor
+-- an array after its constructor
 array_reads : (form : Form) (constructor : ℕ) (bytes : List ℕ) (taken : List (List ℕ) × List ℕ)
     → constructor ≡ choice 0xe0 0xf0 form
     → TakesArray form bytes taken.0 taken.1 → Reads (SpellsField (Symbols taken.0)) (constructor ∷ bytes) taken.1

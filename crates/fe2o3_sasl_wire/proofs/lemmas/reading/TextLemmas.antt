@@ -8,7 +8,7 @@ use Rattle.std.proofs.lemmas.Bool.{ltb-true, lt-ltb, and_parts, and_from, false_
 use Rattle.std.proofs.lemmas.Str.{IsUtf8-from_is_utf8, is_utf8-from_IsUtf8, IsUtf8-from_ascii}
 use Rattle.fe2o3_sasl_wire.specs.private.Reading.{is_ascii}
 
--- the text that the conversion gives stands exactly where the test for UTF-8 passes
+-- the conversion gives a text exactly where the test for UTF-8 passes
 pub shows_utf8 : {E : Type 0} (answer : Result (Bor (List ℕ)) E) (bytes : List ℕ) (Q : E → Type 0)
     → MatchResult answer (λ s. (s.now ≡ bytes) × IsUtf8 bytes) (λ e. (¬ (IsUtf8 bytes)) × Q e)
     → option_map (λ x. x.now) (result_ok answer) ≡ cond (is_utf8 bytes) (Some bytes) None
@@ -51,7 +51,7 @@ pub shown_ascii : {E : Type 0} (answer : Result (Bor (List ℕ)) E) (bytes : Lis
 shown_ascii (Ok s) bytes Q a h = rw h.0 a
 shown_ascii (Err e) bytes Q a h = tt
 
--- an answer that tells whether bytes are ASCII is that of the test
+-- whether bytes are ASCII is the answer of the test
 pub tells_ascii : (answer : Bool) (bytes : List ℕ) → MatchBool answer (IsAscii bytes) (IsNotAscii bytes)
     → answer ≡ is_ascii bytes
 tells_ascii true bytes a = sym (is_ascii-from_IsAscii bytes a)

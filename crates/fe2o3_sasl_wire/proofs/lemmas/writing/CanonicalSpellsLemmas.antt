@@ -110,7 +110,7 @@ array_in ThirtyTwo inner names each e lt =
       whole = refl;
     }
 
--- the elements of an array that can be written leave room for what stands before them
+-- the elements of an array that can be written leave room for what precedes them
 pub small_array : (form inner : Form) (names : List (List ℕ))
     → form ≡ shortest (length (array_body Eight inner names))
     → length (choice 0xe0 0xf0 form ∷ content form (array_body form inner names)) < 2 ^ 32

@@ -156,7 +156,7 @@ abbrev letter : ℕ → List (List ℕ) → ℕ
 letter k parts = get_or (get_or parts k []) 0 0
 
 -- the fields of the two sides; with one or two extra parts of the client-first message the third part of the server's
--- would stand where the client has its salt or its count
+-- would be where the client has its salt or its count
 record SameFields (u n u' n' f s i f' s' i' c c' : List ℕ) (extra more : List (List ℕ)) : Type 0 where
   user : u ≡ u'
   nonce : n ≡ n'

@@ -60,7 +60,7 @@ pub other_nonce : (text named nonce : List ℕ) → Part text 1 (codes "r=" ++ n
     → ¬ Part text 1 (codes "r=" ++ nonce)
 other_nonce text named nonce is other has = other (one_behind text 1 (codes "r=") named nonce is has)
 
--- no test of the nonce has the fault for refused memory
+-- no test of the nonce has the error for a failed allocation
 pub not_the_nonces : (nonce text : List ℕ) → ¬ IsFirst (final_nonce_tests nonce text) OutOfMemory
 not_the_nonces nonce text = not_first (final_nonce_tests nonce text) OutOfMemory
     (λ wrong. absurd (cc), (λ wrong. absurd (cc), tt))
@@ -192,7 +192,7 @@ one_final_text header nonce text answer other reads too =
     one_reading (final_text_tests header nonce text) (NamesClientFinal header nonce text)
     (λ final another names them. one_proof text final another names.proof them.proof) answer other reads too
 
--- who reads a message came to its proof
+-- a reader of a message has reached its proof
 proof_reached : (header : ChannelBindingFlag) (nonce text : List ℕ) (final : ClientFinal) → ReadsFinalText header nonce text
     (Ok final)
     → ReachesBase64 header nonce text
@@ -225,7 +225,7 @@ not_the_proof header nonce text = not_first (final_text_tests header nonce text)
   ),
 )
 
--- a text that is refused costs nothing
+-- a text that is rejected costs nothing
 pub text_costs_nothing : (A : Type 0) (server : Server) (text : List ℕ) (fault : ServerScramErrorKind) (count : ℕ)
     → (fault ≢ OutOfMemory → ReadsFinalText server.header server.nonce text (Err fault))
     → FinalCosts {A = A} server text (Err fault) count count
@@ -277,7 +277,7 @@ module _ (server : Server) (text : List ℕ) where
         meets = reads.2;
       }
 
-  -- of one text no proof is accepted and refused
+  -- of one text no proof is both accepted and rejected
   one_verdict : (final other : ClientFinal) (fault : ServerScramErrorKind) → ReadsClientFinal server text (Ok final)
       → ReadsFinalText server.header server.nonce text (Ok other) → IsFirst (proof_tests server other) fault → ⊥
   unfolding ReadsClientFinal

@@ -14,7 +14,7 @@ use Rattle.fe2o3_scram.proofs.lemmas.texts.EscapingLemmas.{one_escaped}
 use Rattle.fe2o3_scram.proofs.lemmas.texts.PartsLemmas.{one_behind}
 use Rattle.fe2o3_scram.proofs.lemmas.messages.TestListLemmas.{one_reading}
 
--- a message has one header, and one text behind it
+-- a message has one header, and one text after it
 apart : (bare other : List ℕ) → codes "n,," ++ bare ≡ codes "y,," ++ other → ⊥
 apart bare other same = let letter : ◌≡◌ {A = ℕ} 110 121 = ap (λ (text : List ℕ). get_or text 0 0) same in
     omega (arith, letter)
@@ -149,7 +149,7 @@ one_client_first cbind_flag_y text answer other reads too =
     one_reading (client_first_tests cbind_flag_y text) (NamesClientFirst cbind_flag_y text) (one_values cbind_flag_y text) answer other
     reads too
 
--- the refusal of a text that no name is escaped to
+-- the error for a text that no name is escaped to
 pub invalid_name : (error : UnescapeError) (P Q : Type 0) → error ≡ Invalid
     → ((error ≡ Invalid) × P) ⊎ ((error ≡ UnescapeOutOfMemory) × Q) → P
 invalid_name error P Q is (inl found) = found.1

@@ -93,7 +93,7 @@ two_parts p q plain too = record { some = omega arith; apart = (plain, (too, tt)
 three_parts : (p q r : List ℕ) → NoComma p → NoComma q → NoComma r → Parts (joined (p ∷ q ∷ r ∷ [])) (p ∷ q ∷ r ∷ [])
 three_parts p q r plain too also = record { some = omega arith; apart = (plain, (too, (also, tt))); whole = refl }
 
--- a key and a text behind it, as one part
+-- a key and a text after it, as one part
 pub part_of : (key text : List ℕ) → list_all (λ byte. not (eqb byte 44)) key ≡ true → NoComma text
     → NoComma (key ++ text)
 part_of key text passes plain = no_comma-append key text (no_comma-test key passes) plain
@@ -116,7 +116,7 @@ bare_text : (user nonce : List ℕ) → IsUtf8 user → IsUtf8 nonce → IsUtf8 
 bare_text user nonce utf8 too = IsUtf8-append (codes "n=" ++ escaped user) (codes ",r=" ++ nonce)
     (utf8_behind (codes "n=") (escaped user) refl (IsUtf8-escaped user utf8)) (utf8_behind (codes ",r=") nonce refl too)
 
--- a header, and a text behind it
+-- a header, and a text after it
 header_utf8 : (header : ChannelBindingFlag) (bare : List ℕ) → IsUtf8 bare → IsUtf8 (header_text header ++ bare)
 header_utf8 NotSupported bare utf8 = utf8_behind (codes "n,,") bare refl utf8
 header_utf8 ClientSupports bare utf8 = utf8_behind (codes "y,,") bare refl utf8

@@ -7,7 +7,7 @@ use Rattle.fe2o3_scram.specs.Credentials.{Provider}
 use Rattle.fe2o3_scram.specs.ScramServer.{FirstCosts}
 use Rattle.fe2o3_scram.proofs.lemmas.messages.ClientFirstLemmas.{one_client_first}
 
--- a text that is refused comes to no look-up
+-- a text that is rejected reaches no look-up
 pub unread_costs : (A : Type 0) (provider : Provider) (text : List ℕ) (fault : ServerScramErrorKind) (count : ℕ)
     → FirstCosts {A = A} provider text (Err fault) count count
 unread_costs A provider text OutOfMemory count = (omega arith, omega arith, λ fault reads. refl)

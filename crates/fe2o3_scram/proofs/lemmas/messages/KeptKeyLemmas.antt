@@ -17,7 +17,7 @@ use Rattle.fe2o3_scram.proofs.lemmas.messages.ServerFirstLemmas.{fitting_named}
 use Rattle.fe2o3_scram.proofs.lemmas.messages.SomeReadingLemmas.{names_values_or, none-split}
 use Rattle.fe2o3_scram.specs.private.Tests.{salt_tests, count_tests}
 
--- a list of tests with one more behind it
+-- a list of tests with one more after it
 
 abbrev last : {F : Type 0} → F → Type 0 → List (F × Type 0)
 last fault A = (fault, A) ∷ []
@@ -45,8 +45,8 @@ last_holds (test ∷ tests) fault other A B holds none = inr (none.0, last_holds
 abbrev before : List ℕ → IterationLimits → List ℕ → List (ScramErrorKind × Type 0)
 before nonce limits text = nonce_tests nonce text ++ (salt_tests text ++ count_tests limits text)
 
--- a reading goes over to a client whose last test is another: one that does not hold where a value is read, while
--- what is refused is not refused by the first client's last test
+-- a reading goes over to a client whose last test is another: one that does not hold where a value is read, while what
+-- is rejected is not rejected by the first client's last test
 pub goes_over : (nonce text : List ℕ) (limits : IterationLimits) (fault other : ScramErrorKind) (A B : Type 0)
     (answer : Result ServerFirst ScramErrorKind) → (is_ok answer ≡ true → ¬ B) → (A → answer ≢ Err fault)
     → Reads (before nonce limits text ++ last fault A) (NamesServerFirst text) answer
@@ -66,7 +66,7 @@ fitting keys nonce text limits first reads = elim (names_values_or keys text) [
       absurd ((none-split (before nonce limits text) (last StaleKeys (NamesOther keys text)) reads.0).1.0 other)
 ]
 
--- a message that keys do not refuse is read by a password in normal form as by them
+-- a message that keys do not reject is read by a password in normal form as by them
 by_password : (keys : ClientKeys) (password : PasswordText) (nonce text : List ℕ) (limits : IterationLimits)
     (answer : Result ServerFirst ScramErrorKind) → IsNormal password → answer ≢ Err StaleKeys
     → ReadsServerFirst nonce (Keys keys) limits text answer

@@ -40,7 +40,7 @@ error_of line kind = record { line = line; kind = kind }
 
 -- ---- one answer
 
--- lines that are told apart, of each other and of each head with a fault
+-- lines that differ, of each other and of each head with a fault
 pub record AreApart {U : Type 0} (line_of : U → List ℕ) (Is : U → Type 0)
     (Fault : List ℕ → ReadLinesErrorKind → Type 0) : Type 0 where
   pub one_head : (text rest more : List ℕ) (user other : U) → Is user → Is other → text ≡ line_of user ++ 10 ∷ rest

@@ -16,7 +16,7 @@ use Rattle.fe2o3_scram.proofs.lemmas.messages.TestListLemmas.{IsFirst-back, IsFi
 
 -- ---- the fields
 
--- what stands behind the first, the second and the third separator
+-- what follows the first, the second and the third separator
 abbrev behind_mechanism : Fields → List ℕ
 behind_mechanism fields = fields.count ++ (codes ":" ++ (fields.salt ++ (codes "$" ++ (fields.stored_key
     ++ (codes ":" ++ fields.server_key)))))

@@ -18,7 +18,7 @@ use Rattle.fe2o3_scram.proofs.lemmas.texts.PartsLemmas.{one_behind}
 use Rattle.fe2o3_scram.proofs.lemmas.messages.TestListLemmas.{NoneHolds-append, IsFirst-front, IsFirst-back, one_reading, not_first}
 use Rattle.fe2o3_scram.specs.private.Tests.{salt_tests, count_tests}
 
--- no test of the nonce or of the count has the fault for refused memory
+-- no test of the nonce or of the count has the error for a failed allocation
 
 pub not_the_nonces : (client_nonce text : List ℕ) → ¬ IsFirst (nonce_tests client_nonce text) OutOfMemory
 not_the_nonces client_nonce text = not_first (nonce_tests client_nonce text) OutOfMemory (
@@ -208,7 +208,7 @@ one_server_first client text answer other reads too =
     ++ (count_tests client.limits text ++ secret_tests client.secret text))) (NamesServerFirst text)
     (one_values text) answer other reads too
 
--- who reads a message came to its salt
+-- a reader of a message has reached its salt
 pub salt_reached : (client : Client) (text : List ℕ) (first : ServerFirst)
     → ReadsServerFirst client.nonce client.secret client.limits text (Ok first) → ReachesSalt client.nonce text
 unfolding ReadsServerFirst

@@ -64,7 +64,7 @@ some_reading tests Names decided named = elim (first_or tests decided) [
 
 -- ---- the client-first message
 
--- a header that is taken, and what stands behind it
+-- a header that is accepted, and what follows it
 abbrev Cut : Bool → List ℕ → ChannelBindingFlag × List ℕ → Type 0
 Cut cbind_flag_y text cut = TakesHeader cbind_flag_y cut.0 × (text ≡ header_text cut.0 ++ cut.1)
 
@@ -96,7 +96,7 @@ no_header_or cbind_flag_y text = elim (cut_or cbind_flag_y text) [
   | inr none ↦ inl (λ header takes begins. none (header, begins.0) (takes, begins.1))
 ]
 
--- what stands in a part behind the header
+-- what a part after the header is
 bare_attribute_or : {X : Type 0} (write : X → List ℕ) (cbind_flag_y : Bool) (text : List ℕ) (k : ℕ) (key : List ℕ)
     → ((spelling : List ℕ) → Found (λ (x : X). spelling ≡ write x))
     → Found (λ (x : X). BarePart cbind_flag_y text k (key ++ write x))

@@ -14,7 +14,7 @@ use Rattle.fe2o3_scram.specs.declared.hmac.ScramVersion.{ScramVersion}
 use Rattle.fe2o3_scram.specs.Credentials.{Record, Records, VersionedRecord, record_at, records_with, records_without, versioned}
 use Rattle.fe2o3_scram.specs.private.ByName.{IsByName}
 
--- two names are one, or the test tells them apart
+-- two names are one, or the test distinguishes them
 pub apart : (user name : List ℕ) → (user ≡ name) ⊎ (pointwise nat_eq user name ≡ false)
 apart user name = go (pointwise nat_eq user name) refl
   where
@@ -93,7 +93,7 @@ module _ {X Y : Type 0} (record_of : X → VersionedRecord) (version : ScramVers
           (at_own (record_at records user.0) refl)
       go (inr other) = record_at-other records user name other
 
-  -- a name that the map does not have comes to it
+  -- a name that the map does not have is added to it
   pub by_name-first : (map more : BTreeMap (String Y) X) (records : Records) (user : List ℕ × Record) (value : X)
       → IsByName record_of map version records → is_some (get_by_text map user.0) ≡ false
       → record_of value ≡ versioned version user.1

@@ -20,7 +20,7 @@ slice_filled text old new size result same fits written =
     subst (λ given. OnOk given (new ≡ text ++ drop size old)) (fits (omega (arith, same))) written
     ∙ rw (drop_all size old (omega (arith, same)), append-nil)
 
--- padding is wanted and trailing bits are refused
+-- padding is required and trailing bits are rejected
 pub IsStrict-standard : IsStrict standard
 IsStrict-standard = (refl, refl)
 
@@ -29,7 +29,7 @@ pub decode_of-base64_text : (bytes : List ℕ) → IsBytes bytes → decode_of s
 unfolding base64_text
 decode_of-base64_text bytes are = decode_of-encode_of standard bytes refl are
 
--- what is refused spells no bytes
+-- what is rejected spells no bytes
 pub none_spelled : (text : List ℕ) (fault : DecodeError) → decode_of standard text ≡ Err fault → (bytes : List ℕ)
     → ¬ IsBase64 text bytes
 none_spelled text fault refused bytes is =

@@ -114,7 +114,7 @@ printable_or text = go (each_or (λ byte. both_or (at_most 0x20 byte) (at_most b
 
 -- ---- parts
 
--- what stands behind a prefix
+-- what follows a prefix
 pub rest_or : (prefix text : List ℕ) → Found (λ (rest : List ℕ). text ≡ prefix ++ rest)
 rest_or [] text = inl (text, refl)
 rest_or (x ∷ prefix) [] = inr (λ rest is. absurd (cc))
@@ -151,7 +151,7 @@ part_is_or text k part = elim (part_or text k) [
   | inr none ↦ inr (none part)
 ]
 
--- what stands behind the key of a part, which says something or nothing
+-- what follows the key of a part, which says something or nothing
 pub attribute_or : {X : Type 0} (Good : X → Type 0) (write : X → List ℕ) (text : List ℕ) (k : ℕ) (key : List ℕ)
     → ((spelling : List ℕ) → Found (λ (x : X). Good x × (spelling ≡ write x)))
     → Found (λ (x : X). Good x × Part text k (key ++ write x))
@@ -176,7 +176,7 @@ attribute_or {X} Good write text k key read =
               ),
             ))
 
--- what stands behind the key of a part
+-- what follows the key of a part
 pub attribute_text_or : (text : List ℕ) (k : ℕ) (key : List ℕ) → Found (λ (rest : List ℕ). Part text k (key ++ rest))
 attribute_text_or text k key = found_with (attribute_or (λ _. Unit {0}) (λ rest. rest) text k key
     (λ spelling. inl (spelling, (tt, refl)))) (λ rest has. inl (rest, has.1)) (λ rest has. (rest, (tt, has)))
@@ -282,7 +282,7 @@ escape_back rest (c ∷ others) is =
     (λ _ same. inr (others, (let tail : rest ≡ codes "3D" ++ escaped others = cc in tail)))
     (λ _ plain same. absurd (plain (sym (byte_first 61 c _ _ same)))) (is ∙ escaped-cons c others)
 
--- what stands behind an escape is a name, or not
+-- what follows an escape is a name, or not
 abbrev Behind : List ℕ → Type 0
 Behind rest = (x y : ℕ) (more : List ℕ) → rest ≡ x ∷ y ∷ more → Found (Spells more)
 

@@ -106,11 +106,11 @@ escaped-next name k below = ap escaped (take_more name k 0 below)
     ∙ escaped-append (take k name) (get_or name k 0 ∷ [])
     ∙ ap (λ rest. escaped (take k name) ++ rest) (escaped-one (get_or name k 0))
 
--- no byte of the name stands behind a text
+-- no byte of the name follows a text
 pub escaped-start : (before : List ℕ) → before ++ escaped [] ≡ before
 escaped-start before = ap (λ rest. before ++ rest) escaped-nil ∙ append-nil before
 
--- one more byte of the name is escaped behind a text
+-- one more byte of the name is escaped after a text
 pub escaped-more : (before name : List ℕ) (k : ℕ) → k < length name
     → before ++ escaped (take (k + 1) name) ≡ (before ++ escaped (take k name)) ++ escaped_byte (get_or name k 0)
 escaped-more before name k below = ap (λ rest. before ++ rest) (escaped-next name k below)
@@ -198,7 +198,7 @@ pub MatchOption-weaker : {X : Type 0} (found : Option X) (A A' : Type 0) (B B' :
 MatchOption-weaker None A A' B B' f g h = f h
 MatchOption-weaker (Some x) A A' B B' f g h = g x h
 
--- what holds anyway holds of a refusal
+-- what holds anyway holds of an error
 pub always_if_err : {X F : Type 0} (result : Result X F) (Q : F → Type 0) (P : Type 0) → P
     → IfErr result (λ fault. Q fault → P)
 always_if_err (Ok value) Q P holds = tt

@@ -64,7 +64,7 @@ one_part text k part other is too =
     same_Some part other (sym is.2
     ∙ (ap (λ (parts : List (List ℕ)). slice_get parts k) (one_list_of_parts text is.0 too.0 is.1 too.1) ∙ too.2))
 
--- and one text behind a key of it
+-- and one text after a key of it
 pub one_behind : (text : List ℕ) (k : ℕ) (key rest other : List ℕ) → Part text k (key ++ rest)
     → Part text k (key ++ other) → rest ≡ other
 one_behind text k key rest other is too =
@@ -79,7 +79,7 @@ part_from_pieces now text k None is =
     ∙ (ap (λ (parts : List (List ℕ)). slice_get parts k) (sym (parts_are text has.0 has.1)) ∙ has.2))
 part_from_pieces now text k (Some part) is = (pieces text, Parts-pieces text, sym is)
 
--- the rest of a part, behind a key
+-- the rest of a part, after a key
 pub attribute_from_part : {A : Type 0} (now : A → List ℕ) (text key part : List ℕ) (k : ℕ) (found : Option A)
     → Part text k part → MatchOption found (¬ StartsWith part key) (λ rest. part ≡ key ++ now rest)
     → MatchOption found ((rest : List ℕ) → ¬ Part text k (key ++ rest)) (λ rest. Part text k (key ++ now rest))

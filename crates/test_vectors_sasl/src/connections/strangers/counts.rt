@@ -1,11 +1,11 @@
-//! What came of the connections.
+//! The results of the connections.
 
 use crate::connections::fed::Fed;
 use crate::rows::Row;
 use std::alloc::{AllocError, Global};
 use std::fmt::Write;
 
-/// What came of the connections.
+/// The results of the connections.
 #[derive(Drop)]
 pub struct Counts {
     calls: usize,
@@ -16,7 +16,7 @@ pub struct Counts {
 }
 
 impl Counts {
-    /// Of none.
+    /// Returns no results.
     pub fn new(alloc: Global) -> Counts {
         Counts {
             calls: 0,
@@ -45,7 +45,7 @@ impl Counts {
         row.push(&mut self.progresses, (progress, 1));
     }
 
-    /// A line of all, and one for each progress in the order in which they came.
+    /// Returns a line of all, and one for each progress in the order of arrival.
     pub fn text(&self, alloc: Global, name: &str, len: usize) -> Result<String, AllocError> {
         let (calls, taken, sent, mixed) = (self.calls, self.taken, self.sent, self.mixed);
         let mut text = format!(in alloc;

@@ -1,9 +1,9 @@
-//! Logins, and what a stranger makes of them.
+//! Logins, and a stranger's alterations of them.
 
 use crate::numbers::{Numbers, cut, flip};
 use crate::rows::Row;
 
-/// What one side is given in a login.
+/// What one side receives in a login.
 #[derive(Clone, Drop)]
 pub struct Login {
     /// The nonce.
@@ -13,7 +13,7 @@ pub struct Login {
     pub units: Vec<Vec<u8>>,
 }
 
-/// A login: `NONCE UNIT..`.
+/// Reads a login: `NONCE UNIT..`.
 pub fn login_of(row: &mut Row<'_>) -> Login {
     let (nonce, mut units) = (row.nonce(), Vec::new(row.alloc));
     for word in row.rest().split(' ') {

@@ -11,7 +11,7 @@ loop-reply-preserved c =
     (omega arith) c.reply-item.is (c.client_lacks_memory.ensures.only c.if-client_lacks_memory.false)
     c.loop-reply.invariant
 
--- a reply that is running out of memory stands in the list
+-- a reply that is running out of memory is in the list
 pub returns-then-client_lacks_memory : goal.returns-then-client_lacks_memory
 returns-then-client_lacks_memory c = (
   λ holds. absurd (true≢false (sym holds)),

@@ -9,7 +9,7 @@ loop-reply-preserved c =
     none_more server_answer c.args.replies.now c.loop-reply.reply-index c.reply-item.result no_memory (omega arith)
     c.reply-item.is (c.server_lacks_memory.ensures.only c.if-server_lacks_memory.false) c.loop-reply.invariant
 
--- a reply that is running out of memory stands in the list
+-- a reply that is running out of memory is in the list
 pub returns-then-server_lacks_memory : goal.returns-then-server_lacks_memory
 returns-then-server_lacks_memory c = (
   λ holds. absurd (true≢false (sym holds)),
