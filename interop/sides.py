@@ -40,7 +40,7 @@ class User(NamedTuple):
 
 USER = User("user", "pencil")
 COMMA = User("a,b=c", "pen,cil=")
-#: A password past ASCII, which is prepared to itself.
+#: A non-ASCII password that SASLprep does not change.
 PAST = User("user", "p\u00e4ssw\u00f6rd")
 #: The first example of RFC 4013, section 3: the soft hyphen is prepared to nothing.
 SOFT, HARD = User("user", "I\u00adX"), User("user", "IX")
