@@ -240,7 +240,7 @@ class PostgreSql(Peer):
         return done.stdout.strip()
 
     def role(self, name: str, password: str) -> None:
-        """Makes a user anew, whose password may be the text of a record."""
+        """Creates a user again, with a password or the text of a record."""
         quoted, secret = name.replace('"', '""'), password.replace("'", "''")
         self.sql(f"drop role if exists \"{quoted}\"; create role \"{quoted}\" login password '{secret}';")
 

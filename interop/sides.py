@@ -1,4 +1,4 @@
-"""Our side of a login: the programs in C and in Rust, each started afresh for each login."""
+"""Our side of a login: the programs in C and in Rust, each started for each login."""
 
 from __future__ import annotations
 
@@ -122,8 +122,8 @@ def other_signature(message: bytes) -> bytes:
 
 
 def marred(came: bytes) -> bytes:
-    """What a server sent, with another signature if one stands in it, on a line or in a frame."""
-    # (`v=` in base64 begins with `dj`; in a frame one byte of a size stands before it)
+    """What a server sent, with another signature if it has one, on a line or in a frame."""
+    # (`v=` in base64 begins with `dj`; in a frame one byte of a size is before it)
     line = re.search(rb"^dj[0-3][A-Za-z0-9+/]+=*$", came, re.MULTILINE)
     if line is not None:
         message = other_signature(base64.b64decode(line[0]))
