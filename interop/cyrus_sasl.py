@@ -14,7 +14,7 @@ from sides import COMMA, HARD, PAST, PATIENCE, SCRAM, SOFT, USER, Client, Ending
 PLUGINS = [Path("/usr/lib/x86_64-linux-gnu/sasl2"), Path("/usr/lib/aarch64-linux-gnu/sasl2"), Path("/usr/lib/sasl2")]
 #: The highest count that its client answers.
 MOST = 65_536
-#: Users whose passwords are past ASCII, each of a name of its own.
+#: Users with non-ASCII passwords, each with its own name.
 PAST_USER, SOFT_USER = PAST._replace(name="past"), SOFT._replace(name="soft")
 
 
@@ -83,7 +83,7 @@ class CyrusSasl(Peer):
             yield from self.our_clients(mechanism)
             yield from self.our_servers(mechanism)
         for ours in ("client", "server"):
-            yield none(ours, "PLAIN, ANONYMOUS, EXTERNAL", "a login", "we have these over AMQP alone: see Qpid Proton")
+            yield none(ours, "PLAIN, ANONYMOUS, EXTERNAL", "a login", "we have these only over AMQP: see Qpid Proton")
 
     def our_clients(self, mechanism: str) -> Iterator[Cell]:
         done, refused = Ending("logged in: Done", True), Ending("not logged in: the other side ended", False)
@@ -103,22 +103,22 @@ class CyrusSasl(Peer):
         yield cell("count 1", self.log_in(of._replace(least=1), 1), done)
         yield cell("count 100,000", self.log_in(of, 100_000), done)
         small, large = (f"not logged in: Client: Iteration count too {size}" for size in ("small", "large"))
-        yield cell("count below the floor", self.log_in(of, 4095), Ending(small, False))
+        yield cell("count below the minimum", self.log_in(of, 4095), Ending(small, False))
         yield cell("count above the limit", self.log_in(of._replace(most=99_999), 100_000), Ending(large, False))
         again = of._replace(again=True)
         if mechanism == "SCRAM-SHA-1":
-            yield cell("kept keys, of a record that it made", self.log_in(again, users=self.records),
+            yield cell("cached keys, of a record that it made", self.log_in(again, users=self.records),
                        Ending("logged in: Done; logged in by keys: Done", True))
         else:
-            yield none("client", mechanism, "kept keys, of a record that it made",
+            yield none("client", mechanism, "cached keys, of a record that it made",
                        "its file of users keeps one record of a user, that of SHA-1")
         other = "logged in: Done; not logged in by keys: Client: The keys are of another salt or iteration count"
-        yield cell("kept keys, where it has the password", self.log_in(again), Ending(other, False))
+        yield cell("cached keys, where it has the password", self.log_in(again), Ending(other, False))
         yield cell("its signature, altered on the way", self.log_in(of, mar=marred),
                    Ending("not logged in: Client: Server signature mismatch", False))
-        yield cell("password past ASCII, as it is typed", self.log_in(of._replace(user=PAST_USER)),
+        yield cell("non-ASCII password, as typed", self.log_in(of._replace(user=PAST_USER)),
                    Ending("not logged in: Client: Error normalizing password", False))
-        yield cell("password past ASCII, prepared", self.log_in(prepared(PAST_USER)), done,
+        yield cell("non-ASCII password, prepared", self.log_in(prepared(PAST_USER)), done,
                    PAST_USER if mechanism == "SCRAM-SHA-512" else None, "prepared")
         yield cell("password with a soft hyphen, which it does not prepare", self.log_in(prepared(SOFT_USER)), refused)
 
@@ -141,7 +141,7 @@ class CyrusSasl(Peer):
                        Ending("not logged in: the other side ended", False))
         yield cell("our signature, altered on the way", self.serve(mechanism, USER, mar=marred),
                    Ending("logged in: user", False))
-        yield cell("password past ASCII, prepared", self.serve(mechanism, PAST, PAST._replace(prepared=True)), done,
+        yield cell("non-ASCII password, prepared", self.serve(mechanism, PAST, PAST._replace(prepared=True)), done,
                    PAST if mechanism == "SCRAM-SHA-512" else None, "records")
         yield cell("password with a soft hyphen, which it does not prepare",
                    self.serve(mechanism, SOFT, SOFT._replace(prepared=True)), refused)

@@ -75,8 +75,8 @@ class GnuSasl(Peer):
             yield from self.our_clients(mechanism)
             yield from self.our_servers(mechanism)
         for ours in ("client", "server"):
-            yield none(ours, "SCRAM-SHA-512", "a login", "it has SHA-1 and SHA-256 alone")
-            yield none(ours, "PLAIN, ANONYMOUS, EXTERNAL", "a login", "we have these over AMQP alone")
+            yield none(ours, "SCRAM-SHA-512", "a login", "it has only SHA-1 and SHA-256")
+            yield none(ours, "PLAIN, ANONYMOUS, EXTERNAL", "a login", "we have these only over AMQP")
 
     def our_clients(self, mechanism: str) -> Iterator[Cell]:
         kept = COMMA if mechanism == "SCRAM-SHA-256" else None
@@ -95,15 +95,15 @@ class GnuSasl(Peer):
         yield cell("count 1", server(of._replace(least=1), "pencil", 1), done)
         yield cell("count 100,000", server(of, "pencil", 100_000), done)
         small, large = ("not logged in: Client: Iteration count too " + size for size in ("small", "large"))
-        yield cell("count below the floor", server(of, "pencil", 4095), Ending(small, False))
+        yield cell("count below the minimum", server(of, "pencil", 4095), Ending(small, False))
         yield cell("count above the limit", server(of._replace(most=99_999), "pencil", 100_000), Ending(large, False))
-        yield cell("kept keys", server(of._replace(again=True), "pencil"),
+        yield cell("cached keys", server(of._replace(again=True), "pencil"),
                    Ending("logged in: Done; logged in by keys: Done", True))
         yield cell("its signature, altered on the way", server(of, "pencil", mar=marred), Ending(FORGED, False))
         refused = "not logged in: Client: Error normalizing password"
-        yield cell("password past ASCII, as it is typed", server(of._replace(user=PAST), PAST.password),
+        yield cell("non-ASCII password, as typed", server(of._replace(user=PAST), PAST.password),
                    Ending(refused, False))
-        yield cell("password past ASCII, prepared", server(prepared(PAST), PAST.password), done, PAST, "prepared")
+        yield cell("non-ASCII password, prepared", server(prepared(PAST), PAST.password), done, PAST, "prepared")
         yield cell("password with a soft hyphen, prepared", server(prepared(SOFT), HARD.password), done, HARD,
                    "prepared")
         yield cell("password with a soft hyphen, which it prepares", server(of._replace(user=HARD), SOFT.password),
@@ -126,8 +126,8 @@ class GnuSasl(Peer):
             yield cell(f"count {count:,}", client(mechanism, USER, known), done)
         yield cell("our signature, altered on the way", client(mechanism, USER, USER, mar=marred),
                    Ending("logged in: user", False))
-        yield cell("password past ASCII, of its own record", client(mechanism, PAST, PAST, made_by_gsasl), done)
-        yield cell("password past ASCII, prepared", client(mechanism, PAST, PAST._replace(prepared=True)), done, PAST,
+        yield cell("non-ASCII password, of its own record", client(mechanism, PAST, PAST, made_by_gsasl), done)
+        yield cell("non-ASCII password, prepared", client(mechanism, PAST, PAST._replace(prepared=True)), done, PAST,
                    "records")
         yield cell("password with a soft hyphen, prepared", client(mechanism, HARD, SOFT._replace(prepared=True)), done)
         yield cell("password with a soft hyphen, which it prepares", client(mechanism, SOFT, HARD), done, HARD)

@@ -1,9 +1,9 @@
-# Logins to other programs and by them, over sockets of the loopback, through the bindings for C and for Rust; the
-# repository's Makefile includes this. It needs the archive of `make lib`, a C compiler and Python 3, and takes cargo
-# and Debian's packages where they are there.
+# Logins to other programs and by them, over sockets of the loopback, through the bindings for C and for Rust. The
+# repository's Makefile includes this file. It needs the archive of `make lib`, a C compiler and Python 3. It uses cargo
+# and Debian's packages if they are installed.
 #
-#   make interop                      runs all cells, and ends with an error where one is not as it should be
-#   make interop INTEROP='--only X'   the cells of one peer; interop/run.py says what else there is
+#   make interop                      runs all cells, and fails if a login does not end as expected
+#   make interop INTEROP='--only X'   the cells of one peer; interop/run.py lists the other options
 INTEROP ?=
 
 .PHONY: interop build/interop/rust
@@ -16,7 +16,7 @@ build/interop/client build/interop/server: build/interop/%: bindings/c/%.c $(HEA
 	@mkdir -p $(@D)
 	$(CC) -std=c99 $(WARNINGS) -O2 -o $@ $< build/libfe2o3_sasl.a $(LDLIBS)
 
-# (cargo knows what is to be made anew)
+# (cargo knows what to rebuild)
 build/interop/rust: build/libfe2o3_sasl.a
 	@if command -v cargo > /dev/null; then cd interop/rust && FE2O3_SASL_LIB=$(abspath build) \
 	    CARGO_TARGET_DIR=$(abspath build/interop/rust) cargo build --offline --release --quiet; fi

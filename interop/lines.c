@@ -1,6 +1,6 @@
-/* SCRAM over TCP on the loopback, a message a line, in base64 as GNU SASL's program has it: the server's side writes
- * the name of the mechanism and an empty challenge first, the client's side the name, and behind a login each an empty
- * line, the client first.
+/* SCRAM over TCP on the loopback, one base64 line per message, as GNU SASL's program has it. The server writes the name
+ * of the mechanism and an empty challenge first, the client the name. After a login each writes an empty line, the
+ * client first.
  *
  *     lines client PORT MECHANISM USER LEAST MOST [prepared] [again]
  *     lines server USERS MECHANISM LOGINS [unbound]

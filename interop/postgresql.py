@@ -240,7 +240,7 @@ class PostgreSql(Peer):
         return done.stdout.strip()
 
     def role(self, name: str, password: str) -> None:
-        """Makes a user anew, whose password may be the text of a record."""
+        """Creates a user again, with a password or the text of a record."""
         quoted, secret = name.replace('"', '""'), password.replace("'", "''")
         self.sql(f"drop role if exists \"{quoted}\"; create role \"{quoted}\" login password '{secret}';")
 
@@ -297,7 +297,7 @@ class PostgreSql(Peer):
         yield from self.prepared_at_ours()
         yield from self.records()
         for ours in ("client", "server"):
-            yield none(ours, "SCRAM-SHA-1, SCRAM-SHA-512", "a login", "it has SCRAM-SHA-256 alone")
+            yield none(ours, "SCRAM-SHA-1, SCRAM-SHA-512", "a login", "it has only SCRAM-SHA-256")
             yield none(ours, "PLAIN, ANONYMOUS, EXTERNAL", "a login", "it has none of them by SASL")
 
     def our_clients(self) -> Iterator[Cell]:
@@ -315,13 +315,13 @@ class PostgreSql(Peer):
         yield cell("count 1", self.log_in(of._replace(least=1), "pencil", count=1), done)
         yield cell("count 100,000", self.log_in(of, "pencil", count=100_000), done)
         small, large = (f"not logged in: Client: Iteration count too {size}" for size in ("small", "large"))
-        yield cell("count below the floor", self.log_in(of, "pencil", count=4095), Ending(small, False))
+        yield cell("count below the minimum", self.log_in(of, "pencil", count=4095), Ending(small, False))
         yield cell("count above the limit", self.log_in(of._replace(most=99_999), "pencil", count=100_000),
                    Ending(large, False))
-        yield cell("kept keys", self.log_in(of._replace(again=True), "pencil"),
+        yield cell("cached keys", self.log_in(of._replace(again=True), "pencil"),
                    Ending("logged in: Done; logged in by keys: Done", True))
         yield cell("its signature, altered on the way", self.log_in(of, "pencil", mar=marred), Ending(FORGED, False))
-        yield cell("password past ASCII, as it is typed", self.log_in(of._replace(user=PAST), PAST.password),
+        yield cell("non-ASCII password, as typed", self.log_in(of._replace(user=PAST), PAST.password),
                    Ending("not logged in: Client: Error normalizing password", False))
 
     def prepared_at_server(self) -> Iterator[Cell]:
@@ -332,7 +332,7 @@ class PostgreSql(Peer):
             return Cell("client", MECHANISM, what, login, Ending("logged in: Done", True), kept=kept,
                         kept_as="prepared" if user.prepared else "")
 
-        yield cell("password past ASCII, prepared", PAST._replace(prepared=True), PAST.password, PAST)
+        yield cell("non-ASCII password, prepared", PAST._replace(prepared=True), PAST.password, PAST)
         yield cell("password with a soft hyphen, prepared", SOFT._replace(prepared=True), HARD.password, HARD)
         yield cell("password with a soft hyphen, which it prepares", HARD, SOFT.password, None)
 
@@ -362,8 +362,8 @@ class PostgreSql(Peer):
         def cell(what: str, login, kept: Optional[User] = None, kept_as: str = "") -> Cell:
             return Cell("server", MECHANISM, what, login, Ending("logged in:", True), kept=kept, kept_as=kept_as)
 
-        yield cell("password past ASCII, of its own record", self.serve(PAST, PAST, of_server=True))
-        yield cell("password past ASCII, prepared", self.serve(PAST, PAST._replace(prepared=True)),
+        yield cell("non-ASCII password, of its own record", self.serve(PAST, PAST, of_server=True))
+        yield cell("non-ASCII password, prepared", self.serve(PAST, PAST._replace(prepared=True)),
                    User("", PAST.password), "records")
         yield cell("password with a soft hyphen, prepared", self.serve(HARD, SOFT._replace(prepared=True)))
         yield cell("password with a soft hyphen, which it prepares", self.serve(SOFT, HARD), User("", HARD.password))
@@ -378,12 +378,12 @@ class PostgreSql(Peer):
 
         yield cell("`rolpassword` read, the password", self.read(USER, USER), verified)
         yield cell("`rolpassword` read, another password", self.read(USER, User("user", "pencils")), other)
-        yield cell("`rolpassword` read, past ASCII, prepared", self.read(PAST, PAST._replace(prepared=True)), verified)
-        yield cell("`rolpassword` read, past ASCII, as it is typed", self.read(PAST, PAST), other)
+        yield cell("`rolpassword` read, non-ASCII, prepared", self.read(PAST, PAST._replace(prepared=True)), verified)
+        yield cell("`rolpassword` read, non-ASCII, as typed", self.read(PAST, PAST), other)
         yield cell("`rolpassword` read, a soft hyphen, prepared", self.read(SOFT, SOFT._replace(prepared=True)),
                    verified)
         yield cell("`rolpassword` written, and a login of `psql`", self.written(USER, USER), written)
-        yield cell("`rolpassword` written, past ASCII, prepared, and a login of `psql`",
+        yield cell("`rolpassword` written, non-ASCII, prepared, and a login of `psql`",
                    self.written(PAST._replace(prepared=True), PAST), written)
         yield cell("`rolpassword` written, a soft hyphen, prepared, and a login of `psql`",
                    self.written(SOFT._replace(prepared=True), SOFT), written)

@@ -115,7 +115,7 @@ class QpidProton(Peer):
     def cells(self) -> Iterator[Cell]:
         yield Cell("client", "ANONYMOUS", "a login", self.log_in("ANONYMOUS"), DONE, kept=USER)
         for mechanism in (*SCRAM, "PLAIN"):
-            yield Cell("client", mechanism, "it offers ANONYMOUS alone", self.log_in("ANONYMOUS", asked=mechanism),
+            yield Cell("client", mechanism, "it offers only ANONYMOUS", self.log_in("ANONYMOUS", asked=mechanism),
                        Ending("not logged in: Connection: Not implemented", False))
         yield Cell("server", "ANONYMOUS", "a login", self.serve("ANONYMOUS"), Ending("logged in:", True), kept=USER)
         yield from self.our_servers("PLAIN")
@@ -167,9 +167,9 @@ class ProtonWithCyrus(QpidProton):
                        kept=USER if count == 4096 and mechanism in KEPT else None)
         for what, user in (("wrong password", User("user", "pencils")), ("unknown user", User("nobody", "pencil"))):
             yield Cell("client", mechanism, what, self.log_in(mechanism, user), REFUSED)
-        yield Cell("client", mechanism, "count below the floor", self.log_in(mechanism, count=4095),
+        yield Cell("client", mechanism, "count below the minimum", self.log_in(mechanism, count=4095),
                    Ending("not logged in: Client: Iteration count too small", False))
-        yield Cell("client", mechanism, "password past ASCII", self.log_in(mechanism, PAST),
+        yield Cell("client", mechanism, "non-ASCII password", self.log_in(mechanism, PAST),
                    Ending("not logged in: Client: Error normalizing password", False))
 
     def our_plain_clients(self) -> Iterator[Cell]:

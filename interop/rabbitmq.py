@@ -130,4 +130,4 @@ class RabbitMq(Peer):
         yield cell("server", "PLAIN", "wrong password", self.serve("PLAIN", User("user", "pencils")), refused)
         yield cell("server", "PLAIN", "unknown user", self.serve("PLAIN", User("nobody", "pencil")), refused)
         yield cell("server", "ANONYMOUS", "a login", self.serve("ANONYMOUS"), Ending("logged in:", True), USER)
-        yield none("server", ", ".join((*SCRAM, "EXTERNAL")), "a login", "its client has PLAIN and ANONYMOUS alone")
+        yield none("server", ", ".join((*SCRAM, "EXTERNAL")), "a login", "its client has only PLAIN and ANONYMOUS")

@@ -24,7 +24,7 @@ loop() ->
 sasl(<<"PLAIN">>, User, Password) -> {plain, User, Password};
 sasl(<<"ANONYMOUS">>, _, _) -> anon.
 
-%% The server ends the connection behind the login. Where it refused the login, the client says so.
+%% The server ends the connection after the login. If it rejected the login, the client says so.
 login(Port, Sasl) ->
     {ok, Connection} = amqp10_client:open_connection(
         #{address => "127.0.0.1", port => Port, hostname => <<"localhost">>, container_id => <<"interop">>,

@@ -39,13 +39,13 @@ def messages(tap: Tap, whose: str) -> list[bytes]:
 
 
 def nonce_of(message: bytes, behind: int = 0) -> str:
-    """The 32 bytes of which a nonce is, behind so many characters of the other side's."""
+    """The 32 bytes of a nonce, after that many characters of the other side's."""
     nonce = next(part for part in message.split(b",") if part.startswith(b"r="))[2 + behind :]
     return base64.b64decode(nonce).hex()
 
 
 def record_word(mechanism: str, user: User) -> str:
-    """The record of a user's password as it stands (RFC 5802, section 3), by Python."""
+    """The record of a user's password as given (RFC 5802, section 3), by Python."""
     name = mechanism.removeprefix("SCRAM-").replace("-", "").lower()
     salted = hashlib.pbkdf2_hmac(name, user.password.encode(), SALT, user.count)
     client, server = (hmac.digest(salted, words, name) for words in (b"Client Key", b"Server Key"))

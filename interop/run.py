@@ -3,9 +3,10 @@
 
     run.py [--only PEER] [--what WORDS] [--logins N] [--table FILE] [--record FILE] [--proton FOLDER]
 
-Makes twenty fresh logins a cell, prints the table, and ends with 1 where a cell has another count. A peer whose
-package is not there is told, and is no failure. Everything stands in a temporary folder and on the loopback at free
-ports, and is gone after the run. The programs of ours are those that `make interop` builds in `build/interop`.
+Makes twenty fresh logins for each cell, prints the table, and exits with 1 if a login does not end as expected. A
+peer whose package is not installed is reported, and is no failure. Everything runs in a temporary folder and on free
+ports of the loopback, and is removed after the run. `make interop` builds our programs in `build/interop`. The
+results of earlier runs are in `interop/results`, one file for each date.
 """
 
 from __future__ import annotations
@@ -32,8 +33,8 @@ from qpid_proton import ProtonWithCyrus, QpidProton  # noqa: E402
 from rabbitmq import RabbitMq  # noqa: E402
 from sides import Side  # noqa: E402
 
-#: Behind this line a page has the table of a run.
-MARK = "<!-- Written by interop/run.py --table. -->"
+#: The head of a file of results.
+HEAD = "# Logins to other programs and by them\n\nWritten by `interop/run.py --table`.\n\n"
 
 
 def peers(built: Path, proton: Optional[Path]) -> list[Peer]:
@@ -48,7 +49,7 @@ def sides(built: Path, folder: Path) -> list[Side]:
     frames = str(rust / "frames")
     in_rust = Side("Rust", rust / "lines", [frames, "client"], [frames, "server"], folder)
     if not (rust / "lines").exists():
-        print("- our programs in Rust: not here (cargo makes them)")
+        print("- our programs in Rust: not built (they need cargo)")
         return [in_c]
     return [in_c, in_rust]
 
@@ -122,7 +123,7 @@ def run_peer(peer: Peer, ours: list[Side], told: argparse.Namespace) -> tuple[li
 
 
 def table(rows: list[list[str]], versions: list[str], languages: list[str]) -> str:
-    """The page's part that a run writes: a line for the mechanisms of which all else is the same."""
+    """The table of a run: one line for all mechanisms whose other columns are equal."""
     merged: dict[tuple[str, ...], list[str]] = {}
     for peer, ours, mechanism, *rest in rows:
         merged.setdefault((peer, ours, *rest), []).append(mechanism)
@@ -133,19 +134,13 @@ def table(rows: list[list[str]], versions: list[str], languages: list[str]) -> s
     return "\n".join([when, "", *versions, "", *lines]) + "\n"
 
 
-def write_table(page: Path, text: str) -> None:
-    """Puts the table in the place of what stands behind the mark of a page."""
-    before = page.read_text().partition(MARK)[0]
-    page.write_text(f"{before}{MARK}\n\n{text}")
-
-
 def given() -> argparse.Namespace:
     """The words of the command line."""
     words = argparse.ArgumentParser(description=__doc__, formatter_class=argparse.RawDescriptionHelpFormatter)
-    words.add_argument("--only", default="", help="this peer alone")
-    words.add_argument("--what", default="", help="only the cells whose words have these in them")
+    words.add_argument("--only", default="", help="only this peer")
+    words.add_argument("--what", default="", help="only the cells whose text contains these words")
     words.add_argument("--logins", type=int, default=20, help="how many logins a cell has")
-    words.add_argument("--table", type=Path, help="a file whose table is written anew")
+    words.add_argument("--table", type=Path, help="a file to which the results are written")
     words.add_argument("--record", type=Path, help="a file to which rows of stored vectors are added")
     words.add_argument("--built", type=Path, default=Path("build/interop"), help="the folder of our programs")
     words.add_argument("--proton", type=Path, help="the folder of a libqpid-proton-core that is built with Cyrus SASL")
@@ -155,7 +150,7 @@ def given() -> argparse.Namespace:
 def visited(peer: Peer, ours: list[Side], told: argparse.Namespace, place: Path) -> tuple[str, list[list[str]], bool]:
     """The line of a peer's version, its rows, and whether all are right."""
     if peer.missing():
-        version = f"- {peer.name}: not here (Debian: {peer.package})"
+        version = f"- {peer.name}: not installed (Debian: {peer.package})"
         print(version)
         return version, [], True
     version = f"- {peer.name} {peer.version()} (Debian: {peer.package})"
@@ -185,7 +180,7 @@ def main() -> int:
     text = table(rows, versions, [side.language for side in ours])
     print(f"\n{text}")
     if told.table:
-        write_table(told.table, text)
+        told.table.write_text(HEAD + text)
     return 0 if all_right else 1
 
 

@@ -1,4 +1,4 @@
-"""Our side of a login: the programs in C and in Rust, each started afresh for each login."""
+"""Our side of a login: the programs in C and in Rust, each started for each login."""
 
 from __future__ import annotations
 
@@ -40,7 +40,7 @@ class User(NamedTuple):
 
 USER = User("user", "pencil")
 COMMA = User("a,b=c", "pen,cil=")
-#: A password past ASCII, which is prepared to itself.
+#: A non-ASCII password that SASLprep does not change.
 PAST = User("user", "p\u00e4ssw\u00f6rd")
 #: The first example of RFC 4013, section 3: the soft hyphen is prepared to nothing.
 SOFT, HARD = User("user", "I\u00adX"), User("user", "IX")
@@ -122,8 +122,8 @@ def other_signature(message: bytes) -> bytes:
 
 
 def marred(came: bytes) -> bytes:
-    """What a server sent, with another signature if one stands in it, on a line or in a frame."""
-    # (`v=` in base64 begins with `dj`; in a frame one byte of a size stands before it)
+    """What a server sent, with another signature if it has one, on a line or in a frame."""
+    # (`v=` in base64 begins with `dj`; in a frame one byte of a size is before it)
     line = re.search(rb"^dj[0-3][A-Za-z0-9+/]+=*$", came, re.MULTILINE)
     if line is not None:
         message = other_signature(base64.b64decode(line[0]))

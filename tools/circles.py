@@ -1,28 +1,31 @@
 #!/usr/bin/env python3
-"""Refuses a circle among the top-level modules of a library, and a table of modules that is out of order.
+"""Rejects a circle among the top-level modules of a library, and a module that lib.rt does not declare.
 
-    tools/circles.py [FOLDER]       the folder of the repository; without one, that of this script
+    tools/circles.py [FOLDER]             checks the repository in FOLDER, or that of this script
+    tools/circles.py --order [FOLDER]     prints each library's modules too, lowest first
 
-A module is a file or a folder right below src/; lib.rt is none of them, and what it re-exports counts as a
-use of the module that the name comes from. A module uses another where its code, comments apart, names a
-path of it: crate::MODULE, or super:: where that leads out of the module. A page, which holds nothing but
-`pub use` lines, stands above what it re-exports, and no other module may use it. Calls of methods are not seen:
-what a module adds to a type of another by an impl can be used without a path of its own.
+A module is a file or a folder directly below src/. lib.rt is no module; an item that it re-exports counts as
+a use of the module that the name comes from. A module uses another if its code, without comments, has a path
+of it: crate::MODULE, or super:: where that leads out of the module. A page holds only `pub use` lines. It is
+above what it re-exports, and no other module may use it. Calls of methods are not seen: a method that a
+module adds to a type of another module can be called without a path.
 
-A section of docs/ARCHITECTURE.md headed "`CRATE`, lowest first" has a row for every file of that crate's
-src/, and each row's module uses modules of earlier rows alone.
+The order is computed from the uses and written nowhere: `rt fmt` sorts the `mod` lines of lib.rt by name.
+Every module has a `mod` line, since a file without one is neither compiled nor proved.
 """
 import re
 import sys
 from pathlib import Path
 
-TOP = Path(sys.argv[1]) if len(sys.argv) > 1 else Path(__file__).resolve().parent.parent
+ORDER = "--order" in sys.argv[1:]
+FOLDERS = [word for word in sys.argv[1:] if word != "--order"]
+TOP = Path(FOLDERS[0]) if FOLDERS else Path(__file__).resolve().parent.parent
 LIBRARIES = ("fe2o3_sasl_wire", "fe2o3_scram", "fe2o3_sasl_core", "fe2o3_sasl", "fe2o3_sasl_negotiation", "sasl_c")
 NO_CODE = re.compile(r"""//[^\n]*|/\*.*?\*/|b?'(?:\\.|[^'\\])'|b?"(?:\\.|[^"\\])*"|#!?\[tactic\(.*?\)\]\n""", re.S)
 PATH = re.compile(r"(?<![\w:])(crate|super)\s*::")
 NAME = re.compile(r"\s*(r#)?(\w+|\*)\s*")
 DECLARED = re.compile(r"^(?:pub(?:\(\w+\))? )?(?:const|enum|fn|macro_rules!|static|struct|trait|type) (\w+)", re.M)
-ROW = re.compile(r"`([\w/]+\.rt)`")
+MODULE = re.compile(r"^(?:pub(?:\(\w+\))? )?mod (\w+);", re.M)
 
 
 class Wrong(Exception):
@@ -96,7 +99,9 @@ class Crate:
         self.uses = {self.module(path): {} for path in self.files}
         self.pages = {module for module in self.uses
                       if is_page([texts[path] for path in self.files if self.module(path) == module])}
-        root = names_of_root(without_comments((self.src / "lib.rt").read_text(encoding="utf-8")))
+        top = without_comments((self.src / "lib.rt").read_text(encoding="utf-8"))
+        self.declared = set(MODULE.findall(top))
+        root = names_of_root(top)
         for path in self.files:
             self.read(path, texts[path], root)
 
@@ -139,6 +144,10 @@ class Crate:
         """A longest chain of modules, each of which uses the next; there is no circle."""
         return max(([module] + self.chain(used) for used in self.uses[module]), key=len, default=[module])
 
+    def order(self):
+        """The modules, each after those that it uses, the lowest first; there is no circle."""
+        return sorted(self.uses, key=lambda module: (len(self.chain(module)), module))
+
     def faults(self):
         """What is wrong with the modules."""
         circle = self.circle()
@@ -149,35 +158,8 @@ class Crate:
         for user, all_used in self.uses.items():
             for used in sorted(self.pages & all_used.keys()):
                 yield f"{all_used[used]}: {user} uses {used}, a page of re-exports"
-
-    def faults_of_table(self, cells):
-        """What is wrong with the order of a table's rows, of which each cell names files."""
-        rows, folder = {}, ""
-        for row, cell in enumerate(cells):
-            for file in ROW.findall(cell):
-                if not (self.src / file).exists():
-                    file = str(Path(folder, file))
-                folder = str(Path(file).parent)
-                rows.setdefault(file, row)
-        files = {str(path.relative_to(self.src)): self.module(path) for path in self.files}
-        for file in sorted(rows.keys() ^ files.keys()):
-            lacks = "has no row for" if file in files else "has a row for, which is no file of src/,"
-            yield f"docs/ARCHITECTURE.md: the table of {self.name} {lacks} {file}"
-        places = {}
-        for file in rows.keys() & files.keys():
-            places.setdefault(files[file], []).append(rows[file])
-        for user, all_used in self.uses.items():
-            for used in all_used:
-                if user in places and used in places and max(places[used]) >= min(places[user]):
-                    yield (f"docs/ARCHITECTURE.md: in the table of {self.name} a row of {user} stands before one of"
-                           f" {used}, which it uses ({all_used[used]})")
-
-
-def tables():
-    """The first cells of each table that is headed as lowest first, by the name of its crate."""
-    page = (TOP / "docs" / "ARCHITECTURE.md").read_text(encoding="utf-8")
-    for section in re.finditer(r"^## `(\w+)`, lowest first\n+((?:\|.*\n)+)", page, re.M):
-        yield section[1], [line.split("|")[1] for line in section[2].splitlines()[2:]]
+        for module in sorted(self.uses.keys() - self.declared):
+            yield f"{self.name}: src/lib.rt has no mod line for {module}"
 
 
 def main():
@@ -190,12 +172,6 @@ def main():
             faults.append(f"{name}: {wrong}")
             continue
         faults += crates[name].faults()
-    headed = dict(tables())
-    if "fe2o3_scram" not in headed:
-        faults.append("docs/ARCHITECTURE.md: no table of fe2o3_scram, lowest first")
-    for name, cells in headed.items():
-        if name in crates:
-            faults += crates[name].faults_of_table(cells)
     if faults:
         print(*(f"circles: {fault}" for fault in faults), sep="\n", file=sys.stderr)
         return 1
@@ -203,6 +179,8 @@ def main():
         chain = max((crate.chain(module) for module in crate.uses), key=len)
         print(f"circles: {name}: {len(crate.uses)} modules, no circle, at most {len(chain)} above one another:"
               f" {', '.join(reversed(chain))}")
+        if ORDER:
+            print(*(f"    {module}" for module in crate.order()), sep="\n")
     return 0
 
 
