@@ -1,8 +1,8 @@
 #!/usr/bin/env python3
 """Rejects a circle among the top-level modules of a library, and a module that lib.rt does not declare.
 
-    tools/circles.py [FOLDER]             checks the repository in FOLDER, or that of this script
-    tools/circles.py --order [FOLDER]     prints each library's modules too, lowest first
+    tools/gate/circles.py [FOLDER]             checks the repository in FOLDER, or that of this script
+    tools/gate/circles.py --order [FOLDER]     prints each library's modules too, lowest first
 
 A module is a file or a folder directly below src/. lib.rt is no module; an item that it re-exports counts as
 a use of the module that the name comes from. A module uses another if its code, without comments, has a path
@@ -19,7 +19,8 @@ from pathlib import Path
 
 ORDER = "--order" in sys.argv[1:]
 FOLDERS = [word for word in sys.argv[1:] if word != "--order"]
-TOP = Path(FOLDERS[0]) if FOLDERS else Path(__file__).resolve().parent.parent
+ABOVE = Path(__file__).resolve().parents
+TOP = Path(FOLDERS[0]) if FOLDERS else next(folder for folder in ABOVE if (folder / "crates.txt").exists())
 LIBRARIES = ("fe2o3_sasl_wire", "fe2o3_scram", "fe2o3_sasl_core", "fe2o3_sasl", "fe2o3_sasl_negotiation", "sasl_c")
 NO_CODE = re.compile(r"""//[^\n]*|/\*.*?\*/|b?'(?:\\.|[^'\\])'|b?"(?:\\.|[^"\\])*"|#!?\[tactic\(.*?\)\]\n""", re.S)
 PATH = re.compile(r"(?<![\w:])(crate|super)\s*::")
