@@ -133,7 +133,7 @@ def top_of(folder):
     for place in (folder, *folder.parents):
         if (place / "crates.txt").exists():
             return place
-    sys.exit(f"prose: {folder} is not in the repository")
+    sys.exit(f"{folder} is not in the repository")
 
 
 def files_of(top, paths):
