@@ -61,14 +61,10 @@ build/fe2o3_sasl.pc:
 	    'Cflags: -I$${includedir}' 'Libs: -L$${libdir} -lfe2o3_sasl' > $@
 
 header:
-	python3 tools/header.py
-	python3 tools/header.py --rust
-	python3 tools/header.py --python
+	tools/generate/header.py write
 
 header-check:
-	python3 tools/header.py --check
-	python3 tools/header.py --rust --check
-	python3 tools/header.py --python --check
+	tools/generate/header.py check
 
 build/callers/%_plain: bindings/c/%.c $(HEADER) build/libfe2o3_sasl.a
 	@mkdir -p $(@D)

@@ -1,12 +1,12 @@
 #!/usr/bin/env python3
 """Writes what other programs answer to SASLprep: the rows of crates/test_vectors_scram/data/.
 
-    tools/saslprep/answers.py [--check]
+    tools/models/saslprep_answers.py write      writes the rows
+    tools/models/saslprep_answers.py check      compares the files with what would be written
 
 Two programs are asked: GNU libidn (`apt-get install idn`; its library is called), and SASLprep as it stands below
 over the tables of Python's module `stringprep` and its normalization of Unicode 3.2. A row is written where both
-agree, and where they do not, the answer of either is told beside it. With --check nothing is written, and the exit
-status is 1 where a file is not what would be written. The tables of both are compared first.
+agree, and where they do not, the answer of either is told beside it. The tables of both are compared first.
 """
 import ctypes
 import ctypes.util
@@ -17,7 +17,8 @@ import sys
 import unicodedata
 
 sys.dont_write_bytecode = True
-import tables
+sys.path.insert(0, os.path.join(os.path.dirname(os.path.dirname(os.path.realpath(__file__))), "generate"))
+import saslprep_tables as tables
 
 ROOT = os.path.dirname(os.path.dirname(os.path.dirname(os.path.realpath(__file__))))
 DATA = os.path.join(ROOT, "crates", "test_vectors_scram", "data")
@@ -33,7 +34,10 @@ LATER = [
 
 # The words of stringprep.h: what its calls return, and the flag of stored strings.
 UNASSIGNED, PROHIBITED, BOTH_DIRECTIONS, ENDS_OTHERWISE, NO_UNASSIGNED = 1, 2, 3, 4, 4
-LIBIDN = ctypes.CDLL(ctypes.util.find_library("idn") or "libidn.so.12")
+try:
+    LIBIDN = ctypes.CDLL(ctypes.util.find_library("idn") or "libidn.so.12")
+except OSError:
+    sys.exit("GNU libidn is not installed: apt-get install idn")
 LIBIDN.stringprep_profile.argtypes = [ctypes.c_char_p, ctypes.POINTER(ctypes.c_void_p), ctypes.c_char_p, ctypes.c_int]
 LIBC = ctypes.CDLL(None)
 LIBC.free.argtypes = [ctypes.c_void_p]
@@ -137,7 +141,7 @@ def code_points():
         "# where the answer is `kept`, `prohibited`, `mixed`, `nothing`, what the text is prepared to, or `unassigned`:",
         "# refused in stored texts, and kept in queries. `unassigned, changed` are those that a later Unicode",
         "# decomposes, so that a query is changed; differences.txt has what Unicode 14 makes of them, and five others,",
-        "# which are left out here. Written by tools/saslprep/answers.py.",
+        "# which are left out here. Written by tools/models/saslprep_answers.py.",
         "",
     ]
     rows = []
@@ -169,7 +173,7 @@ def differences():
         "# library, which normalizes by a later Unicode. A row is",
         "#     TEXT MODE, NOT THEIRS => OURS",
         f"# with the answer of Python's normalization of Unicode {unicodedata.unidata_version}. Written by"
-        " tools/saslprep/answers.py.",
+        " tools/models/saslprep_answers.py.",
         "",
         "# Assigned in Unicode 3.2, corrected since (Corrigendum 4)",
     ]
@@ -212,7 +216,7 @@ def texts():
         "# Texts of random characters, by GNU libidn and by Python's `stringprep`, which agree. A row is",
         "#     TEXT MODE => ANSWER",
         "# with the mode `stored` or `query`, and the answer as in code-points.txt; a refusal names its code point,",
-        "# which Python alone tells. Written by tools/saslprep/answers.py.",
+        "# which Python alone tells. Written by tools/models/saslprep_answers.py.",
         "",
     ]
     chance = random.Random(4013)
@@ -234,12 +238,14 @@ def texts():
 
 
 def main():
+    if sys.argv[1:] not in (["write"], ["check"]):
+        sys.exit(__doc__)
     compare_tables()
     stale = 0
     files = {"code-points.txt": code_points(), "differences.txt": differences(), "texts.txt": texts()}
     for name, text in files.items():
         path = os.path.join(DATA, name)
-        if "--check" not in sys.argv[1:]:
+        if sys.argv[1] == "write":
             with open(path, "w", encoding="utf-8") as file:
                 file.write(text)
             continue

@@ -1,7 +1,7 @@
 #!/usr/bin/env python3
 """Refuses a circle among the top-level modules of a library, and a table of modules that is out of order.
 
-    tools/circles.py [FOLDER]       the folder of the repository; without one, that of this script
+    tools/gate/circles.py [FOLDER]       the folder of the repository; without one, that of this script
 
 A module is a file or a folder right below src/; lib.rt is none of them, and what it re-exports counts as a
 use of the module that the name comes from. A module uses another where its code, comments apart, names a
@@ -16,7 +16,7 @@ import re
 import sys
 from pathlib import Path
 
-TOP = Path(sys.argv[1]) if len(sys.argv) > 1 else Path(__file__).resolve().parent.parent
+TOP = Path(sys.argv[1]) if len(sys.argv) > 1 else Path(__file__).resolve().parents[2]
 LIBRARIES = ("fe2o3_sasl_wire", "fe2o3_scram", "fe2o3_sasl_core", "fe2o3_sasl", "fe2o3_sasl_negotiation", "sasl_c")
 NO_CODE = re.compile(r"""//[^\n]*|/\*.*?\*/|b?'(?:\\.|[^'\\])'|b?"(?:\\.|[^"\\])*"|#!?\[tactic\(.*?\)\]\n""", re.S)
 PATH = re.compile(r"(?<![\w:])(crate|super)\s*::")

@@ -1,10 +1,10 @@
 #!/usr/bin/env python3
 """Bodies of SASL frames from the grammar of AMQP 1.0: what they are read as, and every way to spell a frame.
 
-    tools/frames check [FILE..]     answers each body of the files, crates/test_vectors_sasl/data/frames.txt,
-                                    worked-frames.txt and peers.txt if none are given, and compares the answer
-                                    with the line's
-    tools/frames make [SEED]        prints bodies with their answers, in the form of those files
+    tools/models/frames.py check [FILE..]   answers each body of the files, crates/test_vectors_sasl/data/frames.txt,
+                                            worked-frames.txt and peers.txt if none are given, and compares the
+                                            answer with the line's
+    tools/models/frames.py write [SEED]     prints bodies with their answers, in the form of those files
 
 Written from AMQP 1.0, part 1 (section 1.2, encodings; 1.6, types) and part 5 (5.3, SASL), apart from this
 repository's code. Any value of the type system is read, by the halves of its format code; only then is it
@@ -17,7 +17,7 @@ import random
 import sys
 from pathlib import Path
 
-DATA = Path(__file__).resolve().parent.parent / "crates/test_vectors_sasl/data"
+DATA = Path(__file__).resolve().parents[2] / "crates/test_vectors_sasl/data"
 CODES = ("Ok", "Auth", "Sys", "SysPerm", "SysTemp")
 # Part 5, section 5.3.3: a frame's descriptor, and the type of each field; the first one is mandatory.
 FRAMES = {
@@ -283,7 +283,7 @@ def damaged(body, pick):
     ])
 
 
-def make(seed):
+def write(seed):
     pick = random.Random(seed)
     for name, kind, fields in SAMPLES:
         print(f"# {name}")
@@ -305,10 +305,10 @@ def main():
     match sys.argv[1:]:
         case ["check", *files]:
             return check(files or [DATA / f"{name}.txt" for name in ("frames", "worked-frames", "peers")])
-        case ["make"]:
-            return make(1)
-        case ["make", seed]:
-            return make(int(seed))
+        case ["write"]:
+            return write(1)
+        case ["write", seed]:
+            return write(int(seed))
         case _:
             print(__doc__, file=sys.stderr)
             return 2

@@ -1,34 +1,25 @@
 #!/usr/bin/env python3
 """What `scram explain --audit` must print of both sides of a login.
 
-    tools/audit_rows make       writes the rows of crates/test_vectors_programs/data/audits.txt
-    tools/audit_rows check      makes them again, and compares them with what stands there
+    tools/models/audit_rows.py write    writes the rows of crates/test_vectors_programs/data/audits.txt
+    tools/models/audit_rows.py check    compares that file with what would be written
 
-The bodies and their values are of the model in `tools/negotiations`, over Python's `hmac` and `hashlib`, and of what
+The bodies and their values are of the model in `tools/models/negotiations.py`, over Python's `hmac` and `hashlib`, and of what
 peers sent (crates/test_vectors_sasl/data/peer-runs.txt); who is authenticated where is written by hand.
 """
 import base64
 import sys
-from importlib.machinery import SourceFileLoader
-from importlib.util import module_from_spec, spec_from_loader
 from pathlib import Path
 
-ROOT = Path(__file__).resolve().parent.parent
+sys.dont_write_bytecode = True
+
+import negotiations as model
+
+ROOT = Path(__file__).resolve().parents[2]
 DATA = ROOT / "crates/test_vectors_programs/data"
 FILE = DATA / "audits.txt"
 CLIENT_NONCE, SERVER_NONCE, SALT = bytes(range(32, 64)), bytes(range(64, 96)), bytes(range(32))
 
-
-def load(name):
-    """A tool beside this one, as a module."""
-    loader = SourceFileLoader(name, str(ROOT / "tools" / name))
-    module = module_from_spec(spec_from_loader(name, loader))
-    sys.dont_write_bytecode = True
-    loader.exec_module(module)
-    return module
-
-
-model = load("negotiations")
 
 
 def body(kind, *fields):
@@ -334,7 +325,7 @@ HEAD = """\
 #     F NAME MODE   a file after the run, with its permissions
 #     + LINE        a line of it
 # In the words, the input and the files `\\n`, `\\t` and `\\s` are a line feed, a tab and a space.
-# Source: written by `tools/audit_rows make`: bodies and values by Python's `hmac` and `hashlib`, but those of peers
+# Source: written by `tools/models/audit_rows.py`: bodies and values by Python's `hmac` and `hashlib`, but those of peers
 # and of RFC 7677; who is authenticated, and sentences, written by hand."""
 
 
@@ -343,7 +334,7 @@ def rows():
 
 
 def main():
-    if sys.argv[1:] == ["make"]:
+    if sys.argv[1:] == ["write"]:
         FILE.write_text(rows())
         return 0
     if sys.argv[1:] == ["check"]:
@@ -351,7 +342,7 @@ def main():
         same = FILE.read_text() == made
         print(f"{FILE.name}: {made.count(chr(10) + '$ ')} runs{'' if same else ', which differ'}")
         return 0 if same else 1
-    print(__doc__)
+    print(__doc__, file=sys.stderr)
     return 2
 
 

@@ -1,8 +1,8 @@
 #!/usr/bin/env python3
 """Writes the page of signatures of each library, crates/NAME/SIGNATURES.md, from its sources.
 
-    python3 tools/signatures.py             writes the pages
-    python3 tools/signatures.py --check     writes nothing; says which page is stale, and ends with status 1
+    tools/generate/signatures.py write      writes the pages
+    tools/generate/signatures.py check      says which page is stale, and ends with status 1 if one is
 
 A page has each public type, trait, constant and function of each public module, as the source writes it
 without contract and body, behind the first sentence of its comment. What a private module defines stands
@@ -14,7 +14,7 @@ import sys
 from dataclasses import dataclass, field
 from pathlib import Path
 
-CRATES = Path(__file__).resolve().parent.parent / "crates"
+CRATES = Path(__file__).resolve().parents[2] / "crates"
 LIBRARIES = ("fe2o3_sasl_wire", "fe2o3_scram", "fe2o3_sasl_core", "fe2o3_sasl", "fe2o3_sasl_negotiation", "saslprep")
 WIDTH = 100
 ITEM = re.compile(r"pub (?:const )?(fn|struct|enum|trait|const|static|type) (\w+)")
@@ -253,7 +253,7 @@ class Library:
             f"# Signatures of `{self.crate}`",
             "",
             "Every public item by module, with the first sentence of its comment. Contracts stand in the sources, and the",
-            "main ones in [README.md](README.md). `python3 tools/signatures.py` writes this page.",
+            "main ones in [README.md](README.md). `tools/generate/signatures.py write` writes this page.",
         ]
         for module in self.modules.values():
             if module.public:
@@ -358,16 +358,16 @@ def comment_lines(text):
 
 
 def main():
-    check = sys.argv[1:] == ["--check"]
-    if sys.argv[1:] and not check:
+    if sys.argv[1:] not in (["write"], ["check"]):
         sys.exit(__doc__)
+    check = sys.argv[1] == "check"
     stale = 0
     for crate in LIBRARIES:
         page, path = Library(crate).page(), CRATES / crate / "SIGNATURES.md"
         if not check:
             path.write_text(page, encoding="utf-8")
         elif not path.exists() or path.read_text(encoding="utf-8") != page:
-            print(f"signatures: crates/{crate}/SIGNATURES.md is stale: python3 tools/signatures.py writes it")
+            print(f"signatures: crates/{crate}/SIGNATURES.md is stale: tools/generate/signatures.py write")
             stale += 1
     if check and not stale:
         print(f"signatures: {len(LIBRARIES)} pages stand as the sources write them")

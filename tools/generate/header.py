@@ -1,13 +1,12 @@
 #!/usr/bin/env python3
 """Writes the declarations of what crates/sasl_c exports, for callers in C, Rust and Python, from its sources.
 
-    python3 tools/header.py [SOURCES]            writes bindings/c/fe2o3_sasl.h
-    python3 tools/header.py --rust [SOURCES]     writes bindings/rust/src/sys.rs
-    python3 tools/header.py --python [SOURCES]   writes the marked part of bindings/python/fe2o3_sasl.py
-    python3 tools/header.py --check ..           writes nothing, prints the first line that differs, and ends with 1
+    tools/generate/header.py write [LANGUAGE..]     writes the declarations
+    tools/generate/header.py check [LANGUAGE..]     prints the first line that differs, and ends with status 1 if one does
 
-SOURCES is a folder of .rt files; the default is that of the crate. The script reads the structs under `#[repr(C)]`, the
-functions under `#[unsafe(no_mangle)]`, the numbers of `enum Status`, and the enums of tools/header_preamble.h. The docs
+A language is `c`, for bindings/c/fe2o3_sasl.h, `rust`, for bindings/rust/src/sys.rs, or `python`, for the marked part of
+bindings/python/fe2o3_sasl.py; without one, it is all three. The script reads the structs under `#[repr(C)]`, the
+functions under `#[unsafe(no_mangle)]`, the numbers of `enum Status`, and the enums of tools/generate/header_preamble.h. The docs
 of the kinds of errors come from the libraries. It relies on the layout of `rt fmt`. It rejects, with file and line, what
 it does not know, an export or a struct that SECTIONS does not list, an export without a doc or with a condition (C would
 not see the condition), and a status without a text of its own.
@@ -23,7 +22,7 @@ from collections import namedtuple
 from itertools import zip_longest
 from pathlib import Path
 
-ROOT = Path(__file__).resolve().parent.parent
+ROOT = Path(__file__).resolve().parents[2]
 WIDTH = 120
 C_NUMBERS = {"u8": "uint8_t", "u16": "uint16_t", "u32": "uint32_t", "u64": "uint64_t", "usize": "size_t"}
 SECTIONS = [  # in the order of use: a title, the structs, and the functions after "fe2o3_"
@@ -309,7 +308,7 @@ def in_rust(doc):
 
 
 def rust_block(reader):
-    out = ["//! What the library exports, as its C header declares it. Written by tools/header.py.\n"]
+    out = ["//! What the library exports, as its C header declares it. Written by tools/generate/header.py.\n"]
     out += [f"\n{rust_doc(in_rust(doc))}pub const {name}: u32 = {number};\n" for doc, name, number in reader.statuses]
     for one in reader.enums:
         out += [f"\n{rust_doc([f'`{one.name}`: ' + in_rust(doc)[0]])}pub const {name}: u32 = {number};\n"
@@ -328,7 +327,7 @@ def rust_block(reader):
 
 
 PYTHON_NUMBERS = {"u8": "ctypes.c_uint8", "u32": "ctypes.c_uint32", "usize": "ctypes.c_size_t"}
-PYTHON_MARKS = "# ---- written by tools/header.py --python, from here ----\n", "# ---- to here ----\n"
+PYTHON_MARKS = "# ---- written by tools/generate/header.py, from here ----\n", "# ---- to here ----\n"
 
 
 def python_part(part, written):
@@ -390,29 +389,46 @@ def python_page(reader, page):
     return text[:start] + PYTHON_MARKS[0] + python_block(reader) + text[end:]
 
 
-def main():
-    words = argparse.ArgumentParser(description=__doc__.splitlines()[0])
-    words.add_argument("sources", nargs="?", type=Path, default=ROOT / "crates/sasl_c/src")
-    kinds = words.add_mutually_exclusive_group()
-    kinds.add_argument("--rust", action="store_true", help="the declarations of Rust instead of the header")
-    kinds.add_argument("--python", action="store_true", help="the declarations of Python instead of the header")
-    words.add_argument("--check", action="store_true", help="write nothing, and compare")
-    words = words.parse_args()
-    reader = Reader(words.sources)
-    if words.rust:
-        page, wanted = ROOT / "bindings/rust/src/sys.rs", rust_block(reader)
-    elif words.python:
-        page = ROOT / "bindings/python/fe2o3_sasl.py"
-        wanted = python_page(reader, page)
-    else:
-        page, wanted = ROOT / "bindings/c/fe2o3_sasl.h", c_header(reader)
-    if not words.check:
-        page.write_text(wanted, encoding="utf-8")
-        return
+def c_page(reader, page):
+    return c_header(reader)
+
+
+def rust_page(reader, page):
+    return rust_block(reader)
+
+
+PAGES = {"c": ("bindings/c/fe2o3_sasl.h", c_page), "rust": ("bindings/rust/src/sys.rs", rust_page),
+         "python": ("bindings/python/fe2o3_sasl.py", python_page)}
+
+
+def first_difference(page, wanted):
+    """The first line of a page that is not as wanted, as a text, or None."""
     written = page.read_text(encoding="utf-8") if page.exists() else ""
     for at, (old, new) in enumerate(zip_longest(written.split("\n"), wanted.split("\n")), 1):
         if old != new:
-            sys.exit(f"{page.relative_to(ROOT)}:{at}: stale: is {old!r}, and has to be {new!r}: make header")
+            return f"{page.relative_to(ROOT)}:{at}: stale: is {old!r}, and has to be {new!r}: make header"
+    return None
 
 
-main()
+def main():
+    words = argparse.ArgumentParser(description=__doc__.splitlines()[0])
+    words.add_argument("what", choices=["write", "check"])
+    words.add_argument("languages", nargs="*", choices=[*PAGES, []], metavar="LANGUAGE", help=", ".join(PAGES))
+    words.add_argument("--sources", type=Path, default=ROOT / "crates/sasl_c/src", help="a folder of .rt files")
+    words = words.parse_args()
+    reader, stale = Reader(words.sources), []
+    for language in words.languages or PAGES:
+        page, text_of = ROOT / PAGES[language][0], PAGES[language][1]
+        wanted = text_of(reader, page)
+        if words.what == "write":
+            page.write_text(wanted, encoding="utf-8")
+        elif fault := first_difference(page, wanted):
+            stale.append(fault)
+    if stale:
+        sys.exit("\n".join(stale))
+    if words.what == "check":
+        print("header: the declarations are as the sources write them")
+
+
+if __name__ == "__main__":
+    main()

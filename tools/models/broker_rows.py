@@ -1,34 +1,26 @@
 #!/usr/bin/env python3
 """What clients send to the broker of `crates/example_broker`, and what it must send.
 
-    tools/broker_rows make      writes the rows of it in `test_vectors_programs`, and the input and output of the program's run
-    tools/broker_rows check     makes them again, and compares them with what stands there
+    tools/models/broker_rows.py write   writes its rows in `test_vectors_programs`, and the input and output of the
+                                        program's run
+    tools/models/broker_rows.py check   compares these files with what would be written
 
-By the model of `tools/negotiations`. The records are of other programs, but for those of SHA-512, which Python's
+By the model of `tools/models/negotiations.py`. The records are of other programs, but for those of SHA-512, which Python's
 `hashlib` makes. An unknown user has the mock record of `crates/fe2o3_scram/specs/MockSettings.antt`.
 """
 import base64
 import sys
-from importlib.machinery import SourceFileLoader
-from importlib.util import module_from_spec, spec_from_loader
 from pathlib import Path
 
-ROOT = Path(__file__).resolve().parent.parent
+sys.dont_write_bytecode = True
+
+import negotiations as model
+
+ROOT = Path(__file__).resolve().parents[2]
 CRATE = ROOT / "crates/example_broker"
 RECORDS = (CRATE / "data/records.txt").read_text()
 SECRET, SERVER_NONCE, CLIENT_NONCE = b"7" * 32, b"\2" * 32, b"\1" * 32
 
-
-def load(name):
-    """A tool beside this one, as a module."""
-    loader = SourceFileLoader(name, str(ROOT / "tools" / name))
-    module = module_from_spec(spec_from_loader(name, loader))
-    sys.dont_write_bytecode = True
-    loader.exec_module(module)
-    return module
-
-
-model = load("negotiations")
 SHORT = {"256": "SCRAM-SHA-256", "512": "SCRAM-SHA-512"}
 HEADER = model.SASL
 AUTH, OK = model.spelled("Outcome", 1, None), model.spelled("Outcome", 0, None)
@@ -153,7 +145,7 @@ HEAD = """\
 #     = STATUS      the status
 #     F NAME MODE   a file after the run, with its permissions
 #     + LINE        a line of it
-# Source: written by `tools/broker_rows make`, by a model in Python; the records of other programs, but for those of
+# Source: written by `tools/models/broker_rows.py`, by a model in Python; the records of other programs, but for those of
 # SHA-512, which Python's `hashlib` makes.
 """
 
@@ -166,7 +158,7 @@ def files():
 
 
 def main():
-    if sys.argv[1:] == ["make"]:
+    if sys.argv[1:] == ["write"]:
         for path, data in files().items():
             path.write_bytes(data)
         return 0

@@ -1,7 +1,7 @@
 #!/usr/bin/env python3
 """Starts the built `example_broker` and `scram server` again and again, and compares what known and unknown users get.
 
-    tools/restarts.py       the programs crates/example_broker/out/example_broker and crates/scram/out/scram, which `make test` builds
+    tools/gate/restarts.py       the programs crates/example_broker/out/example_broker and crates/scram/out/scram, which `make test` builds
 
 An unknown user has to get the salt that the secret beside the records gives, at each start and from processes that
 start at once; challenge and refusal have to be those of a known user but for the salt. It prints nothing where all
@@ -15,27 +15,20 @@ import subprocess
 import sys
 import tempfile
 import unittest
-from importlib.machinery import SourceFileLoader
-from importlib.util import module_from_spec, spec_from_loader
 from pathlib import Path
 
-TOP = Path(__file__).resolve().parent.parent
+TOP = Path(__file__).resolve().parents[2]
+sys.dont_write_bytecode = True
+sys.path.insert(0, str(TOP / "tools/models"))
+
+import broker_rows as rows
+
 BROKER, SCRAM = (TOP / f"crates/{name}/out/{name}" for name in ("example_broker", "scram"))
 KNOWN, UNKNOWN = b"user", b"usor"
 NONCE, PROOF = base64.b64encode(b"\1" * 32), {"SCRAM-SHA-256": 32, "SCRAM-SHA-512": 64}
 SECONDS = 20
-sys.dont_write_bytecode = True
 
 
-def load(name):
-    """A tool beside this one, as a module."""
-    loader = SourceFileLoader(name, str(TOP / "tools" / name))
-    module = module_from_spec(spec_from_loader(name, loader))
-    loader.exec_module(module)
-    return module
-
-
-rows = load("broker_rows")
 spelled = rows.model.spelled
 
 

@@ -1,7 +1,7 @@
 #!/usr/bin/env python3
 """Plants the wrong bodies of the libraries, and demands that the prover refuses each where it stands.
 
-    tools/wrong_bodies.py [--kept] [--built FOLDER] [--lanes N] [--only WORD] [--logs FOLDER] [CRATE..]
+    tools/gate/wrong_bodies.py [--kept] [--built FOLDER] [--lanes N] [--only WORD] [--logs FOLDER] [CRATE..]
 
 A wrong body is a file crates/NAME/wrong-bodies/BODY.edit: a sentence that says what it turns and which
 clause refuses it, and then lines `file:`, `old:` and `new:`, whose old text stands once in that file. A
@@ -22,7 +22,7 @@ it is demanded that
 What a round is not asked for cannot fall by its bodies: a body with no law changes what stands inside a
 function, and neither its head nor a clause, which is tested here; the proofs of all others rest on its
 contract, and that stays as it is. That they are proved, and the turned ones as they stand, is not told
-here: `rt ci` proves the crate as it stands, and tools/gate.py, which runs both, fails where either does.
+here: `rt ci` proves the crate as it stands, and tools/gate/gate.py, which runs both, fails where either does.
 
 The work is done in a copy, so the tree and its out/ stay as they are. With --kept the copy starts from what
 earlier checks kept in out/, for who works on an edit; the gate starts from nothing. The libraries below a
@@ -45,7 +45,7 @@ from concurrent.futures import ThreadPoolExecutor
 from dataclasses import dataclass, field
 from functools import lru_cache
 
-ROOT = os.path.dirname(os.path.dirname(os.path.realpath(__file__)))
+ROOT = os.path.dirname(os.path.dirname(os.path.dirname(os.path.realpath(__file__))))
 FOLDER = "wrong-bodies"
 # The folder of the kit, whose bin/ holds `rt` and `rattle`.
 KIT = os.path.dirname(os.path.dirname(os.path.realpath(shutil.which("rt") or "rt")))

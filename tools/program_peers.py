@@ -1,7 +1,7 @@
 #!/usr/bin/env python3
 """Plays logins of the built program `scram`: its client against its server, and each against GNU SASL's `gsasl`.
 
-    tools/program_peers [PROGRAM]       the program, without a word crates/scram/out/scram
+    tools/program_peers.py [PROGRAM]       the program, without a word crates/scram/out/scram
 
 Each login is played with the right password and with another. `gsasl` is left out where it is not installed.
 """

@@ -2,13 +2,14 @@
 """Connections over the SASL layer of AMQP 1.0, what each call with some of their bytes answers, and what comes of lists
 of altered bodies.
 
-    tools/negotiations make     writes the files of connections and of strangers in crates/test_vectors_sasl/data, and
-                                prints what the program of that crate has to print last
-    tools/negotiations check    makes all of it again, and compares it with what stands there
+    tools/models/negotiations.py write  writes the files of connections and of strangers in
+                                        crates/test_vectors_sasl/data, and prints what the program of that crate has
+                                        to print last
+    tools/models/negotiations.py check  compares these files, and what the program printed, with what would be written
 
 A model of both sides, written from AMQP 1.0, part 2 (section 2.2, headers; 2.3.1, frames) and part 5 (5.3,
 SASL), RFC 5802 and RFC 7677 (SCRAM), RFC 4616 (PLAIN) and RFC 4505 (ANONYMOUS), apart from this repository's
-code. Bodies are read and written by `tools/frames`. Of the project's own are the names of the faults and their
+code. Bodies are read and written by `tools/models/frames.py`. Of the project's own are the names of the faults and their
 order, how lists of bodies are answered and audited, as docs/SPECIFICATION.md has them, and what docs/DIFFERENCES.md
 lists.
 """
@@ -18,27 +19,18 @@ import hashlib
 import hmac
 import re
 import sys
-from importlib.machinery import SourceFileLoader
-from importlib.util import module_from_spec, spec_from_loader
 from pathlib import Path
 
-ROOT = Path(__file__).resolve().parent.parent
+sys.dont_write_bytecode = True
+
+import frames
+
+ROOT = Path(__file__).resolve().parents[2]
 CRATE = ROOT / "crates/test_vectors_sasl"
 DATA = CRATE / "data"
 PEERS = DATA / "peer-runs.txt"
 STREAMS = DATA / "peer-streams.txt"
 
-
-def load(name):
-    """A tool beside this one, as a module."""
-    loader = SourceFileLoader(name, str(ROOT / "tools" / name))
-    module = module_from_spec(spec_from_loader(name, loader))
-    sys.dont_write_bytecode = True
-    loader.exec_module(module)
-    return module
-
-
-frames = load("frames")
 # a body can nest a described value in each two bytes
 sys.setrecursionlimit(10_000)
 
@@ -783,7 +775,7 @@ HEADING = """\
 # 32 times. A line that begins with `#` says what a connection is.
 # Source: """
 
-MODEL = "a model in Python, `tools/negotiations`, which makes this file again by `tools/negotiations check`."
+MODEL = "a model in Python, `tools/models/negotiations.py`, which wrote this file."
 
 
 def connections():
@@ -798,8 +790,8 @@ def outside():
     """The runs of other programs over bodies, each as a connection."""
     heading, *runs = PEERS.read_text().split("\n\n")
     source = heading[heading.index("# Source: "):].removeprefix("# Source: ")
-    rows = Rows(f"{HEADING}{source}\n# Headers, sizes and the pieces were made, by `tools/negotiations`, which makes "
-                "this file again from\n# crates/test_vectors_sasl/data/peer-runs.txt. Of the last ones, from peer-streams.txt, "
+    rows = Rows(f"{HEADING}{source}\n# Headers, sizes and the pieces were made, by `tools/models/negotiations.py`, which wrote "
+                "this file from\n# crates/test_vectors_sasl/data/peer-runs.txt. Of the last ones, from peer-streams.txt, "
                 "all bytes are real.")
     for at, run in enumerate(runs):
         side, *lines = [it for it in run.splitlines() if it and not it.startswith("#")]
@@ -1116,16 +1108,16 @@ def check():
     for name, wanted in files.items():
         path = DATA / name
         if not path.is_file() or path.read_text() != wanted:
-            print(f"{path.relative_to(ROOT)}: not as it is made")
+            print(f"{path.relative_to(ROOT)}: not as it would be written")
             wrong = 1
     if not (CRATE / "stdout").read_text().endswith(f"\n{printed}"):
-        print("crates/test_vectors_sasl/stdout: does not end with what is made")
+        print("crates/test_vectors_sasl/stdout: does not end with what would be printed")
         wrong = 1
     print(printed, end="")
     return wrong
 
 
-def make():
+def write():
     files, printed = made()
     DATA.mkdir(exist_ok=True)
     for name, text in files.items():
@@ -1136,8 +1128,8 @@ def make():
 
 def main():
     match sys.argv[1:]:
-        case ["make"]:
-            return make()
+        case ["write"]:
+            return write()
         case ["check"]:
             return check()
         case _:

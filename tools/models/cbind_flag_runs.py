@@ -1,11 +1,19 @@
 #!/usr/bin/env python3
-"""Prints the runs of `crates/test_vectors_sasl/data/cbind-flag-y-runs.txt`: servers that take a client whose GS2 header is
-`y,,` (RFC 5802, section 6), and one that does not. Nothing of this repository is used: proofs and signatures are of
-Python's `hashlib` and `hmac`, and the frames are written here (AMQP 1.0, part 5, section 5.3.3)."""
+"""Runs of servers that take a client whose GS2 header is `y,,` (RFC 5802, section 6), and of one that does not.
 
+    tools/models/cbind_flag_runs.py write   writes crates/test_vectors_sasl/data/cbind-flag-y-runs.txt
+    tools/models/cbind_flag_runs.py check   compares that file with what would be written
+
+Nothing of this repository is used: proofs and signatures are of Python's `hashlib` and `hmac`, and the frames are written
+here (AMQP 1.0, part 5, section 5.3.3).
+"""
 import base64
 import hashlib
 import hmac
+import sys
+from pathlib import Path
+
+FILE = Path(__file__).resolve().parents[2] / "crates/test_vectors_sasl/data/cbind-flag-y-runs.txt"
 
 HASHES = {"SCRAM-SHA-1": "sha1", "SCRAM-SHA-256": "sha256", "SCRAM-SHA-512": "sha512"}
 USER, PASSWORD, SALT, COUNT = "user", "pencil", b"\3" * 32, 4096
@@ -16,7 +24,7 @@ NO_NONCE = b"\0" * 32
 HEAD = """# Runs of SCRAM servers over bodies of frames, in the form of named-runs.txt. A run begins with its side,
 #     cbind_flag_y VERSION USER PASSWORD SALT            a server of one user that takes the GS2 header `y,,` too
 #     server VERSION USER PASSWORD SALT             one that takes `n,,` alone
-# Source: printed by tools/cbind_flag_runs.py, whose proofs and signatures are of Python's `hashlib` and `hmac`."""
+# Source: written by `tools/models/cbind_flag_runs.py`, whose proofs and signatures are of Python's `hashlib` and `hmac`."""
 
 
 def short(tag, data):
@@ -84,13 +92,12 @@ class Exchange:
 
 def run(name, side, mechanism, lines):
     words = [side, mechanism, USER.encode().hex(), PASSWORD.encode().hex(), SALT.hex()]
-    print("\n# " + name)
-    print(" ".join(words))
-    print("\n".join(lines))
+    return "\n".join(["\n# " + name, " ".join(words), *lines, ""])
 
 
-def main():
-    print(HEAD)
+def text():
+    """The text of the file."""
+    runs = [HEAD + "\n"]
     for mechanism in HASHES:
         yes = Exchange(mechanism, "y,,", "y,,")
         no = Exchange(mechanism, "n,,", "n,,")
@@ -98,16 +105,30 @@ def main():
         other = Exchange(mechanism, "n,,", "y,,")
         bound = Exchange(mechanism, "p=tls-unique,,", "p=tls-unique,,")
         acting = Exchange(mechanism, "y,a=admin,", "y,a=admin,")
-        run("A client that could bind a channel, and one that cannot.", "cbind_flag_y", mechanism,
-            [yes.challenged(), yes.believed(), no.challenged(), no.believed()])
-        run("The last message repeats the header of the first, and no other.", "cbind_flag_y", mechanism,
+        runs.append(run("A client that could bind a channel, and one that cannot.", "cbind_flag_y", mechanism,
+            [yes.challenged(), yes.believed(), no.challenged(), no.believed()]))
+        runs.append(run("The last message repeats the header of the first, and no other.", "cbind_flag_y", mechanism,
             [yes.challenged(), swapped.not_believed(), yes.believed(), no.challenged(), other.not_believed(),
-             no.believed()])
-        run("A client that binds a channel, and one that acts for another.", "cbind_flag_y", mechanism,
-            [bound.not_challenged(), acting.not_challenged(), yes.challenged(), yes.believed()])
-        run("A server that was not asked to.", "server", mechanism,
-            [yes.not_challenged(), yes.not_believed(), no.challenged(), other.not_believed(), no.believed()])
+             no.believed()]))
+        runs.append(run("A client that binds a channel, and one that acts for another.", "cbind_flag_y", mechanism,
+            [bound.not_challenged(), acting.not_challenged(), yes.challenged(), yes.believed()]))
+        runs.append(run("A server that was not asked to.", "server", mechanism,
+            [yes.not_challenged(), yes.not_believed(), no.challenged(), other.not_believed(), no.believed()]))
+    return "".join(runs)
+
+
+def main():
+    if sys.argv[1:] == ["write"]:
+        FILE.write_text(text())
+        return 0
+    if sys.argv[1:] == ["check"]:
+        made = text()
+        same = FILE.read_text() == made
+        print(f"{FILE.name}: {made.count(chr(10) + '# ') - HEAD.count(chr(10) + '# ')} runs{'' if same else ', which differ'}")
+        return 0 if same else 1
+    print(__doc__, file=sys.stderr)
+    return 2
 
 
 if __name__ == "__main__":
-    main()
+    sys.exit(main())

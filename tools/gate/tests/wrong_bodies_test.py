@@ -1,5 +1,5 @@
 #!/usr/bin/env python3
-"""What `tools/wrong_bodies.py` and `tools/gate.py` have to refuse, without the prover: on lines as it prints them."""
+"""What `tools/gate/wrong_bodies.py` and `tools/gate/gate.py` have to refuse, without the prover: on lines as it prints them."""
 import contextlib
 import io
 import os
@@ -8,7 +8,7 @@ import tempfile
 import unittest
 
 sys.dont_write_bytecode = True
-sys.path.insert(0, os.path.dirname(os.path.realpath(__file__)))
+sys.path.insert(0, os.path.dirname(os.path.dirname(os.path.realpath(__file__))))
 import gate
 import wrong_bodies
 

@@ -1,9 +1,11 @@
 #!/usr/bin/env python3
-"""What `tools/meters.py` has to refuse, and where: bodies that the prover lets pass, planted in the sources."""
+"""What `tools/gate/meters.py` has to refuse, and where: bodies that the prover lets pass, planted in the sources."""
 import sys
 import unittest
+from pathlib import Path
 
 sys.dont_write_bytecode = True
+sys.path.insert(0, str(Path(__file__).resolve().parents[1]))
 
 import meters
 
@@ -45,7 +47,7 @@ class Meters(unittest.TestCase):
         """Each of these uses is refused, in this file."""
         told = "\n".join(self.faults(file, *edits))
         for use in uses:
-            self.assertRegex(told, rf"(?m)^{file}:\d+: \S*::{use}: tools/meters.txt has no such use$")
+            self.assertRegex(told, rf"(?m)^{file}:\d+: \S*::{use}: tools/gate/meters.txt has no such use$")
 
     def test_unchanged(self):
         self.assertEqual(meters.faults_of(TEXTS, LISTED), [])
@@ -60,7 +62,7 @@ class Meters(unittest.TestCase):
         told = self.faults(SCRAM + "hmac.rt",
                            ("digest_of(*self, input).as_slice().to_vec(alloc)", "Ok(Vec::new(alloc))"))
         place = "fe2o3_scram::hmac::ScramVersion::h"
-        self.assertIn(f"tools/meters.txt: {place}: digest_of: no such use is left", told)
+        self.assertIn(f"tools/gate/meters.txt: {place}: digest_of: no such use is left", told)
 
     def test_plain_calls_that_work_twice(self):
         self.refused(["compute_client_final_message: Meter::new x2"], FINAL,
@@ -232,7 +234,7 @@ class Meters(unittest.TestCase):
     def test_a_function_that_is_new_in_the_list(self):
         renewed = meters.renewed(TEXTS, LISTED.replace("fe2o3_scram::hmac::ScramVersion::h: digest_of\n", ""))
         self.assertTrue(renewed.endswith(f"{meters.UNSORTED}\nfe2o3_scram::hmac::ScramVersion::h: digest_of\n"))
-        self.assertEqual(meters.faults_of(TEXTS, renewed), [f"tools/meters.txt says: {meters.UNSORTED}"])
+        self.assertEqual(meters.faults_of(TEXTS, renewed), [f"tools/gate/meters.txt says: {meters.UNSORTED}"])
 
 
 if __name__ == "__main__":

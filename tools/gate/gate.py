@@ -1,7 +1,7 @@
 #!/usr/bin/env python3
 """The two long parts of the gate side by side: `rt ci`, and the wrong bodies that have to be refused.
 
-Prints what `rt ci` says as it says it, behind it what `tools/wrong_bodies.py` says, and last the sum of what
+Prints what `rt ci` says as it says it, behind it what `tools/gate/wrong_bodies.py` says, and last the sum of what
 both counted, `N passed, M failed`. A library that `rt ci` has proved, or keeps from an earlier run, is handed
 over to the wrong bodies of those above it. `rt ci` proves as many crates at a time as there are processors, or
 as RT_JOBS says. Where it refuses, its last lines, which name what failed, stand once more above the sums, since
@@ -95,7 +95,7 @@ def main():
         # (each in a group of its own, which can be ended whole)
         how |= {"stderr": subprocess.STDOUT, "start_new_session": True}
         # (the gate waits for the chain of proofs, so that comes first where processors are few)
-        turned = ["nice", "-n", "10", sys.executable, "tools/wrong_bodies.py", "--built", built]
+        turned = ["nice", "-n", "10", sys.executable, "tools/gate/wrong_bodies.py", "--built", built]
         bodies = subprocess.Popen(turned, stdout=told, **how)
         lanes = {"RT_JOBS": str(side_by_side(*machine()))} | os.environ
         proofs = subprocess.Popen(["rt", "ci"], env=lanes, stdout=subprocess.PIPE, **how)

@@ -1,7 +1,7 @@
 #!/usr/bin/env python3
 """Runs the built program on each audit of the outside vectors, and compares what it prints.
 
-    tools/replay [PROGRAM]      the program defaults to crates/sasl_lab/out/sasl_lab, which `rt run`
+    tools/replay.py [PROGRAM]      the program defaults to crates/sasl_lab/out/sasl_lab, which `rt run`
                                 in crates/sasl_lab builds
 
 Each audit of crates/test_vectors_sasl/data/audits.txt is one run: its words, its input, its output, status 0.

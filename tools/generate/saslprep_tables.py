@@ -1,17 +1,18 @@
 #!/usr/bin/env python3
 """Writes the tables of RFC 3454 that RFC 4013 names, for the crate `saslprep`.
 
-    tools/saslprep/tables.py [--check]
+    tools/generate/saslprep_tables.py write     writes the tables
+    tools/generate/saslprep_tables.py check     compares the files with what would be written
 
 The tables are those of Python's module `stringprep`, which were made of the text of RFC 3454. They are written
 twice: as lists of ranges, which the definitions cite (specs/Tables.antt), and as sorted runs, which the code
-searches (src/table_runs.rt); the proof shows that both say the same. With --check nothing is written, and the exit
-status is 1 where a file is not what would be written. `tools/saslprep/answers.py` compares them with the tables of
+searches (src/table_runs.rt); the proof shows that both say the same. `tools/models/saslprep_answers.py` compares them with the tables of
 GNU libidn.
 """
 import os
 import stringprep
 import sys
+from functools import lru_cache
 
 ROOT = os.path.dirname(os.path.dirname(os.path.dirname(os.path.realpath(__file__))))
 CRATE = os.path.join(ROOT, "crates", "saslprep")
@@ -47,10 +48,16 @@ RUNS = [
 ]
 
 
+@lru_cache(maxsize=None)
+def table(name):
+    """Whether a table has each code point."""
+    test = TABLES[name][0]
+    return [bool(test(chr(c))) for c in range(END)]
+
+
 def members(names):
-    """The code points of these tables."""
-    tests = [TABLES[name][0] for name in names]
-    return [any(test(chr(c)) for test in tests) for c in range(END)]
+    """Whether one of these tables has each code point."""
+    return [any(inside) for inside in zip(*map(table, names))]
 
 
 def ranges(member):
@@ -90,7 +97,7 @@ def definitions():
     """The text of specs/Tables.antt."""
     text = [
         "-- The tables of RFC 3454 that RFC 4013 names, each under its name, as inclusive ranges in order.",
-        "-- Written by tools/saslprep/tables.py. Do not edit.",
+        "-- Written by tools/generate/saslprep_tables.py. Do not edit.",
         "use Rattle.std.specs.Prelude.{List, [], ◌∷◌}",
         "use Rattle.ucd_table.specs.Rows.{Range}",
     ]
@@ -107,7 +114,7 @@ def constants():
     text = [
         "//! The tables of RFC 3454 as sorted runs, which `ucd_table::contains` searches: the end of each run times",
         "//! 2048, and 1 more where the run is of the table.",
-        "// Written by tools/saslprep/tables.py. Do not edit.",
+        "// Written by tools/generate/saslprep_tables.py. Do not edit.",
     ]
     for constant, names in RUNS:
         packed = runs(members(names))
@@ -119,10 +126,12 @@ def constants():
 
 
 def main():
+    if sys.argv[1:] not in (["write"], ["check"]):
+        sys.exit(__doc__)
     stale = 0
     for path, text in [("specs/Tables.antt", definitions()), ("src/table_runs.rt", constants())]:
         path = os.path.join(CRATE, path)
-        if "--check" not in sys.argv[1:]:
+        if sys.argv[1] == "write":
             with open(path, "w", encoding="utf-8") as file:
                 file.write(text)
             continue

@@ -1,8 +1,8 @@
 #!/usr/bin/env python3
 """Pins the work that no meter of a caller sees: who makes a meter, who works on one of its own, and who hashes.
 
-    tools/meters.py             compares the sources with tools/meters.txt
-    tools/meters.py --list      prints that list as the sources would have it, under the reasons that it has
+    tools/gate/meters.py             compares the sources with tools/gate/meters.txt
+    tools/gate/meters.py --list      prints that list as the sources would have it, under the reasons that it has
 
 It reads the .rt files of src/ of LIBRARIES, without comments, strings, attributes, contracts and ghost code.
 The list has a line `PLACE: USE, USE` for each function that has uses, with the type of its impl. A use is
@@ -36,11 +36,11 @@ from typing import NamedTuple
 
 from scopes import brackets, closing, locals_of
 
-TOP = Path(__file__).resolve().parent.parent
+TOP = Path(__file__).resolve().parents[2]
 LIBRARIES = ("fe2o3_sasl_wire", "fe2o3_scram", "fe2o3_sasl_core", "fe2o3_sasl", "fe2o3_sasl_negotiation",
              "sasl_c")
 UNCOUNTED = ("sasl_c",)
-LIST = "tools/meters.txt"
+LIST = "tools/gate/meters.txt"
 UNSORTED = "# Put each of these under its reason."
 NO_CODE = re.compile(
     r"""//[^\n]*|/\*.*?\*/|b?'(?:\\.[^']*|[^'\\])'|b?"(?:\\.|[^"\\])*"|#!?\[[^\n]*?\]\n|\bghost use\b[^;]*;""", re.S)

@@ -1,7 +1,7 @@
 #!/usr/bin/env python3
 """Lists the names of specs/ that two or more files define with different meanings.
 
-    tools/names.py
+    tools/gate/names.py
 
 The gate demands that none is listed: a reader who knows a name from one file may trust it in every other, also in that
 of another crate. A name is that of a definition, a record or a constructor, of any crates/*/specs, private ones too.
@@ -14,8 +14,10 @@ The last line counts the names. The exit status is 0 where no name is listed, an
 import re
 import sys
 from collections import defaultdict
+from pathlib import Path
 
 sys.dont_write_bytecode = True
+sys.path.insert(0, str(Path(__file__).resolve().parents[1]))
 
 import believed
 

@@ -1,12 +1,12 @@
 #!/usr/bin/env python3
 """Writes what other programs make of passwords that SASLprep changes: two files of crates/test_vectors_scram/data/.
 
-    tools/saslprep/passwords.py [--check]
+    tools/models/saslprep_passwords.py write    writes the rows
+    tools/models/saslprep_passwords.py check    compares the files with what would be written
 
 `prepared-records.txt` has records and `prepared-secrets.txt` the answers of clients. Texts are prepared by
-`answers.py`, where Python and GNU libidn have to agree; keys are those of Python's `hashlib` and `hmac`, and the
-records of SHA-1 and SHA-256 also those of GNU SASL (`apt-get install gsasl`), which prepares the text itself. With
---check nothing is written, and the exit status is 1 where a file is not what would be written.
+`saslprep_answers.py`, where Python and GNU libidn have to agree; keys are those of Python's `hashlib` and `hmac`, and the
+records of SHA-1 and SHA-256 also those of GNU SASL (`apt-get install gsasl`), which prepares the text itself.
 """
 import base64
 import hashlib
@@ -16,7 +16,7 @@ import subprocess
 import sys
 
 sys.dont_write_bytecode = True
-import answers
+import saslprep_answers as answers
 
 DATA = os.path.join(answers.ROOT, "crates", "test_vectors_scram", "data")
 HASHES = {"SCRAM-SHA-1": "sha1", "SCRAM-SHA-256": "sha256", "SCRAM-SHA-512": "sha512"}
@@ -35,7 +35,7 @@ RECORDS = """\
 #     RECORD TYPED => PREPARED made again and met, FAULT by the plain call
 # where the plain call is that for a password as it is typed. GNU libidn and Python's `stringprep` agree on the prepared
 # texts; the keys are those of Python's `hashlib` and `hmac`, and those of SHA-1 and SHA-256 also GNU SASL 2.2's, which
-# prepares the typed text itself. `tools/saslprep/passwords.py` wrote the rows.
+# prepares the typed text itself. `tools/models/saslprep_passwords.py` wrote the rows.
 
 """
 
@@ -45,7 +45,7 @@ SECRETS = """\
 #     prepared PASSWORD
 #     prepared-both PASSWORD KEYS
 # Keys, proofs and signatures are those of Python's `hashlib` and `hmac`, and the passwords prepared as in
-# `prepared-records.txt`. `tools/saslprep/passwords.py` wrote the rows.
+# `prepared-records.txt`. `tools/models/saslprep_passwords.py` wrote the rows.
 """
 
 
@@ -106,7 +106,10 @@ def by_gsasl(mechanism, typed, salt, count):
     """The record that GNU SASL makes of the typed password."""
     command = ["gsasl", "--mkpasswd", "--mechanism", mechanism, "--iteration-count", str(count),
                "--salt", encoded(salt), "--password", typed]
-    line = subprocess.run(command, check=True, capture_output=True, text=True).stdout.strip()
+    try:
+        line = subprocess.run(command, check=True, capture_output=True, text=True).stdout.strip()
+    except FileNotFoundError:
+        sys.exit("GNU SASL is not installed: apt-get install gsasl")
     _, salt, stored, server = line.split("}")[1].split(",")
     return f"{mechanism}${count}:{salt}${stored}:{server}"
 
@@ -155,10 +158,12 @@ def secrets():
 
 def main():
     """Writes the files, or compares them."""
+    if sys.argv[1:] not in (["write"], ["check"]):
+        sys.exit(__doc__)
     stale = False
     for name, text in (("prepared-records.txt", records()), ("prepared-secrets.txt", secrets())):
         path = os.path.join(DATA, name)
-        if sys.argv[1:] == ["--check"]:
+        if sys.argv[1] == "check":
             with open(path, encoding="utf-8") as file:
                 if file.read() != text:
                     print(f"{name} is another")
