@@ -3,7 +3,7 @@
 # and Debian's packages where they are there.
 #
 #   make interop                      runs all cells, and ends with an error where one is not as it should be
-#   make interop INTEROP='--only X'   the cells of one peer; interop/run.py says what else there is
+#   make interop INTEROP='--only X'   the cells of one peer; interop/run.py lists the other options
 INTEROP ?=
 
 .PHONY: interop build/interop/rust
@@ -16,7 +16,7 @@ build/interop/client build/interop/server: build/interop/%: bindings/c/%.c $(HEA
 	@mkdir -p $(@D)
 	$(CC) -std=c99 $(WARNINGS) -O2 -o $@ $< build/libfe2o3_sasl.a $(LDLIBS)
 
-# (cargo knows what is to be made anew)
+# (cargo knows what has to be rebuilt)
 build/interop/rust: build/libfe2o3_sasl.a
 	@if command -v cargo > /dev/null; then cd interop/rust && FE2O3_SASL_LIB=$(abspath build) \
 	    CARGO_TARGET_DIR=$(abspath build/interop/rust) cargo build --offline --release --quiet; fi

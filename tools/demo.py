@@ -1,5 +1,5 @@
 #!/usr/bin/env python3
-"""Answers the example of RFC 7677, section 3, beside what the standard prints, and plays a whole login over frame bodies.
+"""Answers the example of RFC 7677, section 3, beside what the standard prints, and plays a login over frame bodies.
 
     tools/demo.py try       compiles and runs crates/example_rfc7677 and crates/sasl_lab without their proofs
     tools/demo.py run       proves them first, and builds crates/sasl_lab/out/sasl_lab

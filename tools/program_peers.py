@@ -1,9 +1,9 @@
 #!/usr/bin/env python3
 """Plays logins of the built program `scram`: its client against its server, and each against GNU SASL's `gsasl`.
 
-    tools/program_peers.py [PROGRAM]       the program, without a word crates/scram/out/scram
+    tools/program_peers.py [PROGRAM]    the program defaults to crates/scram/out/scram
 
-Each login is played with the right password and with another. `gsasl` is left out where it is not installed.
+Each login is played with the right password and with another. `gsasl` is left out if it is not installed.
 """
 import base64
 import os
@@ -85,7 +85,7 @@ def over_lines(mechanism, users, password):
 
 
 def over_bytes(mechanism, users, password):
-    """The same over the bytes of AMQP, by two pipes."""
+    """Plays a login over the bytes of AMQP, by two pipes."""
     (from_client, to_server), (from_server, to_client) = os.pipe(), os.pipe()
     os.write(to_client, password.encode() + b"\n")
     client = subprocess.Popen([PROGRAM, "client", mechanism, USER, "--frames"], stdin=from_server, stdout=to_server,

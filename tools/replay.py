@@ -1,8 +1,8 @@
 #!/usr/bin/env python3
 """Runs the built program on each audit of the outside vectors, and compares what it prints.
 
-    tools/replay.py [PROGRAM]      the program defaults to crates/sasl_lab/out/sasl_lab, which `rt run`
-                                in crates/sasl_lab builds
+    tools/replay.py [PROGRAM]   the program defaults to crates/sasl_lab/out/sasl_lab, which `rt run` in
+                                crates/sasl_lab builds
 
 Each audit of crates/test_vectors_sasl/data/audits.txt is one run: its words, its input, its output, status 0.
 """
@@ -21,7 +21,7 @@ def text(digits):
 
 
 def marked(lines, mark):
-    """What stands behind this mark, a line each."""
+    """What follows this mark, a line each."""
     return "".join(line[len(mark):] + "\n" for line in lines if line.startswith(mark))
 
 

@@ -1,16 +1,16 @@
 #!/usr/bin/env python3
-"""Refuses a circle among the top-level modules of a library, and a table of modules that is out of order.
+"""Checks that no modules of a library use each other in a circle, and that a table of modules is in order.
 
-    tools/gate/circles.py [FOLDER]       the folder of the repository; without one, that of this script
+    tools/gate/circles.py [FOLDER]      the folder of the repository; without one, that of this script
 
-A module is a file or a folder right below src/; lib.rt is none of them, and what it re-exports counts as a
-use of the module that the name comes from. A module uses another where its code, comments apart, names a
-path of it: crate::MODULE, or super:: where that leads out of the module. A page, which holds nothing but
-`pub use` lines, stands above what it re-exports, and no other module may use it. Calls of methods are not seen:
-what a module adds to a type of another by an impl can be used without a path of its own.
+A module is a file or a folder right below src/. lib.rt is none of them, and what it re-exports counts as a use of the
+module that the name comes from. A module uses another if its code, without comments, names a path of it: crate::MODULE,
+or super:: if that leads out of the module. A file that holds only `pub use` lines is above what it re-exports, and no
+other module may use it. Calls of methods are not seen: what a module adds to a type of another by an impl can be used
+without a path.
 
-A section of docs/ARCHITECTURE.md headed "`CRATE`, lowest first" has a row for every file of that crate's
-src/, and each row's module uses modules of earlier rows alone.
+A section of docs/ARCHITECTURE.md headed "`CRATE`, lowest first" has a row for every file of that crate's src/, and each
+row's module uses only modules of earlier rows.
 """
 import re
 import sys

@@ -1,12 +1,13 @@
 #!/usr/bin/env python3
-"""The two long parts of the gate side by side: `rt ci`, and the wrong bodies that have to be refused.
+"""The two long parts of the gate side by side: `rt ci`, and the wrong bodies that have to be rejected.
 
-Prints what `rt ci` says as it says it, behind it what `tools/gate/wrong_bodies.py` says, and last the sum of what
-both counted, `N passed, M failed`. A library that `rt ci` has proved, or keeps from an earlier run, is handed
-over to the wrong bodies of those above it. `rt ci` proves as many crates at a time as there are processors, or
-as RT_JOBS says. Where it refuses, its last lines, which name what failed, stand once more above the sums, since
-the end of a log is what is read first. The exit status is 0 only where both ended with 0 and told their count,
-and nothing failed.
+    tools/gate/gate.py
+
+Prints what `rt ci` prints, then what `tools/gate/wrong_bodies.py` printed, and last the sum of both counts, `N passed, M
+failed`. A library that `rt ci` has proved, or keeps from an earlier run, is passed to the wrong bodies of the libraries
+above it. `rt ci` proves as many crates at a time as there are processors, or as RT_JOBS says. If it fails, its last
+lines, which name what failed, are printed again above the sums, since the end of a log is read first. The exit status is
+0 only if both ended with 0 and reported their count, and nothing failed.
 """
 import os
 import re
@@ -59,7 +60,7 @@ def machine():
 
 
 def counted(name, status, last):
-    """What a part counted, passed and failed. One that was killed or tells no count has failed."""
+    """What a part counted, passed and failed. One that was killed or reports no count has failed."""
     found = COUNT.fullmatch(last.strip())
     if not found:
         print(f"gate: {name} told no count, and ended with status {status}")

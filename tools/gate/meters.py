@@ -226,7 +226,7 @@ class Sources:
         return bool(call.type) and (any_type or callee.owner in (call.type, self.aliases.get(call.type)))
 
     def uses(self):
-        """Each use that has to stand in the list: its function, its name, and its file and line."""
+        """Each use that has to be in the list: its function, its name, and its file and line."""
         for function in self.functions:
             yield from (function.use(at, "Meter::new") for at in function.makes)
             yield from (function.use(at, name) for at, name in function.kit)

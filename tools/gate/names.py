@@ -3,13 +3,13 @@
 
     tools/gate/names.py
 
-The gate demands that none is listed: a reader who knows a name from one file may trust it in every other, also in that
-of another crate. A name is that of a definition, a record or a constructor, of any crates/*/specs, private ones too.
-It is listed where its definitions differ in more than layout; the same text in two files counts as one meaning. Each name is
-printed with its files; a file has a `*` where the headline rests on that definition, as `tools/believed.py` finds it.
-What is local to a definition is no name here: parameters, and fields of records, which are read as `value.field`.
+There must be none: a reader who knows a name from one file may trust it in every other file, also in that of another
+crate. A name is that of a definition, a record or a constructor, of any crates/*/specs, private ones too. It is listed if
+its definitions differ in more than layout; the same text in two files counts as one meaning. Each name is printed with its
+files. A file has a `*` if the headline rests on that definition, as `tools/believed.py` finds it. What is local to a
+definition is not counted: parameters, and fields of records, which are read as `value.field`.
 
-The last line counts the names. The exit status is 0 where no name is listed, and 1 otherwise.
+The last line counts the names. The exit status is 0 if no name is listed, and 1 otherwise.
 """
 import re
 import sys

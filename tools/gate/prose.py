@@ -5,8 +5,8 @@
     tools/gate/prose.py --count [PATH..]        how often each word occurs that a reader has to judge, of `words.txt`
     tools/gate/prose.py --where WORD [PATH..]   the lines where one word or phrase of `words.txt`, or any other, occurs
 
-Prose is the text of Markdown pages, and of comments in sources, specs, the C header and the bindings for Rust and
-Python. Code in backticks and fenced code are not part of it, nor are the change log and the generated pages.
+Prose is the text of Markdown pages, and of comments in sources, specs, the C header, the bindings for Rust and Python,
+and tools/. Code in backticks and fenced code are not part of it, nor are the change log and the generated pages.
 
 The repository is the one that contains the current folder. The last line counts the places. The exit status is 1 if
 there are any.
@@ -23,7 +23,7 @@ WORDS = Path(__file__).resolve().parent / "words.txt"
 SKIPPED_FOLDERS = {"out", "build", "target"}
 SKIPPED_PAGES = {"CHANGELOG.md", "SIGNATURES.md", "PROMISES.md"}
 SOURCES = ("crates/*/src/**/*.rt", "crates/*/specs/**/*.antt", "bindings/c/fe2o3_sasl.h",
-           "bindings/rust/src/**/*.rs", "bindings/rust/tests/**/*.rs", "bindings/python/*.py")
+           "bindings/rust/src/**/*.rs", "bindings/rust/tests/**/*.rs", "bindings/python/*.py", "tools/**/*.py")
 
 INLINE_CODE = re.compile(r"(?<!`)(`+)(?!`)(?:(?!\n\s*\n).)+?(?<!`)\1(?!`)", re.S)
 LINK_TARGET = re.compile(r"\]\([^)\s]*\)|<https?:[^>]*>|https?:\S+")
@@ -153,7 +153,7 @@ def files_of(top, paths):
 
 
 def pattern_of(words):
-    return re.compile(r"(?<![\w-])(?:" + words.replace(" ", r"\s+") + r")(?![\w])", re.I)
+    return re.compile(r"(?<![\w/-])(?:" + words.replace(" ", r"\s+") + r")(?!\w|\.(?:py|txt|md|rt)\b)", re.I)
 
 
 def vocabulary():

@@ -1,11 +1,12 @@
 #!/usr/bin/env python3
 """Starts the built `example_broker` and `scram server` again and again, and compares what known and unknown users get.
 
-    tools/gate/restarts.py       the programs crates/example_broker/out/example_broker and crates/scram/out/scram, which `make test` builds
+    tools/gate/restarts.py      the programs crates/example_broker/out/example_broker and crates/scram/out/scram, which
+                                `make test` builds
 
-An unknown user has to get the salt that the secret beside the records gives, at each start and from processes that
-start at once; challenge and refusal have to be those of a known user but for the salt. It prints nothing where all
-is well.
+An unknown user has to get the salt that the secret beside the records gives, at each start and from processes that start
+at the same time. Challenge and outcome have to be those of a known user except for the salt. It prints nothing if all is
+well.
 """
 import base64
 import hashlib

@@ -1,35 +1,33 @@
 #!/usr/bin/env python3
-"""Plants the wrong bodies of the libraries, and demands that the prover refuses each where it stands.
+"""Plants the wrong bodies of the libraries, and checks that the prover rejects each inside its own function.
 
     tools/gate/wrong_bodies.py [--kept] [--built FOLDER] [--lanes N] [--only WORD] [--logs FOLDER] [CRATE..]
 
-A wrong body is a file crates/NAME/wrong-bodies/BODY.edit: a sentence that says what it turns and which
-clause refuses it, and then lines `file:`, `old:` and `new:`, whose old text stands once in that file. A
-line `law: NAME` says that the refusal comes from a law of the impl, `ghost NAME = {`, and not from a clause
-of the function.
+A wrong body is a file crates/NAME/wrong-bodies/BODY.edit. Its first line is a sentence that says what it changes and
+which clause rejects it. Then follow lines `file:`, `old:` and `new:`; the old text occurs once in that file. A line
+`law: NAME` says that a law of the impl rejects it, `ghost NAME = {`, and not a clause of the function.
 
-Bodies of different functions do not disturb each other, since a caller knows a function by its contract
-alone. So the wrong bodies of a crate are planted in rounds, all of a round in one check; no two of a round
-turn one function. A check is asked, by `--only`, for the functions that the round turns, and so for those
-that they call; the first of a crate works from nothing, and those behind it over what it kept. A round
-that has a body with a law, or a function whose path the text does not tell, is a whole check. Of each body
-it is demanded that
+Wrong bodies of different functions do not disturb each other, since a caller knows a function by its contract only. So
+those of a crate are planted in rounds, all of a round in one check; no two of a round are in one function. A check is
+asked, by `--only`, for the functions that the round changes, and so for those that they call. The first check of a crate
+starts from nothing, the next ones from what it kept. A round that has a body with a law, or a function whose path the
+text does not determine, is a whole check. Each body passes if
 
-- the check leaves a goal open inside the function that the body turns, at a clause and not of safety alone,
-- the check tells of the function by its path, as one that is not proved, and
-- nothing else falls of what is checked: the others are proved, or wait for one that is turned.
+- the check leaves a goal open inside the function that the body changes, at a clause and not of safety only,
+- the check reports the function by its path, as one that is not proved, and
+- nothing else that is checked fails: the others are proved, or wait for one that is changed.
 
-What a round is not asked for cannot fall by its bodies: a body with no law changes what stands inside a
-function, and neither its head nor a clause, which is tested here; the proofs of all others rest on its
-contract, and that stays as it is. That they are proved, and the turned ones as they stand, is not told
-here: `rt ci` proves the crate as it stands, and tools/gate/gate.py, which runs both, fails where either does.
+What a round is not asked for cannot fail because of its bodies. A body with no law changes neither the head nor a clause
+of its function, which is tested here, and the proofs of all other functions rest on its contract. That the functions are
+proved without the wrong bodies is not tested here: `rt ci` proves the crate, and tools/gate/gate.py, which runs both,
+fails if either does.
 
-The work is done in a copy, so the tree and its out/ stay as they are. With --kept the copy starts from what
-earlier checks kept in out/, for who works on an edit; the gate starts from nothing. The libraries below a
-crate are proved first, or taken as `rt ci` proved them: with --built from FOLDER/NAME, which stands there
-once that library is proved, and FOLDER/NAME.failed where it is not. It prints a line for each body, and
-last `N passed, M failed`. The exit status is 0 where none failed, 1 where one did, and 2 where the bodies
-could not be tried.
+The work is done in a copy, so the tree and its out/ stay as they are. With --kept the copy starts from what earlier
+checks kept in out/, for work on one edit; the gate starts from nothing. The libraries below a crate are proved first, or
+taken from `rt ci` with --built: FOLDER/NAME exists once that library is proved, and FOLDER/NAME.failed if it is not.
+
+It prints a line for each body, and last `N passed, M failed`. The exit status is 0 if none failed, 1 if one did, and 2 if
+the bodies could not be tried.
 """
 import argparse
 import os
@@ -64,7 +62,7 @@ ASKED = re.compile(r"only=(\d+) proved=(\d+)$")
 
 HEAD = re.compile(r"^( *)(?:pub(?:\([a-z]+\))? )?(?:const )?(?:unsafe )?fn (\w+)", re.M)
 TYPE = re.compile(r"^(?:pub(?:\([a-z]+\))? )?(?:struct|enum) (\w+)", re.M)
-# The head of an impl whose functions have a path that the text tells: the trait, its one argument, and the type.
+# The head of an impl whose functions have a path that the text determines: the trait, its one argument, and the type.
 TOLD_IMPL = re.compile(r"^impl(?:<[^{]*?>)? (?:([\w:]+)(?:<(\w+)>)? for )?(\w+)(?:<[^{]*>)?\s*(?:where[^{]*)?\{$", re.M)
 IMPL_HEAD = re.compile(r"^impl\b[^{]*?(?:\bfor )?(\w+)(?:<[^{]*>)?\s*(?:where[^{]*)?\{", re.M)
 
@@ -75,7 +73,7 @@ class BadEdit(Exception):
 
 @dataclass(frozen=True)
 class Place:
-    """A function or a law: its file, its first and last line, its name, and a function's path, if the text tells it."""
+    """A function or a law: its file, its first and last line, its name, and a function's path, if the text determines it."""
 
     path: str
     first: int
@@ -113,7 +111,7 @@ def line_of(text, at):
 
 @lru_cache(maxsize=None)
 def modules_of_types(root, crate):
-    """The modules in which a struct or an enum of each name stands."""
+    """The modules that define a struct or an enum of each name."""
     found = {}
     for at, _, names in os.walk(f"{root}/crates/{crate}/src"):
         for path in [os.path.relpath(f"{at}/{it}", f"{root}/crates/{crate}") for it in names if it.endswith(".rt")]:
@@ -148,7 +146,7 @@ def told_path(crate, path, text, head):
 
 
 def function_around(crate, path, text, at):
-    """The function whose body has this place, or None where it stands between functions."""
+    """The function whose body has this place, or None if it is between functions."""
     heads = [it for it in HEAD.finditer(text) if it.start() <= at]
     if not heads:
         return None
@@ -161,14 +159,14 @@ def function_around(crate, path, text, at):
     if not opening or at < opening.start():
         raise BadEdit(f"it turns the head or a clause of {head[2]}, and not its body")
     lines, first = text.split("\n"), line_of(text, head.start())
-    # (a check tells the place of a function by its first attribute)
+    # (a check reports the place of a function by its first attribute)
     while first > 1 and not re.search(r"^\s*(///.*)?$|[{};]$", lines[first - 2]):
         first -= 1
     return Place(path, first, line_of(text, end.end()), head[2], told_path(crate, path, text, head))
 
 
 def law_of(path, text, at, law):
-    """The law of that name of the type in whose impl this place stands."""
+    """The law of that name of the type in whose impl this place is."""
     heads = [it for it in IMPL_HEAD.finditer(text) if it.start() <= at]
     if not heads:
         raise BadEdit(f"`law:` beside a text of {path} that stands in no impl")
@@ -182,7 +180,7 @@ def law_of(path, text, at, law):
 
 
 def read(crate, file):
-    """Reads an edit. Its places are those of the crate as it stands."""
+    """Reads an edit. Its places are those of the crate without it."""
     body = Body(crate, os.path.basename(file).removesuffix(".edit"))
     path = old = None
     with open(file, encoding="utf-8") as lines:
@@ -293,7 +291,7 @@ def understood(log):
             said.errors.append((error[1], int(error[2]), error[3]))
         elif function:
             said.unproved.add(function[1])
-            # (the goals of a function stand right above its line)
+            # (the goals of a function are right above its line)
             if not has_goals and not all(WAITS.match(it.strip()) for it in function[3].split(";")):
                 said.fallen.append((function[1], False))
             has_goals = False
@@ -319,7 +317,7 @@ def asked_of(bodies):
 
 
 def judge(crate, bodies, log, status):
-    """For each body of a round whether it was refused where it stands, and at what; and what else fell."""
+    """For each body of a round whether it was rejected in its function, and at what; and what else failed."""
     said = understood(log)
     places = [(body, place) for body in bodies for place in body.places]
     at = {body.name: [] for body in bodies}
@@ -435,7 +433,7 @@ class Trial:
         with ThreadPoolExecutor(len(self.lines)) as pool:
             for done in [pool.submit(self.crate, name) for name in self.lines]:
                 done.result()
-        # (once more, so that the end of a long log tells what failed)
+        # (once more, so that the end of a long log says what failed)
         print("\n".join([*self.failed, f"{self.passed} passed, {len(self.failed)} failed"]), flush=True)
         return 1 if self.failed or not self.passed else 0
 
@@ -476,7 +474,7 @@ class Trial:
         return True
 
     def prove(self, crate):
-        """Proves the crate as it stands, and builds it for those above. Returns what is wrong, if anything is."""
+        """Proves the crate without wrong bodies, and builds it for those above. Returns what is wrong, if anything is."""
         with self.lane:
             status, log = self.base.proved(crate)
         if status == 0:
@@ -519,7 +517,7 @@ AT_WORK = set()
 
 
 def checked(folder, *command):
-    """The status of a check, and what it said. One without a verdict, as for want of memory, is tried again."""
+    """The status of a check, and what it said. One without a verdict, as when memory runs out, is tried again."""
     for wait in (20, 60, 0):
         how = {"stdin": subprocess.DEVNULL, "stdout": subprocess.PIPE, "stderr": subprocess.STDOUT}
         how |= {"text": True, "errors": "replace"}

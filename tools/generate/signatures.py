@@ -4,10 +4,10 @@
     tools/generate/signatures.py write      writes the pages
     tools/generate/signatures.py check      says which page is stale, and ends with status 1 if one is
 
-A page has each public type, trait, constant and function of each public module, as the source writes it
-without contract and body, behind the first sentence of its comment. What a private module defines stands
-in the module that re-exports it; what a public one defines is only named where it is re-exported. The
-layout is that of `rt fmt`, on which this rests: items begin at the first column, methods at the fifth.
+A page has each public type, trait, constant and function of each public module, as the source writes it without contract
+and body, after the first sentence of its comment. An item of a private module is listed in the module that re-exports
+it. An item of a public module is only named where it is re-exported. The layout is that of `rt fmt`, on which this
+relies: items begin at the first column, methods at the fifth.
 """
 import re
 import sys
@@ -333,7 +333,7 @@ class Library:
         return comment_lines(f"It is {', '.join(sorted(found))}.") if found else []
 
     def methods(self, item):
-        """The public methods of a type, from wherever they stand, under one head for each kind of impl."""
+        """The public methods of a type, from all its impls, under one head for each kind of impl."""
         heads = {}
         for block in self.blocks():
             head = block[0].rstrip(" {")

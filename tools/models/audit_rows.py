@@ -1,11 +1,11 @@
 #!/usr/bin/env python3
-"""What `scram explain --audit` must print of both sides of a login.
+"""What `scram explain --audit` has to print of both sides of a login.
 
     tools/models/audit_rows.py write    writes the rows of crates/test_vectors_programs/data/audits.txt
     tools/models/audit_rows.py check    compares that file with what would be written
 
-The bodies and their values are of the model in `tools/models/negotiations.py`, over Python's `hmac` and `hashlib`, and of what
-peers sent (crates/test_vectors_sasl/data/peer-runs.txt); who is authenticated where is written by hand.
+The bodies and their values are those of the model in `tools/models/negotiations.py`, over Python's `hmac` and `hashlib`,
+and what peers sent (crates/test_vectors_sasl/data/peer-runs.txt). Which side is authenticated is written by hand.
 """
 import base64
 import sys

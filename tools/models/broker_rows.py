@@ -1,12 +1,12 @@
 #!/usr/bin/env python3
-"""What clients send to the broker of `crates/example_broker`, and what it must send.
+"""What clients send to the broker of `crates/example_broker`, and what it has to send.
 
     tools/models/broker_rows.py write   writes its rows in `test_vectors_programs`, and the input and output of the
                                         program's run
     tools/models/broker_rows.py check   compares these files with what would be written
 
-By the model of `tools/models/negotiations.py`. The records are of other programs, but for those of SHA-512, which Python's
-`hashlib` makes. An unknown user has the mock record of `crates/fe2o3_scram/specs/MockSettings.antt`.
+By the model of `tools/models/negotiations.py`. The records are those of other programs, except for those of SHA-512, which
+Python's `hashlib` computes. An unknown user has the mock record of `crates/fe2o3_scram/specs/MockSettings.antt`.
 """
 import base64
 import sys

@@ -1,16 +1,16 @@
 #!/usr/bin/env python3
 """Bodies of SASL frames from the grammar of AMQP 1.0: what they are read as, and every way to spell a frame.
 
-    tools/models/frames.py check [FILE..]   answers each body of the files, crates/test_vectors_sasl/data/frames.txt,
+    tools/models/frames.py check [FILE..]   reads each body of the files, crates/test_vectors_sasl/data/frames.txt,
                                             worked-frames.txt and peers.txt if none are given, and compares the
                                             answer with the line's
     tools/models/frames.py write [SEED]     prints bodies with their answers, in the form of those files
 
-Written from AMQP 1.0, part 1 (section 1.2, encodings; 1.6, types) and part 5 (5.3, SASL), apart from this
-repository's code. Any value of the type system is read, by the halves of its format code; only then is it
-asked whether it is a frame. Of the project's own are three rules: a header other than 02 01 .. .. is
-NotImplemented, every other refusal is DecodeError, and what is written is the shortest form, mechanisms
-always as an array. The bytes behind a frame belong to nobody.
+Written from AMQP 1.0, part 1 (section 1.2, encodings; 1.6, types) and part 5 (5.3, SASL), independently of this
+repository's code. Any value of the type system is read, by the halves of its format code; only then it is tested for
+being a frame. Three rules are the project's own: a header other than 02 01 .. .. is NotImplemented, every other rejection
+is DecodeError, and what is written is the shortest form, mechanisms always as an array. The bytes after a frame are
+ignored.
 """
 import itertools
 import random
@@ -31,7 +31,7 @@ FRAMES = {
 NULL, UBYTE, ULONG = 0x40, 0x50, (0x53, 0x80)
 VARIABLE = {"binary": (0xA0, 0xB0), "string": (0xA1, 0xB1), "symbol": (0xA3, 0xB3)}
 LIST, ARRAY = (0x45, 0xC0, 0xD0), (0xE0, 0xF0)
-# Section 1.2: the first half of a format code tells how many bytes follow, or how wide their size is.
+# Section 1.2: the first half of a format code says how many bytes follow, or how wide their size is.
 FIXED = {0x4: 0, 0x5: 1, 0x6: 2, 0x7: 4, 0x8: 8, 0x9: 16}
 SIZED = {0xA: 1, 0xB: 4, 0xC: 1, 0xD: 4, 0xE: 1, 0xF: 4}
 
@@ -176,7 +176,7 @@ def answer(body):
 
 
 def sized(codes, front, data):
-    """Both forms of a value with a size, the shorter one first; what stands in front is as wide as the size."""
+    """Both forms of a value with a size, the shorter one first; what precedes it is as wide as the size."""
     for code, width in zip(codes, (1, 4)):
         size = width * len(front) + len(data)
         if max([size, *front]) < 256**width:

@@ -1,17 +1,15 @@
 #!/usr/bin/env python3
-"""Connections over the SASL layer of AMQP 1.0, what each call with some of their bytes answers, and what comes of lists
-of altered bodies.
+"""Connections over the SASL layer of AMQP 1.0, and lists of altered bodies: what each call has to answer.
 
     tools/models/negotiations.py write  writes the files of connections and of strangers in
                                         crates/test_vectors_sasl/data, and prints what the program of that crate has
                                         to print last
     tools/models/negotiations.py check  compares these files, and what the program printed, with what would be written
 
-A model of both sides, written from AMQP 1.0, part 2 (section 2.2, headers; 2.3.1, frames) and part 5 (5.3,
-SASL), RFC 5802 and RFC 7677 (SCRAM), RFC 4616 (PLAIN) and RFC 4505 (ANONYMOUS), apart from this repository's
-code. Bodies are read and written by `tools/models/frames.py`. Of the project's own are the names of the faults and their
-order, how lists of bodies are answered and audited, as docs/SPECIFICATION.md has them, and what docs/DIFFERENCES.md
-lists.
+A model of both sides, written from AMQP 1.0, part 2 (section 2.2, headers; 2.3.1, frames) and part 5 (5.3, SASL),
+RFC 5802 and RFC 7677 (SCRAM), RFC 4616 (PLAIN) and RFC 4505 (ANONYMOUS), independently of this repository's code. Bodies
+are read and written by `tools/models/frames.py`. The project's own are the names of the faults and their order, how
+lists of bodies are answered and audited (docs/SPECIFICATION.md), and what docs/COMPATIBILITY.md lists.
 """
 import base64
 import copy
@@ -260,7 +258,7 @@ class ScramClient:
 
 
 class OtherClient:
-    """A client whose one message is its init, and which believes every outcome."""
+    """A client whose one message is its init, and which trusts every outcome."""
 
     def __init__(self, mechanism, message):
         self.mechanism, self.message = mechanism, message
@@ -320,7 +318,7 @@ class Side:
 
 class Server(Side):
     def header(self, header):
-        # section 5.3.2, and part 2, section 2.2: whoever asks for something else is told the one header
+        # section 5.3.2, and part 2, section 2.2: a peer that asks for something else gets the one header
         if header != SASL:
             self.progress = "ProtocolHeaderMismatch"
             return SASL
@@ -486,7 +484,7 @@ class Rows:
         self.found = {}
 
     def add(self, name, line, pieces, nonces=()):
-        """A connection: pieces of bytes, each handed in until it is taken or the side is at its end. The nonces are
+        """A connection: pieces of bytes, each passed until it is taken or the side is at its end. The nonces are
         those of the frames; a call that completes no frame has a nonce that is used for nothing."""
         side, nonces = side_of(line), list(nonces)
         lines = [f"# {name}", line]
@@ -945,7 +943,7 @@ def altered(numbers, logins):
 
 
 def places(numbers, length):
-    """Where the pieces of a stream end, which are of at most so many bytes."""
+    """Where the pieces of a stream end, which are of at most that many bytes."""
     most = [4, 16, 64, 256, 1024][numbers.below(5)]
     ends, end = [], 0
     while end < length:
@@ -1037,9 +1035,9 @@ def accepts(machine, events):
 
 
 def answers(machine, events):
-    """What a client answers to a list: the proofs that it shows, and for each outcome Ok that it reports what it
-    believes. A login begins at each offer of the mechanism, has one answer, and ends where the server is believed; a
-    body that is not read, or is refused, changes nothing."""
+    """What a client answers to a list: the proofs that it shows, and the verifier of each outcome Ok that it reports. A
+    login begins at each offer of the mechanism, has one answer, and ends when the server is authenticated. A body that
+    is not read, or is rejected, changes nothing."""
     shown, believed, begun = [], [], None
     for nonce, body in events:
         try:

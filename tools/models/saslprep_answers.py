@@ -4,9 +4,9 @@
     tools/models/saslprep_answers.py write      writes the rows
     tools/models/saslprep_answers.py check      compares the files with what would be written
 
-Two programs are asked: GNU libidn (`apt-get install idn`; its library is called), and SASLprep as it stands below
-over the tables of Python's module `stringprep` and its normalization of Unicode 3.2. A row is written where both
-agree, and where they do not, the answer of either is told beside it. The tables of both are compared first.
+Two programs are asked: GNU libidn (`apt-get install idn`; its library is called), and the SASLprep of this file over the
+tables of Python's module `stringprep` and its normalization of Unicode 3.2. A row is written if both agree; if not, both
+answers are listed. The tables of both are compared first.
 """
 import ctypes
 import ctypes.util
