@@ -74,6 +74,7 @@ make check           proves what changed in the five libraries, and formats     
 make prove           proves, builds and runs the programs of the demo               8 min after make check
 make lint            the quick checks of the pages, the sources and the tools       about 6 s
 make check-models    compares the rows of the tests with the models that wrote them about 2 min
+tools/prove FILE:LINE  proves the function at that line, with --only               10 s or more
 make test            the gate: lint, quick models, every proof, test and program    51 to 57 min
 make quiet           like make test, but into a log, and prints its last line
 make install-program the program scram, under PREFIX and DESTDIR

@@ -1,23 +1,25 @@
 #!/usr/bin/env python3
 """Compares the sizes of the Markdown pages with the budgets of pages.txt.
 
-    tools/gate/pages.py             prints each page that is above its budget
-    tools/gate/pages.py --table     prints the sizes and budgets of all pages
+    tools/gate/pages.py                 prints each page that is above its budget
+    tools/gate/pages.py --table         prints the sizes and budgets of all pages
+    tools/gate/pages.py --paragraphs    lists the paragraphs with more than 80 words, which are no faults
 
 Words are separated by white space. A page at the top or in docs/ needs a budget. READMEs below the top share one. No line
 of any page has more than 400 characters, SIGNATURES.md apart, which quotes sources.
 
 The repository is the one that contains the current folder. The exit status is 1 if anything is above its budget.
 """
+import re
 import sys
 from pathlib import Path
 
 sys.dont_write_bytecode = True
 
-from prose import SKIPPED_FOLDERS, top_of
+from prose import SKIPPED_FOLDERS, page_blocks, top_of
 
 BUDGETS = Path(__file__).resolve().parent / "pages.txt"
-WIDEST = 400
+WIDEST, LONGEST = 400, 80
 
 
 def budgets():
@@ -76,11 +78,30 @@ def table(rows):
         print(f"{name:44} {of(lines, most_lines):>16} lines {of(words, most_words):>18} words")
 
 
+def long_paragraphs(text):
+    """The paragraphs and items of lists with more than 80 words: line and words."""
+    for block in page_blocks(text):
+        start = 0
+        lines = block.text.split("\n")
+        for at in range(1, len(lines) + 1):
+            if at == len(lines) or re.match(r"\s*(?:[-*]|\d+\.|\|) ?", lines[at]):
+                count = len(" ".join(lines[start:at]).split())
+                if count > LONGEST and not lines[start].startswith("|"):
+                    yield block.line + start, count
+                start = at
+
+
 def main():
-    if sys.argv[1:] not in ([], ["--table"]):
+    if sys.argv[1:] not in ([], ["--table"], ["--paragraphs"]):
         sys.exit(__doc__)
     top = top_of(Path.cwd().resolve())
     texts = {str(path): (top / path).read_text(encoding="utf-8") for path in pages_of(top)}
+    if sys.argv[1:] == ["--paragraphs"]:
+        for page, text in texts.items():
+            if not page.endswith("SIGNATURES.md"):
+                for line, count in long_paragraphs(text):
+                    print(f"{page}:{line}: {count} words")
+        return
     faults, rows = faults_of(texts, budgets())
     if sys.argv[1:]:
         table(rows)

@@ -139,6 +139,8 @@ def main():
             if file.read() != text:
                 print(f"{path} is not what {sys.argv[0]} writes")
                 stale = 1
+    if sys.argv[1] == "check" and not stale:
+        print(f"saslprep_tables: {len(TABLES)} tables are as Python's stringprep has them")
     return stale
 
 

@@ -253,6 +253,8 @@ def main():
             if file.read() != text:
                 print(f"{path} is not what {sys.argv[0]} writes")
                 stale = 1
+    if sys.argv[1] == "check" and not stale:
+        print(f"saslprep_answers: {len(files)} files are as both programs answer")
     return stale
 
 

@@ -171,6 +171,8 @@ def main():
         else:
             with open(path, "w", encoding="utf-8") as file:
                 file.write(text)
+    if sys.argv[1] == "check" and not stale:
+        print("saslprep_passwords: 2 files are as they would be written")
     sys.exit(stale)
 
 

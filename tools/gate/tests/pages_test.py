@@ -38,6 +38,10 @@ class Pages(unittest.TestCase):
         self.assertEqual(pages.faults_of({name: FIT[name] for name in FIT if name != "docs/A.md"}, BUDGET)[0],
                          ["docs/A.md: there is no such page"])
 
+    def test_paragraphs(self):
+        text = "one\n\n" + "word " * 81 + "\n\n- " + "word " * 40 + "\n- " + "word " * 45 + "\n\n| " + "word " * 90 + "|\n"
+        self.assertEqual(list(pages.long_paragraphs(text)), [(3, 81)])
+
     def test_budgets(self):
         found = pages.budgets()
         self.assertIn("README.md", found)
