@@ -26,8 +26,9 @@ check:
 # The quick checks: what the pages quote and list, and the C header; that no modules use each other in a circle, and no
 # name of specs/ has two meanings; which functions make a meter or hash; the programs that the borrow checker has to
 # reject; and the tests of these tools.
-LINT = gate/circles gate/meters gate/names gate/quoted gate/refused generate/header generate/signatures \
-    $(patsubst tools/%.py,%,$(wildcard tools/generate/promises.py tools/gate/tests/*.py))
+LINT = gate/refused $(patsubst tools/%.py,%,$(wildcard tools/gate/tests/*.py tools/generate/promises.py)) \
+    gate/meters gate/circles gate/names gate/quoted generate/header generate/signatures
+LINT += # gate/prose gate/pages
 
 # The models that made the rows of tests: those that need a few seconds, and those that need a minute, GNU libidn
 # (Debian's package idn) or GNU SASL (gsasl).
@@ -35,7 +36,8 @@ QUICK_MODELS = models/audit_rows models/broker_rows models/cbind_flag_runs model
 SLOW_MODELS = models/negotiations models/saslprep_answers models/saslprep_passwords
 
 lint:
-	@$(SIDE_BY_SIDE) $(LINT:%=tried/%)
+	@begun=$$(date +%s); $(SIDE_BY_SIDE) $(LINT:%=tried/%) && \
+	echo "lint: $(words $(LINT)) checks passed in $$(($$(date +%s) - begun)) s"
 
 check-models:
 	@$(SIDE_BY_SIDE) $(QUICK_MODELS:%=tried/%) $(SLOW_MODELS:%=tried/%)
