@@ -59,7 +59,7 @@ $(TRIED:%=tried/%): tried/%:
 # well.
 test:
 	@tools/gate/progress.py $$PPID 60 'a whole run takes 51 to 57 min on 4 processors, 79 on 2, and 8,600 to 11,200 s of processor' &
-	@$(SIDE_BY_SIDE) $(LINT:%=tried/%) $(QUICK_MODELS:%=tried/%)
+	@$(SIDE_BY_SIDE) $(LINT:%=tried/%) $(QUICK_MODELS:%=tried/%) || { echo 'the quick checks failed'; exit 1; }
 	tools/gate/gate.py
 	@tools/gate/restarts.py
 
