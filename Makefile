@@ -1,21 +1,21 @@
-# All of this needs the Rattle kit's `rt` on the PATH, and Python 3. CONTRIBUTING.md says how long
-# each takes. `tools/progress` tells the minutes, the stage and the crate on standard error.
-.PHONY: demo prove check test quiet install-program
+# All of this needs the Rattle kit's `rt` on the PATH, and Python 3. `tools/gate/progress.py` reports the minutes, the
+# stage and the crate of a long run on standard error.
+.PHONY: demo prove check lint check-models test quiet help install-program
 
 # The example of RFC 7677, beside what the standard prints, and a whole login over frame bodies. Nothing
 # is proved by it.
 demo:
-	@tools/demo try
+	@tools/demo.py try
 
-# The same with the program proved and built, crates/sasl_lab/out/sasl_lab; then the quick start.
+# Like `demo`, but the program is proved and built, crates/sasl_lab/out/sasl_lab; then the quick start.
 prove:
-	@tools/progress $$PPID &
-	@tools/demo run
+	@tools/gate/progress.py $$PPID &
+	@tools/demo.py run
 	cd crates/example_quick_start && rt run
 
 # The quick way for a change: proves what changed in the libraries, in order, and lays out every crate.
 check:
-	@tools/progress $$PPID &
+	@tools/gate/progress.py $$PPID &
 	cd crates/fe2o3_sasl_wire && rt check
 	cd crates/fe2o3_scram && rt check
 	cd crates/fe2o3_sasl_core && rt check
@@ -23,32 +23,83 @@ check:
 	cd crates/fe2o3_sasl_negotiation && rt check
 	for crate in crates/*/; do (cd $$crate && rt fmt) || exit 1; done
 
-# The merge gate: what the pages quote and list, and the C header; that no modules use each other in a
-# circle, and no name of specs/ has two meanings; who makes a meter of its own or hashes; the programs that
-# the borrow checker has to refuse; then every proof from nothing, the tests and the programs, and beside
-# these the wrong bodies; and the two built programs that keep a secret, started again, which say nothing
-# where all is well.
-test:
-	@tools/progress $$PPID 60 'a whole run takes 51 to 57 min on 4 processors, 79 on 2, and 8,600 to 11,200 s of processor' &
-	sh tools/quoted.sh
-	python3 tools/signatures.py --check
-	python3 tools/header.py --check
-	python3 tools/header.py --rust --check
-	python3 tools/header.py --python --check
-	python3 tools/circles.py
-	python3 tools/names.py
-	python3 tools/meters.py
-	python3 tools/meters_test.py
-	python3 tools/wrong_bodies_test.py
-	sh tools/refused.sh
-	python3 tools/gate.py
-	@python3 tools/restarts.py
+# The quick checks: what the pages quote and list, and the C header; that no modules use each other in a circle, and no
+# name of specs/ has two meanings; which functions make a meter or hash; the programs that the borrow checker has to
+# reject; and the tests of these tools.
+LINT = gate/refused $(patsubst tools/%.py,%,$(wildcard tools/gate/tests/*.py tools/generate/promises.py)) \
+    gate/meters gate/circles gate/names gate/quoted generate/header generate/signatures
+LINT += # gate/prose gate/pages
 
-# The same into a log, whose last line it prints, with its status.
+# The models that made the rows of tests: those that need a few seconds, and those that need a minute, GNU libidn
+# (Debian's package idn) or GNU SASL (gsasl).
+QUICK_MODELS = models/audit_rows models/broker_rows models/cbind_flag_runs models/frames generate/saslprep_tables
+SLOW_MODELS = models/negotiations models/saslprep_answers models/saslprep_passwords
+
+lint:
+	@begun=$$(date +%s); $(SIDE_BY_SIDE) $(LINT:%=tried/%) && \
+	echo "lint: $(words $(LINT)) checks passed in $$(($$(date +%s) - begun)) s"
+
+check-models:
+	@$(SIDE_BY_SIDE) $(QUICK_MODELS:%=tried/%) $(SLOW_MODELS:%=tried/%)
+
+# Runs a tool, and prints its time and its last line, or all that it says if it fails.
+SIDE_BY_SIDE = $(MAKE) --no-print-directory --keep-going --output-sync --jobs=$(shell nproc)
+TRIED = $(sort $(LINT) $(QUICK_MODELS) $(SLOW_MODELS))
+.PHONY: $(TRIED:%=tried/%)
+$(TRIED:%=tried/%): tried/%:
+	@begun=$$(date +%s%N); \
+	said=$$(tools/$*.py $(if $(filter generate/% models/%,$*),check) 2>&1); status=$$?; \
+	tenths=$$((($$(date +%s%N) - begun) / 100000000)); \
+	[ $$status = 0 ] && said=$$(echo "$$said" | tail -n 1) || said="FAILED$$(echo; echo "$$said")"; \
+	printf '%4d.%d s  %-32s %s\n' $$((tenths / 10)) $$((tenths % 10)) tools/$*.py "$$said"; \
+	exit $$status
+
+# The merge gate: the quick checks and models; then every proof from nothing, the tests and the programs, and beside
+# these the wrong bodies; and the two built programs that keep a secret, started again, which say nothing if all is
+# well.
+test:
+	@tools/gate/progress.py $$PPID 60 'a whole run takes 51 to 57 min on 4 processors, 79 on 2, and 8,600 to 11,200 s of processor' &
+	@$(SIDE_BY_SIDE) $(LINT:%=tried/%) $(QUICK_MODELS:%=tried/%) || { echo 'the quick checks failed'; exit 1; }
+	tools/gate/gate.py
+	@tools/gate/restarts.py
+
+# Like `test`, but into a log, whose last line it prints, with its status.
 quiet:
 	@log=$$(mktemp "$${TMPDIR:-/tmp}/gate.XXXXXX"); echo "log: $$log"; \
 	$(MAKE) --no-print-directory test > $$log 2>&1; status=$$?; \
 	grep -v '^make' $$log | tail -n 1; exit $$status
+
+# What there is, with the times of four processors.
+define HELP
+make demo            a published exchange and a whole login, without proofs         about 1 min
+make check           proves what changed in the five libraries, and formats         12 min from nothing
+make prove           proves, builds and runs the programs of the demo               8 min after make check
+make lint            the quick checks of the pages, the sources and the tools       about 6 s
+make check-models    compares the rows of the tests with the models that wrote them about 2 min
+tools/prove FILE:LINE  proves the function at that line, with --only               10 s or more
+make test            the gate: lint, quick models, every proof, test and program    51 to 57 min
+make quiet           like make test, but into a log, and prints its last line
+make install-program the program scram, under PREFIX and DESTDIR
+
+The library for C, Rust and Python (bindings/callers.mk):
+make lib             proves and builds build/libfe2o3_sasl.a and .so                12 to 17 min from nothing
+make header          writes the C header, and the declarations for Rust and Python  1 s
+make header-check    compares them with the sources                                 1 s
+make callers         builds and runs the programs of bindings/c
+make rust            tests bindings/rust
+make python          tests bindings/python
+make install         the library, under PREFIX and DESTDIR
+make dist            the library, into build/fe2o3_sasl-VERSION-CPU.tar.gz
+
+With other programs (plugins/plugins.mk, interop/interop.mk):
+make plugin          the plugin of Cyrus SASL
+make plugin-test     its logins in one program
+make plugin-logins   logins of programs that use it
+make interop         logins to other programs, and by them
+endef
+export HELP
+help:
+	@echo "$$HELP"
 
 # The program `scram` with its page and the licences, under PREFIX and DESTDIR; where there is none yet it is proved
 # and built.

@@ -7,7 +7,7 @@
 #   make rust      tests the crate of bindings/rust, which needs cargo and no other crate
 #   make python    tries the module of bindings/python over the shared library
 #   make install   PREFIX, LIBDIR, INCLUDEDIR, DOCDIR and DESTDIR as usual
-#   make dist      the same into build/fe2o3_sasl-VERSION-CPU.tar.gz, whose bytes depend on the files alone
+#   make dist      what `install` installs, into build/fe2o3_sasl-VERSION-CPU.tar.gz, whose bytes depend only on the files
 PREFIX ?= /usr/local
 LIBDIR ?= $(PREFIX)/lib
 INCLUDEDIR ?= $(PREFIX)/include
@@ -35,7 +35,7 @@ lib:
 	cd crates/sasl_c && rt lib --cpu $(CPU)
 	@$(MAKE) --no-print-directory $(LIBRARY)
 
-# (where there is none yet; `lib` makes it anew)
+# (if there is none yet; `lib` always builds it)
 $(PROVED_ARCHIVE):
 	cd crates/sasl_c && rt lib --cpu $(CPU)
 
@@ -61,14 +61,10 @@ build/fe2o3_sasl.pc:
 	    'Cflags: -I$${includedir}' 'Libs: -L$${libdir} -lfe2o3_sasl' > $@
 
 header:
-	python3 tools/header.py
-	python3 tools/header.py --rust
-	python3 tools/header.py --python
+	tools/generate/header.py write
 
 header-check:
-	python3 tools/header.py --check
-	python3 tools/header.py --rust --check
-	python3 tools/header.py --python --check
+	tools/generate/header.py check
 
 build/callers/%_plain: bindings/c/%.c $(HEADER) build/libfe2o3_sasl.a
 	@mkdir -p $(@D)
@@ -85,8 +81,8 @@ build/callers/%_sanitized: bindings/c/%.c $(HEADER) build/libfe2o3_sasl.a
 # (the requests for memory of the library go to functions of the program)
 build/callers/memory_plain build/callers/memory_sanitized: LDLIBS += $(foreach name,malloc realloc free,-Wl,--wrap=$(name))
 
-# The header by itself, that the library exports what it declares and nothing else, and the programs, those of client.c
-# and server.c against each other and against peers in Python.
+# Checks the header by itself and that the library exports exactly what it declares, and runs the programs, those of
+# client.c and server.c against each other and against peers in Python.
 callers: header-check $(foreach kind,$(KINDS),$(PROGRAMS:%=build/callers/%_$(kind)) build/callers/client_$(kind) \
     build/callers/server_$(kind)) \
     build/callers/memory_plain build/callers/memory_sanitized
@@ -119,7 +115,7 @@ install: $(LIBRARY)
 	install -m 644 build/fe2o3_sasl.pc $(DESTDIR)$(LIBDIR)/pkgconfig/
 	install -m 644 LICENSE-APACHE LICENSE-MIT $(DESTDIR)$(DOCDIR)/
 
-# pkg-config finds the folder from where its file stands, so the tar can be unpacked anywhere.
+# pkg-config finds the folder from the place of its file, so the tar can be unpacked anywhere.
 dist: $(LIBRARY)
 	rm -rf build/dist
 	$(MAKE) --no-print-directory install DESTDIR=build/dist/$(DIST) PREFIX= LIBDIR=/lib INCLUDEDIR=/include DOCDIR=/ \

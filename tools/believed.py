@@ -1,5 +1,5 @@
 #!/usr/bin/env python3
-"""What a reader has to believe of some statements: every definition that they rest on, file by file.
+"""What a reader has to trust of some statements: every definition that they rest on, file by file.
 
     tools/believed.py [STATEMENT..]
 

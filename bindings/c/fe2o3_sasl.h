@@ -1,4 +1,4 @@
-/* SCRAM (RFC 5802, RFC 7677) and the SASL layer of AMQP 1.0. Written by tools/header.py.
+/* SCRAM (RFC 5802, RFC 7677) and the SASL layer of AMQP 1.0. Written by tools/generate/header.py.
  *
  * A call returns a status: FE2O3_OK, or why it failed. There is nothing to initialize and nothing to free. The state of
  * an exchange is a struct that you allocate, and the library keeps nothing between calls.

@@ -87,7 +87,7 @@ __all__ = [
     "view_frame",
 ]
 
-# ---- written by tools/header.py --python, from here ----
+# ---- written by tools/generate/header.py, from here ----
 
 SHA_1 = 1
 SHA_256 = 256

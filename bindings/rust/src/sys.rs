@@ -1,4 +1,4 @@
-//! What the library exports, as its C header declares it. Written by tools/header.py.
+//! What the library exports, as its C header declares it. Written by tools/generate/header.py.
 
 /// The call succeeded.
 pub const OK: u32 = 0;

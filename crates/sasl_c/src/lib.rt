@@ -7,7 +7,7 @@
 //!
 //! Each export calls a function of this crate that does its work, and says the same in its clause: `Answers` that the
 //! number is that of an answer, `Makes` and `Fills` what was written, and `IsSide` and `IsOpen` of which client or server
-//! of `fe2o3_scram` a struct is. `tools/header.py` writes the C header from these sources.
+//! of `fe2o3_scram` a struct is. `tools/generate/header.py` writes the C header from these sources.
 //!
 //! While a machine or a store is held, a refusal is matched and handed on where elsewhere `?` stands, and the value is
 //! dropped by a call of `drop`: a function with many ways out is proved for each drop that it writes out.

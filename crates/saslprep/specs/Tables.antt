@@ -1,5 +1,5 @@
 -- The tables of RFC 3454 that RFC 4013 names, each under its name, as inclusive ranges in order.
--- Written by tools/saslprep/tables.py. Do not edit.
+-- Written by tools/generate/saslprep_tables.py. Do not edit.
 use Rattle.std.specs.Prelude.{List, [], ◌∷◌}
 use Rattle.ucd_table.specs.Rows.{Range}
 

@@ -1,6 +1,6 @@
 //! The tables of RFC 3454 as sorted runs, which `ucd_table::contains` searches: the end of each run times
 //! 2048, and 1 more where the run is of the table.
-// Written by tools/saslprep/tables.py. Do not edit.
+// Written by tools/generate/saslprep_tables.py. Do not edit.
 
 /// Table A.1.
 #[rattlefmt::skip]

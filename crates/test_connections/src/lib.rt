@@ -1,6 +1,6 @@
 //! Tests of the public calls of `fe2o3_sasl_negotiation` that pass a whole connection in pieces, and of sides that are
 //! saved and restored. Expected values are rows of `crates/test_vectors_sasl/data/connections.txt`, which a model in Python
-//! wrote (`tools/negotiations`).
+//! wrote (`tools/models/negotiations.py`).
 #![tactic(auto)]
 
 #[cfg(test)]

@@ -1,6 +1,6 @@
 //! Headers and frames in hexadecimal digits: of SCRAM-SHA-256, user `user`, password `pencil`, a salt of 32 bytes 03,
 //! count 1, a client's nonce of 32 bytes 01 and a server's of 32 bytes 02; and of PLAIN, EXTERNAL and ANONYMOUS. Copied
-//! from the rows of `crates/test_vectors_sasl/data/connections.txt`, which `tools/negotiations` made.
+//! from the rows of `crates/test_vectors_sasl/data/connections.txt`, which `tools/models/negotiations.py` made.
 
 /// The name of the user.
 pub const USER: &str = "user";

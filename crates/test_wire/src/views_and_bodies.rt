@@ -1,5 +1,5 @@
 //! What may be done with a body once its view is no longer used. The edits in `refused/` use the view once more after
-//! it, and `tools/refused.sh` shows that the borrow checker rejects them.
+//! it, and `tools/gate/refused.py` shows that the borrow checker rejects them.
 
 use fe2o3_sasl_wire::{Error, FrameView, view_frame};
 

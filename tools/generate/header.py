@@ -1,0 +1,434 @@
+#!/usr/bin/env python3
+"""Writes the declarations of what crates/sasl_c exports, for callers in C, Rust and Python, from its sources.
+
+    tools/generate/header.py write [LANGUAGE..]     writes the declarations
+    tools/generate/header.py check [LANGUAGE..]     prints the first line that differs, and ends with status 1 if one does
+
+A language is `c`, for bindings/c/fe2o3_sasl.h, `rust`, for bindings/rust/src/sys.rs, or `python`, for the marked part of
+bindings/python/fe2o3_sasl.py; without one, it is all three. The script reads the structs under `#[repr(C)]`, the
+functions under `#[unsafe(no_mangle)]`, the numbers of `enum Status`, and the enums of tools/generate/header_preamble.h. The docs
+of the kinds of errors come from the libraries. It relies on the layout of `rt fmt`. It rejects, with file and line, what
+it does not know, an export or a struct that SECTIONS does not list, an export without a doc or with a condition (C would
+not see the condition), and a status without a text of its own.
+
+A slice becomes a pointer and a length (`_len`; `_size` if the slice is written, `_count` if it is of structs), an array
+or a struct behind a reference becomes a pointer, and `Global` nothing.
+"""
+import argparse
+import re
+import sys
+import textwrap
+from collections import namedtuple
+from itertools import zip_longest
+from pathlib import Path
+
+ROOT = Path(__file__).resolve().parents[2]
+WIDTH = 120
+C_NUMBERS = {"u8": "uint8_t", "u16": "uint16_t", "u32": "uint32_t", "u64": "uint64_t", "usize": "size_t"}
+SECTIONS = [  # in the order of use: a title, the structs, and the functions after "fe2o3_"
+    ("The library", "Text", "version size status_text"),
+    ("Passwords", "", "saslprep"),
+    ("Records, which a server stores in place of passwords", "ScramRecord",
+     "scram_record_make scram_record_make_prepared scram_record_mock scram_record_parse scram_record_text"
+     " scram_record_verify scram_record_verify_prepared scram_lines_find scram_line"),
+    ("Keys, which a client can cache in place of a password", "ScramKeys", "scram_keys_make scram_keys_make_prepared"),
+    ("A SCRAM client, over messages", "Login ScramClient",
+     "scram_client_first scram_client_final scram_client_verify scram_client_get_keys"),
+    ("A SCRAM server, over messages", "ScramServer",
+     "scram_server_claimed_user scram_server_first scram_server_first_with_cbind_flag_y scram_server_final"
+     " scram_server_authenticated_user"),
+    ("The client's side of a connection, over bytes", "Connection SaslLogin SaslClient",
+     "sasl_client_open sasl_client_receive"),
+    ("The server's side of a connection, over bytes", "SaslServerConfig SaslServer",
+     "sasl_server_claimed_user sasl_server_receive"),
+    ("Both sides over frame bodies, for programs that read frames themselves", "SaslFrameView",
+     "sasl_client_step sasl_server_offer sasl_server_step_claimed_user sasl_server_step sasl_view_frame sasl_offers"),
+]
+KIND_NAMES = {"ScramErrorKind": "CLIENT_", "ServerScramErrorKind": "SERVER_", "RecordTextError": "RECORD_"}
+
+STRUCT = re.compile(r"#\[repr\(C\)\]\n#\[derive\(Drop\)\]\npub struct (\w+)(?:<'a>)? \{\n(.*?)^\}$", re.M | re.S)
+FIELD = re.compile(r"\s*(?:///[^\n]*\n\s*)*pub (\w+): ([^\n]+),\n")
+EXPORT = re.compile(r"#\[unsafe\(no_mangle\)\]\n(?:#\[tactic\([^\n]*\n)?pub extern \"C\" fn (fe2o3_\w+)(?:<'a>)?"
+                    r"\(([^()]*)\)(?: -> (u32|usize))?(?: \{|((?:\n    [^\n]*)+)\n\{)\n")
+VARIANT = re.compile(r"\s*(?:(?:///|#\[)[^\n]*\n\s*)*(\w+)(?:\((\w+)\))?,\n")
+ARM = re.compile(r"\s*(\w+)::(\w+)(?:\((why)\))? => (?:(\d+)|(\w+)\(why\)),\n")
+TEXTS = re.compile(r"\bfn text_of\(status: u32\) [^\n]*\n(?:    ensures [^\n]*\n\{\n)?    match status \{\n"
+                   r"(.*?)^        _ => (b\"[^\n]*),\n    \}$", re.M | re.S)
+TEXT = re.compile(r"\s*(\d+) => (b\"[^\"\\]+\\0\"),\n")
+SIZES = re.compile(r"\bfn size\(which: u32\) [^\n]*\n(?:    ensures [^\n]*\n\{\n)?    match which \{\n"
+                   r"(.*?)^        _ => 0,\n    \}$", re.M | re.S)
+SIZE = re.compile(r"\s*(\d+) => size_of::<(\w+)(?:<'static>)?>\(\),\n")
+ENUM = re.compile(r"^((?:/\*|  ?\*)[^\n]*\n(?: \*[^\n]*\n)*)enum fe2o3_(\w+) \{\n(.*?)^\};$", re.M | re.S)
+VALUE = re.compile(r"\s*/\* ((?:(?!\*/).)*) \*/\n\s*FE2O3_(\w+) = (\d+),?\n", re.S)
+
+Part = namedtuple("Part", "name form kind count")  # form: value, array, const or mut; count: that of an array
+Export = namedtuple("Export", "doc name parts answer")
+Struct = namedtuple("Struct", "doc name fields")
+Status = namedtuple("Status", "doc name number")
+Enum = namedtuple("Enum", "doc name values")  # values: of Status
+
+
+def snake(name):
+    return re.sub(r"(?<!^)([A-Z])", r"_\1", name).lower()
+
+
+class Source:
+    """The text of a file."""
+
+    def __init__(self, path):
+        self.path = path
+        self.text = path.read_text(encoding="utf-8")
+
+    def refuse(self, at, why):
+        sys.exit(f"{self.path}:{self.text.count(chr(10), 0, at) + 1}: {why}")
+
+    def each(self, sign, pattern, what):
+        """The matches at each place of a sign that begins a line: there is one at each."""
+        for place in re.finditer(sign, self.text, re.M):
+            yield pattern.match(self.text, place.start()) or self.refuse(place.start(), f"no {what} that is known")
+
+    def rows(self, start, end, pattern, what):
+        """The matches that make up a part of the text, none left out."""
+        while (start := re.compile(r"\s*").match(self.text, start, end).end()) < end:
+            yield (found := pattern.match(self.text, start, end)) or self.refuse(start, f"no {what} that is known")
+            start = found.end()
+
+    def doc(self, at, needed=False):
+        """The lines of the doc in front of the line of a place, attributes between them left out."""
+        doc = []
+        for line in reversed(self.text[:self.text.rfind("\n", 0, at + 1) + 1].splitlines()):
+            if line.lstrip().startswith("///"):
+                doc.insert(0, line.lstrip()[4:])
+            elif not line.lstrip().startswith("#["):
+                break
+        if needed and not doc or re.search(r"/\*|\*/", " ".join(doc)):
+            self.refuse(at, "no doc that C could take for a comment")
+        return doc
+
+    def variants(self, enum):
+        """Place, doc, name and what it holds of each variant of an enum of this file."""
+        opens = re.search(rf"^pub enum {enum} \{{\n(.*?)^\}}$", self.text, re.M | re.S)
+        return [(found.start(1), self.doc(found.start(1)), found[1], found[2])
+                for found in self.rows(*opens.span(1), VARIANT, "variant")]
+
+    def arms(self, at, head):
+        """The arms of the `match` of the function with this head."""
+        pattern = rf"\bfn {head} -> u32\n.*?^( +)match \w+ \{{\n(.*?)^\1\}}$"
+        opens = re.search(pattern, self.text, re.M | re.S) or self.refuse(at, f"there is no `fn {head}` with a match")
+        return {(found[1], found[2]): found for found in self.rows(*opens.span(2), ARM, "arm")}
+
+
+class Reader:
+    """All that the sources export."""
+
+    def __init__(self, folder):
+        self.sources = [Source(path) for path in sorted(folder.glob("*.rt"))]
+        found = [(source, one) for source in self.sources for one in source.each(r"^#\[repr", STRUCT, "struct")]
+        self.names = {one[1] for _, one in found}
+        self.structs, waiting = [], [self.struct(source, one) for source, one in found]
+        while waiting:  # each behind those that it holds
+            names = {one.name for one in waiting}
+            free = [one for one in waiting if not any(part.kind in names for _, part in one.fields)]
+            self.structs += free or sys.exit("structs that hold each other")
+            waiting = [one for one in waiting if one not in free]
+        self.exports = [self.export(source, one) for source in self.sources
+                        for one in source.each(r"^#\[unsafe\(no_mangle", EXPORT, "export")]
+        marks = sum(len(re.findall(r"no_mangle|export_name", source.text)) for source in self.sources)
+        if not 0 < marks == len({one.name for one in self.exports}):
+            sys.exit(f"{folder}: {marks} times `no_mangle`, and not as many names of exports that are read")
+        self.statuses = [Status(["The call succeeded."], "OK", 0)]
+        for source in self.sources:
+            if "\npub enum Status {\n" in source.text:
+                self.read_statuses(source)
+        self.statuses.sort(key=lambda status: status.number)
+        texts = [(source, found) for source in self.sources if (found := TEXTS.search(source.text))]
+        if not texts:
+            sys.exit(f"{folder}: no `text_of` that is known")
+        self.compare_texts(*texts[0])
+        self.sections = self.in_sections(folder)
+        self.preamble = Path(__file__).with_name("header_preamble.h").read_text(encoding="utf-8")
+        self.enums = [self.enum(one) for one in ENUM.finditer(self.preamble)]
+        if len(self.enums) != self.preamble.count("\nenum ") or not self.enums:
+            sys.exit("header_preamble.h: an enum that is not known")
+        sizes = [(source, found) for source in self.sources if (found := SIZES.search(source.text))]
+        self.sized = [one[2] for one in sizes[0][0].rows(*sizes[0][1].span(1), SIZE, "size")] if sizes else []
+
+    def in_sections(self, folder):
+        """The structs and the exports of each section."""
+        structs, exports = {one.name: one for one in self.structs}, {one.name: one for one in self.exports}
+        sections = []
+        for title, kinds, calls in SECTIONS:
+            names = ["fe2o3_" + call for call in calls.split()]
+            if missing := [one for one in kinds.split() if one not in structs] + [one for one in names if one not in exports]:
+                sys.exit(f"{folder}: no {missing[0]}, which SECTIONS lists")
+            sections.append((title, [structs.pop(one) for one in kinds.split()], [exports.pop(one) for one in names]))
+        if structs or exports:
+            sys.exit(f"{folder}: {', '.join([*structs, *exports])}: in no section")
+        self.structs = [one for _, kinds, _ in sections for one in kinds]
+        self.exports = [one for _, _, calls in sections for one in calls]
+        return sections
+
+    @staticmethod
+    def enum(found):
+        """An enum of the preamble."""
+        rows = list(VALUE.finditer(found[3]))
+        if "".join(row[0] for row in rows) != found[3]:
+            sys.exit(f"header_preamble.h: enum fe2o3_{found[2]} has a value that is not known, or one without a doc")
+        doc = [line.strip().strip("/*").strip() for line in found[1].splitlines()]
+        values = [Status([" ".join(row[1].split())], row[2], int(row[3])) for row in rows]
+        return Enum(doc, found[2], values)
+
+    def parts(self, source, at, name, kind, is_field):
+        """What a parameter or a field is in C."""
+        kind = re.sub(r"'\w+ |<'\w+>", "", kind)
+        form = "mut" if kind.startswith("&mut ") else "const"
+        array = re.fullmatch(r"(&)?(?:mut )?\[u8; (\d+)\]", kind)
+        lent = re.fullmatch(r"&(?:mut )?(\[)?(\w+)\]?", kind)
+        if kind == "Global" and not is_field:
+            return []
+        if kind in C_NUMBERS or is_field and kind in self.names:
+            return [Part(name, "value", kind, None)]
+        if array and bool(array[1]) != is_field:
+            return [Part(name, "array" if is_field else form, "u8", array[2])]
+        if lent and not (is_field and form == "mut"):
+            if not lent[1] and (lent[2] in self.names or lent[2] in C_NUMBERS and not is_field):
+                return [Part(name, form, lent[2], None)]
+            if lent[1] and (lent[2] == "u8" or lent[2] in self.names and form == "const"):
+                length = "_size" if form == "mut" else "_len" if lent[2] == "u8" else "_count"
+                return [Part(name, form, lent[2], None), Part(name + length, "value", "usize", None)]
+        return source.refuse(at, f"`{name}` is of a type that is not known: {kind}")
+
+    def struct(self, source, found):
+        fields = []
+        for one in source.rows(*found.span(2), FIELD, "field"):
+            fields += zip([source.doc(one.start(1)), []], self.parts(source, one.start(1), one[1], one[2], True))
+        return Struct(source.doc(found.start(), needed=True), found[1], fields)
+
+    def export(self, source, found):
+        if re.search(r"\brequires\b", found[4] or ""):
+            source.refuse(found.start(4), "a condition, of which C would learn nothing")
+        parts = [part for one in re.finditer(r"(\w+): ([^,]+)", found[2])
+                 for part in self.parts(source, found.start(2) + one.start(), one[1], one[2].strip(), False)]
+        return Export(source.doc(found.start(), needed=True), found[1], parts, found[3])
+
+    def read_statuses(self, source):
+        """The numbers of the variants, and of the kinds that some of them hold. Out of memory is one for all."""
+        arms = source.arms(0, r"number\(self\)")
+        for at, doc, name, kind in source.variants("Status"):
+            arm = arms.get(("Status", name)) or source.refuse(at, f"`{name}` has no number")
+            if not kind:
+                self.add(source, at, doc, snake(name).upper(), arm)
+                continue
+            if kind not in KIND_NAMES or not arm[5]:
+                source.refuse(at, f"`{kind}` has no name for C (KIND_NAMES of {Path(__file__).name})")
+            paths = sorted(ROOT.glob("crates/*/src/**/*.rt"))
+            library = next((Source(one) for one in paths if f"\npub enum {kind} {{\n" in one.read_text("utf-8")), None)
+            numbers = source.arms(at, rf"{arm[5]}\(why: {kind}\)")
+            for place, doc, one, _ in (library or source.refuse(at, f"no library has `{kind}`")).variants(kind):
+                arm = numbers.get((kind, one)) or library.refuse(place, f"`{one}` has no number in {source.path}")
+                if one != "OutOfMemory" or arm[4] != "1":
+                    self.add(source, at, doc, KIND_NAMES[kind] + snake(one).upper(), arm)
+
+        for at, doc, name, kind in source.variants("WriteError"):
+            if not kind:
+                arm = re.search(rf"Err\((WriteError)::({name})\)() => (\d+),\n", source.text)
+                self.add(source, at, doc, snake(name).upper(), arm or source.refuse(at, f"`{name}` has no number"))
+
+    def add(self, source, at, doc, name, arm):
+        if not arm[4] or int(arm[4]) in {status.number for status in self.statuses}:
+            source.refuse(arm.start(1), f"`{arm[2]}` has no number of its own")
+        self.statuses.append(Status(doc, name, int(arm[4])))
+
+    def compare_texts(self, source, texts):
+        """That each status has a text, and no two have one. What no status has is the last text's."""
+        numbers, said = {status.number: status.name for status in self.statuses}, {texts[2]}
+        for one in source.rows(*texts.span(1), TEXT, "text"):
+            if not numbers.pop(int(one[1]), None) or one[2] in said:
+                source.refuse(one.start(1), f"{one[1]} is no status, or has the text of another")
+            said.add(one[2])
+        if numbers:
+            source.refuse(texts.start(), f"{', '.join(numbers.values())}: without a text")
+
+
+def comment(doc, indent=""):
+    lines = [(sign + line).rstrip() for sign, line in zip([indent + "/* "] + [indent + " * "] * len(doc), doc)]
+    end = " */\n" if doc and len(lines[-1]) + 3 <= WIDTH else f"\n{indent} */\n"
+    return "\n".join(lines) + end if doc else ""
+
+
+def rust_doc(doc, indent=""):
+    room = textwrap.TextWrapper(WIDTH - len(indent) - 4, break_on_hyphens=False)
+    text = "\n\n".join(map(room.fill, "\n".join(doc).split("\n\n")))
+    return "".join(f"{indent}/// {line}".rstrip() + "\n" for line in text.splitlines())
+
+
+def c_part(part):
+    kind = C_NUMBERS.get(part.kind) or "struct fe2o3_" + snake(part.kind)
+    kind = f"const {kind}" if part.form == "const" else kind
+    return f"{kind} {part.name}[{part.count}]" if part.count else f"{kind} {'*' * (part.form != 'value')}{part.name}"
+
+
+def rust_part(part):
+    kind = f"[{part.kind}; {part.count}]" if part.count else part.kind
+    return f"{part.name}: {'' if part.form in ('value', 'array') else f'*{part.form} '}{kind}"
+
+
+def called(head, parts, tail, indent=""):
+    """A function, on one line where it fits."""
+    line = f"{indent}{head}({', '.join(parts)}){tail}\n"
+    rows = ",".join(f"\n{indent}    {part}" for part in parts)
+    return line if len(line) <= WIDTH else f"{indent}{head}({rows}){tail}\n"
+
+
+def c_header(reader):
+    out = [reader.preamble]
+    rows = ",\n".join(f"    FE2O3_SIZE_OF_{snake(name).upper()} = {at}" for at, name in enumerate(reader.sized))
+    out.append(f"\n/* The structs, for fe2o3_size. */\nenum fe2o3_size_of {{\n{rows}\n}};\n")
+    rows = ",\n".join(f"{comment(doc, '    ')}    FE2O3_{name} = {number}" for doc, name, number in reader.statuses)
+    out.append(f"\n/* What a call returns. */\nenum fe2o3_status {{\n{rows}\n}};\n")
+    written = {part.kind for export in reader.exports for part in export.parts if part.form == "mut"}
+    for title, structs, exports in reader.sections:
+        out.append(f"\n/* ---- {title} ---- */\n")
+        for one in structs:
+            out.append(f"\n{comment(one.doc)}struct fe2o3_{snake(one.name)} {{\n")
+            out += [f"{comment(doc, '    ')}    {c_part(part)};\n" for doc, part in one.fields] + ["};\n"]
+            if one.name in written and "const" in [part.form for _, part in one.fields]:
+                empty = ", ".join('(const uint8_t *)""' if part.form == "const" else "0" for _, part in one.fields)
+                out.append(f"/* Its value before its first use. */\n"
+                           f"#define FE2O3_{snake(one.name).upper()}_INIT {{ {empty} }}\n")
+        for doc, name, parts, answer in exports:
+            given = [c_part(part) for part in parts] or ["void"]
+            out.append(f"\n{comment(doc)}" + called(f"{C_NUMBERS.get(answer, 'void')} {name}", given, ";"))
+    return "".join(out) + "\n#ifdef __cplusplus\n}\n#endif\n\n#endif\n"
+
+
+def in_rust(doc):
+    """A doc with the names of Rust: those of C without their prefix."""
+    return [re.sub(r"\benum fe2o3_(\w+)", r"the `\1` constants", line).replace("FE2O3_", "") for line in doc]
+
+
+def rust_block(reader):
+    out = ["//! What the library exports, as its C header declares it. Written by tools/generate/header.py.\n"]
+    out += [f"\n{rust_doc(in_rust(doc))}pub const {name}: u32 = {number};\n" for doc, name, number in reader.statuses]
+    for one in reader.enums:
+        out += [f"\n{rust_doc([f'`{one.name}`: ' + in_rust(doc)[0]])}pub const {name}: u32 = {number};\n"
+                for doc, name, number in one.values]
+    for one in reader.structs:
+        out.append(f"\n{rust_doc(in_rust(one.doc))}#[repr(C)]\n#[derive(Clone, Copy)]\npub struct {one.name} {{\n")
+        out += [f"{rust_doc(in_rust(doc), '    ')}    pub {rust_part(part)},\n" for doc, part in one.fields] + ["}\n"]
+    rows = "".join(f"    size_of::<{name}>(),\n" for name in reader.sized)
+    out.append(f"\n/// The sizes of the structs here, in the order of the numbers of `fe2o3_size`.\n"
+               f"pub const SIZES: [usize; {len(reader.sized)}] = [\n{rows}];\n")
+    out.append('\nextern "C" {')
+    for doc, name, parts, answer in reader.exports:
+        given, tail = [rust_part(part) for part in parts], f" -> {answer};" if answer else ";"
+        out.append("\n" + rust_doc(in_rust(doc), "    ") + called(f"pub fn {name}", given, tail, "    "))
+    return "".join(out) + "}\n"
+
+
+PYTHON_NUMBERS = {"u8": "ctypes.c_uint8", "u32": "ctypes.c_uint32", "usize": "ctypes.c_size_t"}
+PYTHON_MARKS = "# ---- written by tools/generate/header.py, from here ----\n", "# ---- to here ----\n"
+
+
+def python_part(part, written):
+    """The type of a field or a parameter. An address of bytes that are only read keeps them alive."""
+    if part.form == "value":
+        return PYTHON_NUMBERS.get(part.kind) or f"_{part.kind}Struct"
+    if part.form == "array":
+        return f"{PYTHON_NUMBERS[part.kind]} * {part.count}"
+    if part.kind == "u8":
+        return "ctypes.c_void_p" if part.form == "mut" or written else "ctypes.c_char_p"
+    return f"ctypes.POINTER({PYTHON_NUMBERS.get(part.kind) or f'_{part.kind}Struct'})"
+
+
+def python_class(base, name, doc, values):
+    rows = "".join(f"    {value} = {number}\n" for value, number in values)
+    return f'\n\nclass {name}(enum.{base}):\n    """{doc}"""\n\n{rows}'
+
+
+def python_block(reader):
+    """The marked part of the module: the numbers, the structs, and the types of the exports."""
+    written = {part.kind for export in reader.exports for part in export.parts if part.form == "mut"}
+    out = []
+    enums = {one.name: one for one in reader.enums}
+    out += [f"\n{one.name} = {one.number}" for one in enums["scram_version"].values] + ["\n"]
+    out.append(python_class("IntEnum", "Status", "What a call of the library returns. The header says what each means.",
+                            [(one.name, one.number) for one in reader.statuses]))
+    out.append(python_class("IntEnum", "Progress", "How far a login on a connection is.",
+                            [(one.name, one.number) for one in enums["progress"].values]))
+    out.append(python_class("IntFlag", "Offer", "What a server offers. PLAIN sends the password in clear, so offer it over TLS"
+                            " only. ACCEPT_CBIND_FLAG_Y\n    is no mechanism: SCRAM also accepts the GS2 header `y,,`, like `Server.first`"
+                            " with `accept_cbind_flag_y`.",
+                            [(one.name.replace("OFFER_", ""), one.number) for one in enums["offer"].values]))
+    for name, title, prefix in [("mechanism", "_Mechanism", ""), ("secret", "_Secret", ""),
+                                ("unassigned", "_Unassigned", "UNASSIGNED_"), ("scram_server_state", "_ServerState",
+                                                                               "SCRAM_SERVER_")]:
+        values = [(one.name.replace(prefix, ""), one.number) for one in enums[name].values]
+        out.append(python_class("IntEnum", title, enums[name].doc[0].split(". ")[0].rstrip(".") + ".", values))
+    for one in reader.structs:
+        rows = "".join(f'        ("{part.name}", {python_part(part, one.name in written)}),\n' for _, part in one.fields)
+        out.append(f"\n\nclass _{one.name}Struct(ctypes.Structure):\n    _fields_ = [\n{rows}    ]\n")
+    rows = "".join(f"    _{name}Struct,\n" for name in reader.sized)
+    out.append(f"\n\n# The structs in the order of the numbers of `fe2o3_size`.\n_SIZED = (\n{rows})\n")
+    out.append("\n# What each export returns and takes.\n_EXPORTS: dict[str, tuple[Any, list[Any]]] = {\n")
+    for _, name, parts, answer in reader.exports:
+        given = [python_part(part, False) for part in parts]
+        line = f'    "{name}": ({PYTHON_NUMBERS.get(answer)}, [{", ".join(given)}]),\n'
+        rows = "".join(f"            {one},\n" for one in given)
+        out.append(line if len(line) <= WIDTH else
+                   f'    "{name}": (\n        {PYTHON_NUMBERS.get(answer)},\n        [\n{rows}        ],\n    ),\n')
+    return "".join(out) + "}\n\n\n"
+
+
+def python_page(reader, page):
+    """The module with its marked part written again."""
+    text = page.read_text(encoding="utf-8")
+    start, end = (text.find(mark) for mark in PYTHON_MARKS)
+    if not 0 < start < end:
+        sys.exit(f"{page}: the marks of the written part are not there")
+    return text[:start] + PYTHON_MARKS[0] + python_block(reader) + text[end:]
+
+
+def c_page(reader, page):
+    return c_header(reader)
+
+
+def rust_page(reader, page):
+    return rust_block(reader)
+
+
+PAGES = {"c": ("bindings/c/fe2o3_sasl.h", c_page), "rust": ("bindings/rust/src/sys.rs", rust_page),
+         "python": ("bindings/python/fe2o3_sasl.py", python_page)}
+
+
+def first_difference(page, wanted):
+    """The first line of a page that is not as wanted, as a text, or None."""
+    written = page.read_text(encoding="utf-8") if page.exists() else ""
+    for at, (old, new) in enumerate(zip_longest(written.split("\n"), wanted.split("\n")), 1):
+        if old != new:
+            return f"{page.relative_to(ROOT)}:{at}: stale: is {old!r}, and has to be {new!r}: make header"
+    return None
+
+
+def main():
+    words = argparse.ArgumentParser(description=__doc__.splitlines()[0])
+    words.add_argument("what", choices=["write", "check"])
+    words.add_argument("languages", nargs="*", choices=[*PAGES, []], metavar="LANGUAGE", help=", ".join(PAGES))
+    words.add_argument("--sources", type=Path, default=ROOT / "crates/sasl_c/src", help="a folder of .rt files")
+    words = words.parse_args()
+    reader, stale = Reader(words.sources), []
+    for language in words.languages or PAGES:
+        page, text_of = ROOT / PAGES[language][0], PAGES[language][1]
+        wanted = text_of(reader, page)
+        if words.what == "write":
+            page.write_text(wanted, encoding="utf-8")
+        elif fault := first_difference(page, wanted):
+            stale.append(fault)
+    if stale:
+        sys.exit("\n".join(stale))
+    if words.what == "check":
+        print("header: the declarations are as the sources write them")
+
+
+if __name__ == "__main__":
+    main()

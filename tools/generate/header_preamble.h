@@ -1,0 +1,181 @@
+/* SCRAM (RFC 5802, RFC 7677) and the SASL layer of AMQP 1.0. Written by tools/generate/header.py.
+ *
+ * A call returns a status: FE2O3_OK, or why it failed. There is nothing to initialize and nothing to free. The state of
+ * an exchange is a struct that you allocate, and the library keeps nothing between calls.
+ *
+ * What you have to ensure, since no call can test it:
+ *
+ * - Each pointer is valid for as many bytes as its type, or the length after it, says, and for no more than
+ *   PTRDIFF_MAX. No pointer is null, even if its length is 0 (FE2O3_NONE is an address and the length 0), and none in a
+ *   struct: `keys` of a login by password points to a struct of zeros.
+ * - What a call writes to (`out`, its length, each struct that is not const) does not overlap its other arguments. What
+ *   a call only reads may overlap, and other threads may read it meanwhile.
+ * - A struct that a call writes to is used by one call at a time. Any thread may call, but no signal handler.
+ * - A struct is set to zeros before its first use, or to its FE2O3_.._INIT if it has pointers. All zeros is a client
+ *   that has sent nothing, a server without an open challenge, a connection that has received nothing, or no keys.
+ * - malloc, realloc and free are those of C, and there is enough stack.
+ *
+ * Numbers, bytes, and lengths inside structs may have any value. So any bit pattern of a struct without pointers is
+ * legal, even one that the library never wrote, or wrote for another login: every call defines its result, and none
+ * harms memory. But anyone who can write to a client's struct can write there that the server is authenticated.
+ *
+ * What the calls promise:
+ *
+ * - A call that fails changes nothing, except that with FE2O3_ROOM_TOO_SMALL `out_len` says how many bytes suffice.
+ * - A call that succeeds writes its text to the beginning of `out`, and the text's length to `out_len`. The rest of `out`
+ *   stays as it was. There is no zero at the end of the text.
+ * - Each call returns, never aborts, and keeps no pointer. It allocates by malloc and frees all of it. If an allocation
+ *   fails it returns FE2O3_OUT_OF_MEMORY.
+ *
+ * What they do not promise: secrets are not wiped, neither from freed memory nor from the stack. Records, keys, and the
+ * structs of clients that have answered hold secrets; wiping them is up to you. Comparisons are not guaranteed to take
+ * constant time. The library has no random numbers: you pass 32 fresh random bytes for each nonce. */
+#ifndef FE2O3_SASL_H
+#define FE2O3_SASL_H
+
+#include <stddef.h>
+#include <stdint.h>
+
+#ifdef __cplusplus
+extern "C" {
+#endif
+
+/* An empty text: a pointer and its length, as two arguments or in an initializer of a struct. */
+#define FE2O3_NONE (const uint8_t *)"", 0
+
+/* The hash of a SCRAM mechanism, of a record, and of keys. */
+enum fe2o3_scram_version {
+    /* SCRAM-SHA-1. */
+    FE2O3_SHA_1 = 1,
+    /* SCRAM-SHA-256. */
+    FE2O3_SHA_256 = 256,
+    /* SCRAM-SHA-512. */
+    FE2O3_SHA_512 = 512
+};
+
+/* The mechanism of a client on a connection. */
+enum fe2o3_mechanism {
+    /* SCRAM with the hash of the login. */
+    FE2O3_SCRAM = 0,
+    /* PLAIN (RFC 4616). */
+    FE2O3_PLAIN = 1,
+    /* ANONYMOUS (RFC 4505). */
+    FE2O3_ANONYMOUS = 2,
+    /* EXTERNAL (RFC 4422, appendix A). */
+    FE2O3_EXTERNAL = 3
+};
+
+/* What a client logs in with. */
+enum fe2o3_secret {
+    /* The typed password, which has to be printable ASCII. */
+    FE2O3_BY_PASSWORD = 0,
+    /* The keys. */
+    FE2O3_BY_KEYS = 1,
+    /* The keys if they are of the server's salt and iteration count, otherwise the typed password. */
+    FE2O3_BY_PASSWORD_AND_KEYS = 2,
+    /* The prepared password (fe2o3_saslprep). */
+    FE2O3_BY_PREPARED = 3,
+    /* The keys if they are of the server's salt and iteration count, otherwise the prepared password. */
+    FE2O3_BY_PREPARED_AND_KEYS = 4
+};
+
+/* What fe2o3_saslprep does with code points that Unicode 3.2 does not assign. */
+enum fe2o3_unassigned {
+    /* Rejects unassigned code points: the call returns FE2O3_UNASSIGNED_CODE_POINT. */
+    FE2O3_UNASSIGNED_REFUSED = 0,
+    /* Allows unassigned code points, and leaves them unchanged. */
+    FE2O3_UNASSIGNED_ALLOWED = 1
+};
+
+/* What a server offers: a sum of these values. */
+enum fe2o3_offer {
+    /* SCRAM with the hash of the configuration. */
+    FE2O3_OFFER_SCRAM = 1,
+    /* PLAIN, which sends the password in clear. */
+    FE2O3_OFFER_PLAIN = 2,
+    /* ANONYMOUS. */
+    FE2O3_OFFER_ANONYMOUS = 4,
+    /* EXTERNAL, if `external_authcid` is not empty. */
+    FE2O3_OFFER_EXTERNAL = 8,
+    /* No mechanism: SCRAM also accepts the GS2 header `y,,`, like fe2o3_scram_server_first_with_cbind_flag_y. */
+    FE2O3_ACCEPT_CBIND_FLAG_Y = 16
+};
+
+/* How far a login on a connection is. */
+enum fe2o3_progress {
+    /* The login goes on: the other side has to send more. */
+    FE2O3_IN_PROGRESS = 0,
+    /* The login is complete. */
+    FE2O3_AUTHENTICATED = 1,
+    /* The login has failed, and you have to close the connection. */
+    FE2O3_FAILED = 2
+};
+
+/* What the other side of a connection has to send next. */
+enum fe2o3_expected {
+    /* The protocol header. */
+    FE2O3_EXPECTED_HEADER = 0,
+    /* The list of mechanisms. */
+    FE2O3_EXPECTED_MECHANISMS = 1,
+    /* The init. */
+    FE2O3_EXPECTED_INIT = 2,
+    /* The challenge, or already the outcome. */
+    FE2O3_EXPECTED_CHALLENGE = 3,
+    /* The response. */
+    FE2O3_EXPECTED_RESPONSE = 4,
+    /* The outcome. */
+    FE2O3_EXPECTED_OUTCOME = 5
+};
+
+/* How far the exchange of a SCRAM client is. Other values count as FE2O3_SCRAM_CLIENT_INITIAL. */
+enum fe2o3_scram_client_state {
+    /* The client has sent nothing. */
+    FE2O3_SCRAM_CLIENT_INITIAL = 0,
+    /* The client has sent the client-first message. */
+    FE2O3_SCRAM_CLIENT_FIRST_SENT = 1,
+    /* The client has sent the client-final message, and expects the server's signature. */
+    FE2O3_SCRAM_CLIENT_FINAL_SENT = 2,
+    /* The login is complete, and the server authenticated. */
+    FE2O3_SCRAM_CLIENT_COMPLETE = 3
+};
+
+/* How far the exchange of a SCRAM server is. Other values count as FE2O3_SCRAM_SERVER_INITIAL. A challenge is open in
+ * two of these states. */
+enum fe2o3_scram_server_state {
+    /* No challenge is open, and no user is authenticated. */
+    FE2O3_SCRAM_SERVER_INITIAL = 0,
+    /* A challenge is open, to a client whose GS2 header is `n,,`. */
+    FE2O3_SCRAM_SERVER_CHALLENGE_OPEN = 1,
+    /* The user is authenticated. */
+    FE2O3_SCRAM_SERVER_AUTHENTICATED = 2,
+    /* A challenge is open, to a client whose GS2 header is `y,,`. */
+    FE2O3_SCRAM_SERVER_CHALLENGE_OPEN_CBIND_FLAG_Y = 3
+};
+
+/* The frames of the SASL layer, by their descriptors (AMQP 1.0, part 5, section 5.3.3). */
+enum fe2o3_frame_kind {
+    /* The list of mechanisms. */
+    FE2O3_KIND_MECHANISMS = 64,
+    /* The init. */
+    FE2O3_KIND_INIT = 65,
+    /* The challenge. */
+    FE2O3_KIND_CHALLENGE = 66,
+    /* The response. */
+    FE2O3_KIND_RESPONSE = 67,
+    /* The outcome. */
+    FE2O3_KIND_OUTCOME = 68
+};
+
+/* The code of an outcome (AMQP 1.0, part 5, section 5.3.3.6). */
+enum fe2o3_sasl_code {
+    /* The login succeeded. */
+    FE2O3_CODE_OK = 0,
+    /* The credentials are wrong. */
+    FE2O3_CODE_AUTH = 1,
+    /* A system error. */
+    FE2O3_CODE_SYS = 2,
+    /* A permanent system error. */
+    FE2O3_CODE_SYS_PERM = 3,
+    /* A temporary system error. */
+    FE2O3_CODE_SYS_TEMP = 4
+};

@@ -1,0 +1,140 @@
+#!/usr/bin/env python3
+"""Plays logins of the built program `scram`: its client against its server, and each against GNU SASL's `gsasl`.
+
+    tools/program_peers.py [PROGRAM]    the program defaults to crates/scram/out/scram
+
+Each login is played with the right password and with another. `gsasl` is left out if it is not installed.
+"""
+import base64
+import os
+import re
+import shutil
+import subprocess
+import sys
+import tempfile
+from pathlib import Path
+
+TOP = Path(__file__).resolve().parent.parent
+PROGRAM = str(Path(sys.argv[1] if len(sys.argv) > 1 else TOP / "crates/scram/out/scram").resolve())
+MECHANISMS = ("SCRAM-SHA-1", "SCRAM-SHA-256", "SCRAM-SHA-512")
+USER, PASSWORD = "alice", "pencil"
+SECONDS = 20
+
+
+def scram(*words, password=""):
+    """Runs the program, and answers its status."""
+    return subprocess.run([PROGRAM, *words], input=(password + "\n").encode(), stdout=subprocess.DEVNULL,
+                          stderr=subprocess.DEVNULL, timeout=SECONDS).returncode
+
+
+def start(*command):
+    return subprocess.Popen(command, stdin=subprocess.PIPE, stdout=subprocess.PIPE, stderr=subprocess.DEVNULL,
+                            bufsize=0)
+
+
+def tell(process, data):
+    """Writes what a process reads, which may have ended."""
+    try:
+        process.stdin.write(data)
+    except BrokenPipeError:
+        pass
+
+
+def end(process, last=b""):
+    """Writes the last of what a process reads, and answers its status."""
+    tell(process, last)
+    process.stdin.close()
+    return process.wait(timeout=SECONDS)
+
+
+def text_of(line):
+    """The text in the last word of a line, which is base64, or None."""
+    words = re.findall(rb"[A-Za-z0-9+/]+=*", line)
+    try:
+        return base64.b64decode(words[-1], validate=True) if words else None
+    except ValueError:
+        return None
+
+
+def next_line(process, heads):
+    """The next line of a process whose text begins with one of these, alone and with its end; or none at its end."""
+    for line in iter(process.stdout.readline, b""):
+        text = text_of(line)
+        if text and text.startswith(heads):
+            return base64.b64encode(text) + b"\n"
+    return b""
+
+
+def carry(client, server):
+    """Carries two lines each way."""
+    for heads in ((b"n,",), (b"c=",)):
+        tell(server, next_line(client, heads))
+        answer = next_line(server, (b"r=", b"v=", b"e="))
+        if not answer:
+            return
+        tell(client, answer)
+
+
+def over_lines(mechanism, users, password):
+    """Both statuses of a login of the program with itself."""
+    client = start(PROGRAM, "client", mechanism, USER)
+    server = start(PROGRAM, "server", mechanism, users)
+    tell(client, password.encode() + b"\n")
+    carry(client, server)
+    return end(client), end(server)
+
+
+def over_bytes(mechanism, users, password):
+    """Plays a login over the bytes of AMQP, by two pipes."""
+    (from_client, to_server), (from_server, to_client) = os.pipe(), os.pipe()
+    os.write(to_client, password.encode() + b"\n")
+    client = subprocess.Popen([PROGRAM, "client", mechanism, USER, "--frames"], stdin=from_server, stdout=to_server,
+                              stderr=subprocess.DEVNULL)
+    server = subprocess.Popen([PROGRAM, "server", mechanism, users, "--frames"], stdin=from_client, stdout=to_client,
+                              stderr=subprocess.DEVNULL)
+    for end_of_pipe in (from_client, to_server, from_server, to_client):
+        os.close(end_of_pipe)
+    return client.wait(timeout=SECONDS), server.wait(timeout=SECONDS)
+
+
+def against_gsasl_server(mechanism, _users, password):
+    """Statuses of the program's client and of `gsasl` as server."""
+    client = start(PROGRAM, "client", mechanism, USER)
+    server = start("gsasl", "--server", "--quiet", "-m", mechanism, "-p", PASSWORD)
+    tell(client, password.encode() + b"\n")
+    tell(server, b"\n\n")  # no channel is bound
+    carry(client, server)
+    return end(client), end(server, b"\n")  # `gsasl` ends its exchange by an empty line
+
+
+def against_gsasl_client(mechanism, users, password):
+    """Statuses of `gsasl` as client and of the program's server."""
+    client = start("gsasl", "--client", "--quiet", "-m", mechanism, "-a", USER, "-p", password)
+    server = start(PROGRAM, "server", mechanism, users)
+    tell(client, b"\n\n")  # no channel is bound
+    carry(client, server)
+    return end(client, b"\n"), end(server)
+
+
+def main():
+    ways = [(over_lines, MECHANISMS), (over_bytes, MECHANISMS)]
+    if shutil.which("gsasl"):
+        ways += [(against_gsasl_server, MECHANISMS[:2]), (against_gsasl_client, MECHANISMS[:2])]
+    wrong = 0
+    with tempfile.TemporaryDirectory() as folder:
+        users = str(Path(folder) / "users.txt")
+        for mechanism in MECHANISMS:
+            assert scram("users", "add", users, USER, "--mechanism", mechanism, password=PASSWORD) == 0
+        assert scram("users", "check", users, USER, password=PASSWORD) == 0
+        for way, mechanisms in ways:
+            for mechanism in mechanisms:
+                right = way(mechanism, users, PASSWORD)
+                other = way(mechanism, users, "pencils")
+                holds = right == (0, 0) and 0 not in other
+                wrong += not holds
+                print(f"{way.__name__} {mechanism}: {right} {other}{'' if holds else ' WRONG'}")
+    sys.exit(1 if wrong else 0)
+
+
+if __name__ == "__main__":
+    main()
