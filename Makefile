@@ -28,7 +28,7 @@ check:
 # reject; and the tests of these tools.
 LINT = gate/refused $(patsubst tools/%.py,%,$(wildcard tools/gate/tests/*.py tools/generate/promises.py)) \
     gate/meters gate/circles gate/names gate/quoted generate/header generate/signatures
-LINT += # gate/prose gate/pages
+LINT += gate/prose gate/pages
 
 # The models that made the rows of tests: those that need a few seconds, and those that need a minute, GNU libidn
 # (Debian's package idn) or GNU SASL (gsasl).

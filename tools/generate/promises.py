@@ -1,9 +1,9 @@
 #!/usr/bin/env python3
 """Writes docs/PROMISES.md from the sources: what each public call promises, clause by clause, and the wrong bodies.
 
-    python3 tools/generate/promises.py write     writes the page
-    python3 tools/generate/promises.py check     writes nothing; ends with status 1 if the page is stale, or if a page
-                                                 for auditors has a name in backticks that no source has
+    tools/generate/promises.py write     writes the page
+    tools/generate/promises.py check     writes nothing; ends with status 1 if the page is stale, or if a page for
+                                         auditors has a name in backticks that no source has
 
 A call is a public function, a public method of a public type, a function of a public trait, or an exported function
 of the C library. Its row has the first sentence of its comment, the names of its clauses, the definitions of specs/
@@ -182,7 +182,7 @@ def wrong_bodies(crate):
 
 
 def shown(call, most, places):
-    """The clauses of a call, of the first of them with at most so many definitions for each."""
+    """The clauses of a call, of the first of them with at most that many definitions for each."""
     parts = []
     for at, (name, cites) in enumerate(call.clauses):
         words = ", ".join(f"`{word}`" for word in cites[:most if at < places else 0])
