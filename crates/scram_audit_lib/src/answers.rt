@@ -3,7 +3,7 @@
 use crate::half::{Given, text_of};
 use fe2o3_sasl::{ClientReply, ProfileError, ServerReply};
 use fe2o3_sasl_wire::{Error, SaslCode, view_frame};
-use scram_lib::stop::Stop;
+use scram_base_lib::stop::Stop;
 use std::io::{Result as Written, Write};
 
 /// What a replayed side answers to a body.

@@ -9,8 +9,8 @@ use base64::engine::general_purpose::STANDARD;
 use fe2o3_sasl::Event;
 use fe2o3_sasl_wire::{FrameView, SaslCode, view_frame};
 use fe2o3_scram::ScramVersion;
-use scram_lib::explain::Heard;
-use scram_lib::stop::Stop;
+use scram_base_lib::explain::Heard;
+use scram_base_lib::stop::Stop;
 use std::alloc::{AllocError, Global};
 use std::io::Write;
 

@@ -3,9 +3,10 @@
 ghost use Rattle.std.specs.Prelude.{◌≡◌, true, OnOk};
 ghost use Rattle.fe2o3_scram.specs.ScramClient.{is_complete};
 
-use crate::stop::Stop;
-use crate::{frames, input, keys, nonces, wire};
+use crate::{frames, keys, nonces};
 use fe2o3_scram::{CachedKeys, ClientSecret, Password, ScramClient, ScramErrorKind, ScramVersion};
+use scram_base_lib::stop::Stop;
+use scram_base_lib::{input, wire};
 use std::alloc::Global;
 use std::io::{BufRead, Write};
 use std::random::RandomSource;

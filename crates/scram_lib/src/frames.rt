@@ -7,13 +7,13 @@ ghost use Rattle.fe2o3_sasl_negotiation.specs.declared.progress.Progress.TheVari
 use crate::client::Login;
 use crate::nonces;
 use crate::server::Service;
-use crate::stop::Stop;
 use bytes::BytesMut;
 use fe2o3_sasl_negotiation::{
     AuthenticatedUser, ClientNegotiation, CloseReason, ConnectionSide, Endpoint, Meter, Progress,
     Role, SaslProfile, ServerNegotiation,
 };
 use fe2o3_scram::{OutOfMemory, ScramClient};
+use scram_base_lib::stop::Stop;
 use std::alloc::Global;
 use std::io::{BufRead, Result as Written, Write};
 use std::random::RandomSource;

@@ -1,12 +1,12 @@
 //! A file of keys: what a client keeps in place of its password, in one line of the mechanism, the iteration
 //! count, and the salt, the ClientKey and the ServerKey in base64.
 
-use crate::stop::Stop;
-use crate::store;
-use crate::store::{Change, Changed};
-use crate::wire::bytes_of;
 use base64::engine::general_purpose::STANDARD;
 use fe2o3_scram::{CachedKeys, ScramVersion};
+use scram_base_lib::stop::Stop;
+use scram_base_lib::store;
+use scram_base_lib::store::{Change, Changed};
+use scram_base_lib::wire::bytes_of;
 use std::alloc::{AllocError, Global};
 use std::rt::Files;
 

@@ -1,7 +1,7 @@
 //! Nonces: 32 random bytes, or those of the words, for tests.
 
-use crate::stop::Stop;
 use hex::FromHex;
+use scram_base_lib::stop::Stop;
 use std::random::RandomSource;
 
 /// A nonce.

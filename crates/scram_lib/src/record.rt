@@ -1,8 +1,8 @@
 //! `record`: the record of a password.
 
 use crate::nonces;
-use crate::stop::Stop;
 use fe2o3_scram::{Meter, Password, ScramRecord, ScramVersion};
+use scram_base_lib::stop::Stop;
 use std::alloc::Global;
 use std::io::Write;
 use std::random::RandomSource;

@@ -6,13 +6,14 @@ ghost use Rattle.fe2o3_scram.specs.ScramServer.{logged_in, state_in};
 pub mod mock;
 
 use crate::server::mock::Shape;
-use crate::stop::Stop;
-use crate::{frames, nonces, store, wire};
+use crate::{frames, nonces};
 use fe2o3_sasl_negotiation::AuthenticatedUser;
 use fe2o3_scram::{
     MultiRecordStore, RecordStore, ScramAuthenticator, ScramVersion, ServerScramErrorKind,
 };
 use mock_secret::secret_of;
+use scram_base_lib::stop::Stop;
+use scram_base_lib::{store, wire};
 use std::alloc::Global;
 use std::io::{BufRead, Write};
 use std::random::RandomSource;

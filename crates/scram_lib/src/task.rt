@@ -1,14 +1,16 @@
 //! What the words ask for.
 
 use crate::client::{Login, log_in};
-use crate::explain::explain;
 use crate::record::{ITERATIONS, NewRecord};
 use crate::server::{Service, serve};
-use crate::stop::Stop;
 use crate::users::{Named, add, check, list, remove};
-use crate::{input, man, record};
+use crate::{man, record};
 use clap::ArgMatches;
 use fe2o3_scram::ScramVersion;
+use scram_base_lib::audited::Audited;
+use scram_base_lib::explain::explain;
+use scram_base_lib::input;
+use scram_base_lib::stop::Stop;
 use std::io::{BufRead, Write};
 use std::random::RandomSource;
 use std::rt::Files;
@@ -28,16 +30,6 @@ pub enum Command<'a> {
 
     /// An audit of both sides of a login, which is not made here.
     Audit(Audited<'a>),
-}
-
-/// The audit that is asked for.
-#[derive(Clone, Copy)]
-pub struct Audited<'a> {
-    /// The file of the server's users.
-    pub file: &'a str,
-
-    /// The maximum iteration count that the client accepts.
-    pub max_iterations: u32,
 }
 
 /// A task of this library.

@@ -7,15 +7,13 @@ ghost use Rattle.fe2o3_scram.specs.declared.hmac.ScramVersion.TheVariants.{Sha1,
 ghost use Rattle.scram_lib.specs.private.Passwords.{IsAsked, Tells, TellsEach};
 
 pub mod changes;
-pub mod lines;
 
 use crate::record::NewRecord;
-use crate::stop::Stop;
-use crate::store;
 use crate::users::changes::{Put, Taken};
-use crate::users::lines::UserLine;
 use fe2o3_scram::{Meter, MultiRecordStore, Password, ScramCredentialProvider, ScramVersion};
-use std::alloc::Global;
+use scram_base_lib::lines::UserLine;
+use scram_base_lib::stop::Stop;
+use scram_base_lib::{lines, store};
 use std::io::Write;
 use std::random::RandomSource;
 use std::rt::Files;

@@ -2,7 +2,8 @@
 
 use crate::disk::Disk;
 use example_broker_lib::log_in;
-use scram_audit_lib::run;
+use scram_audit_lib::audit::audit;
+use scram_lib::run;
 use std::alloc::{AllocError, Global};
 use std::fs::Metadata;
 use std::io::{BufRead, BufReader, Result, Write};
@@ -121,7 +122,7 @@ fn play_on(disk: &Disk, asked: &Run, piece: usize, told: &mut String) -> Result<
         [name, words @ ..] if name.as_str() == "example_broker" => {
             serve(disk, words, &mut input, &mut output, &mut errors)?
         }
-        words => run(disk, words, &mut input, &mut output, &mut errors),
+        words => run(disk, words, &mut input, &mut output, &mut errors, audit),
     };
     if asked.is_binary {
         write!(told, "X {}\n", hex::encode(alloc, output.as_slice())?)?;

@@ -4,9 +4,9 @@ ghost use Rattle.std.specs.Prelude.{◌≡◌, ◌≤◌, IfOk, Some, option_map
 ghost use Rattle.fe2o3_scram.specs.ScramServer.{mock_in};
 
 use crate::record::{ITERATIONS, SALT_LEN};
-use crate::stop::Stop;
-use crate::users::lines::UserLine;
 use fe2o3_scram::{RecordStore, ScramAuthenticator, ScramRecord, ScramVersion};
+use scram_base_lib::lines::UserLine;
+use scram_base_lib::stop::Stop;
 use std::alloc::Global;
 
 /// The longest salt of a mock record, in bytes.

@@ -1,10 +1,10 @@
 //! Changes of a file of users. Lines that are not changed stay byte for byte.
 
-use crate::stop::Stop;
-use crate::store::{Change, Changed};
-use crate::users::lines;
-use crate::users::lines::UserLine;
 use fe2o3_scram::ScramVersion;
+use scram_base_lib::lines;
+use scram_base_lib::lines::UserLine;
+use scram_base_lib::stop::Stop;
+use scram_base_lib::store::{Change, Changed};
 use std::alloc::Global;
 
 /// A line that replaces the first with its name and mechanism, or is added after all.

@@ -1,7 +1,7 @@
 //! What stops the program before its end.
 
 ghost use Rattle.std.specs.Prelude.{◌≡◌, ◌≤◌};
-ghost use Rattle.scram_lib.specs.Stop.{status_of};
+ghost use Rattle.scram_base_lib.specs.Stop.{status_of};
 
 use fe2o3_sasl_negotiation::CloseReason;
 use fe2o3_scram::{
