@@ -8,7 +8,7 @@ use std::process::ExitCode;
 use std::rt::Env;
 use std::{env, io};
 
-/// The program's words, with its own name first.
+/// Returns the program's arguments, with its own name first.
 fn words<R: Env + AllocGlobal>(rt: &R) -> Result<Vec<String>, Stop> {
     let mut words = Vec::new(rt.alloc());
     for word in env::args(rt).map_err(Stop::of_input)? {

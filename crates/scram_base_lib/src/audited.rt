@@ -1,6 +1,6 @@
-//! The audit that the words ask for.
+//! The arguments of an audit.
 
-/// An audit of both sides of a login.
+/// The arguments of an audit of both sides of a login.
 #[derive(Clone, Copy)]
 pub struct Audited<'a> {
     /// The file of the server's users.

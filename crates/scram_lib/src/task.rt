@@ -1,4 +1,4 @@
-//! What the words ask for.
+//! The task that the arguments ask for.
 
 use crate::client::{Login, log_in};
 use crate::record::{ITERATIONS, NewRecord};
@@ -22,13 +22,13 @@ pub struct Streams<'a, I, O> {
     pub output: &'a mut O,
 }
 
-/// What the words ask for.
+/// The command that the arguments ask for.
 #[derive(Clone, Copy)]
 pub enum Command<'a> {
     /// A task of this library.
     Task(Task<'a>),
 
-    /// An audit of both sides of a login, which is not made here.
+    /// An audit of both sides of a login, which the caller does.
     Audit(Audited<'a>),
 }
 
@@ -56,15 +56,15 @@ pub enum Task<'a> {
     /// Serves a login.
     Server(Service<'a>),
 
-    /// Tells what messages say: those of bodies of frames, or texts.
+    /// Explains messages. The flag says that the lines are frame bodies.
     Explain(bool),
 
-    /// Prints the page of the manual.
+    /// Prints the manual page.
     Man,
 }
 
 impl<'a> Command<'a> {
-    /// Reads what a parse found.
+    /// Returns the command of the parsed arguments.
     pub fn of(matches: &ArgMatches<'a>) -> Command<'a> {
         match matches.subcommand() {
             Some(("explain", found)) => Command::of_explain(found),
@@ -72,7 +72,7 @@ impl<'a> Command<'a> {
         }
     }
 
-    /// Reads what a parse found after `explain`.
+    /// Returns the command of the parsed arguments of `explain`.
     fn of_explain(matches: &ArgMatches<'a>) -> Command<'a> {
         match matches.get_str("audit") {
             Some(file) => Command::Audit(Audited {
@@ -85,7 +85,7 @@ impl<'a> Command<'a> {
 }
 
 impl<'a> Task<'a> {
-    /// Reads what a parse found, other than `explain`.
+    /// Returns the task of the parsed arguments. They are not those of `explain`.
     fn of(matches: &ArgMatches<'a>) -> Task<'a> {
         match matches.subcommand() {
             Some(("users", found)) => Task::of_users(found),
@@ -97,7 +97,7 @@ impl<'a> Task<'a> {
         }
     }
 
-    /// Reads what a parse found after `users`.
+    /// Returns the task of the parsed arguments of `users`.
     fn of_users(matches: &ArgMatches<'a>) -> Task<'a> {
         match matches.subcommand() {
             Some(("add", found)) => Task::Add(named(found), new_record(found)),
@@ -108,7 +108,7 @@ impl<'a> Task<'a> {
         }
     }
 
-    /// Does it.
+    /// Does the task.
     pub fn run<R, I, O>(&self, rt: &R, streams: &mut Streams<'_, I, O>) -> Result<(), Stop>
     where
         R: Files + RandomSource + AllocGlobal,
@@ -139,7 +139,7 @@ impl<'a> Task<'a> {
     }
 }
 
-/// The login that the words describe.
+/// Returns the arguments of `client`.
 fn login<'a>(matches: &ArgMatches<'a>) -> Login<'a> {
     Login {
         version: version_of(matches, "M").unwrap_or(ScramVersion::Sha256),
@@ -152,14 +152,14 @@ fn login<'a>(matches: &ArgMatches<'a>) -> Login<'a> {
     }
 }
 
-/// The maximum iteration count that the words name, or the default.
+/// Returns the maximum iteration count, or its default.
 fn max_iterations(matches: &ArgMatches<'_>) -> u32 {
     matches
         .get_one::<u32>("max-iterations")
         .unwrap_or(1_000_000)
 }
 
-/// The server that the words describe.
+/// Returns the arguments of `server`.
 fn service<'a>(matches: &ArgMatches<'a>) -> Service<'a> {
     Service {
         version: version_of(matches, "M").unwrap_or(ScramVersion::Sha256),
@@ -170,7 +170,7 @@ fn service<'a>(matches: &ArgMatches<'a>) -> Service<'a> {
     }
 }
 
-/// The record that the words describe.
+/// Returns the arguments of a new record.
 fn new_record<'a>(matches: &ArgMatches<'a>) -> NewRecord<'a> {
     NewRecord {
         version: version_of(matches, "mechanism").unwrap_or(ScramVersion::Sha256),
@@ -179,7 +179,7 @@ fn new_record<'a>(matches: &ArgMatches<'a>) -> NewRecord<'a> {
     }
 }
 
-/// The file and the name that the words have, and the mechanism, if any.
+/// Returns the file, the user name and the mechanism, if any.
 fn named<'a>(matches: &ArgMatches<'a>) -> Named<'a> {
     Named {
         file: text(matches, "FILE"),
@@ -188,12 +188,12 @@ fn named<'a>(matches: &ArgMatches<'a>) -> Named<'a> {
     }
 }
 
-/// The mechanism that the words name, if any.
+/// Returns the version of a mechanism argument, if any.
 fn version_of(matches: &ArgMatches<'_>, id: &str) -> Option<ScramVersion> {
     ScramVersion::from_mechanism(matches.get_str(id)?)
 }
 
-/// The text of an argument that a parse always finds.
+/// Returns the text of a required argument.
 fn text<'a>(matches: &ArgMatches<'a>, id: &str) -> &'a str {
     matches.get_str(id).unwrap_or("")
 }
