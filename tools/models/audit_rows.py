@@ -67,8 +67,8 @@ class Login:
         said = f"and both agree on {self.mechanism}, the user {quoted(self.user)}"
         nonce = quoted(self.client_nonce)
         if not all_of:
-            return f"{said} and the client's nonce {nonce}, and on no more"
-        return (f"{said}, the client's nonce {nonce}, the nonce of both {quoted(self.nonce)}, the salt "
+            return f"{said} and the client nonce {nonce}, and on nothing else"
+        return (f"{said}, the client nonce {nonce}, the full nonce {quoted(self.nonce)}, the salt "
                 f"{self.salt.hex()} and {self.count} iterations")
 
 
@@ -80,26 +80,26 @@ def explained(data):
     """What is told of a body (AMQP 1.0, part 5, section 5.3.3; RFC 5802, section 7)."""
     kind, fields = model.read(data)
     if kind == "Mechanisms":
-        return ["sasl-mechanisms: offered are " + " ".join(it.decode() for it in fields[0])]
+        return ["sasl-mechanisms: offers " + " ".join(it.decode() for it in fields[0])]
     if kind == "Init":
         name, text, host = fields
-        of_host = f", of the host {quoted(host)}" if host is not None else ""
+        hostname = f", hostname {quoted(host)}" if host is not None else ""
         user, nonce = model.unescaped(attribute(text[3:], 0)), attribute(text[3:], 1)
-        return [f"sasl-init: {name.decode()} is asked for{of_host}",
-                f"client-first: the user {quoted(user)} asks, with the nonce {quoted(nonce)}"]
+        return [f"sasl-init: mechanism {name.decode()}{hostname}",
+                f"client-first: user {quoted(user)}, nonce {quoted(nonce)}"]
     if kind == "Challenge":
         text = fields[0]
         nonce, salt, count = (attribute(text, place) for place in range(3))
-        return [f"sasl-challenge: a text of {len(text)} bytes",
-                f"server-first: {count.decode()} iterations over the salt {base64.b64decode(salt).hex()}, "
-                f"with the nonce {quoted(nonce)}"]
+        return [f"sasl-challenge: {len(text)} bytes",
+                f"server-first: salt {base64.b64decode(salt).hex()}, {count.decode()} iterations, "
+                f"nonce {quoted(nonce)}"]
     if kind == "Response":
         proof = base64.b64decode(fields[0].rsplit(b",p=", 1)[1])
-        return [f"sasl-response: a text of {len(fields[0])} bytes",
-                f"client-final: the proof {proof.hex()}, with the same nonce"]
+        return [f"sasl-response: {len(fields[0])} bytes",
+                f"client-final: proof {proof.hex()}, same nonce"]
     told = [f"sasl-outcome: {model.CODES[fields[0]]}"]
     if fields[1] is not None:
-        told.append(f"server-final: the server's signature {base64.b64decode(fields[1][2:]).hex()}")
+        told.append(f"server-final: signature {base64.b64decode(fields[1][2:]).hex()}")
     return told
 
 
@@ -146,8 +146,8 @@ UNFIT = "The bodies cannot be audited: "
 NONCES = UNFIT + "a nonce is not the base64 of 32 bytes."
 NONE = "the two sides have no login in common"
 NO_CLIENT, NO_SERVER = "the server accepts no client", "the client authenticates no server"
-OTHER_CLIENT = "line %d: the client does not answer as by this password"
-OTHER_SERVER = "line %d: the server does not answer as by these records"
+OTHER_CLIENT = "line %d: the client's answer does not match this password"
+OTHER_SERVER = "line %d: the server's answer does not match these records"
 
 
 def logins():
@@ -243,16 +243,16 @@ def others():
     yield row("The client's bodies alone.", users, apart(alice.bodies, []), [
         "line 6: the client authenticates the server", NO_CLIENT, NONE], NOTHING, 3)
     bob = Login(user=b"bob", count=1)
-    yield row("A user without a record.", users, apart(bob.bodies, bob.bodies), [], "The client's user is unknown.", 3)
+    yield row("A user without a record.", users, apart(bob.bodies, bob.bodies), [], "The user is unknown.", 3)
     yield row("A record for another mechanism.", [Login("SCRAM-SHA-512", count=1).line()],
-              apart(alice.bodies, alice.bodies), [], "The client's user is unknown.", 3)
+              apart(alice.bodies, alice.bodies), [], "The user is unknown.", 3)
     nonce = body("Challenge", b"r=x" + model.read(alice.challenge)[1][0][2:])
     yield row("A challenge that the client refuses.", users, apart(alice.bodies[:2], []), [],
-              "A message is refused.", 3,
-              last=(("client", nonce), [f"client: sasl-challenge: a text of {len(model.read(nonce)[1][0])} bytes",
-                                        "client: server-first: refused: Server Nonce should start with client Nonce"]))
-    yield row("A body that is no frame.", users, [], [], "A message is refused.", 3,
-              last=(("server", "0201000000534440"), ["server: frame: refused: Decode Error"]))
+              "A message is rejected.", 3,
+              last=(("client", nonce), [f"client: sasl-challenge: {len(model.read(nonce)[1][0])} bytes",
+                                        "client: server-first: rejected: Server Nonce should start with client Nonce"]))
+    yield row("A body that is no frame.", users, [], [], "A message is rejected.", 3,
+              last=(("server", "0201000000534440"), ["server: frame: rejected: Decode Error"]))
 
 
 def peers():
@@ -289,21 +289,21 @@ def unfit():
     yield row("A server's nonce of 31 bytes.", users, apart(other.bodies[:2], other.bodies[1:3]), [], NONCES, 4)
     plain = body("Init", b"SCRAM-SHA-384", model.read(alice.init)[1][1], None)
     yield row("A mechanism that has no records.", users, apart([alice.offer, plain], []), [],
-              UNFIT + "the client asks for no login by SCRAM.", 4)
+              UNFIT + "the client starts no SCRAM login.", 4)
     yield row("The server's bodies alone.", users, apart([], alice.bodies), [],
-              UNFIT + "the client asks for no login by SCRAM.", 4)
-    yield row("No bodies.", users, [], [], UNFIT + "the client asks for no login by SCRAM.", 4)
+              UNFIT + "the client starts no SCRAM login.", 4)
+    yield row("No bodies.", users, [], [], UNFIT + "the client starts no SCRAM login.", 4)
     bob = Login(user=b"bob", count=1)
     yield row("Logins of two users.", users, apart(alice.bodies[:2] + bob.bodies[:2], []), [],
-              UNFIT + "the client asks for two users or by two mechanisms.", 4)
+              UNFIT + "the client logs in as two users or with two mechanisms.", 4)
     sha1 = Login("SCRAM-SHA-1", count=1)
     yield row("Logins by two mechanisms.", users, apart(alice.bodies[:2] + sha1.bodies[:2], []), [],
-              UNFIT + "the client asks for two users or by two mechanisms.", 4)
+              UNFIT + "the client logs in as two users or with two mechanisms.", 4)
     no_side = "A line of standard input does not begin with client or server and a space."
     yield row("A line of no side.", users, apart([alice.offer], []), [], no_side, 4, last=(("", alice.offer), []))
     yield row("A side without a body.", users, [], [], no_side, 4, last=(("client", ""), []))
     yield row("A body that is not hexadecimal.", users, [], [],
-              "A line of standard input is not hexadecimal digits.", 4, last=(("server", "0"), []))
+              "A line of standard input is not in hexadecimal.", 4, last=(("server", "0"), []))
     yield row("No password.", users, [], [], "There is no password on the first line of standard input.", 4,
               password=None)
     yield row("A password that is not printable ASCII.", users, [], [], "The password is not printable ASCII.", 4,

@@ -1,6 +1,6 @@
-//! The secret of mock authentication: 32 random bytes in a file beside the records, by which servers answer unknown
-//! users as known ones. It outlives each server: with another one an unknown user's salt changes, and a known one's
-//! does not.
+//! The secret of mock authentication: 32 random bytes in a file beside the records, with which servers answer unknown
+//! users like known ones. The file outlives each server: a new secret changes the salts of unknown users, and known
+//! users keep theirs.
 #![tactic(auto)]
 
 ghost use Rattle.std.specs.Prelude.{◌≡◌, ◌++◌, IfOk, MatchResult, codes, length, string_bytes};
@@ -15,43 +15,43 @@ use std::random::RandomSource;
 use std::rt::Files;
 use thiserror::Error;
 
-/// How many bytes a secret has.
+/// The length of a secret, in bytes.
 const LEN: usize = 32;
 
-/// Why there is no secret.
+/// Why the secret cannot be used.
 #[derive(Debug, Clone, Copy, PartialEq, Eq, Error)]
 pub enum SecretError {
     /// The file is a folder, a pipe or a device.
     #[error("it is not a regular file")]
     NotRegular,
 
-    /// The file's mode gives its group or others a right.
-    #[error("its mode lets others than its owner use it")]
+    /// The file's mode gives access to its group or to others.
+    #[error("its mode gives access to its group or to others")]
     NotPrivate,
 
     /// The file is shorter or longer than a secret.
     #[error("it does not have exactly 32 bytes")]
     WrongLength,
 
-    /// The file is not read.
+    /// The file cannot be read.
     #[error("it cannot be read: {0}")]
     Unreadable(ErrorKind),
 
-    /// The file is not there, and is not made.
+    /// There is no file, and it cannot be made.
     #[error("it cannot be made: {0}")]
     Unwritten(ErrorKind),
 
-    /// The file is not there, and no random bytes came for it.
-    #[error("it cannot be made, since the system has no random bytes: {0}")]
+    /// There is no file, and the system did not return random bytes.
+    #[error("it cannot be made: the system did not return random bytes: {0}")]
     Random(ErrorKind),
 
-    /// A request for memory was refused.
-    #[error("there is not enough memory")]
+    /// Out of memory.
+    #[error("out of memory")]
     OutOfMemory,
 }
 
 impl SecretError {
-    /// Why a file is not read.
+    /// Converts the error of a read.
     fn of_reading(error: Error) -> SecretError {
         match error.kind() {
             ErrorKind::OutOfMemory => SecretError::OutOfMemory,
@@ -59,12 +59,12 @@ impl SecretError {
         }
     }
 
-    /// Why a file is not made.
+    /// Converts the error of a write.
     fn of_writing(error: Error) -> SecretError {
         SecretError::Unwritten(error.kind())
     }
 
-    /// Why there are no random bytes.
+    /// Converts the error of the random source.
     fn of_random(error: Error) -> SecretError {
         SecretError::Random(error.kind())
     }
@@ -76,7 +76,7 @@ impl From<AllocError> for SecretError {
     }
 }
 
-/// The name of the file of the secret: that of the records with `.secret` after it.
+/// Returns the name of the secret's file: the name of the records' file with `.secret` at its end.
 pub fn file_of(alloc: Global, records: &str) -> Result<String, AllocError>
     ensures { IfOk result (λ file. string_bytes file ≡ records.now ++ codes ".secret") }
 {
@@ -85,8 +85,8 @@ pub fn file_of(alloc: Global, records: &str) -> Result<String, AllocError>
     Ok(file)
 }
 
-/// Reads the secret of a file of records. Where there is none yet, makes it, for its owner only (mode 0600). Processes
-/// that begin at once get one secret.
+/// Reads the secret of a file of records. If there is none yet, makes it with mode 0600. Processes that start at the
+/// same time get the same secret.
 pub fn secret_of<R: Files + RandomSource + AllocGlobal>(
     rt: &R,
     records: &str,
@@ -107,7 +107,7 @@ pub fn secret_of<R: Files + RandomSource + AllocGlobal>(
 fn read<R: Files + AllocGlobal>(rt: &R, file: &str) -> Result<Vec<u8>, SecretError>
     ensures { IfOk result (λ secret. length secret.items ≡ 32) }
 {
-    // This comes first because opening a pipe would wait for its other end.
+    // This test is first because opening a pipe would wait for its other end.
     let metadata = fs::metadata(rt, file).map_err(SecretError::of_reading)?;
     if !metadata.is_file() {
         return Err(SecretError::NotRegular);
@@ -131,7 +131,7 @@ fn read_open<F: Read + OpenFile>(alloc: Global, open: &mut F) -> Result<Vec<u8>,
     Ok(secret)
 }
 
-/// Tests, in this order, that a file is a regular one, that its mode gives its group and others nothing, and that it
+/// Checks, in this order, that a file is regular, that its mode gives no access to its group and to others, and that it
 /// has 32 bytes.
 pub fn test(is_regular: bool, mode: u32, len: usize) -> Result<(), SecretError>
     ensures { MatchResult result (λ _. HoldsSecret is_regular mode len)
@@ -149,8 +149,8 @@ pub fn test(is_regular: bool, mode: u32, len: usize) -> Result<(), SecretError>
     Ok(())
 }
 
-/// Makes the file of a secret, unless another process is first: the secret is written whole under a name that no other
-/// process has, and that file then gets the other name too, which never replaces a file.
+/// Makes the file of a secret, unless another process is faster. Writes the secret under a name that no other process
+/// uses, and then gives that file its second name, which never replaces a file.
 fn make<R: Files + RandomSource + AllocGlobal>(rt: &R, file: &str) -> Result<(), SecretError> {
     let beside = name_beside(rt, file)?;
     let mut new = create(rt, &beside)?;
@@ -160,12 +160,12 @@ fn make<R: Files + RandomSource + AllocGlobal>(rt: &R, file: &str) -> Result<(),
         Ok(()) => link(rt, &beside, file),
         Err(error) => Err(error),
     };
-    // What is left of it where this fails is a second name of the secret, or an unused file.
+    // If this fails, a second name of the secret or an unused file is left.
     let _ = fs::remove_file(rt, beside.as_str());
     linked
 }
 
-/// The name of a new file: that of the secret's file, with random digits after it.
+/// Returns the name of a new file: that of the secret's file, with random digits at its end.
 fn name_beside<R: RandomSource + AllocGlobal>(rt: &R, file: &str) -> Result<String, SecretError> {
     let mut bytes = [0; 8];
     rt.fill_bytes(&mut bytes).map_err(SecretError::of_random)?;
@@ -173,14 +173,14 @@ fn name_beside<R: RandomSource + AllocGlobal>(rt: &R, file: &str) -> Result<Stri
     Ok(format!(in rt.alloc(); "{file}.{digits:016x}")?)
 }
 
-/// Creates a file that was not there, for its owner only.
+/// Creates a new file that only its owner can read and write.
 fn create<R: Files>(rt: &R, beside: &str) -> Result<R::File, SecretError> {
     let mut options = OpenOptions::new();
     options.write(true).create_new(true).mode(0o600);
     options.open(rt, beside).map_err(SecretError::of_writing)
 }
 
-/// Writes a secret into a new file, to the disk.
+/// Writes a secret to a new file, and syncs it to the disk.
 fn fill<R: RandomSource, F: Write + OpenFile>(rt: &R, new: &mut F) -> Result<(), SecretError> {
     let mut secret = [0; LEN];
     rt.fill_bytes(&mut secret).map_err(SecretError::of_random)?;

@@ -1,4 +1,4 @@
-//! The program `sasl_lab`: `sasl_lab_lib` over the words and the streams that it is given.
+//! The program `sasl_lab`: `sasl_lab_lib` over the process's arguments and streams.
 #![tactic(auto)]
 
 use sasl_lab_lib::stop::Stop;
@@ -6,7 +6,7 @@ use std::process::ExitCode;
 use std::rt::Env;
 use std::{env, io};
 
-/// The program's words, after its own name.
+/// Returns the program's arguments, without its own name.
 fn words<R: Env + AllocGlobal>(rt: &R) -> Result<Vec<String>, Stop> {
     let mut words = Vec::new(rt.alloc());
     for word in env::args(rt).map_err(Stop::of_reading)?.skip(1) {

@@ -1,5 +1,5 @@
-//! `audit VERSION USER PASSWORD SALT-HEX`: what the two transcripts of the input say of the client and
-//! the server of these words.
+//! `audit VERSION USER PASSWORD SALT-HEX`: what a client and a server agree on, by the two transcripts
+//! of the input.
 
 use crate::digits::{bytes_of, digits_of};
 use crate::stop::Stop;
@@ -9,7 +9,7 @@ use fe2o3_sasl::{ScramVersion, SingleScramCredential};
 use std::alloc::{AllocError, Global};
 use std::io::{Read, Write};
 
-/// The words behind `audit`.
+/// The arguments of `audit`.
 #[derive(Drop)]
 pub struct Audit<'a> {
     version: ScramVersion,
@@ -19,7 +19,7 @@ pub struct Audit<'a> {
 }
 
 impl<'a> Audit<'a> {
-    /// Reads the words. The salt is 64 hexadecimal digits.
+    /// Parses the arguments. The salt is 64 hexadecimal digits.
     pub fn from_words(words: &'a [String]) -> Option<Audit<'a>> {
         let [version, user, password, salt] = words else {
             return None;
@@ -32,7 +32,7 @@ impl<'a> Audit<'a> {
         })
     }
 
-    /// Prints each finding on a line, once the whole input is read and the audit is made.
+    /// Reads the whole input, audits it, and prints each finding on a line.
     pub fn run<R: Read, W: Write>(
         &self,
         alloc: Global,
@@ -47,7 +47,7 @@ impl<'a> Audit<'a> {
         Ok(())
     }
 
-    /// What the transcripts say of the user's client and of a server that knows user and password.
+    /// Returns the findings of the user's client and of a server that knows user and password.
     fn findings(&self, alloc: Global, transcript: &Transcript) -> Result<Vec<Finding>, Stop> {
         let (password, version) = (self.password, self.version);
         let user = self.user.to_string(alloc)?;
@@ -65,14 +65,14 @@ impl<'a> Audit<'a> {
     }
 }
 
-/// The transcript that the whole input spells.
+/// Parses the whole input as a transcript.
 fn read<R: Read>(alloc: Global, input: &mut R) -> Result<Transcript, Stop> {
     let mut text = String::new(alloc);
     input.read_to_string(&mut text).map_err(Stop::of_reading)?;
     Ok(Transcript::from_input(alloc, &text)?)
 }
 
-/// A finding as a line, without its end.
+/// Returns the line of a finding, without its line feed.
 pub fn line_of(alloc: Global, finding: &Finding) -> Result<String, AllocError> {
     let kind = match finding.kind {
         FindingKind::Verifier => "verifier",
@@ -82,7 +82,7 @@ pub fn line_of(alloc: Global, finding: &Finding) -> Result<String, AllocError> {
     format!(in alloc; "{kind} {} {} {verdict}", finding.client, finding.server)
 }
 
-/// The words of a verdict.
+/// Returns the words of a verdict.
 fn verdict_of(alloc: Global, verdict: &Verdict) -> Result<String, AllocError> {
     match verdict {
         Verdict::Agreed {
@@ -107,7 +107,7 @@ fn verdict_of(alloc: Global, verdict: &Verdict) -> Result<String, AllocError> {
     }
 }
 
-/// The words of what both sides agree on.
+/// Returns the words of what both sides agree on.
 fn agreed_of(
     alloc: Global,
     username: &str,
@@ -124,7 +124,7 @@ fn agreed_of(
     format!(in alloc; "{agreed} {}", parameters.iterations)
 }
 
-/// These words, and two more of these bytes.
+/// Adds two words of these bytes to a line.
 fn words_of(alloc: Global, words: &str, one: &[u8], two: &[u8]) -> Result<String, AllocError> {
     let (one, two) = (digits_of(alloc, one)?, digits_of(alloc, two)?);
     format!(in alloc; "{words} {one} {two}")

@@ -7,7 +7,7 @@ use fe2o3_sasl::{Meter, ScramVersion};
 use std::alloc::Global;
 use std::io::Write;
 
-/// The words behind `client-final`.
+/// The arguments of `client-final`.
 #[derive(Debug, Drop)]
 pub struct ClientFinal<'a> {
     version: ScramVersion,
@@ -16,12 +16,12 @@ pub struct ClientFinal<'a> {
     client_nonce: &'a str,
     server_first: &'a str,
 
-    /// The highest iteration count that the client accepts.
+    /// The maximum iteration count that the client accepts.
     limit: u32,
 }
 
 impl<'a> ClientFinal<'a> {
-    /// Reads the words. Without a LIMIT every count is accepted.
+    /// Parses the arguments. Without a LIMIT the client accepts every count.
     pub fn from_words(words: &'a [String]) -> Option<ClientFinal<'a>> {
         let [
             version,
@@ -71,8 +71,7 @@ impl<'a> ClientFinal<'a> {
     }
 }
 
-/// The limit that the word spells in one to ten decimal digits. `parse` alone would take a plus and
-/// more zeros.
+/// Parses a limit of one to ten decimal digits. `parse` would also accept a plus sign and more zeros.
 fn limit_of(word: &str) -> Option<u32> {
     if word.len() > 10 || word.starts_with('+') {
         return None;

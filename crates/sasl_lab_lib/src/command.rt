@@ -1,4 +1,4 @@
-//! The words of the program.
+//! The commands of the program.
 
 use crate::audit::Audit;
 use crate::client_final::ClientFinal;
@@ -7,7 +7,7 @@ use crate::stop::Stop;
 use std::alloc::Global;
 use std::io::{Read, Write};
 
-/// What the words ask for.
+/// The command that the arguments ask for.
 #[derive(Drop)]
 pub enum Command<'a> {
     /// The client's answer to a server-first message.
@@ -16,12 +16,12 @@ pub enum Command<'a> {
     /// The bodies of a login.
     Login(Login<'a>),
 
-    /// What two transcripts say of both sides.
+    /// The audit of two transcripts.
     Audit(Audit<'a>),
 }
 
 impl<'a> Command<'a> {
-    /// Reads the words, or answers `None` where they ask for nothing that the program does.
+    /// Parses the arguments, or returns `None` if they are not those of a command.
     pub fn from_words(words: &'a [String]) -> Option<Command<'a>> {
         let (first, rest) = words.split_first()?;
         match first.as_str() {
@@ -32,7 +32,7 @@ impl<'a> Command<'a> {
         }
     }
 
-    /// Does it, and prints what comes of it. Only an audit reads the input.
+    /// Runs the command, and prints its output. Only an audit reads the input.
     pub fn run<R: Read, W: Write>(
         &self,
         alloc: Global,

@@ -15,7 +15,7 @@ use crate::stop::Stop;
 use std::alloc::Global;
 use std::io::{Read, Write};
 
-/// The words that the program takes.
+/// The usage of the program.
 pub static USAGE: &str = "\
 usage: sasl_lab client-final VERSION USER PASSWORD CLIENT-NONCE SERVER-FIRST [LIMIT]
        sasl_lab login VERSION USER PASSWORD SALT-HEX CLIENT-NONCE-HEX SERVER-NONCE-HEX
@@ -29,9 +29,13 @@ SALT-HEX, and the nonces of login and audit: 64 hexadecimal digits
 status: 0 done, 1 refused, 2 wrong words or a wrong line
 ";
 
-/// Does what the words ask, and answers the status to end with: 0 where it is done, 1 where it is
-/// refused or a write fails, 2 where the words ask for nothing that the program does or a line of the
-/// input is no event. The errors are given the usage alone, and that behind `wrong words` alone.
+/// Runs the command of the arguments, and returns the exit status.
+///
+/// - 0: done.
+/// - 1: refused, or a read or a write failed.
+/// - 2: the arguments are not those of a command, or a line of the input is not an event.
+///
+/// `errors` gets only the usage, and only after `wrong words`.
 pub fn run<R: Read, W: Write, E: Write>(
     alloc: Global,
     words: &[String],
@@ -48,13 +52,13 @@ pub fn run<R: Read, W: Write, E: Write>(
     }
 }
 
-/// Prints `wrong words`, and then tells the usage. After a failed write it tells nothing.
+/// Prints `wrong words`, and then the usage to the errors. After a failed write there is no usage.
 fn refuse_words<W: Write, E: Write>(output: &mut W, errors: &mut E) -> u8 {
     let stop = Stop::WrongWords;
     if stop.print(output).is_err() {
         return Stop::Output.status();
     }
-    // The words are refused already, whether or not the usage can be written.
+    // The status is the same whether or not the usage can be written.
     let _ = errors.write_all(USAGE.as_bytes());
     stop.status()
 }

@@ -1,5 +1,5 @@
 //! `login VERSION USER PASSWORD SALT-HEX CLIENT-NONCE-HEX SERVER-NONCE-HEX`: each body of a login, in
-//! which both sides are given what the other one sent.
+//! which each side receives what the other one sent.
 
 use crate::digits::bytes_of;
 use crate::stop::Stop;
@@ -20,7 +20,7 @@ struct Sides {
     client: SaslProfile,
 }
 
-/// The words behind `login`.
+/// The arguments of `login`.
 #[derive(Drop)]
 pub struct Login<'a> {
     version: ScramVersion,
@@ -32,7 +32,7 @@ pub struct Login<'a> {
 }
 
 impl<'a> Login<'a> {
-    /// Reads the words. The salt and the nonces are 64 hexadecimal digits each.
+    /// Parses the arguments. The salt and the nonces are 64 hexadecimal digits each.
     pub fn from_words(words: &'a [String]) -> Option<Login<'a>> {
         let [version, user, password, salt, client_nonce, server_nonce] = words else {
             return None;
@@ -47,19 +47,19 @@ impl<'a> Login<'a> {
         })
     }
 
-    /// Prints each body on a line, as it is made.
+    /// Runs the login, and prints each body on a line.
     pub fn run<W: Write>(&self, alloc: Global, output: &mut W) -> Result<(), Stop> {
         self.play(alloc, &mut self.sides(alloc)?, output)
     }
 
-    /// Both sides, before the login.
+    /// Returns both sides, before the login.
     fn sides(&self, alloc: Global) -> Result<Sides, Stop> {
         let server = self.server(alloc)?;
         let client = self.client(alloc)?;
         Ok(Sides { server, client })
     }
 
-    /// Plays the login to its end.
+    /// Runs the login to its end.
     fn play<W: Write>(&self, alloc: Global, sides: &mut Sides, output: &mut W) -> Result<(), Stop> {
         let mechanisms = offer(alloc, &sides.server, output)?;
         let challenge = self.round(alloc, sides, mechanisms, output)?;
@@ -67,7 +67,7 @@ impl<'a> Login<'a> {
         self.report(alloc, &mut sides.client, outcome)
     }
 
-    /// Hands a body to the client and its answer to the server, and gives the server's answer.
+    /// Passes a body to the client and its answer to the server, and returns the server's answer.
     fn round<W: Write>(
         &self,
         alloc: Global,
@@ -79,7 +79,7 @@ impl<'a> Login<'a> {
         self.tell_server(alloc, &mut sides.server, answer, output)
     }
 
-    /// A server that knows the user and the password.
+    /// Returns a server that knows the user and the password.
     fn server(&self, alloc: Global) -> Result<ScramAuthenticator<SingleScramCredential>, Stop> {
         let user = self.user.to_string(alloc)?;
         let (password, version, salt) = (self.password, self.version, self.salt);
@@ -87,7 +87,7 @@ impl<'a> Login<'a> {
         Ok(ScramAuthenticator::new(credential))
     }
 
-    /// The user's client.
+    /// Returns the user's client.
     fn client(&self, alloc: Global) -> Result<SaslProfile, Stop> {
         let user = self.user.to_string(alloc)?;
         let password = self.password.to_string(alloc)?;
@@ -98,7 +98,7 @@ impl<'a> Login<'a> {
         })
     }
 
-    /// Hands a body to the client, and prints the body of its answer.
+    /// Passes a body to the client, and prints the body of its answer.
     fn tell_client<W: Write>(
         &self,
         alloc: Global,
@@ -116,7 +116,7 @@ impl<'a> Login<'a> {
         }
     }
 
-    /// Hands the body of the outcome to the client.
+    /// Passes the body of the outcome to the client.
     fn report(&self, alloc: Global, client: &mut SaslProfile, body: Vec<u8>) -> Result<(), Stop> {
         let nonce = self.client_nonce;
         match profile_step(alloc, client, &Event { body, nonce }, None)? {
@@ -125,7 +125,7 @@ impl<'a> Login<'a> {
         }
     }
 
-    /// Hands a body to the server, and prints the body of its answer.
+    /// Passes a body to the server, and prints the body of its answer.
     fn tell_server<W: Write>(
         &self,
         alloc: Global,
@@ -148,7 +148,7 @@ impl<'a> Login<'a> {
     }
 }
 
-/// The body of the mechanisms that the server offers, which is printed.
+/// Prints the body of the server's mechanisms, and returns it.
 fn offer<W: Write>(
     alloc: Global,
     server: &ScramAuthenticator<SingleScramCredential>,
@@ -169,7 +169,7 @@ fn print<W: Write>(alloc: Global, output: &mut W, body: &[u8]) -> Result<(), Sto
     Ok(())
 }
 
-/// Stops where the negotiation ended in another way.
+/// Returns an error if the negotiation did not end with `Ok`.
 fn ended_ok(code: SaslCode) -> Result<(), Stop> {
     match code {
         SaslCode::Ok => Ok(()),

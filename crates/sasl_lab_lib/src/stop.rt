@@ -1,4 +1,4 @@
-//! What stops the program before its end.
+//! Why the program stops early.
 
 use crate::transcript::TranscriptError;
 use fe2o3_sasl::audit::AuditError;
@@ -11,31 +11,31 @@ use std::io::Write;
 /// Why the program stops.
 #[derive(Debug, Clone, Copy)]
 pub enum Stop {
-    /// The words ask for nothing that the program does.
+    /// The arguments are not those of a command.
     WrongWords,
 
-    /// This line of the input, counted from 1, is no event.
+    /// This line of the input, counted from 1, is not an event.
     WrongLine(usize),
 
-    /// The words or the input could not be read.
+    /// The arguments or the input could not be read.
     Input,
 
-    /// The client refused a SCRAM message.
+    /// The client rejected a SCRAM message.
     Scram(ScramErrorKind),
 
-    /// The keys of a client were of another salt or iteration count than the server named.
+    /// The keys of a client are stale: the server sent another salt or iteration count.
     StaleKeys,
 
-    /// The server refused a password.
+    /// The server rejected a password.
     Server(ServerScramErrorKind),
 
     /// A frame was not read, not written, or not implemented.
     Frame(Error),
 
-    /// The negotiation ended otherwise than by Ok.
+    /// The negotiation did not end with `Ok`.
     Outcome(SaslCode),
 
-    /// A request for memory was refused.
+    /// Out of memory.
     OutOfMemory,
 
     /// A write failed.
@@ -43,7 +43,7 @@ pub enum Stop {
 }
 
 impl Stop {
-    /// Why the program's words, or its input, could not be read.
+    /// Converts the error of a read of the arguments or of the input.
     pub fn of_reading(error: io::Error) -> Stop {
         match error.kind() {
             io::ErrorKind::OutOfMemory => Stop::OutOfMemory,
@@ -51,7 +51,7 @@ impl Stop {
         }
     }
 
-    /// Prints the last line, and answers the status to end with.
+    /// Prints the last line, and returns the exit status.
     pub fn end<W: Write>(&self, output: &mut W) -> u8 {
         match self.print(output) {
             Ok(()) => self.status(),
@@ -59,7 +59,7 @@ impl Stop {
         }
     }
 
-    /// Prints the last line, of which there is none after a failed write.
+    /// Prints the last line, unless a write has failed.
     pub(crate) fn print<W: Write>(&self, output: &mut W) -> io::Result<()> {
         match self {
             Stop::WrongWords => writeln!(output, "wrong words"),
@@ -75,7 +75,7 @@ impl Stop {
         }
     }
 
-    /// The status to end with.
+    /// Returns the exit status.
     pub(crate) fn status(&self) -> u8 {
         match self {
             Stop::WrongWords | Stop::WrongLine(_) => 2,

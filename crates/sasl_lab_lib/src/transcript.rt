@@ -1,26 +1,26 @@
 //! The input of `audit`: a line `c NONCE BODY` for each event of the client and a line
-//! `s NONCE BODY` for each of the server, in hexadecimal digits, where the body `-` is the empty one.
+//! `s NONCE BODY` for each event of the server, in hexadecimal. The body `-` is empty.
 
 use fe2o3_sasl::{Event, EventError};
 use std::alloc::{AllocError, AllocFailed, Global};
 
-/// The events of both sides, each in their order.
+/// The events of both sides, in order.
 #[derive(Debug, Drop)]
 pub struct Transcript {
-    /// What the client was given.
+    /// The events of the client.
     pub client: Vec<Event>,
 
-    /// What the server was given.
+    /// The events of the server.
     pub server: Vec<Event>,
 }
 
-/// Why the input is no transcript.
+/// Why the input is not a transcript.
 #[derive(Debug, Clone, Copy, PartialEq, Eq)]
 pub enum TranscriptError {
-    /// This line, counted from 1 over both sides, is no event.
+    /// This line, counted from 1 over both sides, is not an event.
     WrongLine(usize),
 
-    /// A request for memory was refused.
+    /// Out of memory.
     OutOfMemory,
 }
 
@@ -44,8 +44,8 @@ enum Side {
 }
 
 impl Transcript {
-    /// Reads the input, whose last line feed may be missing. WrongLine at the first line that is no
-    /// event, OutOfMemory where there is no memory for the events.
+    /// Parses the input, whose last line feed may be missing. The errors are `WrongLine` of the first
+    /// line that is not an event, and `OutOfMemory`.
     pub fn from_input(alloc: Global, input: &str) -> Result<Transcript, TranscriptError> {
         let mut transcript = Transcript {
             client: Vec::new(alloc),
@@ -54,15 +54,14 @@ impl Transcript {
         if input.is_empty() {
             return Ok(transcript);
         }
-        // `lines` would take a carriage return for a part of the line's end.
+        // `lines` would strip a carriage return at the end of a line.
         for line in input.strip_suffix('\n').unwrap_or(input).split('\n') {
             transcript.push_line(alloc, line)?;
         }
         Ok(transcript)
     }
 
-    /// Adds the event that the line spells. The lines before it gave one event each, so their count
-    /// is that of the events.
+    /// Adds the event of a line. Each line before gave one event, so the events count the lines.
     fn push_line(&mut self, alloc: Global, line: &str) -> Result<(), TranscriptError> {
         match read_line(alloc, line) {
             Ok((Side::Client, event)) => self.client.push(event)?,
@@ -77,8 +76,8 @@ impl Transcript {
     }
 }
 
-/// The side and the event that a line spells. Invalid where it spells none, and so where its body has
-/// no digits: the empty body is `-`.
+/// Parses the side and the event of a line. A line without digits for its body is invalid: an empty
+/// body is `-`.
 fn read_line(alloc: Global, line: &str) -> Result<(Side, Event), EventError> {
     let (side, words) = line.split_once(' ').ok_or(EventError::Invalid)?;
     let (nonce, body) = words.split_once(' ').ok_or(EventError::Invalid)?;

@@ -1,13 +1,14 @@
-//! The program `scram`: `scram_audit_lib` over the process's arguments and streams.
+//! The program `scram`: `scram_lib` and the audit of `scram_audit_lib` over the process's arguments and streams.
 #![tactic(auto)]
 
-use scram_lib::stop::Stop;
+use scram_audit_lib::audit::audit;
+use scram_base_lib::stop::Stop;
 use std::io::BufReader;
 use std::process::ExitCode;
 use std::rt::Env;
 use std::{env, io};
 
-/// The program's words, with its own name first.
+/// Returns the program's arguments, with its own name first.
 fn words<R: Env + AllocGlobal>(rt: &R) -> Result<Vec<String>, Stop> {
     let mut words = Vec::new(rt.alloc());
     for word in env::args(rt).map_err(Stop::of_input)? {
@@ -21,7 +22,7 @@ fn run(rt: &HostRuntime) -> Result<u8, Stop> {
     let words = words(rt)?;
     let mut input = BufReader::new(rt.alloc(), rt.reader()).map_err(Stop::of_input)?;
     let (mut output, mut errors) = (io::writer(rt), rt.stderr());
-    Ok(scram_audit_lib::run(rt, &words, &mut input, &mut output, &mut errors))
+    Ok(scram_lib::run(rt, &words, &mut input, &mut output, &mut errors, audit))
 }
 
 fn main(rt: HostRuntime) -> ExitCode {

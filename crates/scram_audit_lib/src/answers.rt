@@ -1,29 +1,29 @@
-//! What the replayed sides of an audit answer, beside what the real ones answered.
+//! The answers of the replayed sides of an audit, compared with those of the real ones.
 
 use crate::half::{Given, text_of};
 use fe2o3_sasl::{ClientReply, ProfileError, ServerReply};
 use fe2o3_sasl_wire::{Error, SaslCode, view_frame};
-use scram_lib::stop::Stop;
+use scram_base_lib::stop::Stop;
 use std::io::{Result as Written, Write};
 
-/// What a replayed side answers to a body.
+/// The answer of a replayed side to a body.
 #[derive(Clone, Copy)]
 struct Answer<'a> {
-    /// The text by which it goes on with the login, or ends it by Ok.
+    /// The message that continues the login, or ends it with `Ok`.
     text: Option<&'a [u8]>,
 
-    /// Whether it ends the login by Ok: the client reports it, or the server sends it.
+    /// Whether the answer ends the login with `Ok`, which the client reports or the server sends.
     is_ok: bool,
 }
 
 impl<'a> Answer<'a> {
-    /// None, or none that goes on.
+    /// No answer, or one that does not continue the login.
     const NONE: Answer<'static> = Answer {
         text: None,
         is_ok: false,
     };
 
-    /// What a client answers.
+    /// Returns the answer of a client's reply.
     fn of_client(reply: &'a Result<ClientReply, ProfileError>) -> Result<Answer<'a>, Stop> {
         match reply {
             Ok(ClientReply::Init { body }) | Ok(ClientReply::Response { body }) => Ok(Answer {
@@ -39,7 +39,7 @@ impl<'a> Answer<'a> {
         }
     }
 
-    /// What a server answers.
+    /// Returns the answer of a server's reply.
     fn of_server(reply: &'a Result<ServerReply, Error>) -> Result<Answer<'a>, Stop> {
         match reply {
             Ok(ServerReply::Challenge { body }) => Ok(Answer {
@@ -55,7 +55,7 @@ impl<'a> Answer<'a> {
         }
     }
 
-    /// Whether the real side answered so.
+    /// Returns whether the real side sent this answer.
     fn is_that_of(&self, given: &Given) -> bool {
         match (self.text, &given.answer) {
             (Some(text), Some(answer)) => text == answer.as_slice(),
@@ -65,7 +65,7 @@ impl<'a> Answer<'a> {
     }
 }
 
-/// Prints whether the client authenticates a server, by the replies of its replay.
+/// Prints whether the client authenticates a server in its replay.
 pub fn print_verified<O: Write>(
     given: &[Given],
     replies: &[Result<ClientReply, ProfileError>],
@@ -83,7 +83,7 @@ pub fn print_verified<O: Write>(
     Ok(())
 }
 
-/// Prints whom the server accepts, by the replies of its replay.
+/// Prints which users the server accepts in its replay.
 pub fn print_accepted<O: Write>(
     given: &[Given],
     replies: &[Result<ServerReply, Error>],
@@ -104,13 +104,13 @@ pub fn print_accepted<O: Write>(
     Ok(())
 }
 
-/// Prints whether the client answered differently from its replay, and whether it authenticates a server.
+/// Prints whether the client's answer differs from that of its replay, and whether it authenticates a server.
 fn print_client<O: Write>(given: &Given, answer: &Answer<'_>, output: &mut O) -> Written<()> {
     let line = given.line;
     if !answer.is_that_of(given) {
         writeln!(
             output,
-            "audit: line {line}: the client does not answer as by this password"
+            "audit: line {line}: the client's answer does not match this password"
         )?;
     }
     if answer.is_ok {
@@ -122,8 +122,8 @@ fn print_client<O: Write>(given: &Given, answer: &Answer<'_>, output: &mut O) ->
     Ok(())
 }
 
-/// Prints whether the server answered differently from its replay, and whether it accepts the user of the last body
-/// that it challenged.
+/// Prints whether the server's answer differs from that of its replay, and whether it accepts the user of the last body
+/// that it answered with a challenge.
 fn print_server<O: Write>(
     given: &Given,
     challenged: Option<&Given>,
@@ -134,7 +134,7 @@ fn print_server<O: Write>(
     if !answer.is_that_of(given) {
         writeln!(
             output,
-            "audit: line {line}: the server does not answer as by these records"
+            "audit: line {line}: the server's answer does not match these records"
         )?;
     }
     if let (true, Some(challenged)) = (answer.is_ok, challenged) {
@@ -147,7 +147,7 @@ fn print_server<O: Write>(
     Ok(())
 }
 
-/// The text in a body that goes on with a login.
+/// Returns the message in a body that continues a login.
 fn text_in(body: &[u8]) -> Option<&[u8]> {
     match view_frame(body) {
         Ok((view, _)) => text_of(&view),

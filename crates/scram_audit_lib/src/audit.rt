@@ -1,5 +1,5 @@
-//! `explain --audit`: what the bodies of a client and those of a server say of both. Both sides are replayed, the
-//! client by the password and the server by its users, over the bodies that the real ones received.
+//! `explain --audit`: what a client and a server agree on. Both sides are replayed over the bodies that the real ones
+//! received, the client with the password and the server with its users.
 
 ghost use Rattle.std.specs.Prelude.{◌≡◌, IfOk, OnOk, is_ok};
 ghost use Rattle.std.specs.List.{list_all, list_any};
@@ -11,11 +11,10 @@ use crate::sentences::sentence_of;
 use fe2o3_sasl::audit::{AuditError, Finding, FindingKind, Verdict, audit_limited};
 use fe2o3_sasl::{scram_client_run_limited, scram_server_run};
 use fe2o3_scram::{MultiRecordStore, RecordStore, ScramCredentialProvider, ScramVersion, saslprep};
-use scram_lib::explain::body_of;
-use scram_lib::input;
-use scram_lib::stop::Stop;
-use scram_lib::task::Audited;
-use scram_lib::users::lines;
+use scram_base_lib::audited::Audited;
+use scram_base_lib::explain::body_of;
+use scram_base_lib::stop::Stop;
+use scram_base_lib::{input, lines};
 use std::alloc::Global;
 use std::io::{BufRead, Result as Written, Write};
 use std::rt::Files;
@@ -27,7 +26,7 @@ struct Sides {
     server: Half,
 }
 
-/// Who logs in, and where.
+/// The login that is audited.
 #[derive(Clone, Copy)]
 struct Login<'a> {
     user: &'a str,
@@ -37,7 +36,7 @@ struct Login<'a> {
     credentials: &'a RecordStore,
 }
 
-/// Prints what each body says, up to the first that is refused, and then an audit of both sides.
+/// Prints what each body says, up to the first that is rejected, and then an audit of both sides.
 pub fn audit<R, I, O>(
     rt: &R,
     asked: &Audited<'_>,
@@ -85,7 +84,7 @@ impl Sides {
         self.audit(alloc, &login, output)
     }
 
-    /// Reads lines of a side and a body, the first of which is the second of the input, and prints what they say.
+    /// Reads the lines after the password, each with a side and a body, and prints what they say.
     fn read<I: BufRead, O: Write>(
         &mut self,
         alloc: Global,
@@ -101,7 +100,7 @@ impl Sides {
         Ok(())
     }
 
-    /// Takes a line, and prints what its body says.
+    /// Reads a line, and prints what its body says.
     fn take<O: Write>(
         &mut self,
         alloc: Global,
@@ -122,7 +121,7 @@ impl Sides {
         }
     }
 
-    /// The login that the client's bodies ask for, which has to be one that can be audited.
+    /// Returns the login of the client's bodies, or why it cannot be audited.
     fn login<'a>(
         &'a self,
         password: &'a str,
@@ -148,7 +147,7 @@ impl Sides {
         })
     }
 
-    /// Prints an audit: whom each side authenticates, and what both agree on. Ok says that both completed a login.
+    /// Prints an audit: whom each side authenticates, and what both agree on. `Ok` says that both completed a login.
     fn audit<O: Write>(&self, alloc: Global, login: &Login<'_>, output: &mut O) -> Result<(), Stop>
         ensures { OnOk result (FindsWhole self.now login.now) }
     {
@@ -159,7 +158,7 @@ impl Sides {
         conclude(&findings)
     }
 
-    /// Prints what is found.
+    /// Prints the findings.
     fn print_all<O: Write>(
         &self,
         alloc: Global,
@@ -194,7 +193,7 @@ impl Sides {
         )
     }
 
-    /// Prints whom the client authenticates.
+    /// Prints whether the client authenticates a server.
     fn print_client<O: Write>(
         &self,
         alloc: Global,
@@ -212,7 +211,7 @@ impl Sides {
         print_verified(&self.client.given, &replies, output)
     }
 
-    /// Prints whom the server accepts.
+    /// Prints which users the server accepts.
     fn print_server<O: Write>(
         &self,
         alloc: Global,
@@ -223,7 +222,7 @@ impl Sides {
         print_accepted(&self.server.given, &replies, output)
     }
 
-    /// What both sides have in common.
+    /// Returns the findings of the audit.
     fn findings(&self, alloc: Global, login: &Login<'_>) -> Result<Vec<Finding>, Stop>
         ensures { IfOk result (λ findings. FindsAll self.now login.now findings.items) }
     {
@@ -243,12 +242,12 @@ impl Sides {
     }
 }
 
-/// The line of a body at a position.
+/// Returns the line number of the body at a position.
 fn line_at(given: &[Given], position: usize) -> u64 {
     given.get(position).map_or(0, |given| given.line)
 }
 
-/// Whether both sides completed a login, and each finding is agreed; otherwise what is amiss.
+/// Returns `Ok` if both sides completed a login and each finding is agreed, and otherwise what is wrong.
 fn conclude(findings: &[Finding]) -> Result<(), Stop>
     ensures { is_ok result ≡ is_whole findings.now }
 {
@@ -263,28 +262,28 @@ fn conclude(findings: &[Finding]) -> Result<(), Stop>
     }
 }
 
-/// Whether each finding is agreed.
+/// Returns whether each finding is agreed.
 fn all_agreed(findings: &[Finding]) -> bool
     ensures { result ≡ list_all means_one findings.now }
 {
     findings.iter().all(|finding| is_agreed(finding))
 }
 
-/// Whether by some finding the client authenticates the server.
+/// Returns whether the client authenticates the server in a finding.
 fn some_verified(findings: &[Finding]) -> bool
     ensures { result ≡ list_any verifies findings.now }
 {
     findings.iter().any(|finding| is_verified(finding))
 }
 
-/// Whether both sides mean one login.
+/// Returns whether both sides agree on the login of a finding.
 fn is_agreed(finding: &Finding) -> bool
     ensures { result ≡ means_one finding.now }
 {
     matches!(finding.verdict, Verdict::Agreed { .. })
 }
 
-/// Whether the client took a verifier, by which it authenticates the server.
+/// Returns whether a finding is of a verifier, with which the client authenticates the server.
 fn is_verified(finding: &Finding) -> bool
     ensures { result ≡ verifies finding.now }
 {

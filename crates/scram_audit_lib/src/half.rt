@@ -1,4 +1,4 @@
-//! The bodies of one side: those that it received, and what it answered.
+//! The bodies of one side: those that it received, and its answers.
 
 ghost use Rattle.std.specs.Prelude.{◌≡◌, ◌≢◌, ℕ, List, length, Ok, IfOk, MatchOption};
 ghost use Rattle.base64.specs.Engines.{standard};
@@ -9,31 +9,31 @@ use base64::engine::general_purpose::STANDARD;
 use fe2o3_sasl::Event;
 use fe2o3_sasl_wire::{FrameView, SaslCode, view_frame};
 use fe2o3_scram::ScramVersion;
-use scram_lib::explain::Heard;
-use scram_lib::stop::Stop;
+use scram_base_lib::explain::Heard;
+use scram_base_lib::stop::Stop;
 use std::alloc::{AllocError, Global};
 use std::io::Write;
 
-/// A body that a side was given.
+/// A body that a side received.
 #[derive(Drop)]
 pub struct Given {
-    /// Its line of the input.
+    /// The line number in the input.
     pub line: u64,
 
-    /// The user of the last init before it, or in it, plain.
+    /// The user of the last init up to this body, not escaped.
     pub user: String,
 
-    /// Whether it needs an answer, of which none has come yet.
+    /// Whether the body needs an answer and has none yet.
     is_open: bool,
 
-    /// The text of the answer, where that goes on with a login.
+    /// The message of the answer, if that continues a login.
     pub answer: Option<Vec<u8>>,
 }
 
-/// The login that a client asks for.
+/// The login that a client starts.
 #[derive(Drop)]
 pub struct Asked {
-    /// The user, plain.
+    /// The user, not escaped.
     pub user: String,
 
     /// The mechanism.
@@ -45,35 +45,35 @@ pub struct Asked {
 pub struct Half {
     is_client: bool,
 
-    /// What its messages have named.
+    /// What the messages so far contain.
     heard: Heard,
 
-    /// The nonce of its last message that names one of its own.
+    /// The side's own nonce, of its last message that has one.
     nonce: [u8; 32],
 
-    /// The text of an answer to a body that comes later.
+    /// The message of an answer that the input has before the answered body.
     early: Option<Vec<u8>>,
 
-    /// The login that its inits ask for, if any is for one by SCRAM.
+    /// The login of the inits, if one is of a SCRAM mechanism.
     pub asked: Option<Asked>,
 
-    /// Why its bodies cannot be audited, if they cannot.
+    /// Why the bodies cannot be audited, if they cannot.
     pub unfit: Option<Stop>,
 
-    /// The bodies that it was given, each with the nonce of the answer.
+    /// The bodies that the side received, each with the nonce of the answer.
     pub events: Vec<Event>,
 
-    /// What else is known of each.
+    /// What else is known of each received body.
     pub given: Vec<Given>,
 }
 
 impl Half {
-    /// A client without a body.
+    /// Returns a client without a body.
     pub fn client(alloc: Global) -> Half {
         Half::new(alloc, true, "client: ")
     }
 
-    /// A server without a body.
+    /// Returns a server without a body.
     pub fn server(alloc: Global) -> Half {
         Half::new(alloc, false, "server: ")
     }
@@ -91,7 +91,7 @@ impl Half {
         }
     }
 
-    /// Prints what a body says, and takes it as one that the side was given or that it sent.
+    /// Prints what a body says, and records that the side received it or sent it.
     pub fn take<O: Write>(
         &mut self,
         alloc: Global,
@@ -110,7 +110,7 @@ impl Half {
         self.receive(line, is_open, body)
     }
 
-    /// Takes a body that the side was given.
+    /// Records a body that the side received.
     fn receive(&mut self, line: u64, is_open: bool, body: Vec<u8>) -> Result<(), Stop> {
         let user = self.heard.user.clone()?;
         let answer = if is_open { self.early.take() } else { None };
@@ -126,7 +126,7 @@ impl Half {
         Ok(())
     }
 
-    /// Takes a body that the side sent.
+    /// Records a body that the side sent.
     fn send(&mut self, alloc: Global, view: &FrameView<'_>) -> Result<(), Stop> {
         match view {
             FrameView::Mechanisms(_) => return Ok(()),
@@ -146,7 +146,7 @@ impl Half {
         Ok(())
     }
 
-    /// Takes the text of an answer: to the last body, where that has none yet, otherwise to the next.
+    /// Records the message of an answer: to the last body, if that has no answer yet, and otherwise to the next.
     fn answer(&mut self, text: Option<Vec<u8>>) {
         match (self.given.last_mut(), self.events.last_mut()) {
             (Some(given), Some(event)) if given.is_open => {
@@ -158,7 +158,7 @@ impl Half {
         }
     }
 
-    /// Takes what an init asks for, and its nonce.
+    /// Records the login of an init, and its nonce.
     fn ask(&mut self, alloc: Global, mechanism: &str) -> Result<(), Stop> {
         let nonce = bytes_of(alloc, &self.heard.client_nonce)?;
         self.keep(nonce);
@@ -176,7 +176,7 @@ impl Half {
         Ok(())
     }
 
-    /// Takes the server's nonce of a challenge.
+    /// Records the server's nonce of a challenge.
     fn challenge(&mut self, alloc: Global) -> Result<(), Stop> {
         let nonce = match self.heard.server_nonce() {
             Some(nonce) => bytes_of(alloc, nonce)?,
@@ -186,7 +186,7 @@ impl Half {
         Ok(())
     }
 
-    /// Keeps a nonce, if it is one of an audit.
+    /// Records a nonce, or that the bodies cannot be audited if it does not have 32 bytes.
     fn keep(&mut self, nonce: Option<[u8; 32]>) {
         match nonce {
             Some(nonce) => self.nonce = nonce,
@@ -195,7 +195,7 @@ impl Half {
     }
 }
 
-/// The 32 bytes that a nonce is the base64 of, or none where it is not that of 32 bytes.
+/// Decodes a nonce in base64. Returns `None` if it is not the base64 of 32 bytes.
 fn bytes_of(alloc: Global, nonce: &str) -> Result<Option<[u8; 32]>, AllocError>
     ensures { IfOk result (λ found. MatchOption found
         ((bytes : List ℕ) → decode_of standard nonce.now ≡ Ok bytes → length bytes ≢ 32)
@@ -208,14 +208,14 @@ fn bytes_of(alloc: Global, nonce: &str) -> Result<Option<[u8; 32]>, AllocError>
     }
 }
 
-/// These bytes, where they are 32.
+/// Returns the bytes as an array, or `None` if they are not 32.
 fn array_of(bytes: &[u8]) -> Option<[u8; 32]>
     ensures { MatchOption result (length bytes.now ≢ 32) (λ array. array ≡ bytes.now) }
 {
     <[u8; 32]>::try_from(bytes).ok()
 }
 
-/// Whether a server sends it (AMQP 1.0, part 5, section 5.3.2).
+/// Returns whether a server sends the frame (AMQP 1.0, part 5, section 5.3.2).
 fn is_of_server(view: &FrameView<'_>) -> bool {
     match view {
         FrameView::Mechanisms(_) | FrameView::Challenge(_) | FrameView::Outcome { .. } => true,
@@ -223,7 +223,7 @@ fn is_of_server(view: &FrameView<'_>) -> bool {
     }
 }
 
-/// The text by which a frame goes on with a login, or ends it by Ok.
+/// Returns the message in a frame that continues a login, or ends it with `Ok`.
 pub fn text_of<'a>(view: &FrameView<'a>) -> Option<&'a [u8]> {
     match view {
         FrameView::Init {

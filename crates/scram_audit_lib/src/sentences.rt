@@ -1,10 +1,10 @@
-//! What an audit says of a finding, in words.
+//! The sentences of an audit.
 
 use fe2o3_sasl::audit::{Parameters, Verdict};
 use fe2o3_scram::ScramVersion;
 use std::alloc::{AllocError, Global};
 
-/// The sentence of a verdict, without its beginning and its end.
+/// Returns the second half of the sentence of a verdict, without a full stop.
 pub fn sentence_of(
     alloc: Global,
     version: ScramVersion,
@@ -23,21 +23,21 @@ pub fn sentence_of(
         } => {
             let (client, server) = (client_text.len(), server_text.len());
             format!(in alloc;
-                "but of another login: an AuthMessage of {client} bytes and another of {server} have one HMAC value"
+                "but in another login: two AuthMessages, of {client} and {server} bytes, have the same HMAC value"
             )
         }
         Verdict::SameHash { .. } => String::from_str(
             alloc,
-            "but by another key than the client's, and both keys have one digest",
+            "but with another key than the client's, and both keys have the same digest",
         ),
         Verdict::OtherKey => String::from_str(
             alloc,
-            "but by another key than the client's, which is not that of the record",
+            "but with another key than the client's, which is not the key of the record",
         ),
     }
 }
 
-/// What both sides agree on.
+/// Returns what both sides agree on, in words.
 fn agreed_of(
     alloc: Global,
     version: ScramVersion,
@@ -48,13 +48,13 @@ fn agreed_of(
     let mechanism = version.mechanism();
     let Some(parameters) = parameters else {
         return format!(in alloc;
-            "and both agree on {mechanism}, the user {user:?} and the client's nonce {client_nonce:?}, and on no more"
+            "and both agree on {mechanism}, the user {user:?} and the client nonce {client_nonce:?}, and on nothing else"
         );
     };
     let salt = hex::encode(alloc, parameters.salt.as_slice())?;
     let (nonce, iterations) = (parameters.full_nonce.as_str(), parameters.iterations);
     format!(in alloc;
-        "and both agree on {mechanism}, the user {user:?}, the client's nonce {client_nonce:?}, the nonce of both \
-        {nonce:?}, the salt {salt} and {iterations} iterations"
+        "and both agree on {mechanism}, the user {user:?}, the client nonce {client_nonce:?}, the full nonce {nonce:?}, \
+        the salt {salt} and {iterations} iterations"
     )
 }

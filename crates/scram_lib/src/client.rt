@@ -1,49 +1,50 @@
-//! `client`: a login, in which the messages of the server come on the input.
+//! `client`: the client side of a login. The input has the server's messages.
 
 ghost use Rattle.std.specs.Prelude.{◌≡◌, true, OnOk};
 ghost use Rattle.fe2o3_scram.specs.ScramClient.{is_complete};
 
-use crate::stop::Stop;
-use crate::{frames, input, keys, nonces, wire};
+use crate::{frames, keys, nonces};
 use fe2o3_scram::{CachedKeys, ClientSecret, Password, ScramClient, ScramErrorKind, ScramVersion};
+use scram_base_lib::stop::Stop;
+use scram_base_lib::{input, wire};
 use std::alloc::Global;
 use std::io::{BufRead, Write};
 use std::random::RandomSource;
 use std::rt::Files;
 
-/// The login that is asked for.
+/// The arguments of a login.
 #[derive(Clone, Copy)]
 pub struct Login<'a> {
     /// The mechanism.
     pub version: ScramVersion,
 
-    /// The user's name, plain.
+    /// The user name, not escaped.
     pub user: &'a str,
 
-    /// The minimum iteration count that is accepted.
+    /// The minimum iteration count that the client accepts.
     pub min_iterations: u32,
 
-    /// The maximum iteration count that is accepted.
+    /// The maximum iteration count that the client accepts.
     pub max_iterations: u32,
 
-    /// The file of keys, if any.
+    /// The key file, if any.
     pub keys: Option<&'a str>,
 
-    /// The nonce in hexadecimal digits, or none where it is to be random.
+    /// The nonce in hexadecimal, or `None` for a random one.
     pub nonce: Option<&'a str>,
 
-    /// Whether bytes of AMQP come in place of lines.
+    /// Whether the input has the bytes of an AMQP connection in place of lines.
     pub frames: bool,
 }
 
-/// By what the client logs in: the password, if the first line of the input has one, and keys, if there are.
+/// The client's secret: the password, if the first line of the input has one, and the keys, if there are any.
 #[derive(Drop)]
 struct Secret {
     password: Option<String>,
     keys: Option<CachedKeys>,
 }
 
-/// Logs in, and keeps the keys of the login where the words name a file for them.
+/// Logs in, and stores the keys of the login if there is a key file.
 pub fn log_in<R, I, O>(rt: &R, login: &Login<'_>, input: &mut I, output: &mut O) -> Result<(), Stop>
 where
     R: Files + RandomSource + AllocGlobal,
@@ -76,7 +77,7 @@ where
 }
 
 impl Login<'_> {
-    /// The client, whose password is the first line of the input.
+    /// Returns the client. Its password is the first line of the input.
     fn client<R: Files + AllocGlobal, I: BufRead>(
         &self,
         rt: &R,
@@ -92,7 +93,7 @@ impl Login<'_> {
         Ok(Box::new(rt.alloc(), client)?)
     }
 
-    /// The secret, whose password is the first line of the input; an empty one is none.
+    /// Returns the secret. Its password is the first line of the input, unless that is empty.
     fn secret<R: Files + AllocGlobal, I: BufRead>(
         &self,
         rt: &R,
@@ -107,7 +108,7 @@ impl Login<'_> {
         Ok(Secret { password, keys })
     }
 
-    /// Keeps the keys of the login where the words name a file for them.
+    /// Stores the keys of the login if there is a key file.
     pub(crate) fn keep<R: Files + AllocGlobal>(
         &self,
         rt: &R,
@@ -121,7 +122,7 @@ impl Login<'_> {
 }
 
 impl Secret {
-    /// Lends the secret, or returns `None` where there is neither a password nor a key.
+    /// Borrows the secret. Returns `None` if there is no password and there are no keys.
     fn lent(&self) -> Option<ClientSecret<'_>> {
         match (&self.password, &self.keys) {
             (Some(password), Some(keys)) => {
@@ -135,7 +136,7 @@ impl Secret {
     }
 }
 
-/// Plays the exchange, a line for each message. Where it succeeds, the client has verified the server's signature.
+/// Runs the exchange, one line for each message. After `Ok` the client has verified the server's signature.
 fn exchange<I: BufRead, O: Write>(
     alloc: Global,
     client: &mut ScramClient,
@@ -154,7 +155,7 @@ fn exchange<I: BufRead, O: Write>(
     Ok(client.validate_server_final(alloc, &server_final)?)
 }
 
-/// Receives a message of the server, which may refuse the login by it (RFC 5802, section 7, `server-error`).
+/// Receives a message of the server. It can be an error (RFC 5802, section 7, `server-error`).
 fn receive<I: BufRead>(alloc: Global, input: &mut I) -> Result<Vec<u8>, Stop> {
     let message = wire::receive(alloc, input)?;
     if message.starts_with(b"e=") {
@@ -163,7 +164,7 @@ fn receive<I: BufRead>(alloc: Global, input: &mut I) -> Result<Vec<u8>, Stop> {
     Ok(message)
 }
 
-/// The answer to the server's challenge.
+/// Returns the answer to the server's challenge.
 fn answer(alloc: Global, client: &mut ScramClient, server_first: &[u8]) -> Result<Vec<u8>, Stop> {
     match str::from_utf8(server_first) {
         Ok(text) => Ok(client.compute_client_final_message(alloc, text)?),

@@ -1,4 +1,4 @@
-//! `--frames`: a login over the bytes of a connection of AMQP, as they come on the input.
+//! `--frames`: a login over the bytes of an AMQP connection.
 
 ghost use Rattle.std.specs.Prelude.{◌≡◌, IfOk, OnOk};
 ghost use Rattle.fe2o3_sasl_negotiation.specs.Sides.{client_side, server_side, connection_side};
@@ -7,19 +7,19 @@ ghost use Rattle.fe2o3_sasl_negotiation.specs.declared.progress.Progress.TheVari
 use crate::client::Login;
 use crate::nonces;
 use crate::server::Service;
-use crate::stop::Stop;
 use bytes::BytesMut;
 use fe2o3_sasl_negotiation::{
     AuthenticatedUser, ClientNegotiation, CloseReason, ConnectionSide, Endpoint, Meter, Progress,
     Role, SaslProfile, ServerNegotiation,
 };
 use fe2o3_scram::{OutOfMemory, ScramClient};
+use scram_base_lib::stop::Stop;
 use std::alloc::Global;
 use std::io::{BufRead, Result as Written, Write};
 use std::random::RandomSource;
 use std::rt::Files;
 
-/// Carries bytes to a side and from it until the login is done, and returns its progress.
+/// Passes bytes to a side and from it until the login ends, and returns its progress.
 fn carry<R, E, K, I, O>(
     rt: &R,
     side: &mut ConnectionSide<E, K>,
@@ -50,7 +50,7 @@ where
     Err(Stop::Ended)
 }
 
-/// Sends what is to be sent.
+/// Sends the pending bytes.
 fn send<O: Write>(output: &mut O, sent: &mut BytesMut) -> Written<()> {
     output.write_all(sent.as_slice())?;
     sent.clear();
@@ -75,7 +75,7 @@ where
     login.keep(rt, client.profile().keys())
 }
 
-/// Logs in by a client's side. Where it succeeds, the side has logged in.
+/// Logs in with a client's side. After `Ok` the side has logged in.
 fn log_in_over<R, I, O>(
     rt: &R,
     login: &Login<'_>,
@@ -99,7 +99,7 @@ where
     }
 }
 
-/// The client's side.
+/// Returns the client's side.
 fn negotiation(
     alloc: Global,
     client: Box<ScramClient>,
@@ -126,7 +126,7 @@ where
     serve_over(rt, service, &mut *server, input, output)
 }
 
-/// Serves a login by a server's side. Where it succeeds, the side has logged its client in.
+/// Serves a login with a server's side. After `Ok` the side has logged its client in.
 fn serve_over<R, S, I, O>(
     rt: &R,
     service: &Service<'_>,

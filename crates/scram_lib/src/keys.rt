@@ -1,16 +1,16 @@
-//! A file of keys: what a client keeps in place of its password, in one line of the mechanism, the iteration
-//! count, and the salt, the ClientKey and the ServerKey in base64.
+//! A key file, which a client keeps in place of its password: one line of the mechanism, the iteration count, and the
+//! salt, the ClientKey and the ServerKey in base64.
 
-use crate::stop::Stop;
-use crate::store;
-use crate::store::{Change, Changed};
-use crate::wire::bytes_of;
 use base64::engine::general_purpose::STANDARD;
 use fe2o3_scram::{CachedKeys, ScramVersion};
+use scram_base_lib::stop::Stop;
+use scram_base_lib::store;
+use scram_base_lib::store::{Change, Changed};
+use scram_base_lib::wire::bytes_of;
 use std::alloc::{AllocError, Global};
 use std::rt::Files;
 
-/// The keys that a file has, or none where there is no file.
+/// Reads the keys of a file, or returns `None` if there is no file.
 pub fn read<R: Files + AllocGlobal>(
     rt: &R,
     file: &str,
@@ -23,7 +23,7 @@ pub fn read<R: Files + AllocGlobal>(
     }
 }
 
-/// The keys that a text has, for this version.
+/// Parses the keys of a text, for this version.
 fn keys_of(alloc: Global, text: &str, version: ScramVersion) -> Result<CachedKeys, Stop> {
     let line = text.strip_suffix('\n').ok_or(Stop::WrongKeys)?;
     let words: Vec<&str> = line.split(' ').collect(alloc)?;
@@ -40,7 +40,7 @@ fn keys_of(alloc: Global, text: &str, version: ScramVersion) -> Result<CachedKey
     keys.map_err(|_| Stop::WrongKeys)
 }
 
-/// The line of keys.
+/// Returns the line of keys.
 fn line_of(alloc: Global, keys: &CachedKeys) -> Result<String, AllocError> {
     let (mechanism, iterations) = (keys.scram_version().mechanism(), keys.iterations());
     let salt = STANDARD.encode(alloc, keys.salt())?;
@@ -49,7 +49,7 @@ fn line_of(alloc: Global, keys: &CachedKeys) -> Result<String, AllocError> {
     format!(in alloc; "{mechanism} {iterations} {salt} {client_key} {server_key}\n")
 }
 
-/// A line in the place of a whole text.
+/// A line that replaces a whole text.
 #[derive(Drop)]
 struct Kept {
     line: String,
@@ -68,7 +68,7 @@ impl Change for Kept {
     }
 }
 
-/// Keeps the keys of a login.
+/// Stores the keys of a login.
 pub fn keep<R: Files + AllocGlobal>(rt: &R, file: &str, keys: &CachedKeys) -> Result<(), Stop> {
     let line = line_of(rt.alloc(), keys)?;
     store::make_change(rt, file, &Kept { line })?;

@@ -1,9 +1,9 @@
-//! The page of the manual, in the words of `man` (roff), made of the table of words.
+//! The manual page, in roff, made from the table of words.
 
 use crate::manual::{ABOUT, COMMANDS, Kind, NOTES, USERS, USERS_COMMANDS, Word, Words};
 use std::io::{Result, Write};
 
-/// Prints the page.
+/// Prints the manual page.
 pub fn print<O: Write>(output: &mut O) -> Result<()> {
     write!(output, ".TH SCRAM 1\n.SH NAME\nscram \\- {ABOUT}\n")?;
     write!(output, ".SH SYNOPSIS\n.B scram\n.I COMMAND\n.SH COMMANDS\n")?;
@@ -46,7 +46,7 @@ fn print_word<O: Write>(output: &mut O, word: &Word) -> Result<()> {
     }
 }
 
-/// Prints an option by its name, in which roff takes a plain hyphen for one of prose.
+/// Prints the name of an option. Its hyphens are escaped: roff prints a plain hyphen as one of prose.
 fn print_option<O: Write>(output: &mut O, font: &str, name: &str) -> Result<()> {
     write!(output, ".TP\n{font} \\-")?;
     for part in name.split('-') {

@@ -1,13 +1,13 @@
-//! The words that the program takes, with its help: one table, of which the parser is made.
+//! The commands and arguments of the program, with their help: one table, from which the parser is made.
 
 use clap::builder::ValueParser;
 use clap::{Arg, ArgAction, Command};
 use std::alloc::{AllocError, Global};
 
-/// What a word is.
+/// The kind of a word.
 #[derive(Clone, Copy)]
 pub enum Kind {
-    /// A required argument at its place.
+    /// A required positional argument.
     Place,
 
     /// An option with a text.
@@ -25,42 +25,42 @@ pub enum Kind {
     /// An option with an iteration count.
     Count,
 
-    /// An option with an iteration count, which needs another option.
+    /// An option with an iteration count that requires another option.
     CountOf(&'static str),
 
-    /// The name of a mechanism at its place.
+    /// A positional argument with the name of a mechanism.
     MechanismPlace,
 
     /// An option without a value.
     Flag,
 }
 
-/// A word of a command.
+/// A word of a command: an argument or an option.
 #[derive(Clone, Copy)]
 pub struct Word {
-    /// What it is.
+    /// The kind.
     pub kind: Kind,
 
-    /// Its name.
+    /// The name.
     pub name: &'static str,
 
-    /// What stands for its value.
+    /// The placeholder for the value.
     pub value: &'static str,
 
-    /// What it means.
+    /// The help text.
     pub help: &'static str,
 }
 
 /// A command.
 #[derive(Clone, Copy)]
 pub struct Words {
-    /// Its name.
+    /// The name.
     pub name: &'static str,
 
-    /// What it does.
+    /// What the command does.
     pub about: &'static str,
 
-    /// The words after it.
+    /// The words of the command.
     pub words: &'static [Word],
 }
 
@@ -68,43 +68,44 @@ pub struct Words {
 static MECHANISMS: [&str; 3] = ["SCRAM-SHA-1", "SCRAM-SHA-256", "SCRAM-SHA-512"];
 
 /// What the program does.
-pub static ABOUT: &str = "Makes, keeps and checks records of SCRAM (RFC 5802, RFC 7677)";
+pub static ABOUT: &str =
+    "Makes, stores and checks SCRAM records, and runs SCRAM logins (RFC 5802, RFC 7677)";
 
-/// What holds of every command.
+/// What applies to every command.
 pub static NOTES: &str = "\
-A password is the first line of standard input, in printable ASCII, and never an argument. Status: 0 done, 1 refused
-by the other side, 2 wrong arguments, 3 this side refuses the other or an audit finds no whole login, 4 an input that
-cannot be read or audited, or a file, memory or an output that fails.";
+A password is the first line of standard input, in printable ASCII. It is never an argument. Exit status: 0 success,
+1 the other side rejects the login or closes, 2 wrong arguments, 3 this side rejects the login or an audit finds no
+complete login, 4 the input cannot be read or audited, or a file, the output, memory or the random source fails.";
 
 /// What `users` does.
-pub static USERS: &str = "Keeps a file of records, a line for each: NAME RECORD";
+pub static USERS: &str = "Manages a file of records, each on a line: NAME RECORD";
 
 const FILE: Word = Word {
     kind: Kind::Place,
     name: "FILE",
     value: "FILE",
-    help: "The file of users",
+    help: "The file of records",
 };
 
 const NAME: Word = Word {
     kind: Kind::Place,
     name: "NAME",
     value: "NAME",
-    help: "The user's name",
+    help: "The user name",
 };
 
 const MECHANISM: Word = Word {
     kind: Kind::Mechanism,
     name: "mechanism",
     value: "M",
-    help: "The mechanism that the record is for; default each",
+    help: "The mechanism of the record; default all",
 };
 
 const NEW_MECHANISM: Word = Word {
     kind: Kind::DefaultMechanism,
     name: "mechanism",
     value: "M",
-    help: "The mechanism that the record is for",
+    help: "The mechanism of the record",
 };
 
 const ITERATIONS: Word = Word {
@@ -132,28 +133,28 @@ const USER: Word = Word {
     kind: Kind::Place,
     name: "USER",
     value: "USER",
-    help: "The user's name",
+    help: "The user name",
 };
 
 const MIN_ITERATIONS: Word = Word {
     kind: Kind::Count,
     name: "min-iterations",
     value: "N",
-    help: "The minimum iteration count that is accepted; default 4096",
+    help: "The minimum iteration count that the client accepts; default 4096",
 };
 
 const MAX_ITERATIONS: Word = Word {
     kind: Kind::Count,
     name: "max-iterations",
     value: "N",
-    help: "The maximum iteration count that is accepted; default 1000000",
+    help: "The maximum iteration count that the client accepts; default 1000000",
 };
 
 const KEYS: Word = Word {
     kind: Kind::Text,
     name: "keys",
     value: "FILE",
-    help: "Keeps the keys of the login in this file, and logs in by those that it has",
+    help: "Logs in with the keys in this file, if there are any, and stores the keys of the login in it",
 };
 
 const NONCE: Word = Word {
@@ -167,63 +168,63 @@ const FRAMES: Word = Word {
     kind: Kind::Flag,
     name: "frames",
     value: "",
-    help: "Speaks the bytes of AMQP in place of lines",
+    help: "Uses the bytes of an AMQP connection in place of lines",
 };
 
 const TELL_UNKNOWN_USERS: Word = Word {
     kind: Kind::Flag,
     name: "tell-unknown-users",
     value: "",
-    help: "Answers an unknown user with an error; default with a mock record, by the secret in FILE.secret",
+    help: "Answers an unknown user with an error; default with a mock record, made with the secret in FILE.secret",
 };
 
 const BODIES: Word = Word {
     kind: Kind::Flag,
     name: "frames",
     value: "",
-    help: "Each line is the body of a frame of AMQP in hexadecimal digits",
+    help: "Each line is the body of a SASL frame in hexadecimal",
 };
 
 const AUDIT: Word = Word {
     kind: Kind::Text,
     name: "audit",
     value: "FILE",
-    help: "Audits both sides by this file of users: after the password, each line is client or server and one of \
-        its bodies, whose nonces are the base64 of 32 bytes",
+    help: "Audits both sides against this file of records: after the password, each line is client or server and \
+        the body of a SASL frame in hexadecimal; each nonce must be the base64 of 32 bytes",
 };
 
 const AUDITED_ITERATIONS: Word = Word {
     kind: Kind::CountOf("audit"),
     name: "max-iterations",
     value: "N",
-    help: "The maximum iteration count that the client of an audit accepts; default 1000000",
+    help: "The maximum iteration count that the audited client accepts; default 1000000",
 };
 
 /// The commands without subcommands.
 pub static COMMANDS: [Words; 5] = [
     Words {
         name: "record",
-        about: "Prints the record of a password, as servers keep it (RFC 5803)",
+        about: "Prints the record of a password (RFC 5803)",
         words: &[NEW_MECHANISM, ITERATIONS, SALT],
     },
     Words {
         name: "client",
-        about: "Logs in: after the password, each line is a message in base64",
+        about: "Runs the client side of a login: after the password, each line is a message in base64",
         words: &[M, USER, MIN_ITERATIONS, MAX_ITERATIONS, KEYS, NONCE, FRAMES],
     },
     Words {
         name: "server",
-        about: "Serves a login for the users of a file: each line is a message in base64",
+        about: "Runs the server side of a login for the users of a file: each line is a message in base64",
         words: &[M, FILE, TELL_UNKNOWN_USERS, NONCE, FRAMES],
     },
     Words {
         name: "explain",
-        about: "Tells what the messages of a login say: each line is one in base64",
+        about: "Explains the messages of a login: each line is a message in base64",
         words: &[BODIES, AUDIT, AUDITED_ITERATIONS],
     },
     Words {
         name: "man",
-        about: "Prints this manual as a page for man",
+        about: "Prints this manual as a page for man(1)",
         words: &[],
     },
 ];
@@ -232,28 +233,28 @@ pub static COMMANDS: [Words; 5] = [
 pub static USERS_COMMANDS: [Words; 4] = [
     Words {
         name: "add",
-        about: "Adds a user's record, or replaces the one for the mechanism",
+        about: "Adds a record of a user, or replaces the one for the same mechanism",
         words: &[FILE, NAME, NEW_MECHANISM, ITERATIONS, SALT],
     },
     Words {
         name: "remove",
-        about: "Removes each record of a user, or that for one mechanism",
+        about: "Removes the records of a user, for all mechanisms or for one",
         words: &[FILE, NAME, MECHANISM],
     },
     Words {
         name: "list",
-        about: "Prints each line's mechanism, iteration count and name, as the file has it",
+        about: "Prints the mechanism, the iteration count and the name of each record, as stored",
         words: &[FILE],
     },
     Words {
         name: "check",
-        about: "Tells whether the password is that of each record of a user",
+        about: "Checks a password against the records of a user",
         words: &[FILE, NAME, MECHANISM],
     },
 ];
 
 impl Word {
-    /// The word for the parser.
+    /// Returns the word for the parser.
     fn arg<'a>(&self, alloc: Global) -> Result<Arg<'a>, AllocError> {
         let arg = self.plain(alloc);
         Ok(match self.kind {
@@ -269,31 +270,31 @@ impl Word {
         })
     }
 
-    /// A word with a value.
+    /// Returns a word with a value.
     fn plain<'a>(&self, alloc: Global) -> Arg<'a> {
         Arg::new(alloc, self.name)
             .action(ArgAction::Set)
             .help(self.help)
     }
 
-    /// The word as an option.
+    /// Returns the word as an option.
     fn option<'a>(&self, arg: Arg<'a>) -> Arg<'a> {
         arg.long(self.name).value_name(self.value)
     }
 }
 
-/// A word whose value is the name of a mechanism.
+/// Returns a word whose value is the name of a mechanism.
 fn mechanism<'a>(arg: Arg<'a>) -> Arg<'a> {
     arg.value_parser(MECHANISMS.as_slice())
 }
 
-/// A word whose value is an iteration count.
+/// Returns a word whose value is an iteration count.
 fn count<'a>(arg: Arg<'a>) -> Arg<'a> {
     arg.value_parser(ValueParser::unsigned(1, 4294967295))
 }
 
 impl Words {
-    /// The command for the parser.
+    /// Returns the command for the parser.
     fn command<'a>(&self, alloc: Global) -> Result<Command<'a>, AllocError> {
         let mut args = Vec::new(alloc);
         for word in self.words {
@@ -303,7 +304,7 @@ impl Words {
     }
 }
 
-/// Commands for the parser.
+/// Returns the commands of a table for the parser.
 fn commands<'a>(alloc: Global, table: &[Words]) -> Result<Vec<Command<'a>>, AllocError> {
     let mut commands = Vec::new(alloc);
     for words in table {
@@ -312,7 +313,7 @@ fn commands<'a>(alloc: Global, table: &[Words]) -> Result<Vec<Command<'a>>, Allo
     Ok(commands)
 }
 
-/// A command that needs a subcommand.
+/// Returns a command that requires a subcommand.
 fn above<'a>(alloc: Global, name: &'static str, about: &'static str) -> Command<'a> {
     Command::new(alloc, name)
         .about(about)
@@ -321,13 +322,13 @@ fn above<'a>(alloc: Global, name: &'static str, about: &'static str) -> Command<
         .disable_help_subcommand(true)
 }
 
-/// `users` for the parser.
+/// Returns the command `users` for the parser.
 fn users<'a>(alloc: Global) -> Result<Command<'a>, AllocError> {
     let commands = commands(alloc, &USERS_COMMANDS)?;
     above(alloc, "users", USERS).subcommands(commands)
 }
 
-/// All words for the parser.
+/// Returns all words for the parser.
 pub fn manual<'a>(alloc: Global) -> Result<Command<'a>, AllocError> {
     let mut commands = commands(alloc, &COMMANDS)?;
     commands.push(users(alloc)?)?;

@@ -1,19 +1,19 @@
 //! `record`: the record of a password.
 
 use crate::nonces;
-use crate::stop::Stop;
 use fe2o3_scram::{Meter, Password, ScramRecord, ScramVersion};
+use scram_base_lib::stop::Stop;
 use std::alloc::Global;
 use std::io::Write;
 use std::random::RandomSource;
 
-/// How long the salts are that are made here, in bytes.
+/// The length of a random salt, in bytes.
 pub const SALT_LEN: usize = 32;
 
-/// The iteration count where the words name none.
+/// The default iteration count.
 pub const ITERATIONS: u32 = 4096;
 
-/// The record that is to be made.
+/// The arguments of a new record.
 #[derive(Clone, Copy)]
 pub struct NewRecord<'a> {
     /// The mechanism.
@@ -22,12 +22,12 @@ pub struct NewRecord<'a> {
     /// The iteration count.
     pub iterations: u32,
 
-    /// The salt in hexadecimal digits, or none where it is to be random.
+    /// The salt in hexadecimal, or `None` for a random one.
     pub salt: Option<&'a str>,
 }
 
 impl NewRecord<'_> {
-    /// The record of a password.
+    /// Makes the record of a password.
     pub fn of<R: RandomSource + AllocGlobal>(
         &self,
         rt: &R,
@@ -40,7 +40,7 @@ impl NewRecord<'_> {
         Ok(ScramRecord::from_password(alloc, version, password, &salt, iterations, meter)?)
     }
 
-    /// The salt: that of the words, or 32 random bytes.
+    /// Returns the salt of the argument, or 32 random bytes.
     fn salt<R: RandomSource + AllocGlobal>(&self, rt: &R) -> Result<Vec<u8>, Stop> {
         match self.salt {
             Some(digits) => bytes_of(rt.alloc(), digits),
@@ -49,12 +49,12 @@ impl NewRecord<'_> {
     }
 }
 
-/// 32 random bytes.
+/// Returns 32 random bytes.
 fn random_salt<R: RandomSource + AllocGlobal>(rt: &R) -> Result<Vec<u8>, Stop> {
     Ok(nonces::random(rt)?.to_vec(rt.alloc())?)
 }
 
-/// The bytes that the word spells in hexadecimal digits.
+/// Decodes a salt in hexadecimal. An empty one is the error `WrongSalt`.
 fn bytes_of(alloc: Global, digits: &str) -> Result<Vec<u8>, Stop> {
     match hex::decode(alloc, digits) {
         Ok(bytes) if !bytes.is_empty() => Ok(bytes),

@@ -1,4 +1,4 @@
-//! `server`: serves a login for the users of a file, in which the messages of the client come on the input.
+//! `server`: the server side of a login, for the users of a file. The input has the client's messages.
 
 ghost use Rattle.std.specs.Prelude.{◌≡◌, ℕ, List, Some, IfOk, IsOk, OnOk};
 ghost use Rattle.fe2o3_scram.specs.ScramServer.{logged_in, state_in};
@@ -6,34 +6,35 @@ ghost use Rattle.fe2o3_scram.specs.ScramServer.{logged_in, state_in};
 pub mod mock;
 
 use crate::server::mock::Shape;
-use crate::stop::Stop;
-use crate::{frames, nonces, store, wire};
+use crate::{frames, nonces};
 use fe2o3_sasl_negotiation::AuthenticatedUser;
 use fe2o3_scram::{
     MultiRecordStore, RecordStore, ScramAuthenticator, ScramVersion, ServerScramErrorKind,
 };
 use mock_secret::secret_of;
+use scram_base_lib::stop::Stop;
+use scram_base_lib::{store, wire};
 use std::alloc::Global;
 use std::io::{BufRead, Write};
 use std::random::RandomSource;
 use std::rt::Files;
 
-/// The server that is asked for.
+/// The arguments of a server.
 #[derive(Clone, Copy)]
 pub struct Service<'a> {
     /// The mechanism.
     pub version: ScramVersion,
 
-    /// The file of users.
+    /// The file of records.
     pub file: &'a str,
 
-    /// Whether an unknown user is answered with an error, and not as a known one.
+    /// Whether an unknown user is answered with an error, and not like a known one.
     pub tells_unknown_users: bool,
 
-    /// The nonce in hexadecimal digits, or none where it is to be random.
+    /// The nonce in hexadecimal, or `None` for a random one.
     pub nonce: Option<&'a str>,
 
-    /// Whether bytes of AMQP come in place of lines.
+    /// Whether the input has the bytes of an AMQP connection in place of lines.
     pub frames: bool,
 }
 
@@ -56,8 +57,8 @@ where
     over_lines(rt, service, server, input, output)
 }
 
-/// The server of the users of a file. With mock authentication, if that is not turned off, it answers an unknown user as
-/// a known one.
+/// Returns the server of the users of a file. Unless mock authentication is off, it answers an unknown user like a
+/// known one.
 fn server<R: Files + RandomSource + AllocGlobal>(
     rt: &R,
     service: &Service<'_>,
@@ -72,7 +73,7 @@ fn server<R: Files + RandomSource + AllocGlobal>(
     Ok(shape.hide(users, secret))
 }
 
-/// The users of a text who have records for the mechanism.
+/// Parses the users of a text that have records for the mechanism.
 fn users(alloc: Global, service: &Service<'_>, text: &str) -> Result<RecordStore, Stop> {
     let users = MultiRecordStore::parse_lines(alloc, text)?;
     Ok(users.for_version(service.version).clone()?)
@@ -110,7 +111,7 @@ fn challenge<I: BufRead, O: Write>(
     reply(alloc, answer, output)
 }
 
-/// Answers the client's response with the signature. Where it succeeds, the server names the user who has logged in.
+/// Answers the client's response with the signature. After `Ok` the server names the user who has logged in.
 fn conclude<I: BufRead, O: Write>(
     alloc: Global,
     server: &mut ScramAuthenticator<RecordStore>,
@@ -124,7 +125,7 @@ fn conclude<I: BufRead, O: Write>(
     reply(alloc, answer, output)
 }
 
-/// Answers a client-final message. After an answer a user has logged in.
+/// Answers a client-final message. After `Ok` a user has logged in.
 fn answer(
     alloc: Global,
     server: &mut ScramAuthenticator<RecordStore>,
@@ -135,7 +136,7 @@ fn answer(
     server.compute_server_final_message(alloc, message)
 }
 
-/// Sends an answer, or why there is none (RFC 5802, section 7, `server-error`).
+/// Sends an answer, or the error (RFC 5802, section 7, `server-error`).
 fn reply<O: Write>(
     alloc: Global,
     answer: Result<Option<Vec<u8>>, ServerScramErrorKind>,
@@ -156,7 +157,7 @@ fn reply<O: Write>(
     }
 }
 
-/// The error by which a refusal is told.
+/// Returns the error that is sent to the client.
 fn error_of(kind: ServerScramErrorKind) -> &'static [u8] {
     match kind {
         ServerScramErrorKind::Utf8Error | ServerScramErrorKind::Base64DecodeError => {

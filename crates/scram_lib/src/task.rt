@@ -1,14 +1,16 @@
-//! What the words ask for.
+//! The task that the arguments ask for.
 
 use crate::client::{Login, log_in};
-use crate::explain::explain;
 use crate::record::{ITERATIONS, NewRecord};
 use crate::server::{Service, serve};
-use crate::stop::Stop;
 use crate::users::{Named, add, check, list, remove};
-use crate::{input, man, record};
+use crate::{man, record};
 use clap::ArgMatches;
 use fe2o3_scram::ScramVersion;
+use scram_base_lib::audited::Audited;
+use scram_base_lib::explain::explain;
+use scram_base_lib::input;
+use scram_base_lib::stop::Stop;
 use std::io::{BufRead, Write};
 use std::random::RandomSource;
 use std::rt::Files;
@@ -20,24 +22,14 @@ pub struct Streams<'a, I, O> {
     pub output: &'a mut O,
 }
 
-/// What the words ask for.
+/// The command that the arguments ask for.
 #[derive(Clone, Copy)]
 pub enum Command<'a> {
     /// A task of this library.
     Task(Task<'a>),
 
-    /// An audit of both sides of a login, which is not made here.
+    /// An audit of both sides of a login, which the caller does.
     Audit(Audited<'a>),
-}
-
-/// The audit that is asked for.
-#[derive(Clone, Copy)]
-pub struct Audited<'a> {
-    /// The file of the server's users.
-    pub file: &'a str,
-
-    /// The maximum iteration count that the client accepts.
-    pub max_iterations: u32,
 }
 
 /// A task of this library.
@@ -64,15 +56,15 @@ pub enum Task<'a> {
     /// Serves a login.
     Server(Service<'a>),
 
-    /// Tells what messages say: those of bodies of frames, or texts.
+    /// Explains messages. The flag says that the lines are frame bodies.
     Explain(bool),
 
-    /// Prints the page of the manual.
+    /// Prints the manual page.
     Man,
 }
 
 impl<'a> Command<'a> {
-    /// Reads what a parse found.
+    /// Returns the command of the parsed arguments.
     pub fn of(matches: &ArgMatches<'a>) -> Command<'a> {
         match matches.subcommand() {
             Some(("explain", found)) => Command::of_explain(found),
@@ -80,7 +72,7 @@ impl<'a> Command<'a> {
         }
     }
 
-    /// Reads what a parse found after `explain`.
+    /// Returns the command of the parsed arguments of `explain`.
     fn of_explain(matches: &ArgMatches<'a>) -> Command<'a> {
         match matches.get_str("audit") {
             Some(file) => Command::Audit(Audited {
@@ -93,7 +85,7 @@ impl<'a> Command<'a> {
 }
 
 impl<'a> Task<'a> {
-    /// Reads what a parse found, other than `explain`.
+    /// Returns the task of the parsed arguments. They are not those of `explain`.
     fn of(matches: &ArgMatches<'a>) -> Task<'a> {
         match matches.subcommand() {
             Some(("users", found)) => Task::of_users(found),
@@ -105,7 +97,7 @@ impl<'a> Task<'a> {
         }
     }
 
-    /// Reads what a parse found after `users`.
+    /// Returns the task of the parsed arguments of `users`.
     fn of_users(matches: &ArgMatches<'a>) -> Task<'a> {
         match matches.subcommand() {
             Some(("add", found)) => Task::Add(named(found), new_record(found)),
@@ -116,7 +108,7 @@ impl<'a> Task<'a> {
         }
     }
 
-    /// Does it.
+    /// Does the task.
     pub fn run<R, I, O>(&self, rt: &R, streams: &mut Streams<'_, I, O>) -> Result<(), Stop>
     where
         R: Files + RandomSource + AllocGlobal,
@@ -147,7 +139,7 @@ impl<'a> Task<'a> {
     }
 }
 
-/// The login that the words describe.
+/// Returns the arguments of `client`.
 fn login<'a>(matches: &ArgMatches<'a>) -> Login<'a> {
     Login {
         version: version_of(matches, "M").unwrap_or(ScramVersion::Sha256),
@@ -160,14 +152,14 @@ fn login<'a>(matches: &ArgMatches<'a>) -> Login<'a> {
     }
 }
 
-/// The maximum iteration count that the words name, or the default.
+/// Returns the maximum iteration count, or its default.
 fn max_iterations(matches: &ArgMatches<'_>) -> u32 {
     matches
         .get_one::<u32>("max-iterations")
         .unwrap_or(1_000_000)
 }
 
-/// The server that the words describe.
+/// Returns the arguments of `server`.
 fn service<'a>(matches: &ArgMatches<'a>) -> Service<'a> {
     Service {
         version: version_of(matches, "M").unwrap_or(ScramVersion::Sha256),
@@ -178,7 +170,7 @@ fn service<'a>(matches: &ArgMatches<'a>) -> Service<'a> {
     }
 }
 
-/// The record that the words describe.
+/// Returns the arguments of a new record.
 fn new_record<'a>(matches: &ArgMatches<'a>) -> NewRecord<'a> {
     NewRecord {
         version: version_of(matches, "mechanism").unwrap_or(ScramVersion::Sha256),
@@ -187,7 +179,7 @@ fn new_record<'a>(matches: &ArgMatches<'a>) -> NewRecord<'a> {
     }
 }
 
-/// The file and the name that the words have, and the mechanism, if any.
+/// Returns the file, the user name and the mechanism, if any.
 fn named<'a>(matches: &ArgMatches<'a>) -> Named<'a> {
     Named {
         file: text(matches, "FILE"),
@@ -196,12 +188,12 @@ fn named<'a>(matches: &ArgMatches<'a>) -> Named<'a> {
     }
 }
 
-/// The mechanism that the words name, if any.
+/// Returns the version of a mechanism argument, if any.
 fn version_of(matches: &ArgMatches<'_>, id: &str) -> Option<ScramVersion> {
     ScramVersion::from_mechanism(matches.get_str(id)?)
 }
 
-/// The text of an argument that a parse always finds.
+/// Returns the text of a required argument.
 fn text<'a>(matches: &ArgMatches<'a>, id: &str) -> &'a str {
     matches.get_str(id).unwrap_or("")
 }

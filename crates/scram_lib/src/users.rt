@@ -1,5 +1,5 @@
-//! `users`: a file of records, of which each line is a user's: the name, escaped as SCRAM sends it (RFC 5802,
-//! section 5.1), a space, and the record (RFC 5803, section 2).
+//! `users`: a file of records. Each line has the user name, escaped (RFC 5802, section 5.1), a space, and the record
+//! (RFC 5803, section 2).
 
 ghost use Rattle.std.specs.Prelude.{◌↔◌, true, false, Some, [], ◌∷◌, IsTrue, OnOk};
 ghost use Rattle.std.specs.List.{Contains};
@@ -7,40 +7,38 @@ ghost use Rattle.fe2o3_scram.specs.declared.hmac.ScramVersion.TheVariants.{Sha1,
 ghost use Rattle.scram_lib.specs.private.Passwords.{IsAsked, Tells, TellsEach};
 
 pub mod changes;
-pub mod lines;
 
 use crate::record::NewRecord;
-use crate::stop::Stop;
-use crate::store;
 use crate::users::changes::{Put, Taken};
-use crate::users::lines::UserLine;
 use fe2o3_scram::{Meter, MultiRecordStore, Password, ScramCredentialProvider, ScramVersion};
-use std::alloc::Global;
+use scram_base_lib::lines::UserLine;
+use scram_base_lib::stop::Stop;
+use scram_base_lib::{lines, store};
 use std::io::Write;
 use std::random::RandomSource;
 use std::rt::Files;
 
-/// A user of a file, for one mechanism or for each.
+/// A user of a file, for one mechanism or for all.
 #[derive(Clone, Copy)]
 pub struct Named<'a> {
     /// The file.
     pub file: &'a str,
 
-    /// The name, plain.
+    /// The user name, not escaped.
     pub name: &'a str,
 
-    /// The mechanism, or none for each.
+    /// The mechanism, or `None` for all.
     pub version: Option<ScramVersion>,
 }
 
-/// The versions in the order in which their records are told.
+/// The versions, in the order in which `check` prints their answers.
 static VERSIONS: [ScramVersion; 3] = [
     ScramVersion::Sha1,
     ScramVersion::Sha256,
     ScramVersion::Sha512,
 ];
 
-/// Adds a user's record after the others, or replaces the one that counts.
+/// Adds a user's record at the end of the file, or replaces the first one for the mechanism.
 pub fn add<R: Files + RandomSource + AllocGlobal, O: Write>(
     rt: &R,
     named: &Named<'_>,
@@ -72,7 +70,7 @@ pub fn remove<R: Files + AllocGlobal, O: Write>(
     writeln!(output, "{done}").map_err(Stop::of_output)
 }
 
-/// Prints the mechanism, the count and the name of each line.
+/// Prints the mechanism, the iteration count and the name of each line.
 pub fn list<R: Files + AllocGlobal, O: Write>(
     rt: &R,
     file: &str,
@@ -86,14 +84,14 @@ pub fn list<R: Files + AllocGlobal, O: Write>(
     Ok(())
 }
 
-/// Prints the mechanism, the count and the name of a line.
+/// Prints the mechanism, the iteration count and the name of a line.
 fn print_line<O: Write>(line: &str, output: &mut O) -> Result<(), Stop> {
     let line = UserLine::of(line);
     let (mechanism, iterations, name) = (line.mechanism, line.iterations, line.name);
     writeln!(output, "{mechanism} {iterations} {name}").map_err(Stop::of_output)
 }
 
-/// Checks the password against each record of the user that counts, and prints which it is of.
+/// Checks the password against the first record of the user for each mechanism, and prints the answers.
 pub fn check<R: Files + AllocGlobal, O: Write>(
     rt: &R,
     named: &Named<'_>,
@@ -104,7 +102,7 @@ pub fn check<R: Files + AllocGlobal, O: Write>(
     conclude(&answers(&users, named, password), output)
 }
 
-/// Whether the password is that of the record for a version, of each that is there and asked for.
+/// Returns, for each version, whether the password is that of the user's record. See [`answer`].
 fn answers(users: &MultiRecordStore, named: &Named<'_>, password: &str) -> [Option<bool>; 3]
     ensures { TellsEach users.now named.now.version named.now.name.now password.now
         (Sha1 ∷ Sha256 ∷ Sha512 ∷ []) result }
@@ -116,7 +114,8 @@ fn answers(users: &MultiRecordStore, named: &Named<'_>, password: &str) -> [Opti
     ]
 }
 
-/// Whether the password is that of the user's record for a version, where that is there and asked for.
+/// Returns whether the password is that of the user's record for a version, or `None` if there is no such record or the
+/// version is not asked for.
 fn answer(
     users: &MultiRecordStore,
     named: &Named<'_>,
@@ -132,7 +131,7 @@ fn answer(
     Some(kept.verify_password(version, Password::Typed(password), &mut Meter::new()))
 }
 
-/// Whether a version is asked for: the one that is named, or each.
+/// Returns whether a version is asked for. `None` asks for all.
 fn is_asked(asked: Option<ScramVersion>, version: ScramVersion) -> bool
     ensures { IsTrue result ↔ IsAsked asked version }
 {
@@ -142,7 +141,7 @@ fn is_asked(asked: Option<ScramVersion>, version: ScramVersion) -> bool
     }
 }
 
-/// Prints the answers. All have to be yes, and there has to be one.
+/// Prints the answers. Returns an error unless there is an answer and all answers are yes.
 fn conclude<O: Write>(answers: &[Option<bool>; 3], output: &mut O) -> Result<(), Stop>
     ensures { OnOk result (¬ Contains answers.now (Some false) × Contains answers.now (Some true)) }
 {

@@ -1,4 +1,4 @@
-//! A system of the tests' own: files in memory, one call of which may fail, and random bytes that are known.
+//! A mock system for the tests: files in memory, one call of which can fail, and known random bytes.
 
 use std::alloc::Global;
 use std::cell::Cell;
@@ -9,7 +9,7 @@ use std::random::RandomSource;
 use std::rc::Rc;
 use std::rt::Files;
 
-/// How many calls were made, and which one fails, counted from 1.
+/// The number of calls, and the number of the failing one, counted from 1.
 #[derive(Drop)]
 pub struct Calls {
     made: Cell<u32>,
@@ -17,7 +17,7 @@ pub struct Calls {
 }
 
 impl Calls {
-    /// Counts a call, which fails if it is the one that does.
+    /// Counts a call, and returns an error if it is the failing one.
     fn count(&self) -> Result<()> {
         let made = self.made.get().saturating_add(1);
         self.made.set(made);
@@ -28,7 +28,7 @@ impl Calls {
     }
 }
 
-/// What a file holds, and who may read and write it; or a folder.
+/// A file's content and permissions; or a folder.
 #[derive(Drop)]
 struct Node {
     bytes: Cell<Vec<u8>>,
@@ -36,7 +36,7 @@ struct Node {
     is_folder: Cell<bool>,
 }
 
-/// A file under its name.
+/// A file with its name.
 #[derive(Drop)]
 struct Stored {
     name: String,
@@ -64,9 +64,9 @@ pub struct Open {
 }
 
 impl Disk {
-    /// A disk without a file, of which this call fails. Random bytes are, for each call in turn, all the next of
-    /// these, and for further calls all the last; where there are none they count up. What a file that only its owner
-    /// may use is told to be is `private`, which no program makes of nothing.
+    /// Returns a disk without files, with the number of its failing call. A call for random bytes returns copies of one
+    /// byte: the n-th call of all, of the n-th byte of `random` or of its last one. If `random` is empty, the bytes
+    /// count up. `private` is the metadata of a file that only its owner can use, which a program cannot make.
     pub fn new(alloc: Global, failing: u32, random: Vec<u8>, private: Metadata) -> Result<Disk> {
         let made = Cell::new(0);
         Ok(Disk {
@@ -78,7 +78,7 @@ impl Disk {
         })
     }
 
-    /// How many calls were made.
+    /// Returns the number of calls.
     pub fn calls(&self) -> u32 {
         self.calls.made.get()
     }
@@ -92,7 +92,7 @@ impl Disk {
         Ok(())
     }
 
-    /// Adds an empty file, which nobody may read.
+    /// Adds an empty file that nobody can read.
     fn insert(&self, name: &str) -> Result<Rc<Node>> {
         let bytes = Cell::new(Vec::new(self.alloc));
         let (mode, is_folder) = (Cell::new(0), Cell::new(false));
@@ -108,7 +108,7 @@ impl Disk {
         Ok(node)
     }
 
-    /// Gives a file a name that no other has.
+    /// Adds a file under a new name.
     fn name(&self, name: &str, node: Rc<Node>) -> Result<()> {
         let name = name.to_string(self.alloc)?;
         let mut stored = self.stored.replace(Vec::new(self.alloc));
@@ -118,7 +118,7 @@ impl Disk {
         Ok(())
     }
 
-    /// The file of a name.
+    /// Returns the file of a name.
     fn find(&self, name: &str) -> Result<Option<Rc<Node>>> {
         let stored = self.stored.replace(Vec::new(self.alloc));
         let found = node_of(&stored, name);
@@ -126,7 +126,7 @@ impl Disk {
         found
     }
 
-    /// Takes out a file, and says whether there was one.
+    /// Removes a file, and returns whether there was one.
     fn remove(&self, name: &str) -> bool {
         let mut stored = self.stored.replace(Vec::new(self.alloc));
         let before = stored.len();
@@ -147,7 +147,7 @@ impl Disk {
         })
     }
 
-    /// Each file as the lines of a paragraph: `F NAME MODE`, and `+ LINE` for each line.
+    /// Writes each file as the lines of a paragraph: `F NAME MODE`, and `+ LINE` for each line.
     pub fn tell(&self, text: &mut String) -> Result<()> {
         let stored = self.stored.replace(Vec::new(self.alloc));
         for file in &stored {
@@ -158,7 +158,7 @@ impl Disk {
     }
 }
 
-/// What is told of a file: for its owner only, or for everybody to read.
+/// The answer about a file: only its owner can use it, or everybody can read it.
 fn facts_of(node: &Node, private: &Metadata) -> Result<Metadata> {
     if node.is_folder.get() {
         return Ok(Metadata::of_dir());
@@ -169,7 +169,7 @@ fn facts_of(node: &Node, private: &Metadata) -> Result<Metadata> {
     Ok(Metadata::of_file(0))
 }
 
-/// The file of a name.
+/// Returns the file of a name.
 fn node_of(stored: &[Stored], name: &str) -> Result<Option<Rc<Node>>> {
     match stored.iter().find(|file| file.name.as_str() == name) {
         Some(file) => Ok(Some(file.node.clone()?)),
@@ -177,7 +177,7 @@ fn node_of(stored: &[Stored], name: &str) -> Result<Option<Rc<Node>>> {
     }
 }
 
-/// A file as the lines of a paragraph.
+/// Writes a file as the lines of a paragraph.
 fn tell_file(file: &Stored, text: &mut String) -> Result<()> {
     let (name, mode) = (&file.name, file.node.mode.get() & 0o777);
     write!(text, "F {name} {mode:o}\n")?;

@@ -1,5 +1,5 @@
-//! Replays runs of the programs `scram` and `example_broker`, the files of `data/`, and prints one line a file. A run that is not
-//! confirmed is printed with what comes of it, and ends the program with status 1.
+//! Replays the runs of the programs `scram` and `example_broker` in the files of `data/`, and prints one line for each
+//! file. A run with another result is printed with that result, and the program then ends with status 1.
 #![tactic(auto)]
 
 mod disk;
@@ -12,7 +12,7 @@ use std::os::unix::fs::OpenOptionsExt;
 use std::process::ExitCode;
 use std::{fs, io};
 
-/// Checks each paragraph of a file behind the first, and prints how many runs are confirmed.
+/// Checks each paragraph of a file after the first, and prints how many runs are confirmed.
 fn replay<W: Write>(
     alloc: Global,
     private: &Metadata,
@@ -48,7 +48,7 @@ static FILES: [&str; 9] = [
     "brokers.txt",
 ];
 
-/// What the system tells of a file that only its owner may use, of one that is made for that and removed.
+/// Returns the metadata of a file that only its owner can use. The file is made for this and removed.
 fn private(rt: &HostRuntime) -> io::Result<Metadata> {
     let mut options = OpenOptions::new();
     options.write(true).create_new(true).mode(0o600);

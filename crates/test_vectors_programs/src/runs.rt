@@ -1,8 +1,9 @@
-//! Runs of a program: its words, its input and its files, and what comes of them.
+//! Runs of a program: its arguments, its input and its files, and the result.
 
 use crate::disk::Disk;
 use example_broker_lib::log_in;
-use scram_audit_lib::run;
+use scram_audit_lib::audit::audit;
+use scram_lib::run;
 use std::alloc::{AllocError, Global};
 use std::fs::Metadata;
 use std::io::{BufRead, BufReader, Result, Write};
@@ -16,34 +17,34 @@ struct File {
     is_folder: bool,
 }
 
-/// A run as a paragraph has it.
+/// A run, as a paragraph describes it.
 #[derive(Drop)]
 struct Run {
-    /// The words of the program, its name first.
+    /// The name of the program and its arguments.
     words: Vec<String>,
 
-    /// The input, and whether it is bytes, as what is printed then is.
+    /// The input, and whether input and output are bytes.
     input: Vec<u8>,
     is_binary: bool,
 
-    /// Of which bytes the random bytes are, or none where they count up.
+    /// The random bytes, or none if they count up. See [`Disk::new`].
     random: Vec<u8>,
 
     /// The files before the run.
     files: Vec<File>,
 
-    /// What is to come of it: the lines `>`, `!`, `=`, `F` and `+` of the paragraph.
+    /// The expected result: the lines `>`, `!`, `=`, `F` and `+` of the paragraph.
     wanted: String,
 
-    /// Whether each of its calls of files and of random bytes is to fail in turn.
+    /// Whether to repeat the run with each call of files and of random bytes failing in turn.
     fails: bool,
 
-    /// What a file that only its owner may use is told to be.
+    /// The metadata of a file that only its owner can use.
     private: Metadata,
 }
 
-/// Checks the run that a paragraph spells: what comes of it in place of what is wanted, if that is another. Where
-/// the paragraph says so, each call fails in turn, and leaves the files as they were, with status 4.
+/// Checks the run of a paragraph, and returns its result if that is not the expected one. If the paragraph says so, each
+/// call fails in turn, and then the status must be 4 and the files unchanged.
 pub fn check(alloc: Global, private: &Metadata, paragraph: &str) -> Result<Option<String>> {
     let run = read(alloc, private, paragraph)?;
     if run.is_binary {
@@ -59,7 +60,7 @@ pub fn check(alloc: Global, private: &Metadata, paragraph: &str) -> Result<Optio
     Ok(None)
 }
 
-/// What comes of a run whose input comes in pieces of these lengths, if that is another than is wanted.
+/// Checks a run whose input comes in pieces of several lengths, and returns its result if that is not the expected one.
 fn play_pieces(alloc: Global, run: &Run) -> Result<Option<String>> {
     for piece in [1, 7, 4096] {
         let (_, told) = play(alloc, run, 0, piece)?;
@@ -70,7 +71,7 @@ fn play_pieces(alloc: Global, run: &Run) -> Result<Option<String>> {
     Ok(None)
 }
 
-/// Lets each call fail in turn: what comes of the first that leaves the files otherwise, if any.
+/// Lets each call fail in turn, and returns the result of the first one with another status or changed files.
 fn fail_each(alloc: Global, run: &Run, calls: u32) -> Result<Option<String>> {
     let before = told_before(alloc, run)?;
     if calls == 0 {
@@ -85,7 +86,7 @@ fn fail_each(alloc: Global, run: &Run, calls: u32) -> Result<Option<String>> {
     Ok(None)
 }
 
-/// A disk with the files of a run, of which a call fails.
+/// Returns a disk with the files of a run, one call of which fails.
 fn disk_of(alloc: Global, run: &Run, failing: u32) -> Result<Disk> {
     let disk = Disk::new(alloc, failing, run.random.clone()?, run.private.clone()?)?;
     for file in &run.files {
@@ -94,7 +95,7 @@ fn disk_of(alloc: Global, run: &Run, failing: u32) -> Result<Disk> {
     Ok(disk)
 }
 
-/// The status and the files that are wanted of a run that fails.
+/// Returns the expected status and files of a run that fails.
 fn told_before(alloc: Global, run: &Run) -> Result<String> {
     let disk = disk_of(alloc, run, 0)?;
     let mut told = String::from_str(alloc, "= 4\n")?;
@@ -102,8 +103,8 @@ fn told_before(alloc: Global, run: &Run) -> Result<String> {
     Ok(told)
 }
 
-/// Runs the program with a call that fails, and an input in pieces of a length: how many calls it made, and what
-/// came of it.
+/// Runs the program with a failing call and with an input in pieces of a length, and returns the number of its calls and
+/// its result.
 fn play(alloc: Global, run: &Run, failing: u32, piece: usize) -> Result<(u32, String)> {
     let disk = disk_of(alloc, run, failing)?;
     let mut told = String::new(alloc);
@@ -112,7 +113,7 @@ fn play(alloc: Global, run: &Run, failing: u32, piece: usize) -> Result<(u32, St
     Ok((disk.calls(), told))
 }
 
-/// Runs the program, and tells its output, its errors and its status.
+/// Runs the program, and writes its output, its errors and its status as lines.
 fn play_on(disk: &Disk, asked: &Run, piece: usize, told: &mut String) -> Result<()> {
     let alloc = disk.alloc();
     let (mut output, mut errors) = (Vec::new(alloc), Vec::new(alloc));
@@ -121,7 +122,7 @@ fn play_on(disk: &Disk, asked: &Run, piece: usize, told: &mut String) -> Result<
         [name, words @ ..] if name.as_str() == "example_broker" => {
             serve(disk, words, &mut input, &mut output, &mut errors)?
         }
-        words => run(disk, words, &mut input, &mut output, &mut errors),
+        words => run(disk, words, &mut input, &mut output, &mut errors, audit),
     };
     if asked.is_binary {
         write!(told, "X {}\n", hex::encode(alloc, output.as_slice())?)?;
@@ -133,7 +134,7 @@ fn play_on(disk: &Disk, asked: &Run, piece: usize, told: &mut String) -> Result<
     Ok(())
 }
 
-/// Serves the connections of an input as the program `example_broker` does by these words, and answers its status.
+/// Runs the program `example_broker` with these arguments, and returns its status.
 fn serve<I: BufRead>(
     disk: &Disk,
     words: &[String],
@@ -151,7 +152,7 @@ fn serve<I: BufRead>(
     }
 }
 
-/// Tells lines behind a mark.
+/// Writes lines, each after a mark.
 fn tell_lines(told: &mut String, mark: &str, bytes: &[u8]) -> Result<()> {
     for line in String::from_utf8_lossy(*told.allocator(), bytes)?
         .as_str()
@@ -166,7 +167,7 @@ fn tell_lines(told: &mut String, mark: &str, bytes: &[u8]) -> Result<()> {
     Ok(())
 }
 
-/// Reads a paragraph.
+/// Parses a paragraph.
 fn read(alloc: Global, private: &Metadata, paragraph: &str) -> Result<Run> {
     let mut run = Run {
         words: Vec::new(alloc),
@@ -184,7 +185,7 @@ fn read(alloc: Global, private: &Metadata, paragraph: &str) -> Result<Run> {
     Ok(run)
 }
 
-/// Reads a line of a mark and a text.
+/// Parses a line with a mark and a text.
 fn read_line(alloc: Global, run: &mut Run, line: &str) -> Result<()> {
     let (mark, text) = line.split_once(' ').unwrap_or((line, ""));
     match mark {
@@ -217,7 +218,7 @@ fn read_line(alloc: Global, run: &mut Run, line: &str) -> Result<()> {
     Ok(())
 }
 
-/// A file or a folder without content by its name, and by its mode in octal digits where that is not 644.
+/// Parses the name of a file or a folder, and its mode in octal, which is 644 by default. It is empty.
 fn file_of(alloc: Global, text: &str, is_folder: bool) -> Result<File> {
     let (name, mode) = text.split_once(' ').unwrap_or((text, "644"));
     Ok(File {
@@ -242,14 +243,14 @@ fn push_line(alloc: Global, lines: &mut String, text: &str) -> Result<()> {
     Ok(())
 }
 
-/// A text without its signs for line feeds, tabs and spaces.
+/// Replaces the escapes of line feeds, tabs and spaces.
 fn unescaped(alloc: Global, text: &str) -> std::result::Result<String, AllocError> {
     let text = text.replace(alloc, "\\n", "\n")?;
     let text = text.replace(alloc, "\\t", "\t")?;
     text.replace(alloc, "\\s", " ")
 }
 
-/// Adds words, each cut at one space. Of an empty text there are none.
+/// Adds words, which are separated by one space. An empty text has none.
 fn push_words(alloc: Global, words: &mut Vec<String>, text: &str) -> Result<()> {
     if text.is_empty() {
         return Ok(());

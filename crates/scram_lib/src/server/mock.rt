@@ -1,12 +1,12 @@
-//! Mock records: what a server that answers unknown users as known ones takes for their records.
+//! Mock records, with which a server answers unknown users like known ones.
 
 ghost use Rattle.std.specs.Prelude.{◌≡◌, ◌≤◌, IfOk, Some, option_map};
 ghost use Rattle.fe2o3_scram.specs.ScramServer.{mock_in};
 
 use crate::record::{ITERATIONS, SALT_LEN};
-use crate::stop::Stop;
-use crate::users::lines::UserLine;
 use fe2o3_scram::{RecordStore, ScramAuthenticator, ScramRecord, ScramVersion};
+use scram_base_lib::lines::UserLine;
+use scram_base_lib::stop::Stop;
 use std::alloc::Global;
 
 /// The longest salt of a mock record, in bytes.
@@ -23,8 +23,8 @@ pub struct Shape {
 }
 
 impl Shape {
-    /// Returns the shape of the first record for the mechanism in a text whose lines were read before. Where there is
-    /// none, it is the shape of the records that `users add` makes.
+    /// Returns the shape of the first record for the mechanism in a valid text, or, if there is none, of the records
+    /// that `users add` makes by default.
     pub fn of(alloc: Global, text: &str, version: ScramVersion) -> Result<Shape, Stop>
         ensures { IfOk result (λ shape. shape.salt_len ≤ 64) }
     {
@@ -39,12 +39,12 @@ impl Shape {
         })
     }
 
-    /// Returns the shape of a line's record, with the longest salt that a mock record has where that salt is longer.
+    /// Returns the shape of a line's record. A longer salt than a mock record can have is cut to that length.
     fn of_line(alloc: Global, line: &str) -> Result<Shape, Stop>
         ensures { IfOk result (λ shape. shape.salt_len ≤ 64) }
     {
         let (_, record) = line.rsplit_once(' ').unwrap_or(("", ""));
-        // The line was read before, so only memory can fail.
+        // The line is valid, so only memory can fail.
         let Ok(record) = ScramRecord::parse(alloc, record) else {
             return Err(Stop::OutOfMemory);
         };
@@ -60,7 +60,7 @@ impl Shape {
         })
     }
 
-    /// Returns the server of these users, with mock records by a secret.
+    /// Returns the server of these users, with mock records made with a secret.
     pub fn hide(self, users: RecordStore, secret: Vec<u8>) -> ScramAuthenticator<RecordStore>
         requires { self.salt_len ≤ 64 }
         ensures secret { option_map (λ mock. mock.secret) (mock_in result) ≡ Some secret.items }

@@ -1,13 +1,13 @@
-//! Changes of a file of users. Lines that are not changed stay byte for byte.
+//! Changes of a file of records. The other lines stay byte for byte.
 
-use crate::stop::Stop;
-use crate::store::{Change, Changed};
-use crate::users::lines;
-use crate::users::lines::UserLine;
 use fe2o3_scram::ScramVersion;
+use scram_base_lib::lines;
+use scram_base_lib::lines::UserLine;
+use scram_base_lib::stop::Stop;
+use scram_base_lib::store::{Change, Changed};
 use std::alloc::Global;
 
-/// A line that replaces the first with its name and mechanism, or is added after all.
+/// A line that replaces the first one with its name and mechanism, or is added at the end.
 #[derive(Drop)]
 pub struct Put {
     /// The line, with its line feed.
@@ -17,17 +17,17 @@ pub struct Put {
     pub version: ScramVersion,
 }
 
-/// Each line of a name that is removed, or those for one mechanism.
+/// The removal of all lines of a name, or of those for one mechanism.
 #[derive(Drop)]
 pub struct Taken {
     /// The name, escaped.
     pub name: String,
 
-    /// The mechanism, or none for each.
+    /// The mechanism, or `None` for all.
     pub version: Option<ScramVersion>,
 }
 
-/// Whether a line is of this name, which is escaped, and of this mechanism, if any.
+/// Returns whether a line has this name, which is escaped, and this mechanism, if any.
 fn is_of(line: &str, name: &str, version: Option<ScramVersion>) -> bool {
     let line = UserLine::of(line);
     line.name == name && version.is_none_or(|version| version.mechanism() == line.mechanism)

@@ -1,4 +1,4 @@
-//! Messages as lines: each in base64 on a line of its own.
+//! Messages as lines in base64.
 
 use crate::input::next_line;
 use crate::stop::Stop;
@@ -13,13 +13,13 @@ pub fn send<O: Write>(alloc: Global, output: &mut O, message: &[u8]) -> Result<(
     print(output, &line).map_err(Stop::of_output)
 }
 
-/// Writes a line to its end.
+/// Writes a line, and flushes the output.
 fn print<O: Write>(output: &mut O, line: &str) -> Written<()> {
     writeln!(output, "{line}")?;
     output.flush()
 }
 
-/// Receives a message, which has to come.
+/// Receives a message. The end of the input is the error `Ended`.
 pub fn receive<I: BufRead>(alloc: Global, input: &mut I) -> Result<Vec<u8>, Stop> {
     match next_line(alloc, input)? {
         Some(line) => bytes_of(alloc, &line),
@@ -27,7 +27,7 @@ pub fn receive<I: BufRead>(alloc: Global, input: &mut I) -> Result<Vec<u8>, Stop
     }
 }
 
-/// The bytes that a line is of.
+/// Decodes a line in base64.
 pub fn bytes_of(alloc: Global, line: &str) -> Result<Vec<u8>, Stop> {
     match STANDARD.decode(alloc, line.as_bytes()) {
         Ok(bytes) => Ok(bytes),

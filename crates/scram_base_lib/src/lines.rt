@@ -1,4 +1,4 @@
-//! The lines of a file of users.
+//! The lines of a file of records.
 
 use crate::stop::Stop;
 use crate::store;
@@ -6,7 +6,7 @@ use fe2o3_scram::{MultiRecordStore, ScramRecord, WriteLinesError, escape_usernam
 use std::alloc::Global;
 use std::rt::Files;
 
-/// A line that was tested, in its parts.
+/// The parts of a valid line.
 #[derive(Clone, Copy)]
 pub struct UserLine<'a> {
     /// The name, escaped.
@@ -20,7 +20,7 @@ pub struct UserLine<'a> {
 }
 
 impl<'a> UserLine<'a> {
-    /// The parts of a line. One that is no user's has empty ones.
+    /// Splits a line into its parts. They are empty if the line is not valid.
     pub fn of(line: &'a str) -> UserLine<'a> {
         let (name, record) = line.rsplit_once(' ').unwrap_or(("", ""));
         let (mechanism, rest) = record.split_once('$').unwrap_or(("", ""));
@@ -33,19 +33,19 @@ impl<'a> UserLine<'a> {
     }
 }
 
-/// The users of a file.
+/// Reads the users of a file.
 pub fn users<R: Files + AllocGlobal>(rt: &R, file: &str) -> Result<MultiRecordStore, Stop> {
     let text = store::read(rt, file)?;
     Ok(MultiRecordStore::parse_lines(rt.alloc(), &text)?)
 }
 
-/// Tests that each line of a text is a user's.
+/// Checks that each line of a text is valid.
 pub fn test(alloc: Global, text: &str) -> Result<(), Stop> {
     MultiRecordStore::parse_lines(alloc, text)?;
     Ok(())
 }
 
-/// The name as lines have it (RFC 5802, section 5.1).
+/// Returns the name as it is in lines, escaped (RFC 5802, section 5.1).
 pub fn escaped(alloc: Global, name: &str) -> Result<String, Stop> {
     match String::from_utf8(escape_username(alloc, name.as_bytes())?) {
         Ok(escaped) => Ok(escaped),
@@ -53,7 +53,7 @@ pub fn escaped(alloc: Global, name: &str) -> Result<String, Stop> {
     }
 }
 
-/// The line of a user, with its line feed.
+/// Returns the line of a user, with its line feed.
 pub fn line_of(alloc: Global, name: &str, record: ScramRecord) -> Result<String, Stop> {
     let name = name.to_string(alloc)?;
     let mut users = MultiRecordStore::new(alloc);
@@ -61,7 +61,7 @@ pub fn line_of(alloc: Global, name: &str, record: ScramRecord) -> Result<String,
     text_of(alloc, &users)
 }
 
-/// The lines of users.
+/// Returns the lines of users.
 fn text_of(alloc: Global, users: &MultiRecordStore) -> Result<String, Stop> {
     let lines = match users.to_lines(alloc) {
         Ok(lines) => lines,

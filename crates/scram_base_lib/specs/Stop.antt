@@ -1,7 +1,7 @@
 -- The status that the program ends with: the project's own (README, "A program for people").
 use Rattle.std.specs.Prelude.{ℕ}
-use Rattle.scram_lib.specs.declared.stop.Stop.{Stop}
-use Rattle.scram_lib.specs.declared.stop.Stop.TheVariants as stops
+use Rattle.scram_base_lib.specs.declared.stop.Stop.{Stop}
+use Rattle.scram_base_lib.specs.declared.stop.Stop.TheVariants as stops
 
 -- 1: the other side refuses, or is gone. 2: wrong words. 3: this side refuses the other, or an audit finds no whole
 -- login. 4: an input that cannot be read or audited, or a file, memory, random bytes or an output that fails

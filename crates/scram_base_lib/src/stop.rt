@@ -1,7 +1,7 @@
-//! What stops the program before its end.
+//! Why the program stops early.
 
 ghost use Rattle.std.specs.Prelude.{◌≡◌, ◌≤◌};
-ghost use Rattle.scram_lib.specs.Stop.{status_of};
+ghost use Rattle.scram_base_lib.specs.Stop.{status_of};
 
 use fe2o3_sasl_negotiation::CloseReason;
 use fe2o3_scram::{
@@ -17,39 +17,39 @@ use thiserror::Error;
 /// Why the program stops.
 #[derive(Debug, Clone, Copy, Error)]
 pub enum Stop {
-    /// The salt is not written in hexadecimal digits.
-    #[error("The salt is not an even number of hexadecimal digits.")]
+    /// The salt is empty or not in hexadecimal.
+    #[error("The salt is empty or not in hexadecimal.")]
     WrongSalt,
 
-    /// A line cannot hold the name.
-    #[error("A name with a line feed has no line in a file.")]
+    /// The name cannot be in a line.
+    #[error("The name has a line feed, so a file cannot hold it.")]
     WrongName,
 
-    /// No password came.
+    /// The first line of the input has no password.
     #[error("There is no password on the first line of standard input.")]
     NoPassword,
 
-    /// The password has characters that the hashes are not made of.
+    /// The password is not printable ASCII.
     #[error("The password is not printable ASCII.")]
     WrongPassword,
 
-    /// A line of the input has no end within what is read of it.
+    /// A line of the input is too long.
     #[error("A line of standard input is longer than 65536 bytes.")]
     LongLine,
 
-    /// The input fails.
+    /// A read of the input failed.
     #[error("Standard input cannot be read: {0}.")]
     Input(ErrorKind),
 
-    /// The output fails.
+    /// A write to the output failed.
     #[error("Standard output cannot be written: {0}.")]
     Output(ErrorKind),
 
-    /// No random bytes came.
-    #[error("The system has no random bytes: {0}.")]
+    /// The system did not return random bytes.
+    #[error("The system did not return random bytes: {0}.")]
     Random(ErrorKind),
 
-    /// The file is not read.
+    /// The file cannot be read.
     #[error("The file cannot be read: {0}.")]
     Unreadable(ErrorKind),
 
@@ -57,117 +57,117 @@ pub enum Stop {
     #[error("The file cannot be read: it is not UTF-8.")]
     NotUtf8,
 
-    /// A line of the file is not a user's.
+    /// A line of the file is not valid.
     #[error("The file cannot be read. {0}.")]
     Line(ReadLinesError),
 
-    /// Another program writes the file, or was cut off while it did.
-    #[error("The file is being changed: FILE.new exists. Remove that if no other program is changing the file.")]
+    /// Another program is writing the file, or was stopped while it was writing.
+    #[error("The file is being changed: FILE.new exists. Remove FILE.new if no other program is changing the file.")]
     Busy,
 
-    /// The new file is not written, and the old one stays.
+    /// The new file cannot be written. The old one stays.
     #[error("The file cannot be written: {0}.")]
     Unwritten(ErrorKind),
 
-    /// The secret of mock records is not there, and cannot be made, or its file is not as it has to be.
-    #[error("The secret of mock records, FILE.secret, cannot be used: {0}.")]
+    /// The secret for mock records cannot be read or made, or its file is not valid.
+    #[error("The secret for mock records, FILE.secret, cannot be used: {0}.")]
     Secret(SecretError),
 
     /// No record has the name.
     #[error("The file has no such record.")]
     NoSuchRecord,
 
-    /// The password is another.
-    #[error("The password is not that of each record.")]
+    /// The password is wrong for a record.
+    #[error("The password does not match every record.")]
     OtherPassword,
 
-    /// The nonce is not written in hexadecimal digits.
+    /// The nonce is not 64 hexadecimal digits.
     #[error("The nonce is not 64 hexadecimal digits.")]
     WrongNonce,
 
-    /// A line is no body.
-    #[error("A line of standard input is not hexadecimal digits.")]
+    /// A line of the input is not in hexadecimal.
+    #[error("A line of standard input is not in hexadecimal.")]
     NotHex,
 
-    /// A line is no message.
-    #[error("A line of standard input is not base64.")]
+    /// A line of the input is not in base64.
+    #[error("A line of standard input is not in base64.")]
     NotBase64,
 
-    /// The input has a line after the messages of an exchange.
+    /// The input has a line after the last message of the exchange.
     #[error("Standard input has a line after the four messages.")]
     ExtraLine,
 
-    /// The file of keys is none.
-    #[error("The file of keys cannot be read: it is not one line of keys.")]
+    /// The key file is not one line of keys.
+    #[error("The key file cannot be read: it is not one line of keys.")]
     WrongKeys,
 
-    /// The keys are of another mechanism.
-    #[error("The file of keys is for another mechanism.")]
+    /// The keys are for another mechanism.
+    #[error("The key file is for another mechanism.")]
     OtherMechanism,
 
-    /// The other side is gone before its message.
-    #[error("The other side has ended before the login.")]
+    /// The other side closed before its message.
+    #[error("The other side closed before the end of the login.")]
     Ended,
 
-    /// The server tells an error.
-    #[error("The server refuses the login.")]
+    /// The server sent an error.
+    #[error("The server rejected the login.")]
     RefusedByServer,
 
-    /// The client refuses a message of the server.
-    #[error("The server's message is refused: {0}.")]
+    /// The client rejects a message of the server.
+    #[error("The server's message is rejected: {0}.")]
     Client(ScramErrorKind),
 
-    /// The server refuses a message of the client.
-    #[error("The client's message is refused: {0}.")]
+    /// The server rejects a message of the client.
+    #[error("The client's message is rejected: {0}.")]
     Server(ServerScramErrorKind),
 
     /// The file has no record of the client's user for the mechanism.
-    #[error("The client's user is unknown.")]
+    #[error("The user is unknown.")]
     UnknownUser,
 
-    /// A connection is closed.
+    /// The connection is closed.
     #[error("The connection is closed: {0}.")]
     Closed(CloseReason),
 
-    /// A message that is explained is refused.
-    #[error("A message is refused.")]
+    /// A message in the input of `explain` is rejected.
+    #[error("A message is rejected.")]
     MessageRefused,
 
-    /// A line names no side.
+    /// A line does not name its side.
     #[error("A line of standard input does not begin with client or server and a space.")]
     NoSide,
 
-    /// A nonce is none of an audit, which replays both sides from nonces of 32 bytes.
+    /// A nonce is not the base64 of 32 bytes. An audit replays both sides from nonces of 32 bytes.
     #[error("The bodies cannot be audited: a nonce is not the base64 of 32 bytes.")]
     OtherNonces,
 
-    /// No init of the client is for a mechanism that has records.
-    #[error("The bodies cannot be audited: the client asks for no login by SCRAM.")]
+    /// The client sent no init of a SCRAM mechanism.
+    #[error("The bodies cannot be audited: the client starts no SCRAM login.")]
     NoLogin,
 
-    /// Two inits of the client differ in the user or the mechanism.
-    #[error("The bodies cannot be audited: the client asks for two users or by two mechanisms.")]
+    /// Two inits of the client have different users or mechanisms.
+    #[error("The bodies cannot be audited: the client logs in as two users or with two mechanisms.")]
     TwoLogins,
 
-    /// Nothing is found in an audit.
+    /// The audit has no finding.
     #[error("The two sides have no login in common.")]
     NothingInCommon,
 
-    /// The server has accepted the client, which has not received its signature, or rejects it.
+    /// The server accepted the client. The client did not receive the server's signature, or rejects it.
     #[error("The client does not authenticate the server that accepts it.")]
     NotVerified,
 
-    /// Two logins have one proof or one signature.
-    #[error("A proof or a signature is of two logins.")]
+    /// Two different logins have the same proof or signature.
+    #[error("A proof or a signature belongs to two different logins.")]
     OneProofOfTwo,
 
-    /// A request for memory was refused.
-    #[error("There is not enough memory.")]
+    /// Out of memory.
+    #[error("Out of memory.")]
     OutOfMemory,
 }
 
 impl Stop {
-    /// Why an input is not read.
+    /// Converts the error of a read of the input.
     pub fn of_input(error: io::Error) -> Stop {
         match error.kind() {
             ErrorKind::OutOfMemory => Stop::OutOfMemory,
@@ -175,17 +175,17 @@ impl Stop {
         }
     }
 
-    /// Why an output is not written.
+    /// Converts the error of a write to the output.
     pub fn of_output(error: io::Error) -> Stop {
         Stop::Output(error.kind())
     }
 
-    /// Why there are no random bytes.
+    /// Converts the error of the random source.
     pub fn of_random(error: io::Error) -> Stop {
         Stop::Random(error.kind())
     }
 
-    /// Why a file is not read.
+    /// Converts the error of a read of a file.
     pub fn of_reading(error: io::Error) -> Stop {
         match error.kind() {
             ErrorKind::OutOfMemory => Stop::OutOfMemory,
@@ -194,12 +194,12 @@ impl Stop {
         }
     }
 
-    /// Why a file is not written.
+    /// Converts the error of a write to a file.
     pub fn of_writing(error: io::Error) -> Stop {
         Stop::Unwritten(error.kind())
     }
 
-    /// The status to end with.
+    /// Returns the exit status.
     pub fn status(self) -> u8
         ensures exactly { result ≡ status_of self }
         ensures within { result ≤ 4 }
@@ -247,7 +247,7 @@ impl From<RecordError> for Stop {
     fn from(fault: RecordError) -> Stop {
         match fault {
             RecordError::NormalizeError => Stop::WrongPassword,
-            // The words name a count from 1.
+            // Cannot happen: the parser takes counts from 1.
             RecordError::ZeroIterations => Stop::WrongSalt,
             RecordError::OutOfMemory => Stop::OutOfMemory,
         }

@@ -1,13 +1,13 @@
-//! What is read of the input.
+//! Lines of the input.
 
 use crate::stop::Stop;
 use std::alloc::Global;
 use std::io::{BufRead, Read};
 
-/// The longest line that is read, in bytes.
+/// The length of the longest line, in bytes.
 const LONGEST: usize = 65536;
 
-/// The next line of the input without its line feed, or `None` where the input has ended.
+/// Reads the next line of the input, and returns it without its line feed, or `None` at the end of the input.
 pub fn next_line<I: BufRead>(alloc: Global, input: &mut I) -> Result<Option<String>, Stop> {
     let mut line = Vec::new(alloc);
     input
@@ -29,7 +29,7 @@ pub fn next_line<I: BufRead>(alloc: Global, input: &mut I) -> Result<Option<Stri
     }
 }
 
-/// The password, which is the first line of the input. An empty one counts as none.
+/// Reads the password, which is the first line of the input. An empty line is the error `NoPassword`.
 pub fn password<I: BufRead>(alloc: Global, input: &mut I) -> Result<String, Stop> {
     match next_line(alloc, input)? {
         Some(line) if !line.is_empty() => Ok(line),

@@ -1,4 +1,4 @@
-//! `explain`: what the messages of an exchange say, which come in base64, a line for each, in their order.
+//! `explain`: what the messages of an exchange say. They are lines in base64, in order.
 
 ghost use Rattle.std.specs.Prelude.{◌<◌, IfSome};
 
@@ -11,39 +11,40 @@ use fe2o3_scram::{
 use std::alloc::{AllocError, Global};
 use std::io::{BufRead, Write};
 
-/// What the messages so far have named.
+/// What the messages so far contain.
 #[derive(Drop)]
 pub struct Heard {
-    /// What is printed before each message: whose it is, or nothing.
+    /// The side, which is printed before each message, or nothing.
     side: &'static str,
 
-    /// The user of the client's first message, plain.
+    /// The user of the client-first message, not escaped.
     pub user: String,
 
-    /// The nonce of the client's first message.
+    /// The nonce of the client-first message.
     pub client_nonce: String,
 
-    /// The nonce of the server's first message.
+    /// The nonce of the server-first message.
     pub nonce: String,
 }
 
-/// Why a message is refused.
+/// Why a message is rejected.
 #[derive(Clone, Copy)]
 enum Refusal {
-    /// As a client refuses it.
+    /// A client's error.
     Client(ScramErrorKind),
 
-    /// As a server refuses it.
+    /// A server's error.
     Server(ServerScramErrorKind),
 
-    /// The body of no frame.
+    /// The body is not a frame.
     Frame(Error),
 }
 
-/// What is told of a message: what it says, or why it is refused.
+/// What a message says, or why it is rejected.
 type Told = Result<String, Refusal>;
 
-/// Prints what each message says, up to the first that is refused: those of bodies of frames, or texts.
+/// Prints what each message says, up to the first that is rejected. The lines are frame bodies in hexadecimal, or
+/// messages in base64.
 pub fn explain<I: BufRead, O: Write>(
     alloc: Global,
     frames: bool,
@@ -65,17 +66,17 @@ static NAMES: [&str; 4] = [
     "server-final",
 ];
 
-/// Prints why a message is refused.
+/// Prints why a message is rejected.
 fn refuse<O: Write>(name: &str, refusal: Refusal, output: &mut O) -> std::io::Result<()> {
     match refusal {
-        Refusal::Client(kind) => writeln!(output, "{name}: refused: {kind}"),
-        Refusal::Server(kind) => writeln!(output, "{name}: refused: {kind}"),
-        Refusal::Frame(fault) => writeln!(output, "{name}: refused: {fault}"),
+        Refusal::Client(kind) => writeln!(output, "{name}: rejected: {kind}"),
+        Refusal::Server(kind) => writeln!(output, "{name}: rejected: {kind}"),
+        Refusal::Frame(fault) => writeln!(output, "{name}: rejected: {fault}"),
     }
 }
 
 impl Refusal {
-    /// What it stops the program by.
+    /// Returns why the program stops.
     fn stop(self) -> Stop {
         match self {
             Refusal::Client(ScramErrorKind::OutOfMemory)
@@ -104,7 +105,7 @@ impl From<AllocError> for Refusal {
 }
 
 impl Heard {
-    /// Nothing so far, of messages before each of which this is printed.
+    /// Returns an empty value. `side` is printed before each message.
     pub fn new(alloc: Global, side: &'static str) -> Heard {
         Heard {
             side,
@@ -114,13 +115,13 @@ impl Heard {
         }
     }
 
-    /// The server's part of the nonce, which follows the client's (RFC 5802, section 5.1, `r`).
+    /// Returns the server's part of the nonce, which follows the client's (RFC 5802, section 5.1, `r`).
     pub fn server_nonce(&self) -> Option<&str> {
         let (nonce, client_nonce) = (self.nonce.as_str(), self.client_nonce.as_str());
         nonce.strip_prefix(client_nonce)
     }
 
-    /// Prints what is told of a message.
+    /// Prints what a message says, or why it is rejected.
     fn print<O: Write>(&self, name: &str, told: Told, output: &mut O) -> Result<(), Stop> {
         write!(output, "{}", self.side).map_err(Stop::of_output)?;
         match told {
@@ -132,7 +133,7 @@ impl Heard {
         }
     }
 
-    /// Prints what each text says.
+    /// Prints what each message says.
     fn texts<I: BufRead, O: Write>(
         &mut self,
         alloc: Global,
@@ -153,7 +154,7 @@ impl Heard {
         }
     }
 
-    /// Prints what each body says, and the text in it.
+    /// Prints what each frame body says, and the message in it.
     fn bodies<I: BufRead, O: Write>(
         &mut self,
         alloc: Global,
@@ -170,7 +171,7 @@ impl Heard {
         Ok(())
     }
 
-    /// Prints what a body says, and the text in it.
+    /// Prints what a frame body says, and the message in it.
     pub fn body<O: Write>(
         &mut self,
         alloc: Global,
@@ -189,7 +190,7 @@ impl Heard {
         self.print(NAMES[place], told, output)
     }
 
-    /// What is told of the message at a place.
+    /// Returns what the message at a place says.
     fn tell(&mut self, alloc: Global, place: usize, message: &[u8]) -> Told {
         match place {
             0 => self.client_first(alloc, message),
@@ -199,36 +200,34 @@ impl Heard {
         }
     }
 
-    /// What a client-first message says.
+    /// Returns what a client-first message says.
     fn client_first(&mut self, alloc: Global, message: &[u8]) -> Told {
         let first = ClientFirst::parse(alloc, message)?;
         self.user = first.username.as_str().to_string(alloc)?;
         self.client_nonce = first.client_nonce.to_string(alloc)?;
         let (user, nonce) = (first.username.as_str(), first.client_nonce);
-        Ok(format!(in alloc; "the user {user:?} asks, with the nonce {nonce:?}")?)
+        Ok(format!(in alloc; "user {user:?}, nonce {nonce:?}")?)
     }
 
-    /// What a server-first message says.
+    /// Returns what a server-first message says.
     fn server_first(&mut self, alloc: Global, message: &[u8]) -> Told {
         let text = str::from_utf8(message).map_err(|_| ScramErrorKind::Utf8Error)?;
         let first = ServerFirst::parse(alloc, &self.client_nonce, "", u32::MAX, text)?;
         self.nonce = first.nonce.to_string(alloc)?;
         let (nonce, iterations) = (first.nonce, first.iterations);
         let salt = hex::encode(alloc, first.salt.as_slice())?;
-        Ok(format!(in alloc;
-            "{iterations} iterations over the salt {salt}, with the nonce {nonce:?}"
-        )?)
+        Ok(format!(in alloc; "salt {salt}, {iterations} iterations, nonce {nonce:?}")?)
     }
 
-    /// What a client-final message says.
+    /// Returns what a client-final message says.
     fn client_final(&self, alloc: Global, message: &[u8]) -> Told {
         let last = ClientFinal::parse(alloc, self.nonce.as_bytes(), message)?;
         let proof = hex::encode(alloc, last.proof.as_slice())?;
-        Ok(format!(in alloc; "the proof {proof}, with the same nonce")?)
+        Ok(format!(in alloc; "proof {proof}, same nonce")?)
     }
 }
 
-/// The bytes that a line spells in hexadecimal digits.
+/// Decodes a line in hexadecimal.
 pub fn body_of(alloc: Global, line: &str) -> Result<Vec<u8>, Stop> {
     match hex::decode(alloc, line) {
         Ok(body) => Ok(body),
@@ -237,7 +236,7 @@ pub fn body_of(alloc: Global, line: &str) -> Result<Vec<u8>, Stop> {
     }
 }
 
-/// The name of a frame (AMQP 1.0, part 5, section 5.3.3).
+/// Returns the name of a frame (AMQP 1.0, part 5, section 5.3.3).
 fn name_of(view: &FrameView<'_>) -> &'static str {
     match view {
         FrameView::Mechanisms(_) => "sasl-mechanisms",
@@ -248,7 +247,7 @@ fn name_of(view: &FrameView<'_>) -> &'static str {
     }
 }
 
-/// The text in a frame, and its place among the messages.
+/// Returns the message in a frame, and its place in the exchange.
 fn text_in<'a>(view: &FrameView<'a>) -> Option<(usize, &'a [u8])>
     ensures { IfSome result (λ found. found.0 < 4) }
 {
@@ -267,7 +266,7 @@ fn text_in<'a>(view: &FrameView<'a>) -> Option<(usize, &'a [u8])>
     }
 }
 
-/// What a frame says beside the text in it.
+/// Returns what a frame says besides the message in it.
 fn told_of(alloc: Global, view: &FrameView<'_>) -> Told {
     match view {
         FrameView::Mechanisms(names) => names_of(alloc, names),
@@ -277,21 +276,21 @@ fn told_of(alloc: Global, view: &FrameView<'_>) -> Told {
             ..
         } => match hostname {
             Some(hostname) => {
-                Ok(format!(in alloc; "{mechanism} is asked for, of the host {hostname:?}")?)
+                Ok(format!(in alloc; "mechanism {mechanism}, hostname {hostname:?}")?)
             }
-            None => Ok(format!(in alloc; "{mechanism} is asked for")?),
+            None => Ok(format!(in alloc; "mechanism {mechanism}")?),
         },
         FrameView::Challenge(text) | FrameView::Response(text) => {
             let len = text.len();
-            Ok(format!(in alloc; "a text of {len} bytes")?)
+            Ok(format!(in alloc; "{len} bytes")?)
         }
         FrameView::Outcome { code, .. } => Ok(format!(in alloc; "{code:?}")?),
     }
 }
 
-/// The names of mechanisms, with a space before each.
+/// Returns the names of the mechanisms, separated by spaces.
 fn names_of(alloc: Global, names: &SymbolsView<'_>) -> Told {
-    let mut text = String::from_str(alloc, "offered are")?;
+    let mut text = String::from_str(alloc, "offers")?;
     for name in names.iter() {
         text.push(' ')?;
         text.push_str(name)?;
@@ -299,16 +298,16 @@ fn names_of(alloc: Global, names: &SymbolsView<'_>) -> Told {
     Ok(text)
 }
 
-/// What a server-final message says.
+/// Returns what a server-final message says.
 fn server_final(alloc: Global, message: &[u8]) -> Told {
     if let Some(error) = message.strip_prefix(b"e=") {
         let error = String::from_utf8_lossy(alloc, error)?;
         let error = error.as_str();
-        return Ok(format!(in alloc; "the server refuses the login: {error:?}")?);
+        return Ok(format!(in alloc; "error {error:?}")?);
     }
     let signature = hex::encode(
         alloc,
         ServerFinal::parse(alloc, message)?.signature.as_slice(),
     )?;
-    Ok(format!(in alloc; "the server's signature {signature}")?)
+    Ok(format!(in alloc; "signature {signature}")?)
 }

@@ -1,4 +1,4 @@
-//! Files that are read whole, and changed whole or not at all.
+//! Files that are read as a whole, and changed as a whole or not at all.
 
 use crate::stop::Stop;
 use std::alloc::{AllocError, Global};
@@ -14,33 +14,33 @@ pub struct Changed {
     /// The new text.
     pub text: String,
 
-    /// What was done.
+    /// What the change did.
     pub done: &'static str,
 }
 
 /// A change of a file's text.
 pub trait Change {
-    /// Whether a file that is not there counts as an empty one.
+    /// Returns whether a missing file counts as an empty one.
     fn makes_files(&self) -> bool;
 
     /// Returns the text after the change.
     fn apply(&self, alloc: Global, text: &str) -> Result<Changed, Stop>;
 }
 
-/// A file's text, and who may read and write it.
+/// A file's text and its permissions.
 #[derive(Drop)]
 struct Old {
     text: String,
     permissions: Permissions,
 }
 
-/// The text of a file.
+/// Reads the text of a file.
 pub fn read<R: Files + AllocGlobal>(rt: &R, file: &str) -> Result<String, Stop> {
     fs::read_to_string(rt, file).map_err(Stop::of_reading)
 }
 
-/// Changes a file: the new text is written into a new file beside it, `FILE.new`, which takes its place. What
-/// fails leaves the old file as it was. While the new one is there no other process begins a change.
+/// Changes a file: writes the new text to a new file beside it, `FILE.new`, and renames that to the file's name. After
+/// a failure the old file is unchanged. While `FILE.new` exists, no other process starts a change.
 pub fn make_change<R: Files + AllocGlobal, C: Change>(
     rt: &R,
     file: &str,
@@ -49,18 +49,18 @@ pub fn make_change<R: Files + AllocGlobal, C: Change>(
     let beside = name_beside(rt.alloc(), file)?;
     let filled = fill(rt, file, &beside, change);
     if filled.is_err() && !matches!(filled, Err(Stop::Busy)) {
-        // It stops for another reason already.
+        // The first error is the one to report.
         let _ = fs::remove_file(rt, beside.as_str());
     }
     filled
 }
 
-/// The name of the new file.
+/// Returns the name of the new file.
 fn name_beside(alloc: Global, file: &str) -> Result<String, AllocError> {
     format!(in alloc; "{file}.new")
 }
 
-/// Makes the new file, and puts it into the place of the old one.
+/// Writes the new file, and puts it in the place of the old one.
 fn fill<R: Files + AllocGlobal, C: Change>(
     rt: &R,
     file: &str,
@@ -74,14 +74,14 @@ fn fill<R: Files + AllocGlobal, C: Change>(
     Ok(done)
 }
 
-/// Creates a file that was not there, which only its owner may read.
+/// Creates a new file that only its owner can read and write.
 fn create<R: Files>(rt: &R, beside: &str) -> Result<R::File, Stop> {
     let mut options = OpenOptions::new();
     options.write(true).create_new(true).mode(0o600);
     options.open(rt, beside).map_err(of_creating)
 }
 
-/// Why a new file is not made.
+/// Converts the error of a new file.
 fn of_creating(error: Error) -> Stop {
     match error.kind() {
         ErrorKind::AlreadyExists => Stop::Busy,
@@ -89,7 +89,7 @@ fn of_creating(error: Error) -> Stop {
     }
 }
 
-/// Writes the text after the change, under the old file's permissions.
+/// Writes the text after the change, with the old file's permissions.
 fn write<R: Files + AllocGlobal, C: Change>(
     rt: &R,
     file: &str,
@@ -102,7 +102,7 @@ fn write<R: Files + AllocGlobal, C: Change>(
     Ok(changed.done)
 }
 
-/// Reads the old file, or returns an empty one for only its owner where that may be new.
+/// Reads the old file. If it is missing and `makes_files` is set, returns an empty one that only its owner can use.
 fn read_old<R: Files + AllocGlobal>(rt: &R, file: &str, makes_files: bool) -> Result<Old, Stop> {
     match fs::open(rt, file) {
         Ok(mut open) => read_open(rt.alloc(), &mut open).map_err(Stop::of_reading),
@@ -114,7 +114,7 @@ fn read_old<R: Files + AllocGlobal>(rt: &R, file: &str, makes_files: bool) -> Re
     }
 }
 
-/// What an open file holds.
+/// Reads the text and the permissions of an open file.
 fn read_open<F: Read + OpenFile>(alloc: Global, open: &mut F) -> Result<Old, Error> {
     let mut text = String::new(alloc);
     let permissions = open.metadata()?.permissions();
@@ -122,7 +122,7 @@ fn read_open<F: Read + OpenFile>(alloc: Global, open: &mut F) -> Result<Old, Err
     Ok(Old { text, permissions })
 }
 
-/// Writes a file to its end.
+/// Writes a file and syncs it to the disk.
 fn put<F: Write + OpenFile>(
     new: &mut F,
     text: &str,

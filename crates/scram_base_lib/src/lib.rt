@@ -1,0 +1,11 @@
+//! What the commands of the program `scram` share: why they stop, the lines of the input, files that are changed whole,
+//! the lines of a file of users, and what the messages of a login say.
+#![tactic(auto)]
+
+pub mod audited;
+pub mod explain;
+pub mod input;
+pub mod lines;
+pub mod stop;
+pub mod store;
+pub mod wire;
