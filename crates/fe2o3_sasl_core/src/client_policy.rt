@@ -153,7 +153,7 @@ impl ClientPolicy {
 #[derive(Clone, Copy, Debug, PartialEq, Eq, Error)]
 pub enum ChoiceError {
     /// The offer has no mechanism that the policy allows and the secret serves for.
-    #[error("No mechanism to take")]
+    #[error("No offered mechanism can be used")]
     NoAcceptableMechanism,
 
     /// An allocation failed.

@@ -19,7 +19,7 @@ use thiserror::Error;
 #[derive(Clone, Copy, Debug, PartialEq, Eq, Error)]
 pub enum OfferError {
     /// No name would be left of the offer, in place of which a server offers ANONYMOUS.
-    #[error("Nothing offered")]
+    #[error("No mechanism to offer")]
     NoMechanismLeft,
 
     /// An allocation failed.

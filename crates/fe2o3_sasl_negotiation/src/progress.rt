@@ -12,28 +12,28 @@ pub enum CloseReason {
 
     /// The size of a frame is below 8 or above the limit (AMQP 1.0, part 2, section 2.3.1; part 5, section 5.3.1). No
     /// byte after the size was taken.
-    #[error("A frame of this size is refused")]
+    #[error("The frame size is out of range")]
     FrameSize,
 
     /// The body of a frame is malformed or not supported, or the answer has no body.
-    #[error("The frame is not read")]
+    #[error("The frame cannot be parsed")]
     MalformedFrame(Error),
 
     /// The frame is not the expected one (AMQP 1.0, part 5, section 5.3.2), such as a second init, a second challenge
     /// or a second list of mechanisms. A server also fails with it if its acceptor would send a second challenge.
-    #[error("The frame is out of turn")]
+    #[error("Unexpected frame")]
     UnexpectedFrame,
 
     /// The answer does not fit in a frame of 512 bytes.
-    #[error("The answer is too large")]
+    #[error("The reply does not fit in a frame")]
     ReplyTooLarge,
 
     /// The login was rejected by an outcome with this code, which a server has sent or a client has received.
-    #[error("The login is refused")]
+    #[error("The login was rejected")]
     Refused(SaslCode),
 
     /// The client's mechanism rejects what the server sent.
-    #[error("The server is refused")]
+    #[error("The server's message was rejected")]
     Mechanism(ProfileError),
 }
 

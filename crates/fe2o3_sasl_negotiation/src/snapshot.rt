@@ -44,11 +44,11 @@ pub enum RestoreError {
     /// No side has these values: the limit is above 512; the expected unit is complete, or has a size that is not
     /// allowed; a side that has ended holds bytes; the expected unit does not fit the progress or the side; or a side
     /// that has not logged in has a user, or a client has one.
-    #[error("No side keeps these values")]
+    #[error("The snapshot is invalid")]
     InvalidSnapshot,
 
     /// The server has logged in another user than the acceptor names, or one of the two has no user.
-    #[error("The acceptor names another user")]
+    #[error("The user of the acceptor is not that of the snapshot")]
     OtherUser,
 
     /// An allocation failed.

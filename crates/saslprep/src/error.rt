@@ -11,7 +11,7 @@ pub enum SaslprepError {
     ProhibitedCharacter(char),
     /// The prepared text has a character of a right-to-left script, and a left-to-right one too or another at its start
     /// or end (RFC 3454, section 6).
-    #[error("right-to-left characters stand beside others")]
+    #[error("right-to-left and left-to-right characters are mixed")]
     MixedDirections,
     /// This code point, of the text or of its prepared form, is not assigned in Unicode 3.2.
     #[error("U+{:04X} is not assigned in Unicode 3.2", u32::from(*.0))]

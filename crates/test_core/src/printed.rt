@@ -37,7 +37,7 @@ static PROFILE_TEXTS: [(ProfileError, &str); 5] = [
     (ProfileError::Scram(ScramErrorKind::Utf8Error), "Scram"),
     (
         ProfileError::StaleKeys,
-        "The keys are of another salt or iteration count",
+        "The cached keys are for another salt or iteration count",
     ),
     (ProfileError::Frame(Error::DecodeError), "Frame"),
     (ProfileError::OutOfMemory, "OutOfMemory"),
@@ -51,12 +51,15 @@ static URL_TEXTS: [(UrlError, &str); 2] = [
 
 /// A text for each kind of the errors of an offer, of a choice, of an event and of an audit.
 static OFFER_TEXTS: [(OfferError, &str); 2] = [
-    (OfferError::NoMechanismLeft, "Nothing offered"),
+    (OfferError::NoMechanismLeft, "No mechanism to offer"),
     (OfferError::OutOfMemory, "Out of memory"),
 ];
 
 static CHOICE_TEXTS: [(ChoiceError, &str); 2] = [
-    (ChoiceError::NoAcceptableMechanism, "No mechanism to take"),
+    (
+        ChoiceError::NoAcceptableMechanism,
+        "No offered mechanism can be used",
+    ),
     (ChoiceError::OutOfMemory, "Out of memory"),
 ];
 

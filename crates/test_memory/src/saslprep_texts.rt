@@ -58,7 +58,7 @@ static FAULTS: [(SaslprepError, &str); 4] = [
     ),
     (
         SaslprepError::MixedDirections,
-        "right-to-left characters stand beside others",
+        "right-to-left and left-to-right characters are mixed",
     ),
     (
         SaslprepError::UnassignedCodePoint('\u{1D7CA}'),

@@ -49,7 +49,7 @@ static SCRAM_ERROR_KINDS: [(ScramErrorKind, &str); 18] = [
     (ScramErrorKind::NormalizeError, "Error normalizing password"),
     (
         ScramErrorKind::StaleKeys,
-        "The keys are of another salt or iteration count",
+        "The cached keys are for another salt or iteration count",
     ),
     (ScramErrorKind::HmacErrorInvalidLength, "Invalid length"),
     (
@@ -136,7 +136,10 @@ fn texts_of_what_a_server_refuses(rt: HostRuntime) {
 }
 
 static RECORD_TEXT_ERRORS: [(RecordTextError, &str); 6] = [
-    (RecordTextError::PartsMismatch, "Parts missing or left over"),
+    (
+        RecordTextError::PartsMismatch,
+        "The record does not have five fields",
+    ),
     (RecordTextError::UnknownMechanism, "Unknown SCRAM mechanism"),
     (
         RecordTextError::IterationCountParseError,

@@ -23,7 +23,7 @@ pub enum ProfileError {
     /// The server names another salt or iteration count than that of the cached keys, and the client has no password,
     /// which is needed. Nothing signs that message, so a man in the middle can cause this: keep the keys until a login
     /// by the password is verified.
-    #[error("The keys are of another salt or iteration count")]
+    #[error("The cached keys are for another salt or iteration count")]
     StaleKeys,
 
     /// The body is not read, or the answer is not written.

@@ -23,7 +23,7 @@ const FIXED_LEN: usize = 14;
 #[derive(Debug, Clone, Copy, PartialEq, Eq, Error)]
 pub enum RecordTextError {
     /// The text does not have five fields: parts are missing or left over.
-    #[error("Parts missing or left over")]
+    #[error("The record does not have five fields")]
     PartsMismatch,
 
     /// The first field is not the name of a known mechanism.

@@ -63,7 +63,7 @@ pub enum ScramErrorKind {
 
     /// The client has only keys, and the message names another salt or iteration count than theirs. A man in the middle
     /// can cause this: it is no reason to forget the keys.
-    #[error("The keys are of another salt or iteration count")]
+    #[error("The cached keys are for another salt or iteration count")]
     StaleKeys,
 
     /// Never returned, since HMAC takes keys of every length.
