@@ -67,16 +67,20 @@ enum fe2o3_mechanism {
 
 /* What a client logs in with. */
 enum fe2o3_secret {
-    /* The typed password, which has to be printable ASCII. */
+    /* The password. */
     FE2O3_BY_PASSWORD = 0,
     /* The keys. */
     FE2O3_BY_KEYS = 1,
-    /* The keys if they are of the server's salt and iteration count, otherwise the typed password. */
-    FE2O3_BY_PASSWORD_AND_KEYS = 2,
-    /* The prepared password (fe2o3_saslprep). */
-    FE2O3_BY_PREPARED = 3,
-    /* The keys if they are of the server's salt and iteration count, otherwise the prepared password. */
-    FE2O3_BY_PREPARED_AND_KEYS = 4
+    /* The keys if they are of the server's salt and iteration count, otherwise the password. */
+    FE2O3_BY_PASSWORD_AND_KEYS = 2
+};
+
+/* The form of a password. */
+enum fe2o3_password_form {
+    /* The password as the user typed it, which has to be printable ASCII. */
+    FE2O3_TYPED = 0,
+    /* The password as you prepared it (fe2o3_saslprep): any text, used without change. */
+    FE2O3_PREPARED = 1
 };
 
 /* What fe2o3_saslprep does with code points that Unicode 3.2 does not assign. */
@@ -340,7 +344,7 @@ enum fe2o3_status {
     FE2O3_REFUSED_SYS_PERM = 83,
     /* The login was refused because of a temporary system error. */
     FE2O3_REFUSED_SYS_TEMP = 84,
-    /* The number is none of enum fe2o3_unassigned. */
+    /* The number is none of enum fe2o3_unassigned, or the form of a password none of enum fe2o3_password_form. */
     FE2O3_NO_SUCH_CHOICE = 85,
     /* The prepared text contains a character that RFC 4013, section 2.3, prohibits. */
     FE2O3_PROHIBITED_CHARACTER = 86,
@@ -407,20 +411,11 @@ struct fe2o3_scram_record {
     uint8_t server_key[64];
 };
 
-/* Computes the record of a typed password. The password has to be printable ASCII. */
+/* Computes the record of a password. `form` is one of enum fe2o3_password_form. A client logs in with exactly the text
+ * of which the record was made. */
 uint32_t fe2o3_scram_record_make(
     uint32_t version,
-    const uint8_t *password,
-    size_t password_len,
-    const uint8_t *salt,
-    size_t salt_len,
-    uint32_t iterations,
-    struct fe2o3_scram_record *kept);
-
-/* Computes the record of a prepared password (`fe2o3_saslprep`): any text, used without change. A client logs in with
- * exactly that text. */
-uint32_t fe2o3_scram_record_make_prepared(
-    uint32_t version,
+    uint32_t form,
     const uint8_t *password,
     size_t password_len,
     const uint8_t *salt,
@@ -453,17 +448,12 @@ uint32_t fe2o3_scram_record_text(
     size_t out_size,
     size_t *out_len);
 
-/* Compares a typed password, for instance one received by PLAIN, with a record: FE2O3_OK if it is the record's,
- * FE2O3_OTHER_PASSWORD if not. It hashes as often as the record's iteration count says, so pass only records of your
- * own. */
+/* Compares a password, for instance one received by PLAIN, with a record: FE2O3_OK if it is the record's,
+ * FE2O3_OTHER_PASSWORD if not. `form` is one of enum fe2o3_password_form. The call hashes as often as the record's
+ * iteration count says, so pass only your own records. */
 uint32_t fe2o3_scram_record_verify(
     const struct fe2o3_scram_record *kept,
-    const uint8_t *password,
-    size_t password_len);
-
-/* Compares a prepared password with a record, like `fe2o3_scram_record_verify`. The text is used without change. */
-uint32_t fe2o3_scram_record_verify_prepared(
-    const struct fe2o3_scram_record *kept,
+    uint32_t form,
     const uint8_t *password,
     size_t password_len);
 
@@ -510,21 +500,11 @@ struct fe2o3_scram_keys {
     uint8_t server_key[64];
 };
 
-/* Derives the keys of a typed password, for a server that uses this salt and iteration count. The password has to be
- * printable ASCII. */
+/* Derives the keys of a password, for a server that uses this salt and iteration count. `form` is one of enum
+ * fe2o3_password_form. */
 uint32_t fe2o3_scram_keys_make(
     uint32_t version,
-    const uint8_t *password,
-    size_t password_len,
-    const uint8_t *salt,
-    size_t salt_len,
-    uint32_t iterations,
-    struct fe2o3_scram_keys *keys);
-
-/* Derives the keys of a prepared password (`fe2o3_saslprep`), for a server that uses this salt and iteration count.
- * The text is used without change. */
-uint32_t fe2o3_scram_keys_make_prepared(
-    uint32_t version,
+    uint32_t form,
     const uint8_t *password,
     size_t password_len,
     const uint8_t *salt,
@@ -540,6 +520,8 @@ struct fe2o3_login {
     uint32_t version;
     /* What the client logs in with: one of enum fe2o3_secret. */
     uint32_t secret;
+    /* The form of the password: one of enum fe2o3_password_form. */
+    uint32_t form;
     /* The minimum iteration count that the client accepts. RFC 7677 requires at least 4096. */
     uint32_t min_iterations;
     /* The maximum iteration count that the client accepts. */
@@ -547,7 +529,7 @@ struct fe2o3_login {
     /* The user name, without escapes. */
     const uint8_t *username;
     size_t username_len;
-    /* The password, typed or prepared. */
+    /* The password. */
     const uint8_t *password;
     size_t password_len;
     /* The keys of an earlier login, or a struct of zeros. */

@@ -210,7 +210,7 @@ pub const REFUSED_SYS_PERM: u32 = 83;
 /// The login was refused because of a temporary system error.
 pub const REFUSED_SYS_TEMP: u32 = 84;
 
-/// The number is none of the `unassigned` constants.
+/// The number is none of the `unassigned` constants, or the form of a password none of the `password_form` constants.
 pub const NO_SUCH_CHOICE: u32 = 85;
 
 /// The prepared text contains a character that RFC 4013, section 2.3, prohibits.
@@ -244,20 +244,20 @@ pub const ANONYMOUS: u32 = 2;
 /// `mechanism`: EXTERNAL (RFC 4422, appendix A).
 pub const EXTERNAL: u32 = 3;
 
-/// `secret`: The typed password, which has to be printable ASCII.
+/// `secret`: The password.
 pub const BY_PASSWORD: u32 = 0;
 
 /// `secret`: The keys.
 pub const BY_KEYS: u32 = 1;
 
-/// `secret`: The keys if they are of the server's salt and iteration count, otherwise the typed password.
+/// `secret`: The keys if they are of the server's salt and iteration count, otherwise the password.
 pub const BY_PASSWORD_AND_KEYS: u32 = 2;
 
-/// `secret`: The prepared password (fe2o3_saslprep).
-pub const BY_PREPARED: u32 = 3;
+/// `password_form`: The password as the user typed it, which has to be printable ASCII.
+pub const TYPED: u32 = 0;
 
-/// `secret`: The keys if they are of the server's salt and iteration count, otherwise the prepared password.
-pub const BY_PREPARED_AND_KEYS: u32 = 4;
+/// `password_form`: The password as you prepared it (fe2o3_saslprep): any text, used without change.
+pub const PREPARED: u32 = 1;
 
 /// `unassigned`: Rejects unassigned code points: the call returns UNASSIGNED_CODE_POINT.
 pub const UNASSIGNED_REFUSED: u32 = 0;
@@ -414,6 +414,8 @@ pub struct Login {
     pub version: u32,
     /// What the client logs in with: one of the `secret` constants.
     pub secret: u32,
+    /// The form of the password: one of the `password_form` constants.
+    pub form: u32,
     /// The minimum iteration count that the client accepts. RFC 7677 requires at least 4096.
     pub min_iterations: u32,
     /// The maximum iteration count that the client accepts.
@@ -421,7 +423,7 @@ pub struct Login {
     /// The user name, without escapes.
     pub username: *const u8,
     pub username_len: usize,
-    /// The password, typed or prepared.
+    /// The password.
     pub password: *const u8,
     pub password_len: usize,
     /// The keys of an earlier login, or a struct of zeros.
@@ -620,20 +622,11 @@ extern "C" {
         out_size: usize,
         out_len: *mut usize) -> u32;
 
-    /// Computes the record of a typed password. The password has to be printable ASCII.
+    /// Computes the record of a password. `form` is one of the `password_form` constants. A client logs in with exactly
+    /// the text of which the record was made.
     pub fn fe2o3_scram_record_make(
         version: u32,
-        password: *const u8,
-        password_len: usize,
-        salt: *const u8,
-        salt_len: usize,
-        iterations: u32,
-        kept: *mut ScramRecord) -> u32;
-
-    /// Computes the record of a prepared password (`fe2o3_saslprep`): any text, used without change. A client logs in
-    /// with exactly that text.
-    pub fn fe2o3_scram_record_make_prepared(
-        version: u32,
+        form: u32,
         password: *const u8,
         password_len: usize,
         salt: *const u8,
@@ -666,14 +659,12 @@ extern "C" {
         out_size: usize,
         out_len: *mut usize) -> u32;
 
-    /// Compares a typed password, for instance one received by PLAIN, with a record: OK if it is the record's,
-    /// OTHER_PASSWORD if not. It hashes as often as the record's iteration count says, so pass only records of your
-    /// own.
-    pub fn fe2o3_scram_record_verify(kept: *const ScramRecord, password: *const u8, password_len: usize) -> u32;
-
-    /// Compares a prepared password with a record, like `fe2o3_scram_record_verify`. The text is used without change.
-    pub fn fe2o3_scram_record_verify_prepared(
+    /// Compares a password, for instance one received by PLAIN, with a record: OK if it is the record's, OTHER_PASSWORD
+    /// if not. `form` is one of the `password_form` constants. The call hashes as often as the record's iteration count
+    /// says, so pass only your own records.
+    pub fn fe2o3_scram_record_verify(
         kept: *const ScramRecord,
+        form: u32,
         password: *const u8,
         password_len: usize) -> u32;
 
@@ -702,21 +693,11 @@ extern "C" {
         out_size: usize,
         out_len: *mut usize) -> u32;
 
-    /// Derives the keys of a typed password, for a server that uses this salt and iteration count. The password has to
-    /// be printable ASCII.
+    /// Derives the keys of a password, for a server that uses this salt and iteration count. `form` is one of enum
+    /// fe2o3_password_form.
     pub fn fe2o3_scram_keys_make(
         version: u32,
-        password: *const u8,
-        password_len: usize,
-        salt: *const u8,
-        salt_len: usize,
-        iterations: u32,
-        keys: *mut ScramKeys) -> u32;
-
-    /// Derives the keys of a prepared password (`fe2o3_saslprep`), for a server that uses this salt and iteration
-    /// count. The text is used without change.
-    pub fn fe2o3_scram_keys_make_prepared(
-        version: u32,
+        form: u32,
         password: *const u8,
         password_len: usize,
         salt: *const u8,

@@ -8,7 +8,6 @@ use Rattle.fe2o3_scram.specs.ClientFinal.{Answer}
 use Rattle.fe2o3_scram.specs.ClientFirst.{client_first, client_first_bare}
 use Rattle.fe2o3_scram.specs.ClientKeys.{ClientKeys}
 use Rattle.fe2o3_scram.specs.ClientSecret.{Secret, Password, Keys, Both}
-use Rattle.fe2o3_scram.specs.Passwords.{Prepared, Typed}
 use Rattle.fe2o3_scram.specs.ScramClient.{AnswersIn, VerifiesIn, ClientSide, ClientState, ClientInitial, ClientFirstSent, ClientFinalSent, Complete, started}
 use Rattle.fe2o3_scram.specs.Hmac.{zero_filled}
 use Rattle.fe2o3_scram.specs.Readings.{IsFirst, NoneHolds}
@@ -21,18 +20,15 @@ use Rattle.sasl_c.specs.declared.status.Status.{Status}
 use Rattle.sasl_c.specs.declared.status.Status.TheVariants as statuses
 use Rattle.sasl_c.specs.declared.status.WriteError.{WriteError}
 use Rattle.sasl_c.specs.Keys.{KeysHaveRoom, ShowsKeys, WritesKeys, no_keys_struct}
+use Rattle.sasl_c.specs.Passwords.{IsPassword, password_tests}
 use Rattle.sasl_c.specs.Records.{IsVersion}
 use Rattle.sasl_c.specs.Status.{client_status}
 
--- the secret of a login: its password as it is typed, its keys, or both; or its password as it was prepared, or both
--- with that
+-- the secret of a login: its password, its keys, or both
 abbrev pub IsSecretOf : Login → Secret → Type 0
-IsSecretOf login (Password (Typed text)) = (login.secret ≡ 0) × (text ≡ login.password.now)
+IsSecretOf login (Password password) = (login.secret ≡ 0) × IsPassword login.form login.password.now password
 IsSecretOf login (Keys keys) = (login.secret ≡ 1) × ShowsKeys login.keys.now keys
-IsSecretOf login (Both (Typed text) keys) = (login.secret ≡ 2) × (text ≡ login.password.now)
-    × ShowsKeys login.keys.now keys
-IsSecretOf login (Password (Prepared text)) = (login.secret ≡ 3) × (text ≡ login.password.now)
-IsSecretOf login (Both (Prepared text) keys) = (login.secret ≡ 4) × (text ≡ login.password.now)
+IsSecretOf login (Both password keys) = (login.secret ≡ 2) × IsPassword login.form login.password.now password
     × ShowsKeys login.keys.now keys
 
 -- a client of this login
@@ -48,14 +44,13 @@ abbrev pub keys_tests : Login → List (Status × Type 0)
 keys_tests login = (statuses.NoKeys, (keys : ClientKeys) → ¬ ShowsKeys login.keys.now keys)
     ∷ (statuses.OtherVersion, login.keys.now.version ≢ login.version) ∷ []
 
--- the tests of its secret, by what it has: a password is UTF-8
+-- why a login has no secret: the first test that holds of its password, of its keys, or of both in this order
 unfoldable pub IsNoSecret : Login → Status → Type 0
-IsNoSecret login status = ((login.secret ≡ 0 ⊎ login.secret ≡ 3)
-    × (status ≡ statuses.NotUtf8) × ¬ IsUtf8 login.password.now)
+IsNoSecret login status = ((login.secret ≡ 0) × IsFirst (password_tests login.form login.password.now) status)
     ⊎ ((login.secret ≡ 1) × IsFirst (keys_tests login) status)
-    ⊎ ((login.secret ≡ 2 ⊎ login.secret ≡ 4)
-    × IsFirst ((statuses.NotUtf8, ¬ IsUtf8 login.password.now) ∷ keys_tests login) status)
-    ⊎ ((4 < login.secret) × (status ≡ statuses.NoSuchSecret))
+    ⊎ ((login.secret ≡ 2) × (IsFirst (password_tests login.form login.password.now) status
+    ⊎ (NoneHolds (password_tests login.form login.password.now) × IsFirst (keys_tests login) status)))
+    ⊎ ((2 < login.secret) × (status ≡ statuses.NoSuchSecret))
 
 -- the tests of its version and its user, in their order
 abbrev pub name_tests : Login → List (Status × Type 0)

@@ -2,6 +2,8 @@
 use Rattle.std.specs.Prelude.{◌≡◌, ◌≢◌, ◌<◌, ◌≤◌, ◌++◌, ℕ, List, length, drop, IfErr, Result, Ok, Err}
 use Rattle.fe2o3_scram.specs.declared.hmac.ScramVersion.{ScramVersion}
 use Rattle.fe2o3_scram.specs.declared.hmac.ScramVersion.TheVariants as versions
+use Rattle.fe2o3_scram.specs.declared.keys.RecordError.{RecordError}
+use Rattle.fe2o3_scram.specs.declared.keys.RecordError.TheVariants as records
 use Rattle.fe2o3_scram.specs.declared.credentials.record_text.RecordTextError.{RecordTextError}
 use Rattle.fe2o3_scram.specs.declared.credentials.record_text.RecordTextError.TheVariants as texts
 use Rattle.fe2o3_scram.specs.declared.scram_messages.error.ScramErrorKind.{ScramErrorKind}
@@ -118,6 +120,12 @@ client_status why = statuses.Client why
 abbrev pub server_status : ServerScramErrorKind → Status
 server_status server.OutOfMemory = OutOfMemory
 server_status why = statuses.Server why
+
+-- why no keys and no record are made of a password
+abbrev pub record_status : RecordError → Status
+record_status records.NormalizeError = statuses.NotPrintable
+record_status records.ZeroIterations = statuses.ZeroIterations
+record_status records.OutOfMemory = OutOfMemory
 
 -- the number of an answer
 abbrev pub answer_number : {A : Type 0} → Result A Status → ℕ

@@ -16,10 +16,11 @@ ghost use Rattle.sasl_c.specs.declared.status.WriteError.TheVariants.{RoomTooSma
 
 use crate::arrays::{fill, head, padded, put, store};
 use crate::keys::ScramKeys;
+use crate::passwords::password_in;
 use crate::status::{Status, WriteError, number, text, text_number, version_of};
 use bytes::Bytes;
 use fe2o3_scram::{
-    CachedKeys, ClientAnswer, ClientSecret, IterationLimits, Password, ScramClient as Machine,
+    CachedKeys, ClientAnswer, ClientSecret, IterationLimits, ScramClient as Machine,
     ScramErrorKind, ScramVersion,
 };
 use std::alloc::Global;
@@ -34,6 +35,9 @@ pub struct Login<'a> {
     /// What the client logs in with: one of enum fe2o3_secret.
     pub secret: u32,
 
+    /// The form of the password: one of enum fe2o3_password_form.
+    pub form: u32,
+
     /// The minimum iteration count that the client accepts. RFC 7677 requires at least 4096.
     pub min_iterations: u32,
 
@@ -43,7 +47,7 @@ pub struct Login<'a> {
     /// The user name, without escapes.
     pub username: &'a [u8],
 
-    /// The password, typed or prepared.
+    /// The password.
     pub password: &'a [u8],
 
     /// The keys of an earlier login, or a struct of zeros.
@@ -362,7 +366,7 @@ impl Login<'_> {
         ensures status { IfErr result (λ status. status ≢ StatusOutOfMemory) }
     {
         match self.secret {
-            0 => match text(self.password) {
+            0 => match password_in(self.form, self.password) {
                 Ok(_) => Ok(()),
                 Err(status) => Err(status),
             },
@@ -371,32 +375,7 @@ impl Login<'_> {
                 Err(status) => Err(status),
             },
             2 => {
-                if let Err(status) = text(self.password) {
-                    return Err(status);
-                }
-                match self.has_keys() {
-                    Ok(()) => Ok(()),
-                    Err(status) => Err(status),
-                }
-            }
-            _ => self.has_prepared(),
-        }
-    }
-
-    /// Tests the secret where its number is above 2, as that of a prepared password is, which takes no memory.
-    #[tactic(auto, using(crate::proofs::LoginLemmas::secret_tests))]
-    fn has_prepared(&self) -> Result<(), Status>
-        requires { 2 < self.now.secret }
-        ensures tested { MatchResult result (λ _. HasSecret self.now) (λ status. IsNoSecret self.now status) }
-        ensures status { IfErr result (λ status. status ≢ StatusOutOfMemory) }
-    {
-        match self.secret {
-            3 => match text(self.password) {
-                Ok(_) => Ok(()),
-                Err(status) => Err(status),
-            },
-            4 => {
-                if let Err(status) = text(self.password) {
+                if let Err(status) = password_in(self.form, self.password) {
                     return Err(status);
                 }
                 match self.has_keys() {
@@ -456,7 +435,7 @@ impl Login<'_> {
     {
         match self.secret {
             0 => {
-                let secret = ClientSecret::Password(Password::Typed(text(self.password)?));
+                let secret = ClientSecret::Password(password_in(self.form, self.password)?);
                 client_by(alloc, username, secret, version)
             }
             1 => match self.keys(alloc) {
@@ -464,40 +443,7 @@ impl Login<'_> {
                 Err(status) => Err(status),
             },
             2 => {
-                let password = Password::Typed(text(self.password)?);
-                let keys = self.keys(alloc)?;
-                let secret = ClientSecret::PasswordAndKeys {
-                    password,
-                    keys: &keys,
-                };
-                client_by(alloc, username, secret, version)
-            }
-            _ => self.by_prepared(alloc, username, version),
-        }
-    }
-
-    /// The same where the number of the secret is above 2, as that of a prepared password is.
-    #[tactic(auto, using(crate::proofs::LoginLemmas::no_secrets))]
-    fn by_prepared(
-        &self,
-        alloc: Global,
-        username: String,
-        version: ScramVersion,
-    ) -> Result<Machine, Status>
-        requires secret { 2 < self.now.secret }
-        requires version { IsVersion self.now.version version }
-        ensures ok { IfOk result (λ side. IsSecretOf self.now side.secret × (side.user ≡ string_bytes username)
-            × (side.state ≡ ClientInitial)) }
-        ensures version { IfOk result (λ side. IsVersion self.now.version side.version) }
-        ensures err { IfErr result (λ status. status ≢ StatusOutOfMemory → IsNoSecret self.now status) }
-    {
-        match self.secret {
-            3 => {
-                let secret = ClientSecret::Password(Password::Prepared(text(self.password)?));
-                client_by(alloc, username, secret, version)
-            }
-            4 => {
-                let password = Password::Prepared(text(self.password)?);
+                let password = password_in(self.form, self.password)?;
                 let keys = self.keys(alloc)?;
                 let secret = ClientSecret::PasswordAndKeys {
                     password,

@@ -117,7 +117,7 @@ pub enum Status {
     /// The login was refused because of a temporary system error.
     RefusedSysTemp,
 
-    /// The number is none of enum fe2o3_unassigned.
+    /// The number is none of enum fe2o3_unassigned, or the form of a password none of enum fe2o3_password_form.
     NoSuchChoice,
 
     /// The prepared text contains a character that RFC 4013, section 2.3, prohibits.
