@@ -2,7 +2,7 @@
 use Rattle.std.proofs.Common.{arith, inl, inr, refl, List, [], ◌∷◌, ◌≡◌, ◌≢◌, ◌≤◌, ◌<◌}
 use Rattle.std.specs.Str.{IsUtf8}
 use Rattle.fe2o3_scram.specs.declared.hmac.ScramVersion.{ScramVersion}
-use Rattle.sasl_c.specs.declared.client.Login.{Login}
+use Rattle.sasl_c.specs.declared.login.Login.{Login}
 use Rattle.sasl_c.specs.declared.status.Status.{Status}
 use Rattle.sasl_c.specs.declared.status.Status.TheVariants as statuses
 use Rattle.fe2o3_scram.specs.ClientSecret.{Password, Keys, Both}

@@ -62,7 +62,7 @@ ShowsNoKeys kept statuses.NoSuchVersion = (known : ScramVersion) → ¬ IsVersio
 ShowsNoKeys kept statuses.TooLong = 128 < kept.salt_len
 ShowsNoKeys kept status = ⊥
 
--- what comes of making the keys of a password (RFC 5802, section 3): the first refusal that holds, or their struct
+-- the keys of a password (RFC 5802, section 3): the first error that holds, or their struct
 abbrev pub MakesKeysStruct : ℕ → ℕ → List ℕ → List ℕ → ℕ → Result Struct Status → Type 0
 MakesKeysStruct version form password salt count answer = Reads (struct_making_tests version form password salt count)
     (λ made. (known : ScramVersion) × IsVersion version known

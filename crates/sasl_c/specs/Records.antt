@@ -60,13 +60,13 @@ struct_making_tests version form password salt count =
     ∷ (statuses.NotUtf8, ¬ IsUtf8 password) ∷ (statuses.TooLong, 128 < length salt)
     ∷ (statuses.NotPrintable, (form ≡ 0) × ¬ IsPrintable password) ∷ (statuses.ZeroIterations, count ≡ 0) ∷ []
 
--- what comes of making a record of a password (RFC 5802, section 3): the first refusal that holds, or its struct
+-- the record of a password (RFC 5802, section 3): the first error that holds, or its struct
 abbrev pub MakesRecordStruct : ℕ → ℕ → List ℕ → List ℕ → ℕ → Result Struct Status → Type 0
 MakesRecordStruct version form password salt count answer = Reads (struct_making_tests version form password salt count)
     (λ made. (known : ScramVersion) × IsVersion version known
     × (made ≡ record_struct (record { version = known; stored = record_of known password salt count }))) answer
 
--- what comes of reading a record's text (RFC 5803, section 2): its struct, or why it is none
+-- the record of a text (RFC 5803, section 2): its struct, or why there is none
 abbrev pub ParsesStruct : List ℕ → Result Struct Status → Type 0
 ParsesStruct text (Ok made) = (kept : VersionedRecord) × ReadsRecord text (Ok kept) × RecordHasRoom kept
     × (made ≡ record_struct kept)
@@ -82,13 +82,13 @@ SpellsStruct kept (Err statuses.NoSuchVersion) = (known : ScramVersion) → ¬ I
 SpellsStruct kept (Err statuses.TooLong) = 128 < kept.salt_len
 SpellsStruct kept (Err status) = ⊥
 
--- the tests before a record is made up for a name, in their order
+-- the tests before a mock record is made for a name, in their order
 abbrev pub mock_tests : ℕ → List ℕ → ℕ → List (Status × Type 0)
 mock_tests version name salt_len =
     (statuses.NoSuchVersion, (known : ScramVersion) → ¬ IsVersion version known) ∷ (statuses.NotUtf8, ¬ IsUtf8 name)
     ∷ (statuses.TooLong, 64 < salt_len) ∷ []
 
--- what comes of making up a record for a name: the first refusal that holds, or its struct
+-- the mock record of a name: the first error that holds, or its struct
 abbrev pub MakesUp : ℕ → List ℕ → List ℕ → ℕ → ℕ → Result Struct Status → Type 0
 MakesUp version secret name salt_len count answer = Reads (mock_tests version name salt_len)
     (λ made. (known : ScramVersion) × IsVersion version known × (made ≡ record_struct (versioned known

@@ -13,17 +13,18 @@ ghost use Rattle.sasl_c.specs.declared.status.Status.TheVariants.{OutOfMemory as
 ghost use Rattle.sasl_c.specs.declared.status.WriteError.TheVariants.{RoomTooSmall};
 
 use crate::arrays::put;
-use crate::client::{Login, ScramClient};
+use crate::client::ScramClient;
+use crate::login::Login;
 use crate::passwords::password_in;
 use crate::status::{Status, WriteError, text_number};
 use base64::engine::general_purpose::STANDARD;
 use fe2o3_scram::{ClientAnswer, ClientSecret, Meter, ScramErrorKind, ScramVersion};
 use std::alloc::Global;
 
-/// How many bytes more than a server-first message its answer has at most.
+/// The maximum number of bytes that an answer has more than its server-first message.
 const ANSWER_MORE: usize = 128;
 
-/// The text of a nonce: its 44 symbols of base64.
+/// Returns the text of a nonce: its 44 symbols of base64.
 fn nonce_text<'a>(nonce: &[u8; 32], room: &'a mut [u8; 44]) -> &'a str
     ensures { result.now ≡ base64_text nonce.now }
 {
@@ -35,7 +36,7 @@ fn nonce_text<'a>(nonce: &[u8; 32], room: &'a mut [u8; 44]) -> &'a str
     }
 }
 
-/// The answer of a client that has sent its client-first message, by this secret.
+/// Returns the answer of a client that has sent its client-first message, by this secret.
 #[tactic(auto, using(crate::proofs::ClientLemmas::answers))]
 fn answered_by(
     alloc: Global,
@@ -71,7 +72,7 @@ fn answered_by(
     }
 }
 
-/// The answer of a client that has sent its client-first message, by the secret of its login.
+/// Returns the answer of a client that has sent its client-first message, by the secret of its login.
 #[tactic(auto, using(crate::proofs::ClientLemmas::secrets))]
 fn answered_of(
     alloc: Global,
@@ -124,7 +125,7 @@ fn answered_of(
     }
 }
 
-/// Why a client that has not sent its client-first message last does not answer.
+/// Returns why a client whose last message is not its client-first message does not answer.
 #[tactic(auto, using(crate::proofs::ClientLemmas::not_dues))]
 fn not_due(login: &Login<'_>, client: &ScramClient) -> Status
     ensures why { client.now.state ≢ 1 → (text : List ℕ)
@@ -137,7 +138,7 @@ fn not_due(login: &Login<'_>, client: &ScramClient) -> Status
     }
 }
 
-/// The answer to a server-first message.
+/// Returns the answer to a server-first message.
 #[tactic(auto, using(crate::proofs::ClientLemmas::answers))]
 fn answered(
     alloc: Global,

@@ -38,7 +38,7 @@ pub struct ScramKeys {
 }
 
 impl ScramKeys {
-    /// The struct of keys, or `None` where it cannot hold them.
+    /// Returns the struct of keys, or `None` if they do not fit.
     pub fn of(keys: &CachedKeys) -> Option<ScramKeys>
         ensures { MatchOption result (¬ KeysHaveRoom keys.now) (λ shown. KeysHaveRoom keys.now × (shown ≡ keys_struct keys.now)) }
     {
@@ -57,8 +57,8 @@ impl ScramKeys {
         })
     }
 
-    /// Makes it the struct of keys, or of no keys if it cannot hold them. It is written in place, since a login by keys
-    /// makes few instructions besides.
+    /// Turns the struct into that of these keys, or of no keys if they do not fit. The fields are written in place,
+    /// since a copy would be a measurable part of a login by keys.
     pub fn hold(&mut self, keys: &CachedKeys)
         ensures { WritesKeys self.new (Some keys.now) }
     {
@@ -81,7 +81,7 @@ impl ScramKeys {
         fill(&mut self.server_key, keys.server_key());
     }
 
-    /// A copy of the struct.
+    /// Returns a copy of the struct.
     pub fn copied(&self) -> ScramKeys
         ensures { result ≡ self.now }
     {
@@ -95,7 +95,7 @@ impl ScramKeys {
         }
     }
 
-    /// Returns whether the struct shows keys.
+    /// Returns whether the struct holds keys.
     #[tactic(auto, using(crate::proofs::LoginLemmas::key_tests))]
     pub fn shows(&self) -> bool
         ensures { IsTrue result ↔ ShowsSomeKeys self.now }
@@ -106,8 +106,8 @@ impl ScramKeys {
         }
     }
 
-    /// The keys that the struct shows. `NoSuchVersion`, `TooLong` where `salt_len` is above 128, and else
-    /// `OutOfMemory`.
+    /// Returns the keys that the struct holds. The errors are `NoSuchVersion`, `TooLong` for a `salt_len` above 128,
+    /// and `OutOfMemory`.
     pub fn read(&self, alloc: Global) -> Result<CachedKeys, Status>
         ensures ok { IfOk result (λ keys. ShowsKeys self.now keys) }
         ensures err { IfErr result (λ status. status ≢ StatusOutOfMemory → ShowsNoKeys self.now status) }
@@ -129,7 +129,7 @@ impl ScramKeys {
     }
 }
 
-/// The struct of a password's keys.
+/// Derives the keys of a password, as a struct.
 #[tactic(auto, using(crate::proofs::RecordLemmas::makes))]
 fn compute_keys(
     alloc: Global,

@@ -42,7 +42,7 @@ pub struct ScramRecord {
 }
 
 impl ScramRecord {
-    /// The struct of a record, or `None` where it cannot hold it.
+    /// Returns the struct of a record, or `None` if the record does not fit.
     pub fn of(kept: &fe2o3_scram::ScramRecord) -> Option<ScramRecord>
         ensures { MatchOption result (¬ RecordHasRoom kept.now) (λ shown. RecordHasRoom kept.now × (shown ≡ record_struct kept.now)) }
     {
@@ -61,8 +61,8 @@ impl ScramRecord {
         })
     }
 
-    /// The record that the struct shows, where it stands, with its version. `NoSuchVersion`, and `TooLong` where
-    /// `salt_len` is above 128.
+    /// Borrows the record that the struct holds, with its version. The errors are `NoSuchVersion`, and `TooLong` for a
+    /// `salt_len` above 128.
     pub fn lent(&self) -> Result<(ScramVersion, StoredPassword<'_>), Status>
         ensures ok { IfOk result (λ shown. ShowsRecord self.now (versioned shown.0 (kept shown.1))) }
         ensures err { IfErr result (λ status. SpellsStruct self.now (Err status)) }
@@ -80,8 +80,8 @@ impl ScramRecord {
         Ok((version, stored))
     }
 
-    /// The record that the struct shows. `NoSuchVersion`, `TooLong` where `salt_len` is above 128, and else
-    /// `OutOfMemory`.
+    /// Returns the record that the struct holds. The errors are `NoSuchVersion`, `TooLong` for a `salt_len` above 128,
+    /// and `OutOfMemory`.
     pub fn read(&self, alloc: Global) -> Result<fe2o3_scram::ScramRecord, Status>
         ensures ok { IfOk result (λ shown. ShowsRecord self.now shown) }
         ensures err { IfErr result (λ status. status ≢ StatusOutOfMemory → SpellsStruct self.now (Err status)) }
@@ -98,7 +98,7 @@ impl ScramRecord {
     }
 }
 
-/// The struct of a password's record.
+/// Computes the record of a password, as a struct.
 #[tactic(auto, using(crate::proofs::RecordLemmas::makes))]
 fn compute_record(
     alloc: Global,
@@ -150,7 +150,7 @@ pub extern "C" fn fe2o3_scram_record_make(
     ))
 }
 
-/// The struct of the record that a text spells.
+/// Parses the text of a record, into a struct.
 fn compute_parsed(alloc: Global, bytes: &[u8]) -> Result<ScramRecord, Status>
     ensures { Gives StatusOutOfMemory (ReachesValues bytes.now) (λ (kept : Struct). kept) result
         (ParsesStruct bytes.now) }
@@ -178,7 +178,7 @@ pub extern "C" fn fe2o3_scram_record_parse(
     number(store(compute_parsed(alloc, text), kept))
 }
 
-/// The text of the record that a struct holds.
+/// Returns the text of the record that a struct holds.
 fn compute_text(alloc: Global, kept: &ScramRecord) -> Result<String, Status>
     ensures ok { IfOk result (λ text. SpellsStruct kept.now (Ok (string_bytes text))) }
     ensures err { IfErr result (λ status. status ≢ StatusOutOfMemory → SpellsStruct kept.now (Err status)) }
@@ -203,7 +203,7 @@ pub extern "C" fn fe2o3_scram_record_text(
     text_number(write(compute_text(alloc, kept), out, out_len))
 }
 
-/// The struct of the record that is made up for a name.
+/// Computes the mock record of a name, as a struct.
 #[tactic(auto, using(crate::proofs::RoomLemmas::mock_has_room))]
 fn compute_mock(
     alloc: Global,
@@ -277,11 +277,7 @@ fn verify(kept: &ScramRecord, form: u32, password: &[u8]) -> Result<(), Status>
 /// FE2O3_OTHER_PASSWORD if not. `form` is one of enum fe2o3_password_form. The call hashes as often as the record's
 /// iteration count says, so pass only your own records.
 #[unsafe(no_mangle)]
-pub extern "C" fn fe2o3_scram_record_verify(
-    kept: &ScramRecord,
-    form: u32,
-    password: &[u8],
-) -> u32
+pub extern "C" fn fe2o3_scram_record_verify(kept: &ScramRecord, form: u32, password: &[u8]) -> u32
     ensures { Answers result (VerifiesPassword kept.now form password.now) }
 {
     number(verify(kept, form, password))
