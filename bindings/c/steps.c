@@ -87,7 +87,7 @@ static int names_no_user(const struct fe2o3_scram_server *server)
 static struct fe2o3_sasl_login login_by(uint32_t mechanism, uint32_t version)
 {
     struct fe2o3_sasl_login login = {mechanism, TEXT("host"),
-        {version, 0, 4096, 100000, TEXT("user"), TEXT("pencil"), &no_keys}};
+        {version, FE2O3_BY_PASSWORD, FE2O3_TYPED, 4096, 100000, TEXT("user"), TEXT("pencil"), &no_keys}};
     return login;
 }
 
@@ -95,7 +95,7 @@ static struct fe2o3_sasl_login login_by(uint32_t mechanism, uint32_t version)
 static struct fe2o3_scram_record record_by(uint32_t version)
 {
     struct fe2o3_scram_record record = {0};
-    fe2o3_scram_record_make(version, TEXT("pencil"), salt, sizeof salt, 4096, &record);
+    fe2o3_scram_record_make(version, FE2O3_TYPED, TEXT("pencil"), salt, sizeof salt, 4096, &record);
     return record;
 }
 
@@ -201,7 +201,7 @@ static void by_scram(const char *mechanism, uint32_t version)
         ends(&login, &config, FE2O3_AUTHENTICATED, &whole) && names(&whole.server, TEXT("user")));
     told(mechanism, "the login hands out its keys",
         fe2o3_scram_client_get_keys(&whole.client, &keys) == FE2O3_OK
-            && fe2o3_scram_keys_make(version, TEXT("pencil"), salt, sizeof salt, 4096, &made) == FE2O3_OK
+            && fe2o3_scram_keys_make(version, FE2O3_TYPED, TEXT("pencil"), salt, sizeof salt, 4096, &made) == FE2O3_OK
             && memcmp(&keys, &made, sizeof keys) == 0);
     stranger.login.password_len--;
     told(mechanism, "a wrong password",

@@ -58,7 +58,7 @@ def cases():
     for name in OTHERS:
         yield name, "pencil", Broker(known, *OTHERS), (0, "logged in: Done")
         busy = Broker(known, *OTHERS, code=4)
-        late = "not logged in: Connection: The login is refused by a system error that may pass"
+        late = "not logged in: Connection: The login is refused: temporary system error"
         yield name, "pencil", busy, (1, late)
 
 

@@ -272,26 +272,26 @@ class Prepared(Case):
                 with self.subTest(version=version, typed=typed):
                     password = fe2o3_sasl.saslprep(typed)
                     known = Secret(version, prepared_apart(typed), SALT, 4096)
-                    record = Record.make_prepared(version, password, salt=SALT)
-                    other = Record.make_prepared(version, password, salt=OTHER_SALT)
+                    record = Record.make(version, password, prepared=True, salt=SALT)
+                    other = Record.make(version, password, prepared=True, salt=OTHER_SALT)
                     self.assertEqual(record.text(), known.record_text())
-                    self.assertTrue(record.verify_prepared(password))
-                    self.assertEqual(record.verify_prepared(typed), typed == password)
+                    self.assertTrue(record.verify(password, prepared=True))
+                    self.assertEqual(record.verify(typed, prepared=True), typed == password)
                     self.assertEqual(record.verify(password), password.isascii())
-                    client, server = Client(version, "user", prepared_password=password), Server()
+                    client, server = Client(version, "user", password=password, prepared=True), Server()
                     login(client, server, record)
                     self.assertEqual(server.authenticated_user(), "user")
-                    keys, made = client.keys(), Keys.make_prepared(version, password, SALT, 4096)
+                    keys, made = client.keys(), Keys.make(version, password, SALT, 4096, prepared=True)
                     self.assertEqual((keys.client_key, keys.server_key), (known.client_key, known.server_key))
                     self.assertEqual(bytes(keys._struct), bytes(made._struct))
-                    both = Client(version, "user", keys=keys, prepared_password=password)
+                    both = Client(version, "user", keys=keys, password=password, prepared=True)
                     login(both, Server(), record)
                     login(both, Server(), other)
                     self.assertEqual(both.keys().salt, OTHER_SALT)
-                    side = ClientConnection(Client(version, "user", prepared_password=password))
+                    side = ClientConnection(Client(version, "user", password=password, prepared=True))
                     connected(side, Broker(known, MECHANISMS[version]), 4096)
                     self.assertEqual(side.progress, Progress.AUTHENTICATED)
-                    steps = ClientSteps(Client(version, "user", keys=keys, prepared_password=password))
+                    steps = ClientSteps(Client(version, "user", keys=keys, password=password, prepared=True))
                     stepped(steps, Broker(known, MECHANISMS[version]))
                     self.assertEqual(steps.progress, Progress.AUTHENTICATED)
                     if not password.isascii():
@@ -299,10 +299,13 @@ class Prepared(Case):
                         self.refused(Status.CLIENT_NORMALIZE_ERROR, login, plain, Server(), record)
                         self.refused(Status.NOT_PRINTABLE, Record.make, version, password)
                         self.refused(Status.NOT_PRINTABLE, Keys.make, version, password, SALT, 4096)
-        for make in (Record.make_prepared, lambda *given: Keys.make_prepared(*given, SALT, 4096)):
+        for make in (
+            lambda *given: Record.make(*given, prepared=True),
+            lambda *given: Keys.make(*given, SALT, 4096, prepared=True),
+        ):
             self.refused(Status.NOT_UTF8, make, SHA_1, b"\xff")
-        with self.assertRaises(ValueError):
-            Client(SHA_1, "user", "pencil", prepared_password="pencil")
+        status = LIBRARY.fe2o3_scram_record_verify(record._struct, 2, b"a", 1)
+        self.assertEqual(status, Status.NO_SUCH_CHOICE)
 
 
 class Unbound(Case):
@@ -1177,7 +1180,8 @@ class RandomStructs(Case):
             version = self.random.choice([*VERSIONS, 0, 2]) if self.chance() else keys.version
             who = fe2o3_sasl._LoginStruct(
                 version=version,
-                secret=self.random.randrange(6),
+                secret=self.random.randrange(4),
+                form=self.random.randrange(3),
                 min_iterations=self.random.randrange(3),
                 max_iterations=self.random.randrange(2, 9),
                 username=b"user",
@@ -1307,8 +1311,8 @@ class RandomStructs(Case):
                 known = Secret(record.version, "pencil", bytes(record.salt)[: record.salt_len], record.iterations)
                 ctypes.memmove(record.stored_key, known.stored_key, len(known.stored_key))
                 ctypes.memmove(record.server_key, known.server_key, len(known.server_key))
-            for export in ("fe2o3_scram_record_verify", "fe2o3_scram_record_verify_prepared"):
-                verified = self.ask(export, (record,), record, b"pencil", 6)
+            for form in (0, 1):
+                verified = self.ask("fe2o3_scram_record_verify", (record,), record, form, b"pencil", 6)
                 self.assertEqual(verified is not None, meets)
         for name, statuses in self.answers.items():
             self.assertIn(Status.OK, statuses, name)

@@ -67,16 +67,20 @@ enum fe2o3_mechanism {
 
 /* What a client logs in with. */
 enum fe2o3_secret {
-    /* The typed password, which has to be printable ASCII. */
+    /* The password. */
     FE2O3_BY_PASSWORD = 0,
     /* The keys. */
     FE2O3_BY_KEYS = 1,
-    /* The keys if they are of the server's salt and iteration count, otherwise the typed password. */
-    FE2O3_BY_PASSWORD_AND_KEYS = 2,
-    /* The prepared password (fe2o3_saslprep). */
-    FE2O3_BY_PREPARED = 3,
-    /* The keys if they are of the server's salt and iteration count, otherwise the prepared password. */
-    FE2O3_BY_PREPARED_AND_KEYS = 4
+    /* The keys if they are of the server's salt and iteration count, otherwise the password. */
+    FE2O3_BY_PASSWORD_AND_KEYS = 2
+};
+
+/* The form of a password. */
+enum fe2o3_password_form {
+    /* The password as the user typed it, which has to be printable ASCII. */
+    FE2O3_TYPED = 0,
+    /* The password as you prepared it (fe2o3_saslprep): any text, used without change. */
+    FE2O3_PREPARED = 1
 };
 
 /* What fe2o3_saslprep does with code points that Unicode 3.2 does not assign. */

@@ -116,9 +116,9 @@ struct MockSettings {
 ///
 /// # fn main() -> Result<(), Box<dyn std::error::Error>> {
 /// let credential = SingleScramCredential::new("user", "pencil", ScramVersion::Sha256)?;
-/// let secret = generate_nonce(); // in earnest kept as long as the records
+/// let secret = generate_nonce(); // in production, kept as long as the records
 /// let mut server = ScramAuthenticator::new(credential).mock_unknown_users(secret, 32, 4096);
-/// let mut client = ScramClient::new("unknown", "pencil", ScramVersion::Sha256);
+/// let mut client = ScramClient::new("unknown", "pencil", ScramVersion::Sha256).with_min_iterations(4096);
 ///
 /// let client_first = client.compute_client_first_message();
 /// let server_first = server.compute_server_first_message(&client_first)?.expect("each name is answered");

@@ -124,7 +124,8 @@ pub(crate) fn named(
 /// # fn main() -> Result<(), Box<dyn std::error::Error>> {
 /// let credential = SingleScramCredential::new("user", "pencil", ScramVersion::Sha256)?;
 /// let mut server = ServerNegotiation::new(ScramAuthenticator::new(credential), Offers::scram());
-/// let mut client = ClientNegotiation::new(ScramClient::new("user", "pencil", ScramVersion::Sha256), None);
+/// let client = ScramClient::new("user", "pencil", ScramVersion::Sha256).with_min_iterations(4096);
+/// let mut client = ClientNegotiation::new(client, None);
 /// let mut to_server = ClientNegotiation::open();
 /// while !to_server.is_empty() {
 ///     let answer = server.receive(&to_server)?.sent;

@@ -180,7 +180,8 @@ impl fmt::Debug for ClientSteps {
 /// # fn main() -> Result<(), Box<dyn std::error::Error>> {
 /// let credential = SingleScramCredential::new("user", "pencil", ScramVersion::Sha256)?;
 /// let mut server = ServerSteps::new(ScramAuthenticator::new(credential), Offers::scram());
-/// let mut client = ClientSteps::new(ScramClient::new("user", "pencil", ScramVersion::Sha256), None);
+/// let client = ScramClient::new("user", "pencil", ScramVersion::Sha256).with_min_iterations(4096);
+/// let mut client = ClientSteps::new(client, None);
 ///
 /// let mut to_client = server.sasl_mechanisms()?;
 /// for _ in 0..2 {

@@ -21,7 +21,7 @@ const SERVER_NONCE_TEXT: &str = "AgAAAAAAAAAAAAAAAAAAAAAAAAAAAAAAAAAAAAAAAAA=";
 const PROOF: &str = "MIHdNcfet0LbDJOcfcN6eFJrJahL13kbab8XbO3ku+k=";
 const SIGNATURE: &str = "50uHbJV+ANf1NSOfnBbK910b8IC4PmQ5G06TO7VnXz8=";
 
-/// The same of a client that could bind a channel, whose GS2 header is `y,,`.
+/// The proof of a client with the GS2 channel-binding flag `y`, and the signature for it.
 const UNBOUND_PROOF: &str = "SJ1/Pm0x+vAkhmfEkR72IPuVMVkUt0BF477aSDSc3vM=";
 const UNBOUND_SIGNATURE: &str = "mZx4E2gu+jcdDC0u/pNy5NPrR0Zh6PMH8UcHTIgvIxU=";
 
@@ -82,7 +82,7 @@ fn server(version: ScramVersion, offers: Offers) -> ServerSteps<Store> {
     ServerSteps::new(ScramAuthenticator::new(credential), offers).with_external_authcid("peer")
 }
 
-/// The same, which hides the users whom it does not know.
+/// A server that answers unknown users like known ones.
 fn hiding(version: ScramVersion) -> ServerSteps<Store> {
     let credential = SingleScramCredential::with_record("user", record(version));
     let server = ScramAuthenticator::new(credential).mock_unknown_users([3; 32], SALT.len(), 4096);
@@ -158,10 +158,10 @@ fn a_client_that_could_bind_a_channel() {
 #[test]
 fn prepared_passwords() {
     let password = saslprep("pe\u{301}ncil", Unassigned::Refused).unwrap();
-    let record = ScramRecord::from_prepared_password(ScramVersion::Sha256, &password, &SALT, 4096).unwrap();
+    let record = ScramRecord::from_password(ScramVersion::Sha256, Password::Prepared(&password), &SALT, 4096).unwrap();
     let credential = SingleScramCredential::with_record("user", record);
     let server = || ServerSteps::new(ScramAuthenticator::new(credential.clone()), Offers::scram());
-    let client = ScramClient::with_prepared_password("user", password, ScramVersion::Sha256);
+    let client = ScramClient::with_password("user", Password::Prepared(&password), ScramVersion::Sha256);
     let (mut side, mut other) = (ClientSteps::new(client, None), server());
     assert_eq!(joined(&mut side, &mut other), Ok(()));
     assert_eq!((side.progress(), other.authenticated_user().as_deref()), (Progress::Authenticated, Some("user")));

@@ -31,7 +31,7 @@ use Rattle.sasl_c.specs.declared.status.WriteError.{WriteError}
 use Rattle.sasl_c.specs.declared.status.WriteError.TheVariants.{RoomTooSmall, Other}
 use Rattle.sasl_c.specs.Status.{AsksText, Fills, Room, server_status}
 
--- a message that is refused
+-- a message that is rejected
 pub unread : (cbind_flag_y : Bool) (kept : Kept) (nonce text : List ℕ) (why : ServerScramErrorKind) (status : Status)
     → (why ≢ NoMemory → ReadsClientFirst cbind_flag_y text (Err why)) → status ≡ server_status why
     → status ≢ statuses.OutOfMemory → NotChallenged cbind_flag_y kept nonce text status
@@ -117,7 +117,7 @@ challenged cbind_flag_y kept nonce text user message shown store state next is s
     (one_user user shown) same answers in
     (challenge, stored, then, (shown, user, is, given))
 
--- the record stands under the name that the message has, so its user is never unknown
+-- the record is stored under the name that the message has, so its user is never unknown
 pub never_unknown : (cbind_flag_y : Bool) (kept : Kept) (nonce text user : List ℕ) (shown : VersionedRecord) (store : Store)
     (state next : ServerState) (first : ClientFirst) (status : Status) → ReadsClientFirst cbind_flag_y text (Ok first)
     → user ≡ first.user → store ≡ one_user user shown
@@ -191,7 +191,7 @@ pub keeps_none : (kept : Kept) (before : Struct) (text : List ℕ) (challenge : 
 unfolding Concludes
 keeps_none kept before text challenge status is wrong = inr (inl (challenge, is, wrong))
 
--- memory is asked for where the message comes to a base64 text
+-- memory is requested where the message reaches a base64 text
 pub final_asks : (kept : Kept) (before : Struct) (text : List ℕ) (challenge : ServerChallenge) (shown : VersionedRecord)
     (why : ServerScramErrorKind) (status : Status) → IsOpen before challenge → ShowsRecord kept shown
     → (why ≡ NoMemory → ReachesBase64 challenge.header challenge.nonce text) → status ≡ server_status why
@@ -199,7 +199,7 @@ pub final_asks : (kept : Kept) (before : Struct) (text : List ℕ) (challenge : 
 final_asks kept before text challenge shown why status is shows comes gives memory =
     ((challenge, is, comes (server_is_memory why status gives memory)), (shown, shows))
 
--- and costs no HMAC value for a message that is refused
+-- and costs no HMAC value for a message that is rejected
 pub memory_costs : (A : Type 0) (kept : Kept) (before : Struct) (text : List ℕ) (challenge : ServerChallenge)
     (shown : VersionedRecord) (why : ServerScramErrorKind) (status : Status) (counted after : ℕ)
     → IsOpen before challenge → ShowsRecord kept shown → FinalCosts {A = A}

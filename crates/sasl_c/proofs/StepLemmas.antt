@@ -1,4 +1,4 @@
--- What a step over the body of a frame comes to, of a client and of a server that stand in structs (AMQP 1.0, part 5,
+-- What a step over a frame body reaches, of a client and of a server that are kept in structs (AMQP 1.0, part 5,
 -- section 5.3.2).
 use Rattle.std.proofs.Common.{arith, refl, sym, ap, inl, inr, ◌≡◌, ◌≤◌, ℕ, List, length}
 use Rattle.std.specs.Prelude.{Option}
@@ -38,7 +38,7 @@ client_short (Answered body) sent stands is = no_longer body sent is.0.0 is.0.1
 client_short (Reported code more) sent stands is = omega (arith, ap length is.0)
 client_short (Refused fault) sent stands is = absurd is
 
--- the profile behind a step is one that the login comes to
+-- the profile after a step is one that the login reaches
 client_comes : (login : Login) (before : ClientStruct) (hostname : Option (List ℕ)) (profile next : Profile)
     (event : Given) (says : ClientSays) → IsProfile login before profile
     → ProfileSteps hostname profile event says next → LoginComes login next
@@ -111,7 +111,7 @@ server_short (Challenged body) sent stands is = no_longer body sent is.0.0 is.0.
 server_short (Concluded code body) sent stands is = no_longer body sent is.0.0 is.0.1
 server_short (Failed fault) sent stands is = absurd is
 
--- the acceptor behind a step is one that the configuration comes to
+-- the acceptor after a step is one that the configuration reaches
 code_comes : (config : Config) (code : SaslCode) (next : State) → ServerIsReached config (behind_code code) next
 code_comes config outcomes.Ok next = tt
 code_comes config outcomes.Auth next = tt

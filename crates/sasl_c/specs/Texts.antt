@@ -17,8 +17,8 @@ status_texts = (0, codes "Done")
     ∷ (11, codes "The password is not that of the record")
     ∷ (12, codes "No such mechanism")
     ∷ (13, codes "The connection has ended")
-    ∷ (14, codes "No connection is kept so")
-    ∷ (15, codes "No user is named")
+    ∷ (14, codes "The struct of the connection is invalid")
+    ∷ (15, codes "No user name is claimed")
     ∷ (20, codes "Client: Invalid UTF-8")
     ∷ (21, codes "Client: InsufficientParts")
     ∷ (22, codes "Client: Extensions are not supported")
@@ -69,9 +69,9 @@ status_texts = (0, codes "Done")
     ∷ (76, codes "Connection: Too large")
     ∷ (77, codes "Connection: Not implemented")
     ∷ (81, codes "Connection: The login is refused")
-    ∷ (82, codes "Connection: The login is refused by a system error")
-    ∷ (83, codes "Connection: The login is refused by a system error that stays")
-    ∷ (84, codes "Connection: The login is refused by a system error that may pass")
+    ∷ (82, codes "Connection: The login is refused: system error")
+    ∷ (83, codes "Connection: The login is refused: permanent system error")
+    ∷ (84, codes "Connection: The login is refused: temporary system error")
     ∷ (85, codes "No such choice")
     ∷ (86, codes "The text holds a prohibited character")
     ∷ (87, codes "The text mixes directions")
@@ -111,7 +111,7 @@ abbrev pub connection_size : ℕ
 connection_size = 4 * word + 512
 
 abbrev pub login_size : ℕ
-login_size = 4 * word + slice + slice + 8
+login_size = (5 * word + 4) + slice + slice + 8
 
 abbrev pub sasl_login_size : ℕ
 sasl_login_size = (word + 4) + slice + login_size

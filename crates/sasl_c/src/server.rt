@@ -60,7 +60,7 @@ pub struct ScramServer {
 type Machine = ScramAuthenticator<UserRecord>;
 
 impl ScramServer {
-    /// The struct of a server that has nobody's challenge open, and has logged nobody in.
+    /// Returns the struct of a server without an open challenge and without an authenticated user.
     pub fn fresh() -> ScramServer
         ensures state { result.state ≡ 0 }
         ensures writes { result ≡ fresh_server_struct }
@@ -78,7 +78,7 @@ impl ScramServer {
         }
     }
 
-    /// The struct of a server that has logged in the user whose name is so many bytes of this array.
+    /// Returns the struct of a server whose authenticated user is the first `user_len` bytes of this array.
     fn with_user(user: [u8; 256], user_len: u32) -> ScramServer
         ensures { result ≡ user_struct user_len user }
     {
@@ -95,7 +95,7 @@ impl ScramServer {
         }
     }
 
-    /// The struct of a server that has logged this user in, or `None` where the name has no room.
+    /// Returns the struct of a server that has authenticated this user, or `None` if the name does not fit.
     pub fn logged_in(user: &str) -> Option<ScramServer>
         ensures user { MatchOption result (256 < length user.now) (λ server. IsAuthenticated server user.now) }
         ensures writes { IfSome result (λ server. server ≡ authenticated_struct user.now) }
@@ -104,7 +104,7 @@ impl ScramServer {
         Some(ScramServer::with_user(name, user.len() as u32))
     }
 
-    /// Makes it the struct of a server that has logged the user of the challenge in, which keeps the name and nothing else
+    /// Turns the struct into that of a server that has authenticated the user of the challenge, which keeps only the name
     /// of the exchange.
     fn log_in(&mut self)
         requires { self.old.user_len ≤ 256 }
@@ -113,7 +113,7 @@ impl ScramServer {
         *self = ScramServer::with_user(cleared(&self.user, self.user_len), self.user_len);
     }
 
-    /// The struct of a server whose challenge is open, or `None` if a text of it does not fit.
+    /// Returns the struct of a server with this open challenge, or `None` if a text of it does not fit.
     pub fn of(challenge: &OpenChallenge<'_>) -> Option<ScramServer>
         ensures open { MatchOption result (¬ ChallengeHasRoom (challenge_kept challenge.now))
             (λ server. ChallengeHasRoom (challenge_kept challenge.now) × IsOpen server (challenge_kept challenge.now)) }
@@ -127,7 +127,7 @@ impl ScramServer {
         Some(server)
     }
 
-    /// Makes it the struct of a server whose challenge is open.
+    /// Turns the struct into that of a server with this open challenge.
     fn open(&mut self, challenge: &OpenChallenge<'_>)
         requires { ChallengeHasRoom (challenge_kept challenge.now) }
         ensures open { IsOpen self.new (challenge_kept challenge.now) }
@@ -155,7 +155,7 @@ fn fits(challenge: &OpenChallenge<'_>) -> bool
         && challenge.server_first_message.len() <= 1024
 }
 
-/// The number of a struct that shows a challenge to a client with this GS2 header.
+/// Returns the state of a struct with an open challenge to a client with this GS2 header.
 fn open_number(header: ChannelBindingFlag) -> u32
     ensures { result ≡ open_number header }
 {
@@ -165,7 +165,7 @@ fn open_number(header: ChannelBindingFlag) -> u32
     }
 }
 
-/// The GS2 header of the challenge that a struct with this number shows, if it shows one.
+/// Returns the GS2 header of the challenge that is open in this state, if one is.
 fn open_header(state: u32) -> Option<ChannelBindingFlag>
     ensures { MatchOption result ((header : HeaderOf) → open_number header ≢ state)
         (λ header. state ≡ open_number header) }
@@ -177,8 +177,8 @@ fn open_header(state: u32) -> Option<ChannelBindingFlag>
     }
 }
 
-/// A server over these credentials, which takes a client that could bind a channel where `accept_cbind_flag_y`
-/// says so.
+/// Returns a server over these credentials, which accepts the GS2 channel-binding flag `y` if `accept_cbind_flag_y`
+/// is true.
 pub fn server_over<C: ScramCredentialProvider>(
     credentials: C,
     accept_cbind_flag_y: bool,
@@ -192,7 +192,7 @@ pub fn server_over<C: ScramCredentialProvider>(
 }
 
 impl ScramServer {
-    /// The challenge that is open, where the struct shows one.
+    /// Returns the open challenge, if the struct holds one.
     pub fn challenge(&self) -> Option<OpenChallenge<'_>>
         ensures { MatchOption result ((challenge : ServerChallenge) → ¬ IsOpen self.now challenge)
             (λ challenge. IsOpen self.now (challenge_kept challenge)) }
@@ -215,7 +215,7 @@ impl ScramServer {
     }
 }
 
-/// A server with an open challenge to a client-first message.
+/// Returns a server with an open challenge to a client-first message.
 fn challenged(
     alloc: Global,
     accept_cbind_flag_y: bool,
@@ -252,7 +252,7 @@ fn challenged(
     }
 }
 
-/// Writes the message of a challenge, and the struct that shows the challenge.
+/// Writes the message of a challenge, and the struct that holds the challenge.
 fn open_into(
     challenge: &OpenChallenge<'_>,
     server: &mut ScramServer,
@@ -270,7 +270,7 @@ fn open_into(
     Ok(())
 }
 
-/// Writes the server-first message, and the struct of the server whose challenge is open.
+/// Writes the server-first message, and the struct of the server with its open challenge.
 fn first_into(
     alloc: Global,
     accept_cbind_flag_y: bool,
@@ -352,24 +352,6 @@ pub extern "C" fn fe2o3_scram_server_first_with_cbind_flag_y(
     text_number(first_into(alloc, true, kept, server, nonce, client_first, out, out_len))
 }
 
-/// Writes the name of the user.
-fn user(
-    alloc: Global,
-    client_first: &[u8],
-    out: &mut [u8],
-    out_len: &mut usize,
-) -> Result<(), WriteError>
-    ensures text { Fills (ClaimedUser client_first.now) (record { bytes = out.old; len = out_len.old })
-        (record { bytes = out.new; len = out_len.new }) result }
-    ensures memory { AsksText (HasEscapes true client_first.now) result }
-{
-    let first = match ClientFirst::parse_with_cbind_flag_y(alloc, client_first, true) {
-        Ok(first) => first,
-        Err(why) => return Err(WriteError::Other(Status::from(why))),
-    };
-    put(first.username.as_bytes(), out, out_len)
-}
-
 /// Writes the user name that a client-first message claims, without escapes. Nobody is authenticated yet: use it only
 /// to look up the record.
 #[unsafe(no_mangle)]
@@ -382,10 +364,15 @@ pub extern "C" fn fe2o3_scram_server_claimed_user(
     ensures { AnswersText result (λ answer. Fills (ClaimedUser client_first.now) (record { bytes = out.old; len = out_len.old })
         (record { bytes = out.new; len = out_len.new }) answer × AsksText (HasEscapes true client_first.now) answer) }
 {
-    text_number(user(alloc, client_first, out, out_len))
+    text_number(
+        match ClientFirst::parse_with_cbind_flag_y(alloc, client_first, true) {
+            Ok(first) => put(first.username.as_bytes(), out, out_len),
+            Err(why) => Err(WriteError::Other(Status::from(why))),
+        },
+    )
 }
 
-/// The server-final message.
+/// Returns the server-final message.
 fn concluded(
     alloc: Global,
     kept: &ScramRecord,
@@ -425,7 +412,7 @@ fn concluded(
     }
 }
 
-/// The most bytes of a server-final message.
+/// The maximum number of bytes of a server-final message.
 const FINAL_MOST: usize = 90;
 
 /// Writes the server-final message.
@@ -479,7 +466,7 @@ pub extern "C" fn fe2o3_scram_server_final(
     text_number(conclude(alloc, kept, server, client_final, &mut meter, out, out_len))
 }
 
-/// The name of the authenticated user.
+/// Returns the name of the authenticated user.
 fn authenticated_user(server: &ScramServer) -> Result<&[u8], Status>
     ensures ok { IfOk result (λ user. TellsUser server.now (Ok user.now)) }
     ensures err { IfErr result (λ status. status ≢ StatusOutOfMemory → TellsUser server.now (Err status)) }

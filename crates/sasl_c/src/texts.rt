@@ -1,12 +1,13 @@
-//! The texts of statuses, and what tells whether the declarations of a caller fit.
+//! The texts of statuses, and the version and the sizes by which a caller tests its header.
 
 ghost use Rattle.std.specs.Prelude.{◌≡◌};
 ghost use Rattle.sasl_c.specs.Texts.{size_in, status_text, struct_sizes};
 
-use crate::client::{Login, ScramClient};
+use crate::client::ScramClient;
 use crate::connection::Connection;
 use crate::frames::SaslFrameView;
 use crate::keys::ScramKeys;
+use crate::login::Login;
 use crate::records::ScramRecord;
 use crate::sasl_client::{SaslClient, SaslLogin};
 use crate::sasl_server::{SaslServer, SaslServerConfig};
@@ -21,7 +22,7 @@ pub struct Text<'a> {
     pub bytes: &'a [u8],
 }
 
-/// The text of a status.
+/// Returns the text of a status.
 fn text_of(status: u32) -> &'static [u8]
     ensures { result.now ≡ status_text status }
 {
@@ -40,8 +41,8 @@ fn text_of(status: u32) -> &'static [u8]
         11 => b"The password is not that of the record\0",
         12 => b"No such mechanism\0",
         13 => b"The connection has ended\0",
-        14 => b"No connection is kept so\0",
-        15 => b"No user is named\0",
+        14 => b"The struct of the connection is invalid\0",
+        15 => b"No user name is claimed\0",
         20 => b"Client: Invalid UTF-8\0",
         21 => b"Client: InsufficientParts\0",
         22 => b"Client: Extensions are not supported\0",
@@ -92,9 +93,9 @@ fn text_of(status: u32) -> &'static [u8]
         76 => b"Connection: Too large\0",
         77 => b"Connection: Not implemented\0",
         81 => b"Connection: The login is refused\0",
-        82 => b"Connection: The login is refused by a system error\0",
-        83 => b"Connection: The login is refused by a system error that stays\0",
-        84 => b"Connection: The login is refused by a system error that may pass\0",
+        82 => b"Connection: The login is refused: system error\0",
+        83 => b"Connection: The login is refused: permanent system error\0",
+        84 => b"Connection: The login is refused: temporary system error\0",
         85 => b"No such choice\0",
         86 => b"The text holds a prohibited character\0",
         87 => b"The text mixes directions\0",
@@ -103,23 +104,16 @@ fn text_of(status: u32) -> &'static [u8]
     }
 }
 
-/// Lends the text of a status.
-fn lend(status: u32, text: &mut Text<'static>)
-    ensures { text.new.bytes.now ≡ status_text status }
-{
-    text.bytes = text_of(status);
-}
-
 /// Writes the text of a status to `text`. It ends with a zero byte and stays valid for as long as the library is
 /// loaded.
 #[unsafe(no_mangle)]
 pub extern "C" fn fe2o3_status_text(status: u32, text: &mut Text<'static>)
     ensures { text.new.bytes.now ≡ status_text status }
 {
-    lend(status, text);
+    text.bytes = text_of(status);
 }
 
-/// How many bytes a struct has.
+/// Returns how many bytes a struct has.
 fn size(which: u32) -> usize
     ensures { result ≡ size_in struct_sizes which }
 {
