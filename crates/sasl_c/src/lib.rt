@@ -21,7 +21,6 @@ mod connection;
 mod frames;
 mod keys;
 mod lines;
-mod others;
 mod passwords;
 mod preparation;
 mod records;
