@@ -285,6 +285,21 @@ names_for settings = name_where settings.hashes.sha_512 (codes "SCRAM-SHA-512")
     ∷ external_mechanism settings.external
     ∷ []
 
+-- the hash of the open challenge
+abbrev pub asked_of : Option OpenExchange → Option ScramVersion
+asked_of restored = option_map (λ (exchange : OpenExchange). exchange.version) restored
+
+-- the acceptors of the settings, with SCRAM in this state
+abbrev pub offering_for : {S : Type 0} → PasswordSettings → S → Offering (BothStates S Others)
+offering_for settings scrams = record {
+  inner = record {
+    first = scrams;
+    second = others_of settings;
+    selected = option_map (λ (version : ScramVersion). First) (asked_of settings.restored);
+  };
+  allowed = names_for settings;
+}
+
 -- the server of the settings with these states of SCRAM, and these parts selected
 abbrev pub password_server_in : PasswordSettings → (ScramVersion → ServerState) → Option Selected → Option Selected
     → Option Selected → PasswordState
@@ -305,9 +320,6 @@ opened_where false exchange = Initial
 abbrev pub opened : Option OpenExchange → ScramVersion → ServerState
 opened None version = Initial
 opened (Some exchange) version = opened_where (is_version exchange.version version) exchange
-
-abbrev pub asked_of : Option OpenExchange → Option ScramVersion
-asked_of restored = option_map (λ (exchange : OpenExchange). exchange.version) restored
 
 -- the server before a login, or with its open challenge
 abbrev pub password_server : PasswordSettings → PasswordState

@@ -1,11 +1,13 @@
 //! A server of SCRAM, PLAIN, ANONYMOUS and EXTERNAL over one list of records, in one expression.
 
-ghost use Rattle.std.specs.Prelude.{◌≡◌, ◌↔◌, [], true, false, List, ℕ, Some, None, IfOk, IfErr, IsTrue, map, option_map};
+ghost use Rattle.std.specs.Prelude.{◌≡◌, ◌≢◌, ◌↔◌, [], true, false, List, ℕ, Some, None, IfOk, IfErr, IsTrue, map, option_map};
 ghost use Rattle.std.proofs.Common.{ap};
 ghost use Rattle.fe2o3_scram.specs.Mixed.{provider_for};
 ghost use Rattle.fe2o3_sasl_core.specs.ExternalServer.{external_of};
-ghost use Rattle.fe2o3_sasl_core.specs.PasswordServer.{HasLongSalts, OffersNothing, PasswordState, asked_of, challenge_with, count_of_unknown, external_mechanism, external_name, first_asked, name_where, names_for, restored_held, opened, others_of, others_state, password_allocates, password_hmacs, password_machine, password_names, password_open, password_server, password_state, password_user, scram_provider, scram_state, scrams_in, scrams_open, scrams_state, second_asked, settings_of, weaker_open};
+ghost use Rattle.fe2o3_sasl_core.specs.PasswordServer.{HasLongSalts, OffersNothing, PasswordState, asked_of, challenge_with, count_of_unknown, external_mechanism, external_name, first_asked, name_where, names_for, offering_for, restored_held, opened, others_names, others_of, others_state, password_allocates, password_hmacs, password_machine, password_names, password_open, password_server, password_state, password_user, scram_provider, scram_state, scrams_in, scrams_open, scrams_state, second_asked, settings_of, weaker_open};
+ghost use Rattle.fe2o3_sasl_core.specs.AnyMechanism.{both_names};
 ghost use Rattle.fe2o3_sasl_core.specs.AnyMechanismSides.{both_states};
+ghost use Rattle.fe2o3_sasl_core.specs.RestrictMechanisms.{offering_names, offering_of};
 ghost use Rattle.fe2o3_scram.specs.Credentials.{kept};
 ghost use Rattle.fe2o3_scram.specs.Mixed.{is_version};
 ghost use Rattle.fe2o3_scram.specs.ScramServer.{Initial, challenge_kept};
@@ -304,6 +306,27 @@ impl<'a> PasswordServerBuilder<'a> {
             return Err(BuildError::SaltTooLong);
         }
         let scrams = self.scrams(alloc)?;
+        Ok(PasswordServer {
+            acceptors: self.offered(alloc, scrams)?,
+        })
+    }
+
+    /// Returns the acceptors, of which some are offered. The function is generic, because its exits drop SCRAM, whose
+    /// whole type is slow to prove.
+    fn offered<A: HasMechanism + Drop>(
+        &self,
+        alloc: Global,
+        scrams: A,
+    ) -> Result<RestrictMechanisms<AnyMechanism<A, Others>>, BuildError>
+        ensures ok { IfOk result (λ offering. offering_of (both_states A.state others_state) offering
+            ≡ offering_for (settings_of self.now) (A.state scrams)) }
+        ensures some { IfOk result (λ _. offering_names (λ parts. both_names (A.names parts.first) (others_names parts.second))
+            (offering_for (settings_of self.now) (A.state scrams)) ≢ []) }
+        ensures none { IfErr result (λ error. error ≡ BuildNoMechanism
+            → offering_names (λ parts. both_names (A.names parts.first) (others_names parts.second))
+            (offering_for (settings_of self.now) (A.state scrams)) ≡ []) }
+        ensures salts { IfErr result (λ error. error ≢ BuildSaltTooLong) }
+    {
         let others = self.others(alloc)?;
         let selected = match self.restored {
             Some(_) => Some(Selected::First),
@@ -311,7 +334,7 @@ impl<'a> PasswordServerBuilder<'a> {
         };
         let parts = AnyMechanism::with_selected(scrams, others, selected);
         match RestrictMechanisms::new(alloc, parts, &self.names()) {
-            Ok(acceptors) => Ok(PasswordServer { acceptors }),
+            Ok(acceptors) => Ok(acceptors),
             Err(OfferError::OutOfMemory) => Err(BuildError::OutOfMemory),
             Err(OfferError::NoMechanismLeft) => Err(BuildError::NoMechanism),
         }

@@ -2,7 +2,7 @@
 use Rattle.std.proofs.Common.{arith, refl, sym, ap, inl, inr, ◌∙◌, ◌≡◌, ◌≢◌, ◌≤◌, ◌<◌, ◌∷◌, ◌++◌, ℕ, List, [], length}
 use Rattle.std.specs.Prelude.{Bool, true, false, MatchOption, Option, Some, None, Ok, Err, option_map, slice_get, take}
 use Rattle.std.specs.Str.{IsUtf8}
-use Rattle.std.proofs.lemmas.List.{length-take}
+use Rattle.std.proofs.lemmas.List.{append-nil, append_assoc, length-take}
 use Rattle.fe2o3_scram.specs.declared.hmac.ScramVersion.{ScramVersion}
 use Rattle.fe2o3_scram.specs.declared.hmac.ScramVersion.TheVariants as versions
 use Rattle.fe2o3_scram.specs.declared.scram_messages.channel_binding_flag.ChannelBindingFlag.{ChannelBindingFlag}
@@ -104,34 +104,42 @@ pub no_record : (kept : Kept) (status : Status) (shown : VersionedRecord) → Sp
     → ¬ ShowsRecord kept shown
 no_record kept status shown wrong is = shows_none kept status shown wrong is
 
--- a struct behind the others
-pub adds_record : (user : List ℕ) (kepts : List Kept) (kept : Kept) (before after : MultiRecords)
-    → ShowRecords user kepts before → AddsRecord user kept before after → ShowRecords user (kepts ++ (kept ∷ [])) after
-adds_record user [] kept before after none (inl (shown, is, then)) =
-    inl (shown, [], is, refl, then ∙ ap (λ (b : MultiRecords). b ++ ((user, shown) ∷ [])) none)
-adds_record user [] kept before after none (inr (other, then)) = inr (other, then ∙ none)
-adds_record user (first ∷ kepts) kept before after (inl (shown, rest, is, more, same)) (inl (last, lasts, then)) = inl (
-  shown,
-  rest ++ ((user, last) ∷ []),
-  is,
-  adds_record user kepts kept rest (rest ++ ((user, last) ∷ [])) more (inl (last, lasts, refl)),
-  then ∙ ap (λ (b : MultiRecords). b ++ ((user, last) ∷ [])) same,
-)
-adds_record user (first ∷ kepts) kept before after (inl (shown, rest, is, more, same)) (inr (other, then)) = inl (
-  shown,
-  rest,
-  is,
-  adds_record user kepts kept rest rest more (inr (other, refl)),
-  then ∙ same,
-)
-adds_record user (first ∷ kepts) kept before after (inr (none, more)) adds =
-    inr (none, adds_record user kepts kept before after more adds)
+-- the structs that are left after one that shows none, and after one that shows this record
+pub skips : (user : List ℕ) (kept : Kept) (more : List Kept) (records : MultiRecords)
+    → ((shown : VersionedRecord) → ¬ ShowsRecord kept shown) → ShowRecords user (kept ∷ more) records
+    → ShowRecords user more records
+skips user kept more records none (inl (shown, rest, is, then, same)) = absurd (none shown is)
+skips user kept more records none (inr (other, then)) = then
 
--- the first that shows one: none before it does
-pub finds_first : (kepts : List Kept) (i : ℕ) (kept : Kept) (shown : VersionedRecord) → ShowRecords [] (take i kepts) []
-    → slice_get kepts i ≡ Some kept → ShowsRecord kept shown → (user : List ℕ) (records : MultiRecords)
-    → ShowRecords user kepts records → shown.version ≡ first_version records
-finds_first = _
+-- the first that shows one has its hash
+pub first_shown : (user : List ℕ) (kept : Kept) (more : List Kept) (records : MultiRecords) (shown : VersionedRecord)
+    → ShowsRecord kept shown → ShowRecords user (kept ∷ more) records → shown.version ≡ first_version records
+first_shown user kept more records shown is (inl (other, rest, shows, then, same)) =
+    one_number shown.version other.version (is.0 ∙ sym shows.0) ∙ sym (ap first_version same)
+first_shown user kept more records shown is (inr (none, then)) = absurd (none shown is)
+
+-- the records so far, of the structs before those that are left
+abbrev pub ShowSoFar : List ℕ → List Kept → List Kept → MultiRecords → Type 0
+ShowSoFar user kepts left records =
+    (rest : MultiRecords) → ShowRecords user left rest → ShowRecords user kepts (records ++ rest)
+
+pub so_far_none : (user : List ℕ) (kepts : List Kept) → ShowSoFar user kepts kepts []
+so_far_none user kepts = λ rest is. is
+
+pub so_far_more : (user : List ℕ) (kepts left : List Kept) (kept : Kept) (before after : MultiRecords)
+    → ShowSoFar user kepts (kept ∷ left) before → AddsRecord user kept before after → ShowSoFar user kepts left after
+so_far_more user kepts left kept before after shows (inl (shown, is, then)) = λ rest more.
+    carried (ShowRecords user kepts) (before ++ ((user, shown) ∷ rest)) (after ++ rest)
+    (sym (ap (λ (a : MultiRecords). a ++ rest) then ∙ append_assoc before ((user, shown) ∷ []) rest))
+    (shows ((user, shown) ∷ rest) (inl (shown, rest, is, more, refl)))
+so_far_more user kepts left kept before after shows (inr (none, then)) = λ rest more.
+    carried (ShowRecords user kepts) (before ++ rest) (after ++ rest)
+    (sym (ap (λ (a : MultiRecords). a ++ rest) then)) (shows rest (inr (none, more)))
+
+pub so_far_all : (user : List ℕ) (kepts : List Kept) (records : MultiRecords) → ShowSoFar user kepts [] records
+    → ShowRecords user kepts records
+so_far_all user kepts records shows =
+    carried (ShowRecords user kepts) (records ++ []) records (append-nil records) (shows [] refl)
 
 -- ---- a record without keys
 
