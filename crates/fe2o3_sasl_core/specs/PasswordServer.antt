@@ -18,30 +18,28 @@ use Rattle.fe2o3_sasl_core.specs.ExternalServer.{External, external_machine, ext
 use Rattle.fe2o3_sasl_core.specs.PlainServer.{PlainState, plain_allocates, plain_hmacs, plain_machine, plain_state}
 use Rattle.fe2o3_sasl_core.specs.RestrictMechanisms.{Offering, offering_allocates, offering_hmacs, offering_machine, offering_names, offering_of}
 use Rattle.fe2o3_sasl_core.specs.SaslAcceptor.{Acceptor, AnonymousAcceptor, ScramAcceptor, acceptor_allocates, acceptor_machine, acceptor_names, acceptor_user}
-use Rattle.fe2o3_sasl_core.specs.declared.any_mechanism.AnyMechanism.{AnyMechanism}
 use Rattle.fe2o3_sasl_core.specs.declared.any_mechanism.Selected.{Selected}
 use Rattle.fe2o3_sasl_core.specs.declared.any_mechanism.Selected.TheVariants.{First, Second}
-use Rattle.fe2o3_sasl_core.specs.declared.external_server.ExternalServer.{ExternalServer}
 use Rattle.fe2o3_sasl_core.specs.declared.password_server.Mock.{Mock}
 use Rattle.fe2o3_sasl_core.specs.declared.password_server.Restored.{Restored}
 use Rattle.fe2o3_sasl_core.specs.declared.password_server.PasswordServer.{PasswordServer as Server}
 use Rattle.fe2o3_sasl_core.specs.declared.password_server.PasswordServerBuilder.{PasswordServerBuilder}
 use Rattle.fe2o3_sasl_core.specs.declared.password_server.ScramHashes.{ScramHashes}
-use Rattle.fe2o3_sasl_core.specs.declared.plain_server.PlainServer.{PlainServer}
-use Rattle.fe2o3_sasl_core.specs.declared.sasl_acceptor.SaslAnonymousMechanism.{SaslAnonymousMechanism}
+use Rattle.fe2o3_sasl_core.specs.declared.password_server.others.Others.{Others}
+use Rattle.fe2o3_sasl_core.specs.declared.password_server.scrams.Scrams.{Scrams}
 
 -- ---- the state, and what it answers
 
 -- SCRAM-SHA-512, then SCRAM-SHA-256 and SCRAM-SHA-1
-abbrev pub Scrams : Type 0
-Scrams = BothStates Acceptor (BothStates Acceptor Acceptor)
+abbrev pub ScramStates : Type 0
+ScramStates = BothStates Acceptor (BothStates Acceptor Acceptor)
 
 -- PLAIN, then ANONYMOUS and EXTERNAL
-abbrev pub Others : Type 0
-Others = BothStates PlainState (BothStates Acceptor External)
+abbrev pub OtherStates : Type 0
+OtherStates = BothStates PlainState (BothStates Acceptor External)
 
 abbrev pub Parts : Type 0
-Parts = BothStates Scrams Others
+Parts = BothStates ScramStates OtherStates
 
 -- all of them, and the names that may be offered
 abbrev pub PasswordState : Type 0
@@ -57,13 +55,13 @@ external_names external = codes "EXTERNAL" ∷ []
 abbrev pub weaker_names : BothStates Acceptor Acceptor → List (List ℕ)
 weaker_names parts = both_names (acceptor_names parts.first) (acceptor_names parts.second)
 
-abbrev pub scrams_names : Scrams → List (List ℕ)
+abbrev pub scrams_names : ScramStates → List (List ℕ)
 scrams_names parts = both_names (acceptor_names parts.first) (weaker_names parts.second)
 
 abbrev pub last_names : BothStates Acceptor External → List (List ℕ)
 last_names parts = both_names (acceptor_names parts.first) (external_names parts.second)
 
-abbrev pub others_names : Others → List (List ℕ)
+abbrev pub others_names : OtherStates → List (List ℕ)
 others_names parts = both_names (plain_names parts.first) (last_names parts.second)
 
 abbrev pub parts_names : Parts → List (List ℕ)
@@ -77,7 +75,7 @@ abbrev pub weaker_machine : BothStates Acceptor Acceptor → List ℕ → SaslFr
 weaker_machine parts nonce frame reply next =
     any_mechanism_machine acceptor_names acceptor_names acceptor_machine acceptor_machine parts nonce frame reply next
 
-abbrev pub scrams_machine : Scrams → List ℕ → SaslFrame → SaslFrame → Scrams → Type 0
+abbrev pub scrams_machine : ScramStates → List ℕ → SaslFrame → SaslFrame → ScramStates → Type 0
 scrams_machine parts nonce frame reply next =
     any_mechanism_machine acceptor_names weaker_names acceptor_machine weaker_machine parts nonce frame reply next
 
@@ -85,7 +83,7 @@ abbrev pub last_machine : BothStates Acceptor External → List ℕ → SaslFram
 last_machine parts nonce frame reply next =
     any_mechanism_machine acceptor_names external_names acceptor_machine external_machine parts nonce frame reply next
 
-abbrev pub others_machine : Others → List ℕ → SaslFrame → SaslFrame → Others → Type 0
+abbrev pub others_machine : OtherStates → List ℕ → SaslFrame → SaslFrame → OtherStates → Type 0
 others_machine parts nonce frame reply next =
     any_mechanism_machine plain_names last_names plain_machine last_machine parts nonce frame reply next
 
@@ -100,13 +98,13 @@ password_machine server nonce frame reply next = offering_machine parts_names pa
 abbrev pub weaker_allocates : BothStates Acceptor Acceptor → SaslFrame → Type 0
 weaker_allocates = any_mechanism_allocates acceptor_names acceptor_names acceptor_allocates acceptor_allocates
 
-abbrev pub scrams_allocates : Scrams → SaslFrame → Type 0
+abbrev pub scrams_allocates : ScramStates → SaslFrame → Type 0
 scrams_allocates = any_mechanism_allocates acceptor_names weaker_names acceptor_allocates weaker_allocates
 
 abbrev pub last_allocates : BothStates Acceptor External → SaslFrame → Type 0
 last_allocates = any_mechanism_allocates acceptor_names external_names acceptor_allocates (λ _ _. ⊥)
 
-abbrev pub others_allocates : Others → SaslFrame → Type 0
+abbrev pub others_allocates : OtherStates → SaslFrame → Type 0
 others_allocates = any_mechanism_allocates plain_names last_names plain_allocates last_allocates
 
 abbrev pub parts_allocates : Parts → SaslFrame → Type 0
@@ -119,13 +117,13 @@ password_allocates = offering_allocates parts_names parts_allocates
 abbrev pub weaker_hmacs : BothStates Acceptor Acceptor → SaslFrame → ℕ → Type 0
 weaker_hmacs = any_mechanism_hmacs acceptor_names acceptor_names acceptor_hmacs acceptor_hmacs
 
-abbrev pub scrams_hmacs : Scrams → SaslFrame → ℕ → Type 0
+abbrev pub scrams_hmacs : ScramStates → SaslFrame → ℕ → Type 0
 scrams_hmacs = any_mechanism_hmacs acceptor_names weaker_names acceptor_hmacs weaker_hmacs
 
 abbrev pub last_hmacs : BothStates Acceptor External → SaslFrame → ℕ → Type 0
 last_hmacs = any_mechanism_hmacs acceptor_names external_names acceptor_hmacs (λ _ _ n. n ≡ 0)
 
-abbrev pub others_hmacs : Others → SaslFrame → ℕ → Type 0
+abbrev pub others_hmacs : OtherStates → SaslFrame → ℕ → Type 0
 others_hmacs = any_mechanism_hmacs plain_names last_names plain_hmacs last_hmacs
 
 abbrev pub parts_hmacs : Parts → SaslFrame → ℕ → Type 0
@@ -135,11 +133,11 @@ abbrev pub password_hmacs : PasswordState → SaslFrame → ℕ → Type 0
 password_hmacs = offering_hmacs parts_names parts_hmacs
 
 -- the authenticated user: that of the mechanism of the last init
-abbrev pub scrams_user : Scrams → Option (List ℕ)
+abbrev pub scrams_user : ScramStates → Option (List ℕ)
 scrams_user parts = part_names parts.selected (acceptor_user parts.first)
     (part_names parts.second.selected (acceptor_user parts.second.first) (acceptor_user parts.second.second))
 
-abbrev pub others_user : Others → Option (List ℕ)
+abbrev pub others_user : OtherStates → Option (List ℕ)
 others_user parts = part_names parts.selected parts.first.user
     (part_names parts.second.selected None (external_user parts.second.second))
 
@@ -162,7 +160,7 @@ open_of version acceptor = None
 abbrev pub weaker_open : BothStates Acceptor Acceptor → Option (ScramVersion × ServerChallenge)
 weaker_open parts = of_part parts.selected (open_of Sha256 parts.first) (open_of Sha1 parts.second)
 
-abbrev pub scrams_open : Scrams → Option (ScramVersion × ServerChallenge)
+abbrev pub scrams_open : ScramStates → Option (ScramVersion × ServerChallenge)
 scrams_open parts = of_part parts.selected (open_of Sha512 parts.first) (weaker_open parts.second)
 
 abbrev pub password_open : PasswordState → Option (ScramVersion × ServerChallenge)
@@ -234,7 +232,7 @@ second_asked (Some Sha1) = Some Second
 second_asked asked = None
 
 -- SCRAM by each hash in a state of its own, with these parts selected
-abbrev pub scrams_in : PasswordSettings → (ScramVersion → ServerState) → Option Selected → Option Selected → Scrams
+abbrev pub scrams_in : PasswordSettings → (ScramVersion → ServerState) → Option Selected → Option Selected → ScramStates
 scrams_in settings states selected weaker = record {
   first = ScramAcceptor (scram_provider settings Sha512) (states Sha512);
   second = record {
@@ -251,7 +249,7 @@ external_name [] = codes "nobody"
 external_name (byte ∷ bytes) = byte ∷ bytes
 
 -- PLAIN, ANONYMOUS and EXTERNAL before any init
-abbrev pub others_of : PasswordSettings → Others
+abbrev pub others_of : PasswordSettings → OtherStates
 others_of settings = record {
   first = record {
     provider = provider_for settings.plain_version settings.records;
@@ -290,7 +288,7 @@ abbrev pub asked_of : Option OpenExchange → Option ScramVersion
 asked_of restored = option_map (λ (exchange : OpenExchange). exchange.version) restored
 
 -- the acceptors of the settings, with SCRAM in this state
-abbrev pub offering_for : {S : Type 0} → PasswordSettings → S → Offering (BothStates S Others)
+abbrev pub offering_for : {S : Type 0} → PasswordSettings → S → Offering (BothStates S OtherStates)
 offering_for settings scrams = record {
   inner = record {
     first = scrams;
@@ -338,13 +336,12 @@ abbrev pub scram_state : ScramAuthenticator Store → Acceptor
 scram_state scram = ScramAcceptor (served_by (λ store. store) scram) (state_in scram)
 
 -- the states of all of SCRAM, and of the others
-abbrev pub scrams_state : AnyMechanism (ScramAuthenticator Store) (AnyMechanism (ScramAuthenticator Store) (ScramAuthenticator Store))
-    → Scrams
-scrams_state scrams = both_states scram_state (both_states scram_state scram_state) scrams
+abbrev pub scrams_state : Scrams → ScramStates
+scrams_state scrams = both_states scram_state (both_states scram_state scram_state) scrams.joined
 
-abbrev pub others_state : AnyMechanism (PlainServer Store) (AnyMechanism SaslAnonymousMechanism ExternalServer) → Others
+abbrev pub others_state : Others → OtherStates
 others_state others =
-    both_states (plain_state (λ store. store)) (both_states (λ _. AnonymousAcceptor) external_of) others
+    both_states (plain_state (λ store. store)) (both_states (λ _. AnonymousAcceptor) external_of) others.joined
 
 -- the state of the server that a value is
 abbrev pub password_state : Server → PasswordState

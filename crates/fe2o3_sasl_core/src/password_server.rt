@@ -15,14 +15,17 @@ ghost use Rattle.fe2o3_scram.specs.declared.hmac.ScramVersion.TheVariants.{Sha25
 ghost use Rattle.fe2o3_sasl_core.specs.SaslAcceptor.{ScramAcceptor};
 ghost use Rattle.fe2o3_sasl_core.specs.declared.password_server.BuildError.TheVariants.{NoMechanism as BuildNoMechanism, OutOfMemory as BuildOutOfMemory, SaltTooLong as BuildSaltTooLong};
 
+mod others;
+mod scrams;
+
 use crate::OutOfMemory;
 use crate::any_mechanism::{AnyMechanism, HasMechanism, Selected};
 use crate::external_server::ExternalServer;
+use crate::password_server::others::Others;
+use crate::password_server::scrams::{Scram, Scrams, Weaker, second_asked};
 use crate::plain_server::PlainServer;
 use crate::restrict_mechanisms::{OfferError, RestrictMechanisms};
-use crate::sasl_acceptor::{
-    AuthenticatedUser, SaslAcceptor, SaslAnonymousMechanism, SaslServerFrame,
-};
+use crate::sasl_acceptor::{AuthenticatedUser, SaslAcceptor, SaslServerFrame};
 use fe2o3_sasl_wire::{Array, SaslInit, SaslResponse, Symbol};
 use fe2o3_scram::credentials::{DEFAULT_SCRAM_ITERATIONS, MultiRecordStore, RecordStore};
 use fe2o3_scram::hmac::{Meter, ScramVersion};
@@ -31,18 +34,6 @@ use fe2o3_scram::OpenChallenge;
 use fe2o3_scram::scram_server::{SaltTooLong, ScramAuthenticator};
 use std::alloc::{AllocError, Global};
 use thiserror::Error;
-
-/// SCRAM by one hash.
-type Scram = ScramAuthenticator<RecordStore>;
-
-/// SCRAM-SHA-512, then SCRAM-SHA-256 and SCRAM-SHA-1.
-type Scrams = AnyMechanism<Scram, AnyMechanism<Scram, Scram>>;
-
-/// PLAIN, then ANONYMOUS and EXTERNAL.
-type Others = AnyMechanism<
-    PlainServer<RecordStore>,
-    AnyMechanism<SaslAnonymousMechanism, ExternalServer>,
->;
 
 /// The acceptors of a server, of which it may offer only some.
 type Acceptors = RestrictMechanisms<AnyMechanism<Scrams, Others>>;
@@ -391,15 +382,11 @@ impl<'a> PasswordServerBuilder<'a> {
     {
         let strongest = self.scram(alloc, ScramVersion::Sha512)?;
         let weaker = self.weaker(alloc)?;
-        Ok(AnyMechanism::with_selected(
-            strongest,
-            weaker,
-            first_asked(self.asked()),
-        ))
+        Ok(Scrams::new(strongest, weaker, self.asked()))
     }
 
     /// Returns SCRAM by SHA-256 and SHA-1.
-    fn weaker(&self, alloc: Global) -> Result<AnyMechanism<Scram, Scram>, BuildError>
+    fn weaker(&self, alloc: Global) -> Result<Weaker, BuildError>
         ensures ok { IfOk result (λ scrams. both_states scram_state scram_state scrams
             ≡ (scrams_in (settings_of self.now) (opened (settings_of self.now).restored) None
             (second_asked (asked_of (settings_of self.now).restored))).second) }
@@ -451,10 +438,7 @@ impl<'a> PasswordServerBuilder<'a> {
     {
         let plain = PlainServer::new(self.store(self.plain_version)?, self.iterations());
         let external = self.external_server(alloc)?;
-        Ok(AnyMechanism::new(
-            plain,
-            AnyMechanism::new(SaslAnonymousMechanism::new(), external),
-        ))
+        Ok(Others::new(plain, external))
     }
 
     /// Returns the acceptor of EXTERNAL.
@@ -491,28 +475,6 @@ fn is_version(version: ScramVersion, other: ScramVersion) -> bool
     }
 }
 
-/// Returns the part of all of SCRAM that the last init went to, if it was of this hash.
-fn first_asked(asked: Option<ScramVersion>) -> Option<Selected>
-    ensures { result ≡ first_asked asked }
-{
-    match asked {
-        None => None,
-        Some(ScramVersion::Sha512) => Some(Selected::First),
-        Some(_) => Some(Selected::Second),
-    }
-}
-
-/// Returns the part of SCRAM-SHA-256 and SCRAM-SHA-1 that the last init went to, if it was of this hash.
-fn second_asked(asked: Option<ScramVersion>) -> Option<Selected>
-    ensures { result ≡ second_asked asked }
-{
-    match asked {
-        Some(ScramVersion::Sha256) => Some(Selected::First),
-        Some(ScramVersion::Sha1) => Some(Selected::Second),
-        _ => None,
-    }
-}
-
 /// Returns the name of EXTERNAL's user. With an empty name EXTERNAL is not offered, so that this user is never reported.
 fn external_name(name: &str) -> &str
     ensures { result.now ≡ external_name name.now }
@@ -534,28 +496,6 @@ fn name_where(offered: bool, name: &'static str) -> &'static str
     if offered { name } else { "" }
 }
 
-/// Returns the open challenge of the hash that the last init went to.
-fn challenge_of(scrams: &Scrams) -> Option<(ScramVersion, OpenChallenge<'_>)>
-    ensures { option_map challenge_with result ≡ scrams_open (scrams_state scrams.now) }
-{
-    match scrams.selected()? {
-        Selected::First => Some((ScramVersion::Sha512, scrams.first().open_challenge()?)),
-        Selected::Second => weaker_challenge_of(scrams.second()),
-    }
-}
-
-/// Returns the open challenge of SCRAM-SHA-256 or SCRAM-SHA-1.
-fn weaker_challenge_of(
-    scrams: &AnyMechanism<Scram, Scram>,
-) -> Option<(ScramVersion, OpenChallenge<'_>)>
-    ensures { option_map challenge_with result ≡ weaker_open (both_states scram_state scram_state scrams.now) }
-{
-    match scrams.selected()? {
-        Selected::First => Some((ScramVersion::Sha256, scrams.first().open_challenge()?)),
-        Selected::Second => Some((ScramVersion::Sha1, scrams.second().open_challenge()?)),
-    }
-}
-
 impl PasswordServer {
     /// Returns the open challenge of SCRAM and its hash, or `None` if no challenge is open or the last init was of
     /// another mechanism. `PasswordServerBuilder::open_challenge` restores a server from it.
@@ -564,7 +504,7 @@ impl PasswordServer {
     {
         let parts = self.acceptors.acceptor();
         match parts.selected()? {
-            Selected::First => challenge_of(parts.first()),
+            Selected::First => parts.first().open_challenge(),
             Selected::Second => None,
         }
     }

@@ -50,7 +50,7 @@ use Rattle.sasl_c.specs.declared.status.Status.{Status}
 use Rattle.sasl_c.specs.declared.status.Status.TheVariants as statuses
 use Rattle.sasl_c.specs.Connection.{Keeps, KeepsNoPart, side_tests, KeepsNoPartOf}
 use Rattle.sasl_c.specs.SaslServer.{HasNone, IsNoConfig, IsNoServer, IsOf, IsServer, NotReceived, Received, ServerIsReached, ShowsBy, ShowsSide, ShowsState, Stands, State, or_no_record, record_for, settings_for, side_in, side_struct, struct_by}
-use Rattle.fe2o3_sasl_core.specs.PasswordServer.{Others, Parts, PasswordSettings, Scrams, external_names, last_machine, last_names, names_for, others_machine, others_names, others_of, parts_machine, parts_names, password_machine, password_names, password_server_in, password_state, plain_names, scram_provider, scrams_in, scrams_machine, scrams_names, weaker_machine, weaker_names}
+use Rattle.fe2o3_sasl_core.specs.PasswordServer.{OtherStates, Parts, PasswordSettings, ScramStates, external_names, last_machine, last_names, names_for, others_machine, others_names, others_of, parts_machine, parts_names, password_machine, password_names, password_server_in, password_state, plain_names, scram_provider, scrams_in, scrams_machine, scrams_names, weaker_machine, weaker_names}
 use Rattle.fe2o3_sasl_core.specs.declared.password_server.PasswordServer.{PasswordServer}
 use Rattle.sasl_c.proofs.SaslClientLemmas.{one_due, part_short, tests_without_memory}
 use Rattle.sasl_c.proofs.SaslServerLemmas.{Shown, is_server, no_server, shows_nothing, shows_side, writes_side, written_for}
@@ -100,7 +100,7 @@ last_ends last next (Some Second) nonce frame reply is (moved, held, then) =
     external_ends last.second moved nonce frame reply held
 
 -- and so does PLAIN
-others_end : (others next : Others) (part : Option Selected) (nonce : List ℕ) (frame reply : SaslFrame)
+others_end : (others next : OtherStates) (part : Option Selected) (nonce : List ℕ) (frame reply : SaslFrame)
     → others.second.first ≡ AnonymousAcceptor
     → PartReplies plain_machine last_machine others part nonce frame reply next → Ends reply
 others_end others next None nonce frame reply is (same, then) = ends_so reply outcomes.Auth same
@@ -172,7 +172,7 @@ module _ (config : Config) (choice : Choice) (records : MultiRecords) where
   waits_for version challenge = ServerFirstSent challenge (record_for records version challenge.user)
 
   -- SCRAM, or all, with an open challenge
-  abbrev ScramsOpen : Scrams → Type 0
+  abbrev ScramsOpen : ScramStates → Type 0
   ScramsOpen next = (version : ScramVersion) × (challenge : ServerChallenge) × (states : ScramVersion → ServerState)
       × (selected weaker : Option Selected) × Stands records (Some (version, challenge)) states selected weaker
       × (next ≡ scrams_in settings states selected weaker)
@@ -192,7 +192,7 @@ module _ (config : Config) (choice : Choice) (records : MultiRecords) where
       opened_with made stored = ScramAcceptor (provider version) (ServerFirstSent made stored)
 
   weaker_open : (states : ScramVersion → ServerState) (selected weaker part : Option Selected) (nonce : List ℕ)
-      (frame reply : SaslFrame) (moved : BothStates Acceptor Acceptor) (next : Scrams)
+      (frame reply : SaslFrame) (moved : BothStates Acceptor Acceptor) (next : ScramStates)
       → PartReplies acceptor_machine acceptor_machine (scrams_in settings states selected weaker).second part nonce frame reply
       moved
       → next ≡ record { first = (scrams_in settings states selected weaker).first; second = moved; selected = Some Second }
@@ -202,14 +202,14 @@ module _ (config : Config) (choice : Choice) (records : MultiRecords) where
   weaker_open states selected weaker (Some First) nonce frame reply moved next (acceptor, held, then) is =
       go (scram_opens (provider versions.Sha256) (states versions.Sha256) nonce frame reply acceptor held)
     where
-      with_acceptor : Acceptor → Scrams
+      with_acceptor : Acceptor → ScramStates
       with_acceptor a = record {
         first = (scrams_in settings states selected weaker).first;
         second = record { first = a; second = (scrams_in settings states selected weaker).second.second; selected = Some First };
         selected = Some Second;
       }
 
-      with_moved : BothStates Acceptor Acceptor → Scrams
+      with_moved : BothStates Acceptor Acceptor → ScramStates
       with_moved m =
           record { first = (scrams_in settings states selected weaker).first; second = m; selected = Some Second }
 
@@ -227,14 +227,14 @@ module _ (config : Config) (choice : Choice) (records : MultiRecords) where
   weaker_open states selected weaker (Some Second) nonce frame reply moved next (acceptor, held, then) is =
       go (scram_opens (provider versions.Sha1) (states versions.Sha1) nonce frame reply acceptor held)
     where
-      with_acceptor : Acceptor → Scrams
+      with_acceptor : Acceptor → ScramStates
       with_acceptor a = record {
         first = (scrams_in settings states selected weaker).first;
         second = record { first = (scrams_in settings states selected weaker).second.first; second = a; selected = Some Second };
         selected = Some Second;
       }
 
-      with_moved : BothStates Acceptor Acceptor → Scrams
+      with_moved : BothStates Acceptor Acceptor → ScramStates
       with_moved m =
           record { first = (scrams_in settings states selected weaker).first; second = m; selected = Some Second }
 
@@ -251,14 +251,14 @@ module _ (config : Config) (choice : Choice) (records : MultiRecords) where
       )
 
   scrams_open : (states : ScramVersion → ServerState) (selected weaker part : Option Selected) (nonce : List ℕ)
-      (frame reply : SaslFrame) (next : Scrams)
+      (frame reply : SaslFrame) (next : ScramStates)
       → PartReplies acceptor_machine weaker_machine (scrams_in settings states selected weaker) part nonce frame reply next
       → Ends reply ⊎ ScramsOpen next
   scrams_open states selected weaker None nonce frame reply next (same, then) = inl (ends_so reply outcomes.Auth same)
   scrams_open states selected weaker (Some First) nonce frame reply next (acceptor, held, then) =
       go (scram_opens (provider versions.Sha512) (states versions.Sha512) nonce frame reply acceptor held)
     where
-      with_acceptor : Acceptor → Scrams
+      with_acceptor : Acceptor → ScramStates
       with_acceptor a =
           record { first = a; second = (scrams_in settings states selected weaker).second; selected = Some First }
 
@@ -292,7 +292,7 @@ module _ (config : Config) (choice : Choice) (records : MultiRecords) where
       with_all : Parts → State
       with_all a = record { inner = a; allowed = names_for settings }
 
-      with_scrams : Scrams → Parts
+      with_scrams : ScramStates → Parts
       with_scrams s = record { first = s; second = others_of settings; selected = Some First }
 
       go : Ends reply ⊎ ScramsOpen moved → Then reply next
