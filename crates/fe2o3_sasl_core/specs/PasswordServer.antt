@@ -38,12 +38,12 @@ ScramStates = BothStates Acceptor (BothStates Acceptor Acceptor)
 abbrev pub OtherStates : Type 0
 OtherStates = BothStates PlainState (BothStates Acceptor External)
 
-abbrev pub Parts : Type 0
-Parts = BothStates ScramStates OtherStates
+abbrev pub PasswordParts : Type 0
+PasswordParts = BothStates ScramStates OtherStates
 
 -- all of them, and the names that may be offered
 abbrev pub PasswordState : Type 0
-PasswordState = Offering Parts
+PasswordState = Offering PasswordParts
 
 -- the names of the mechanisms (RFC 5802, RFC 7677, RFC 4616, RFC 4505, RFC 4422), and of these the offered ones
 abbrev pub plain_names : PlainState → List (List ℕ)
@@ -64,7 +64,7 @@ last_names parts = both_names (acceptor_names parts.first) (external_names parts
 abbrev pub others_names : OtherStates → List (List ℕ)
 others_names parts = both_names (plain_names parts.first) (last_names parts.second)
 
-abbrev pub parts_names : Parts → List (List ℕ)
+abbrev pub parts_names : PasswordParts → List (List ℕ)
 parts_names parts = both_names (scrams_names parts.first) (others_names parts.second)
 
 abbrev pub password_names : PasswordState → List (List ℕ)
@@ -87,7 +87,7 @@ abbrev pub others_machine : OtherStates → List ℕ → SaslFrame → SaslFrame
 others_machine parts nonce frame reply next =
     any_mechanism_machine plain_names last_names plain_machine last_machine parts nonce frame reply next
 
-abbrev pub parts_machine : Parts → List ℕ → SaslFrame → SaslFrame → Parts → Type 0
+abbrev pub parts_machine : PasswordParts → List ℕ → SaslFrame → SaslFrame → PasswordParts → Type 0
 parts_machine parts nonce frame reply next =
     any_mechanism_machine scrams_names others_names scrams_machine others_machine parts nonce frame reply next
 
@@ -107,7 +107,7 @@ last_allocates = any_mechanism_allocates acceptor_names external_names acceptor_
 abbrev pub others_allocates : OtherStates → SaslFrame → Type 0
 others_allocates = any_mechanism_allocates plain_names last_names plain_allocates last_allocates
 
-abbrev pub parts_allocates : Parts → SaslFrame → Type 0
+abbrev pub parts_allocates : PasswordParts → SaslFrame → Type 0
 parts_allocates = any_mechanism_allocates scrams_names others_names scrams_allocates others_allocates
 
 abbrev pub password_allocates : PasswordState → SaslFrame → Type 0
@@ -126,7 +126,7 @@ last_hmacs = any_mechanism_hmacs acceptor_names external_names acceptor_hmacs (�
 abbrev pub others_hmacs : OtherStates → SaslFrame → ℕ → Type 0
 others_hmacs = any_mechanism_hmacs plain_names last_names plain_hmacs last_hmacs
 
-abbrev pub parts_hmacs : Parts → SaslFrame → ℕ → Type 0
+abbrev pub parts_hmacs : PasswordParts → SaslFrame → ℕ → Type 0
 parts_hmacs = any_mechanism_hmacs scrams_names others_names scrams_hmacs others_hmacs
 
 abbrev pub password_hmacs : PasswordState → SaslFrame → ℕ → Type 0

@@ -30,7 +30,7 @@ use Rattle.sasl_c.specs.declared.server.ScramServer.{ScramServer as ScramStruct}
 use Rattle.sasl_c.specs.declared.status.Status.{Status}
 use Rattle.sasl_c.specs.declared.status.Status.TheVariants as statuses
 use Rattle.sasl_c.specs.Records.{ShowsRecord, SpellsStruct}
-use Rattle.sasl_c.specs.SaslServer.{AddsRecord, HasNoServerWords, HasNone, HasNoStruct, HasRecords, IsNoConfig, IsOf, IsServer, NoRecordIsUnmet, ServerIsReached, ShowRecords, ShowsBy, ShowsOpen, ShowsProgress, ShowsSide, ShowsState, Stands, State, config_tests, exchange_of, first_version, no_record as record_without_keys, one_where, settings_for, side_in, side_struct, state_struct, struct_by, sum_of}
+use Rattle.sasl_c.specs.SaslServer.{AddsRecord, HasNoServerWords, HasNone, HasNoStruct, HasRecords, IsNoConfig, IsOf, IsServer, NoRecordIsUnmet, ServerIsReached, ShowRecords, ShowsBy, ShowsOpen, ShowsProgress, ShowsSide, ShowsState, Stands, State, config_tests, exchange_of, version_of_first, no_record as record_without_keys, one_where, settings_for, side_in, side_struct, state_struct, struct_by, sum_of}
 use Rattle.fe2o3_sasl_core.specs.PasswordServer.{asked_of, first_asked, opened, password_names, password_open, password_server, password_server_in, password_state, password_user, second_asked}
 use Rattle.fe2o3_sasl_core.specs.declared.password_server.PasswordServer.{PasswordServer}
 use Rattle.sasl_c.specs.Server.{IsAuthenticated, ChallengeHasRoom, IsOpen, IsOpenBy, open_number}
@@ -113,9 +113,9 @@ skips user kept more records none (inr (other, then)) = then
 
 -- the first that shows one has its hash
 pub first_shown : (user : List ℕ) (kept : Kept) (more : List Kept) (records : MultiRecords) (shown : VersionedRecord)
-    → ShowsRecord kept shown → ShowRecords user (kept ∷ more) records → shown.version ≡ first_version records
+    → ShowsRecord kept shown → ShowRecords user (kept ∷ more) records → shown.version ≡ version_of_first records
 first_shown user kept more records shown is (inl (other, rest, shows, then, same)) =
-    one_number shown.version other.version (is.0 ∙ sym shows.0) ∙ sym (ap first_version same)
+    one_number shown.version other.version (is.0 ∙ sym shows.0) ∙ sym (ap version_of_first same)
 first_shown user kept more records shown is (inr (none, then)) = absurd (none shown is)
 
 -- the records so far, of the structs before those that are left

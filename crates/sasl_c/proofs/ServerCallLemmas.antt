@@ -50,7 +50,7 @@ use Rattle.sasl_c.specs.declared.status.Status.{Status}
 use Rattle.sasl_c.specs.declared.status.Status.TheVariants as statuses
 use Rattle.sasl_c.specs.Connection.{Keeps, KeepsNoPart, side_tests, KeepsNoPartOf}
 use Rattle.sasl_c.specs.SaslServer.{HasNone, IsNoConfig, IsNoServer, IsOf, IsServer, NotReceived, Received, ServerIsReached, ShowsBy, ShowsSide, ShowsState, Stands, State, or_no_record, record_for, settings_for, side_in, side_struct, struct_by}
-use Rattle.fe2o3_sasl_core.specs.PasswordServer.{OtherStates, Parts, PasswordSettings, ScramStates, external_names, last_machine, last_names, names_for, others_machine, others_names, others_of, parts_machine, parts_names, password_machine, password_names, password_server_in, password_state, plain_names, scram_provider, scrams_in, scrams_machine, scrams_names, weaker_machine, weaker_names}
+use Rattle.fe2o3_sasl_core.specs.PasswordServer.{OtherStates, PasswordParts, PasswordSettings, ScramStates, external_names, last_machine, last_names, names_for, others_machine, others_names, others_of, parts_machine, parts_names, password_machine, password_names, password_server_in, password_state, plain_names, scram_provider, scrams_in, scrams_machine, scrams_names, weaker_machine, weaker_names}
 use Rattle.fe2o3_sasl_core.specs.declared.password_server.PasswordServer.{PasswordServer}
 use Rattle.sasl_c.proofs.SaslClientLemmas.{one_due, part_short, tests_without_memory}
 use Rattle.sasl_c.proofs.SaslServerLemmas.{Shown, is_server, no_server, shows_nothing, shows_side, writes_side, written_for}
@@ -279,7 +279,7 @@ module _ (config : Config) (choice : Choice) (records : MultiRecords) where
       moved next held then
 
   part_goes : (states : ScramVersion → ServerState) (at selected weaker part : Option Selected) (nonce : List ℕ)
-      (frame reply : SaslFrame) (all : Parts) (next : State)
+      (frame reply : SaslFrame) (all : PasswordParts) (next : State)
       → PartReplies scrams_machine others_machine (password_server_in settings states at selected weaker).inner part nonce
       frame reply all
       → next ≡ record (password_server_in settings states at selected weaker) { inner = all } → Then reply next
@@ -289,10 +289,10 @@ module _ (config : Config) (choice : Choice) (records : MultiRecords) where
       go (scrams_open states selected weaker
       (part_for acceptor_names weaker_names (scrams_in settings states selected weaker) frame) nonce frame reply moved held)
     where
-      with_all : Parts → State
+      with_all : PasswordParts → State
       with_all a = record { inner = a; allowed = names_for settings }
 
-      with_scrams : ScramStates → Parts
+      with_scrams : ScramStates → PasswordParts
       with_scrams s = record { first = s; second = others_of settings; selected = Some First }
 
       go : Ends reply ⊎ ScramsOpen moved → Then reply next

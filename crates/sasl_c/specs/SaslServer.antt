@@ -80,9 +80,9 @@ abbrev pub HasRecords : Config → MultiRecords → Type 0
 HasRecords config records = ShowRecords config.username.now config.records.now records
 
 -- the hash of the first record, by which PLAIN tests a password; where there is none, SHA-256
-abbrev pub first_version : MultiRecords → ScramVersion
-first_version [] = Sha256
-first_version (user ∷ users) = user.1.version
+abbrev pub version_of_first : MultiRecords → ScramVersion
+version_of_first [] = Sha256
+version_of_first (user ∷ users) = user.1.version
 
 -- the settings of the library's server
 abbrev pub settings_for : Config → Choice → MultiRecords → Option OpenExchange → PasswordSettings
@@ -92,7 +92,7 @@ settings_for config choice records restored = record {
   hashes = record { sha_512 = choice.sha_512; sha_256 = choice.sha_256; sha_1 = choice.sha_1 };
   cbind_flag_y = choice.cbind_flag_y;
   plain = choice.plain;
-  plain_version = first_version records;
+  plain_version = version_of_first records;
   plain_count = Some config.iterations;
   anonymous = choice.anonymous;
   external = name_where choice.external config.external_authcid.now;

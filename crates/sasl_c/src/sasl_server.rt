@@ -15,7 +15,7 @@ ghost use Rattle.fe2o3_sasl_negotiation.specs.declared.progress.Progress.TheVari
 ghost use Rattle.fe2o3_sasl_negotiation.specs.ServerNegotiation.{ServerReceives};
 ghost use Rattle.fe2o3_sasl_negotiation.specs.Snapshot.{IsServerKept, side_of};
 ghost use Rattle.fe2o3_sasl_negotiation.specs.Sides.{ServerConnectionSide, server_side};
-ghost use Rattle.sasl_c.specs.SaslServer.{AddsRecord, HasNoServerWords, HasNone, IsNoConfig, NoRecordIsUnmet, NotReceived, Received, ReceivesAsServer, ServerIsReached, ShowRecords, ShowsBy, ShowsOpen, ShowsProgress, ShowsState, config_tests, exchange_of, first_version, one_where, progress_struct, record_for, settings_for, state_struct, struct_by, sum_of};
+ghost use Rattle.sasl_c.specs.SaslServer.{AddsRecord, HasNoServerWords, HasNone, IsNoConfig, NoRecordIsUnmet, NotReceived, Received, ReceivesAsServer, ServerIsReached, ShowRecords, ShowsBy, ShowsOpen, ShowsProgress, ShowsState, config_tests, exchange_of, one_where, progress_struct, record_for, settings_for, state_struct, struct_by, sum_of, version_of_first};
 ghost use Rattle.sasl_c.specs.declared.sasl_server.Choice.{Choice as Choices};
 ghost use Rattle.sasl_c.specs.declared.server.ScramServer.{ScramServer as ScramStruct};
 ghost use Rattle.sasl_c.specs.Connection.{side_tests};
@@ -203,7 +203,7 @@ impl SaslServerConfig<'_> {
     #[tactic(auto, using(crate::proofs::SaslServerLemmas::first))]
     fn first_version(&self) -> ScramVersion
         ensures { (user : List ℕ) (records : MultiRecords) → ShowRecords user self.now.records.now records
-            → result ≡ first_version records }
+            → result ≡ version_of_first records }
     {
         for kept in self.records {
             if let Ok((version, _)) = kept.lent() {
@@ -223,7 +223,7 @@ impl SaslServerConfig<'_> {
         external: &str,
         scram: &ScramServer,
     ) -> Result<PasswordServer, BuildError>
-        requires version { version ≡ first_version store.now }
+        requires version { version ≡ version_of_first store.now }
         requires external { external.now ≡ self.now.external_authcid.now }
         ensures ok { IfOk result (λ server. (shown : Option (ScramVersions × ServerChallenge)) × ShowsOpen scram.now shown
             × (password_state server ≡ password_server (settings_for self.now choice store.now
