@@ -93,16 +93,20 @@ enum fe2o3_unassigned {
 
 /* What a server offers: a sum of these values. */
 enum fe2o3_offer {
-    /* SCRAM with the hash of the configuration. */
-    FE2O3_OFFER_SCRAM = 1,
+    /* SCRAM-SHA-512. */
+    FE2O3_OFFER_SCRAM_SHA_512 = 1,
+    /* SCRAM-SHA-256. */
+    FE2O3_OFFER_SCRAM_SHA_256 = 2,
+    /* SCRAM-SHA-1, for clients that have no other hash. */
+    FE2O3_OFFER_SCRAM_SHA_1 = 4,
     /* PLAIN, which sends the password in clear. */
-    FE2O3_OFFER_PLAIN = 2,
+    FE2O3_OFFER_PLAIN = 8,
     /* ANONYMOUS. */
-    FE2O3_OFFER_ANONYMOUS = 4,
+    FE2O3_OFFER_ANONYMOUS = 16,
     /* EXTERNAL, if `external_authcid` is not empty. */
-    FE2O3_OFFER_EXTERNAL = 8,
+    FE2O3_OFFER_EXTERNAL = 32,
     /* No mechanism: SCRAM also accepts the GS2 header `y,,`, like fe2o3_scram_server_first_with_cbind_flag_y. */
-    FE2O3_ACCEPT_CBIND_FLAG_Y = 16
+    FE2O3_ACCEPT_CBIND_FLAG_Y = 64
 };
 
 /* How far a login on a connection is. */
@@ -593,6 +597,8 @@ uint32_t fe2o3_scram_client_get_keys(const struct fe2o3_scram_client *client, st
 struct fe2o3_scram_server {
     /* How far the exchange is: one of enum fe2o3_scram_server_state. */
     uint32_t state;
+    /* The hash of the open challenge: one of enum fe2o3_scram_version. */
+    uint32_t version;
     /* The number of bytes of `user` in use. */
     uint32_t user_len;
     /* The number of bytes of `bare` in use. */
@@ -735,20 +741,21 @@ uint32_t fe2o3_sasl_client_receive(
 
 /* ---- The server's side of a connection, over bytes ---- */
 
-/* What a server offers, and the record of one user. You lend the struct to each call. */
+/* What a server offers, and the records of one user. You lend the struct to each call. */
 struct fe2o3_sasl_server_config {
     /* The offered mechanisms: a sum of values of enum fe2o3_offer. PLAIN sends the password in clear, so offer it
      * over TLS only. */
     uint32_t mechanisms;
-    /* The hash of SCRAM and of the record: one of enum fe2o3_scram_version. */
-    uint32_t version;
     /* The iteration count with which PLAIN hashes the password of an unknown user. */
     uint32_t iterations;
-    /* The name of the user whose record this is, without escapes. */
+    /* The name of the user whose records these are, without escapes. */
     const uint8_t *username;
     size_t username_len;
-    /* The record of the user. If it holds no record of `version`, no user is known. */
-    const struct fe2o3_scram_record *record;
+    /* The records of the user, of any hashes. SCRAM with a hash uses the first record of that hash; if there is none,
+     * it does not know the user. PLAIN tests the password against the first record that can be read, so put mock
+     * records last; if there is none, it hashes the password with SHA-256 and rejects the login. */
+    const struct fe2o3_scram_record *records;
+    size_t records_count;
     /* The name of the client that the transport has authenticated, for instance by a certificate. EXTERNAL accepts
      * it. If empty, EXTERNAL is not offered, and an init for it fails with FE2O3_REFUSED_AUTH. */
     const uint8_t *external_authcid;

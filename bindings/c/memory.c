@@ -209,9 +209,9 @@ int main(void)
     login = (struct fe2o3_login){.version = FE2O3_SHA_256, .min_iterations = 4096, .max_iterations = 4096,
         .username = TEXT("us,er"), .password = TEXT("pencil"), .keys = &no_keys};
     sasl_login = (struct fe2o3_sasl_login){.hostname = TEXT("host"), .login = login};
-    config = (struct fe2o3_sasl_server_config){.mechanisms = FE2O3_OFFER_SCRAM | FE2O3_OFFER_PLAIN | FE2O3_OFFER_ANONYMOUS
-            | FE2O3_OFFER_EXTERNAL, .version = FE2O3_SHA_256, .iterations = 4096, .username = FE2O3_NONE,
-        .record = &all.record, .external_authcid = TEXT("pe,er")};
+    config = (struct fe2o3_sasl_server_config){.mechanisms = FE2O3_OFFER_SCRAM_SHA_256 | FE2O3_OFFER_PLAIN
+            | FE2O3_OFFER_ANONYMOUS | FE2O3_OFFER_EXTERNAL, .iterations = 4096, .username = FE2O3_NONE,
+        .records = &all.record, .records_count = 1, .external_authcid = TEXT("pe,er")};
     tried("record_make", make);
     tried("record_text", spell);
     tried("record_parse", parse);

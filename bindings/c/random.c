@@ -380,12 +380,10 @@ static void to_server(const struct fe2o3_sasl_server *side, struct text *came)
 
 static void with_a_side_of_a_server(void)
 {
-    struct fe2o3_sasl_server_config config = {.mechanisms = below(33), .version = FE2O3_SHA_256, .iterations = below(9),
-        .username = TEXT("user"), .record = &all.record, .external_authcid = TEXT("peer")};
+    struct fe2o3_sasl_server_config config = {.mechanisms = below(129), .iterations = below(9),
+        .username = TEXT("user"), .records = &all.record, .records_count = below(2), .external_authcid = TEXT("peer")};
     struct text came = {{0}, 0};
     uint32_t status;
-    if (below(4) == 0)
-        config.version = drawn.record.version;
     to_server(&drawn.server_side, &came);
     if (below(4) == 0)
         fill(came.bytes, came.len);

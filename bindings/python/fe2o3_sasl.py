@@ -65,7 +65,7 @@ import operator
 import os
 import secrets
 import threading
-from typing import Any, Callable, NamedTuple, Optional, TypeVar, Union
+from typing import Any, Callable, Iterable, NamedTuple, Optional, TypeVar, Union
 
 __all__ = [
     "SHA_1",
@@ -187,11 +187,13 @@ class Offer(enum.IntFlag):
     """What a server offers. PLAIN sends the password in clear, so offer it over TLS only. ACCEPT_CBIND_FLAG_Y
     is no mechanism: SCRAM also accepts the GS2 header `y,,`, like `Server.first` with `accept_cbind_flag_y`."""
 
-    SCRAM = 1
-    PLAIN = 2
-    ANONYMOUS = 4
-    EXTERNAL = 8
-    ACCEPT_CBIND_FLAG_Y = 16
+    SCRAM_SHA_512 = 1
+    SCRAM_SHA_256 = 2
+    SCRAM_SHA_1 = 4
+    PLAIN = 8
+    ANONYMOUS = 16
+    EXTERNAL = 32
+    ACCEPT_CBIND_FLAG_Y = 64
 
 
 class _Mechanism(enum.IntEnum):
@@ -291,6 +293,7 @@ class _ScramClientStruct(ctypes.Structure):
 class _ScramServerStruct(ctypes.Structure):
     _fields_ = [
         ("state", ctypes.c_uint32),
+        ("version", ctypes.c_uint32),
         ("user_len", ctypes.c_uint32),
         ("bare_len", ctypes.c_uint32),
         ("nonce_len", ctypes.c_uint32),
@@ -331,11 +334,11 @@ class _SaslClientStruct(ctypes.Structure):
 class _SaslServerConfigStruct(ctypes.Structure):
     _fields_ = [
         ("mechanisms", ctypes.c_uint32),
-        ("version", ctypes.c_uint32),
         ("iterations", ctypes.c_uint32),
         ("username", ctypes.c_char_p),
         ("username_len", ctypes.c_size_t),
-        ("record", ctypes.POINTER(_ScramRecordStruct)),
+        ("records", ctypes.POINTER(_ScramRecordStruct)),
+        ("records_count", ctypes.c_size_t),
         ("external_authcid", ctypes.c_char_p),
         ("external_authcid_len", ctypes.c_size_t),
     ]
@@ -1323,22 +1326,26 @@ class ClientSteps(_Steps, _ClientSide):
 class _ServerSide(_Login):
     """A server's login: what it offers, and its records."""
 
-    __slots__ = ("_iterations", "_lock", "_mechanisms", "_external_authcid", "_record_of", "_struct", "_version")
+    __slots__ = ("_iterations", "_lock", "_mechanisms", "_external_authcid", "_records_of", "_struct")
 
     def __init__(
         self,
-        record_of: Callable[[str], Optional[Record]],
+        records_of: Callable[[str], Iterable[Record]],
         *,
-        mechanisms: int = Offer.SCRAM,
-        version: int = SHA_256,
+        mechanisms: int = Offer.SCRAM_SHA_512 | Offer.SCRAM_SHA_256,
         iterations: int = 4096,
         external_authcid: Optional[Text] = None,
     ) -> None:
-        """A login by one of the mechanisms. `record_of` returns the record of a name. For an unknown name it returns
-        `Record.mock(..)`, so that the client does not learn which names exist, or None. With the iteration count PLAIN
-        hashes the password of an unknown user. EXTERNAL accepts `external_authcid`, the name that the transport has
-        authenticated. If it is None or empty, EXTERNAL is not offered, and an init for it fails."""
-        self._record_of, self._mechanisms, self._version = record_of, _number(mechanisms), _number(version)
+        """A login by one of the mechanisms, a sum of `Offer`:
+
+            ServerConnection(records_of, mechanisms=Offer.SCRAM_SHA_512 | Offer.SCRAM_SHA_256 | (Offer.PLAIN if tls else 0))
+
+        `records_of` returns the records of a name, of any hashes. SCRAM with a hash uses the first record of that hash.
+        PLAIN uses the first record. For a name without records it returns `Record.mock(..)` for each hash, so that the
+        client does not learn which names exist, or none. With the iteration count PLAIN hashes the password of an
+        unknown user. EXTERNAL accepts `external_authcid`, the name that the transport has authenticated. If it is None
+        or empty, EXTERNAL is not offered, and an init for it fails."""
+        self._records_of, self._mechanisms = records_of, _number(mechanisms)
         self._iterations, self._struct = _number(iterations), self._fresh()
         self._external_authcid = _text("" if external_authcid is None else external_authcid)
         self._lock = threading.RLock()
@@ -1350,16 +1357,16 @@ class _ServerSide(_Login):
         raise NotImplementedError
 
     def _config(self, name: Optional[str]) -> _SaslServerConfigStruct:
-        """Returns the configuration for the library, with the record of this name, if there is one."""
-        record = None if name is None else self._record_of(name)
+        """Returns the configuration for the library, with the records of this name, if there are any."""
+        records = [] if name is None else [record._struct for record in self._records_of(name)]
         known = b"" if name is None else _text(name)
         return _SaslServerConfigStruct(
             mechanisms=self._mechanisms,
-            version=self._version,
             iterations=self._iterations,
             username=known,
             username_len=len(known),
-            record=ctypes.pointer(_ScramRecordStruct() if record is None else record._struct),
+            records=(_ScramRecordStruct * len(records))(*records),
+            records_count=len(records),
             external_authcid=self._external_authcid,
             external_authcid_len=len(self._external_authcid),
         )

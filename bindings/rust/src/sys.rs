@@ -265,20 +265,26 @@ pub const UNASSIGNED_REFUSED: u32 = 0;
 /// `unassigned`: Allows unassigned code points, and leaves them unchanged.
 pub const UNASSIGNED_ALLOWED: u32 = 1;
 
-/// `offer`: SCRAM with the hash of the configuration.
-pub const OFFER_SCRAM: u32 = 1;
+/// `offer`: SCRAM-SHA-512.
+pub const OFFER_SCRAM_SHA_512: u32 = 1;
+
+/// `offer`: SCRAM-SHA-256.
+pub const OFFER_SCRAM_SHA_256: u32 = 2;
+
+/// `offer`: SCRAM-SHA-1, for clients that have no other hash.
+pub const OFFER_SCRAM_SHA_1: u32 = 4;
 
 /// `offer`: PLAIN, which sends the password in clear.
-pub const OFFER_PLAIN: u32 = 2;
+pub const OFFER_PLAIN: u32 = 8;
 
 /// `offer`: ANONYMOUS.
-pub const OFFER_ANONYMOUS: u32 = 4;
+pub const OFFER_ANONYMOUS: u32 = 16;
 
 /// `offer`: EXTERNAL, if `external_authcid` is not empty.
-pub const OFFER_EXTERNAL: u32 = 8;
+pub const OFFER_EXTERNAL: u32 = 32;
 
 /// `offer`: No mechanism: SCRAM also accepts the GS2 header `y,,`, like fe2o3_scram_server_first_with_cbind_flag_y.
-pub const ACCEPT_CBIND_FLAG_Y: u32 = 16;
+pub const ACCEPT_CBIND_FLAG_Y: u32 = 64;
 
 /// `progress`: The login goes on: the other side has to send more.
 pub const IN_PROGRESS: u32 = 0;
@@ -458,6 +464,8 @@ pub struct ScramClient {
 pub struct ScramServer {
     /// How far the exchange is: one of the `scram_server_state` constants.
     pub state: u32,
+    /// The hash of the open challenge: one of the `scram_version` constants.
+    pub version: u32,
     /// The number of bytes of `user` in use.
     pub user_len: u32,
     /// The number of bytes of `bare` in use.
@@ -521,22 +529,23 @@ pub struct SaslClient {
     pub scram: ScramClient,
 }
 
-/// What a server offers, and the record of one user. You lend the struct to each call.
+/// What a server offers, and the records of one user. You lend the struct to each call.
 #[repr(C)]
 #[derive(Clone, Copy)]
 pub struct SaslServerConfig {
     /// The offered mechanisms: a sum of values of the `offer` constants. PLAIN sends the password in clear, so offer it
     /// over TLS only.
     pub mechanisms: u32,
-    /// The hash of SCRAM and of the record: one of the `scram_version` constants.
-    pub version: u32,
     /// The iteration count with which PLAIN hashes the password of an unknown user.
     pub iterations: u32,
-    /// The name of the user whose record this is, without escapes.
+    /// The name of the user whose records these are, without escapes.
     pub username: *const u8,
     pub username_len: usize,
-    /// The record of the user. If it holds no record of `version`, no user is known.
-    pub record: *const ScramRecord,
+    /// The records of the user, of any hashes. SCRAM with a hash uses the first record of that hash; if there is none,
+    /// it does not know the user. PLAIN tests the password against the first record that can be read, so put mock
+    /// records last; if there is none, it hashes the password with SHA-256 and rejects the login.
+    pub records: *const ScramRecord,
+    pub records_count: usize,
     /// The name of the client that the transport has authenticated, for instance by a certificate. EXTERNAL accepts it.
     /// If empty, EXTERNAL is not offered, and an init for it fails with REFUSED_AUTH.
     pub external_authcid: *const u8,

@@ -59,15 +59,15 @@ one_challenge state challenge shown stored stands opened =
 
 -- what is written of it
 pub opens_text : (cbind_flag_y : Bool) (kept : Kept) (nonce text : List ℕ) (challenge shown : ServerChallenge)
-    (before after : Struct) (room filled : Room) (answer : Result (Unit {0}) WriteError)
+    (number : ℕ) (before after : Struct) (room filled : Room) (answer : Result (Unit {0}) WriteError)
     → MakesChallenge cbind_flag_y kept nonce text challenge → shown ≡ challenge
-    → WritesChallenge shown before after room filled answer
+    → WritesChallenge number shown before after room filled answer
     → Fills (Challenges cbind_flag_y kept nonce text) room filled answer
-opens_text cbind_flag_y kept nonce text challenge shown before after room filled (Ok done) held same is =
+opens_text cbind_flag_y kept nonce text challenge shown number before after room filled (Ok done) held same is =
     (shown.first, (challenge, held, ap (λ (c : ServerChallenge). c.first) same), is.2, is.3, is.4)
-opens_text cbind_flag_y kept nonce text challenge shown before after room filled (Err RoomTooSmall) held same is =
+opens_text cbind_flag_y kept nonce text challenge shown number before after room filled (Err RoomTooSmall) held same is =
     (is.1, (shown.first, (challenge, held, ap (λ (c : ServerChallenge). c.first) same), is.2))
-opens_text cbind_flag_y kept nonce text challenge shown before after room filled (Err (Other status)) held same is = (
+opens_text cbind_flag_y kept nonce text challenge shown number before after room filled (Err (Other status)) held same is = (
   is.1,
   is.2,
   λ _. carried (λ s. NotChallenged cbind_flag_y kept nonce text s) statuses.TooLong status (sym is.3)
@@ -78,20 +78,20 @@ opens_text cbind_flag_y kept nonce text challenge shown before after room filled
 pub opens_exchange : (cbind_flag_y : Bool) (kept : Kept) (nonce text : List ℕ) (challenge shown : ServerChallenge)
     (before after : Struct) (room filled : Room) (answer : Result (Unit {0}) WriteError)
     → MakesChallenge cbind_flag_y kept nonce text challenge → shown ≡ challenge
-    → WritesChallenge shown before after room filled answer
+    → WritesChallenge kept.version shown before after room filled answer
     → OpensExchange cbind_flag_y kept nonce text before after answer
 opens_exchange cbind_flag_y kept nonce text challenge shown before after room filled (Ok done) held same is =
-    (challenge, held, carried (λ c. IsOpen after c) shown challenge same is.0, is.1 ∙ ap open_struct same)
+    (challenge, held, carried (λ c. IsOpen after c) shown challenge same is.0, is.1 ∙ ap (open_struct kept.version) same)
 opens_exchange cbind_flag_y kept nonce text challenge shown before after room filled (Err RoomTooSmall) held same is = is.0
 opens_exchange cbind_flag_y kept nonce text challenge shown before after room filled (Err (Other status)) held same is =
     is.0
 
-pub opens_asks : (Asks : Type 0) (challenge : ServerChallenge) (before after : Struct) (room filled : Room)
-    (answer : Result (Unit {0}) WriteError) → WritesChallenge challenge before after room filled answer
+pub opens_asks : (Asks : Type 0) (number : ℕ) (challenge : ServerChallenge) (before after : Struct) (room filled : Room)
+    (answer : Result (Unit {0}) WriteError) → WritesChallenge number challenge before after room filled answer
     → AsksText Asks answer
-opens_asks Asks challenge before after room filled (Ok done) is = tt
-opens_asks Asks challenge before after room filled (Err RoomTooSmall) is = λ same. absurd (cc)
-opens_asks Asks challenge before after room filled (Err (Other status)) is =
+opens_asks Asks number challenge before after room filled (Ok done) is = tt
+opens_asks Asks number challenge before after room filled (Err RoomTooSmall) is = λ same. absurd (cc)
+opens_asks Asks number challenge before after room filled (Err (Other status)) is =
     λ same. let other : Other statuses.TooLong ≡ Other statuses.OutOfMemory = ap Other (sym is.3) ∙ same in absurd (cc)
 
 -- a server without mock authentication that takes whom another takes answers what that one answers

@@ -1,6 +1,7 @@
 -- A SCRAM server that is kept in a struct of C between its calls (RFC 5802, sections 3 and 5).
 use Rattle.std.specs.Prelude.{Bool, true, ◌≡◌, ◌≤◌, ◌⊎◌, ℕ, List, [], ◌∷◌, length, replicate, take, Some, Result, Ok, Err}
 use Rattle.std.specs.Str.{IsUtf8}
+use Rattle.fe2o3_scram.specs.declared.hmac.ScramVersion.{ScramVersion}
 use Rattle.fe2o3_scram.specs.declared.scram_messages.error.ServerScramErrorKind.{ServerScramErrorKind}
 use Rattle.fe2o3_scram.specs.declared.scram_messages.error.ServerScramErrorKind.TheVariants.{IllegalAuthenticatorState, OutOfMemory}
 use Rattle.fe2o3_scram.specs.ClientFinal.{ReachesBase64, server_of}
@@ -17,7 +18,7 @@ use Rattle.sasl_c.specs.declared.records.ScramRecord.{ScramRecord as Kept}
 use Rattle.sasl_c.specs.declared.server.ScramServer.{ScramServer as Struct}
 use Rattle.sasl_c.specs.declared.status.Status.{Status}
 use Rattle.sasl_c.specs.declared.status.Status.TheVariants as statuses
-use Rattle.sasl_c.specs.Records.{ShowsSomeRecord, ShowsRecord, SpellsStruct}
+use Rattle.sasl_c.specs.Records.{IsVersion, ShowsSomeRecord, ShowsRecord, SpellsStruct}
 use Rattle.sasl_c.specs.declared.status.WriteError.{WriteError}
 use Rattle.sasl_c.specs.declared.status.WriteError.TheVariants.{RoomTooSmall, Other}
 use Rattle.sasl_c.specs.Status.{Lacks, Room, server_status, with_written}
@@ -56,6 +57,10 @@ abbrev pub IsOpen : Struct → ServerChallenge → Type 0
 IsOpen server challenge = (server.state ≡ open_number challenge.header) × AreLengths server
     × (challenge ≡ struct_challenge challenge.header server) × IsUtf8 challenge.user
 
+-- with this hash
+abbrev pub IsOpenBy : Struct → ScramVersion → ServerChallenge → Type 0
+IsOpenBy server version challenge = IsVersion server.version version × IsOpen server challenge
+
 -- the struct is that of a server that has authenticated this user
 abbrev pub IsAuthenticated : Struct → List ℕ → Type 0
 IsAuthenticated server user = (server.state ≡ 2) × (server.user_len ≤ 256) × (user ≡ take server.user_len server.user)
@@ -66,6 +71,7 @@ IsAuthenticated server user = (server.state ≡ 2) × (server.user_len ≤ 256) 
 abbrev pub fresh_server_struct : Struct
 fresh_server_struct = record {
   state = 0;
+  version = 0;
   user_len = 0;
   bare_len = 0;
   nonce_len = 0;
@@ -76,10 +82,11 @@ fresh_server_struct = record {
   first = replicate 1024 0;
 }
 
--- of one whose challenge is open
-abbrev pub open_struct : ServerChallenge → Struct
-open_struct challenge = record {
+-- of one whose challenge is open, by the hash of this number
+abbrev pub open_struct : ℕ → ServerChallenge → Struct
+open_struct version challenge = record {
   state = open_number challenge.header;
+  version = version;
   user_len = length challenge.user;
   bare_len = length challenge.bare;
   nonce_len = length challenge.nonce;
@@ -94,6 +101,7 @@ open_struct challenge = record {
 abbrev pub user_struct : ℕ → List ℕ → Struct
 user_struct len array = record {
   state = 2;
+  version = 0;
   user_len = len;
   bare_len = 0;
   nonce_len = 0;
@@ -138,18 +146,20 @@ Challenges cbind_flag_y kept nonce text (Err status) = NotChallenged cbind_flag_
 -- the struct after it
 abbrev pub OpensExchange : Bool → Kept → List ℕ → List ℕ → Struct → Struct → Result (Unit {0}) WriteError → Type 0
 OpensExchange cbind_flag_y kept nonce text before after (Ok done) = (challenge : ServerChallenge)
-    × MakesChallenge cbind_flag_y kept nonce text challenge × IsOpen after challenge × (after ≡ open_struct challenge)
+    × MakesChallenge cbind_flag_y kept nonce text challenge × IsOpen after challenge
+    × (after ≡ open_struct kept.version challenge)
 OpensExchange cbind_flag_y kept nonce text before after (Err why) = after ≡ before
 
 -- the message of a challenge is written, and the struct that shows the challenge; or nothing changes, since the challenge
 -- has no room in the struct, or its message none where it is to be written
-abbrev pub WritesChallenge : ServerChallenge → Struct → Struct → Room → Room → Result (Unit {0}) WriteError → Type 0
-WritesChallenge challenge before after room filled (Ok done) = IsOpen after challenge × (after ≡ open_struct challenge)
+abbrev pub WritesChallenge : ℕ → ServerChallenge → Struct → Struct → Room → Room → Result (Unit {0}) WriteError → Type 0
+WritesChallenge version challenge before after room filled (Ok done) = IsOpen after challenge
+    × (after ≡ open_struct version challenge)
     × (length challenge.first ≤ length room.bytes) × (filled.bytes ≡ with_written challenge.first room.bytes)
     × (filled.len ≡ length challenge.first)
-WritesChallenge challenge before after room filled (Err RoomTooSmall) = (after ≡ before)
+WritesChallenge version challenge before after room filled (Err RoomTooSmall) = (after ≡ before)
     × (filled.bytes ≡ room.bytes) × Lacks room filled challenge.first
-WritesChallenge challenge before after room filled (Err (Other status)) = (after ≡ before)
+WritesChallenge version challenge before after room filled (Err (Other status)) = (after ≡ before)
     × (filled.bytes ≡ room.bytes) × (filled.len ≡ room.len) × (status ≡ statuses.TooLong) × ¬ ChallengeHasRoom challenge
 
 -- the user name that a client-first message claims, after either GS2 header

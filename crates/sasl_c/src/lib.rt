@@ -23,7 +23,6 @@ mod frames;
 mod keys;
 mod lines;
 mod login;
-mod others;
 mod passwords;
 mod preparation;
 mod records;

@@ -4,19 +4,20 @@ ghost use Rattle.std.specs.Prelude.{false, true, ◌≡◌, ◌≢◌, ◌<◌, 
 ghost use Rattle.fe2o3_scram.specs.ClientFirst.{HasEscapes};
 ghost use Rattle.fe2o3_scram.specs.Credentials.{Record};
 ghost use Rattle.fe2o3_scram.specs.ServerFirst.{ServerChallenge};
+ghost use Rattle.fe2o3_scram.specs.declared.hmac.ScramVersion.{ScramVersion as ScramVersions};
 ghost use Rattle.fe2o3_scram.specs.ScramServer.{Initial, ServerFirstSent, challenge_kept, provider_in, state_in, cbind_flag_y_in, mock_in};
 ghost use Rattle.fe2o3_scram.specs.declared.scram_messages.channel_binding_flag.ChannelBindingFlag.{ChannelBindingFlag as HeaderOf};
-ghost use Rattle.sasl_c.specs.Server.{MakesChallenge, Challenges, ConcludesLogin, Concludes, FinalAsks, WritesChallenge, IsAuthenticated, ChallengeHasRoom, IsOpen, ClaimedUser, NotChallenged, OpensExchange, MemoryCosts, ReadsFirst, TellsUser, fresh_server_struct, authenticated_struct, open_number, open_struct, user_struct};
+ghost use Rattle.sasl_c.specs.Server.{MakesChallenge, Challenges, ConcludesLogin, Concludes, FinalAsks, WritesChallenge, IsAuthenticated, ChallengeHasRoom, IsOpen, IsOpenBy, ClaimedUser, NotChallenged, OpensExchange, MemoryCosts, ReadsFirst, TellsUser, fresh_server_struct, authenticated_struct, open_number, open_struct, user_struct};
 ghost use Rattle.sasl_c.specs.Status.{Answers, AnswersText, AsksText, AsksWhere, Fills, FillsWithin};
 ghost use Rattle.sasl_c.specs.declared.status.Status.TheVariants.{OutOfMemory as StatusOutOfMemory};
 ghost use Rattle.sasl_c.specs.declared.status.WriteError.TheVariants.{RoomTooSmall};
 
 use crate::arrays::{cleared, fill, head, padded, put, write};
 use crate::records::ScramRecord;
-use crate::status::{Status, WriteError, text_number};
+use crate::status::{Status, WriteError, text_number, version_of};
 use fe2o3_scram::{
     ChannelBindingFlag, ClientFirst, Meter, OpenChallenge, ScramAuthenticator,
-    ScramCredentialProvider, ServerScramErrorKind, UserRecord,
+    ScramCredentialProvider, ScramVersion, ServerScramErrorKind, UserRecord,
 };
 use std::alloc::Global;
 
@@ -29,6 +30,9 @@ use std::alloc::Global;
 pub struct ScramServer {
     /// How far the exchange is: one of enum fe2o3_scram_server_state.
     pub state: u32,
+
+    /// The hash of the open challenge: one of enum fe2o3_scram_version.
+    pub version: u32,
 
     /// The number of bytes of `user` in use.
     pub user_len: u32,
@@ -67,6 +71,7 @@ impl ScramServer {
     {
         ScramServer {
             state: 0,
+            version: 0,
             user_len: 0,
             bare_len: 0,
             nonce_len: 0,
@@ -84,6 +89,7 @@ impl ScramServer {
     {
         ScramServer {
             state: 2,
+            version: 0,
             user_len,
             bare_len: 0,
             nonce_len: 0,
@@ -113,27 +119,30 @@ impl ScramServer {
         *self = ScramServer::with_user(cleared(&self.user, self.user_len), self.user_len);
     }
 
-    /// Returns the struct of a server with this open challenge, or `None` if a text of it does not fit.
-    pub fn of(challenge: &OpenChallenge<'_>) -> Option<ScramServer>
+    /// Returns the struct of a server with this open challenge, by the hash of this number, or `None` if a text of the
+    /// challenge does not fit.
+    pub fn of(version: u32, challenge: &OpenChallenge<'_>) -> Option<ScramServer>
         ensures open { MatchOption result (¬ ChallengeHasRoom (challenge_kept challenge.now))
-            (λ server. ChallengeHasRoom (challenge_kept challenge.now) × IsOpen server (challenge_kept challenge.now)) }
-        ensures writes { IfSome result (λ server. server ≡ open_struct (challenge_kept challenge.now)) }
+            (λ server. ChallengeHasRoom (challenge_kept challenge.now) × (server.version ≡ version)
+            × IsOpen server (challenge_kept challenge.now)) }
+        ensures writes { IfSome result (λ server. server ≡ open_struct version (challenge_kept challenge.now)) }
     {
         if !fits(challenge) {
             return None;
         }
         let mut server = ScramServer::fresh();
-        server.open(challenge);
+        server.open(version, challenge);
         Some(server)
     }
 
-    /// Turns the struct into that of a server with this open challenge.
-    fn open(&mut self, challenge: &OpenChallenge<'_>)
+    /// Turns the struct into that of a server with this open challenge, by the hash of this number.
+    fn open(&mut self, version: u32, challenge: &OpenChallenge<'_>)
         requires { ChallengeHasRoom (challenge_kept challenge.now) }
         ensures open { IsOpen self.new (challenge_kept challenge.now) }
-        ensures writes { self.new ≡ open_struct (challenge_kept challenge.now) }
+        ensures writes { self.new ≡ open_struct version (challenge_kept challenge.now) }
     {
         self.state = open_number(challenge.header);
+        self.version = version;
         self.user_len = challenge.username.len() as u32;
         self.bare_len = challenge.client_first_message_bare.len() as u32;
         self.nonce_len = challenge.client_server_nonce.len() as u32;
@@ -192,6 +201,16 @@ pub fn server_over<C: ScramCredentialProvider>(
 }
 
 impl ScramServer {
+    /// Returns the open challenge with its hash, if the struct holds both.
+    pub fn exchange(&self) -> Option<(ScramVersion, OpenChallenge<'_>)>
+        ensures { MatchOption result ((version : ScramVersions) (challenge : ServerChallenge) → ¬ IsOpenBy self.now version challenge)
+            (λ shown. IsOpenBy self.now shown.0 (challenge_kept shown.1)) }
+    {
+        let version = version_of(self.version)?;
+        let challenge = self.challenge()?;
+        Some((version, challenge))
+    }
+
     /// Returns the open challenge, if the struct holds one.
     pub fn challenge(&self) -> Option<OpenChallenge<'_>>
         ensures { MatchOption result ((challenge : ServerChallenge) → ¬ IsOpen self.now challenge)
@@ -254,19 +273,20 @@ fn challenged(
 
 /// Writes the message of a challenge, and the struct that holds the challenge.
 fn open_into(
+    version: u32,
     challenge: &OpenChallenge<'_>,
     server: &mut ScramServer,
     out: &mut [u8],
     out_len: &mut usize,
 ) -> Result<(), WriteError>
-    ensures { WritesChallenge (challenge_kept challenge.now) server.old server.new
+    ensures { WritesChallenge version (challenge_kept challenge.now) server.old server.new
         (record { bytes = out.old; len = out_len.old }) (record { bytes = out.new; len = out_len.new }) result }
 {
     if !fits(challenge) {
         return Err(WriteError::Other(Status::TooLong));
     }
     put(challenge.server_first_message, out, out_len)?;
-    server.open(challenge);
+    server.open(version, challenge);
     Ok(())
 }
 
@@ -294,7 +314,7 @@ fn first_into(
         drop(machine);
         return Err(WriteError::Other(Status::TooLong));
     };
-    let written = open_into(&challenge, server, out, out_len);
+    let written = open_into(kept.version, &challenge, server, out, out_len);
     drop(machine);
     written
 }
