@@ -244,7 +244,9 @@ impl SaslServerConfig<'_> {
             return builder.build(alloc);
         };
         let stored = record_for(store, hash, challenge.username);
-        builder.open_challenge(hash, &challenge, &stored).build(alloc)
+        builder
+            .open_challenge(hash, &challenge, &stored)
+            .build(alloc)
     }
 
     /// Tests that the words of the configuration are texts.

@@ -49,10 +49,7 @@ impl Scrams {
         ensures { option_map challenge_with result ≡ scrams_open (scrams_state self.now) }
     {
         match self.joined.selected()? {
-            Selected::First => Some((
-                ScramVersion::Sha512,
-                self.joined.first().open_challenge()?,
-            )),
+            Selected::First => Some((ScramVersion::Sha512, self.joined.first().open_challenge()?)),
             Selected::Second => weaker_challenge(self.joined.second()),
         }
     }
