@@ -1,7 +1,7 @@
 """SCRAM (RFC 5802, RFC 7677), and the SASL layer of AMQP 1.0, by the library of `fe2o3_sasl.h`, called by `ctypes`.
 
 The module loads the library that the environment variable FE2O3_SASL_LIB names, otherwise the system's
-`libfe2o3_sasl.so.2`. Importing it fails if the structs of the library have other sizes than those below.
+`libfe2o3_sasl.so.1`. Importing it fails if the structs of the library have other sizes than those below.
 
 A client:
 
@@ -724,7 +724,7 @@ def _load(name: str) -> ctypes.CDLL:
     return library
 
 
-_library = _load(os.environ.get("FE2O3_SASL_LIB") or "libfe2o3_sasl.so.2")
+_library = _load(os.environ.get("FE2O3_SASL_LIB") or "libfe2o3_sasl.so.1")
 
 
 def library_version() -> tuple[int, int, int]:
