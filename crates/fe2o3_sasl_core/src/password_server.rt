@@ -8,11 +8,12 @@ ghost use Rattle.fe2o3_sasl_core.specs.PasswordServer.{HasLongSalts, OffersNothi
 ghost use Rattle.fe2o3_sasl_core.specs.AnyMechanism.{both_names};
 ghost use Rattle.fe2o3_sasl_core.specs.AnyMechanismSides.{both_states};
 ghost use Rattle.fe2o3_sasl_core.specs.RestrictMechanisms.{offering_names, offering_of};
-ghost use Rattle.fe2o3_scram.specs.Credentials.{kept};
+ghost use Rattle.fe2o3_scram.specs.Credentials.{kept, serving};
+ghost use Rattle.fe2o3_scram.specs.MockSettings.{mocking};
 ghost use Rattle.fe2o3_scram.specs.Mixed.{is_version};
 ghost use Rattle.fe2o3_scram.specs.ScramServer.{Initial, challenge_kept};
 ghost use Rattle.fe2o3_scram.specs.declared.hmac.ScramVersion.TheVariants.{Sha256};
-ghost use Rattle.fe2o3_sasl_core.specs.SaslAcceptor.{ScramAcceptor};
+ghost use Rattle.fe2o3_sasl_core.specs.SaslAcceptor.{AnonymousAcceptor, ScramAcceptor};
 ghost use Rattle.fe2o3_sasl_core.specs.declared.password_server.BuildError.TheVariants.{NoMechanism as BuildNoMechanism, OutOfMemory as BuildOutOfMemory, SaltTooLong as BuildSaltTooLong};
 
 mod others;
@@ -533,8 +534,26 @@ impl SaslAcceptor for PasswordServer {
 
     ghost hmacs = { password_hmacs };
 
-    ghost clone_keeps = { λ server copy same i.
-        ⟦<Acceptors as SaslAcceptor>⟧.clone_keeps server.acceptors copy.acceptors same i };
+    ghost clone_keeps = { λ server copy same i. record {
+      inner = record {
+        first = record {
+          first = ScramAcceptor (mocking (same.0.0.0.3 i) (serving (same.0.0.0.1 i) (same.0.0.0.0 i))) (same.0.0.0.2 i);
+          second = record {
+            first = ScramAcceptor (mocking (same.0.0.1.0.3 i) (serving (same.0.0.1.0.1 i) (same.0.0.1.0.0 i))) (same.0.0.1.0.2 i);
+            second = ScramAcceptor (mocking (same.0.0.1.1.3 i) (serving (same.0.0.1.1.1 i) (same.0.0.1.1.0 i))) (same.0.0.1.1.2 i);
+            selected = same.0.0.1.2 i;
+          };
+          selected = same.0.0.2 i;
+        };
+        second = record {
+          first = record { provider = same.0.1.0.0 i; count = same.0.1.0.1 i; user = same.0.1.0.2 i };
+          second = record { first = AnonymousAcceptor; second = same.0.1.1.1 i; selected = same.0.1.1.2 i };
+          selected = same.0.1.2 i;
+        };
+        selected = same.0.2 i;
+      };
+      allowed = same.1 i;
+    } };
 
     fn mechanisms(&self, alloc: Global) -> Result<Array<Symbol>, OutOfMemory> {
         self.acceptors.mechanisms(alloc)

@@ -4,6 +4,9 @@ ghost use Rattle.std.specs.Prelude.{◌≡◌, option_map};
 ghost use Rattle.std.proofs.Common.{ap};
 ghost use Rattle.fe2o3_sasl_core.specs.AnyMechanismSides.{both_states};
 ghost use Rattle.fe2o3_sasl_core.specs.PasswordServer.{ScramStates, challenge_with, first_asked, scram_state, scrams_allocates, scrams_hmacs, scrams_machine, scrams_names, scrams_open, scrams_state, scrams_user, second_asked, weaker_open};
+ghost use Rattle.fe2o3_scram.specs.Credentials.{serving};
+ghost use Rattle.fe2o3_scram.specs.MockSettings.{mocking};
+ghost use Rattle.fe2o3_sasl_core.specs.SaslAcceptor.{ScramAcceptor};
 
 use crate::OutOfMemory;
 use crate::any_mechanism::{AnyMechanism, HasMechanism, Selected};
@@ -110,8 +113,15 @@ impl SaslAcceptor for Scrams {
 
     ghost hmacs = { scrams_hmacs };
 
-    ghost clone_keeps = { λ scrams copy same i.
-        ⟦<Joined as SaslAcceptor>⟧.clone_keeps scrams.joined copy.joined same i };
+    ghost clone_keeps = { λ scrams copy same i. record {
+      first = ScramAcceptor (mocking (same.0.3 i) (serving (same.0.1 i) (same.0.0 i))) (same.0.2 i);
+      second = record {
+        first = ScramAcceptor (mocking (same.1.0.3 i) (serving (same.1.0.1 i) (same.1.0.0 i))) (same.1.0.2 i);
+        second = ScramAcceptor (mocking (same.1.1.3 i) (serving (same.1.1.1 i) (same.1.1.0 i))) (same.1.1.2 i);
+        selected = same.1.2 i;
+      };
+      selected = same.2 i;
+    } };
 
     fn mechanisms(&self, alloc: Global) -> Result<Array<Symbol>, OutOfMemory> {
         self.joined.mechanisms(alloc)
