@@ -112,7 +112,7 @@ class CyrusSasl(Peer):
         else:
             yield none("client", mechanism, "cached keys, of a record that it made",
                        "its file of users keeps one record of a user, that of SHA-1")
-        other = "logged in: Done; not logged in by keys: Client: The keys are of another salt or iteration count"
+        other = "logged in: Done; not logged in by keys: Client: The cached keys are for another salt or iteration count"
         yield cell("cached keys, where it has the password", self.log_in(again), Ending(other, False))
         yield cell("its signature, altered on the way", self.log_in(of, mar=marred),
                    Ending("not logged in: Client: Server signature mismatch", False))

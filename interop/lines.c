@@ -188,7 +188,7 @@ static int run_client(char **words, int prepared, int again, const char *typed)
     struct fe2o3_login login = {0};
     struct text password;
     uint32_t status = read_password(typed, prepared, FE2O3_UNASSIGNED_ALLOWED, &password);
-    login.secret = prepared ? FE2O3_BY_PREPARED : FE2O3_BY_PASSWORD;
+    login.form = prepared ? FE2O3_PREPARED : FE2O3_TYPED;
     login.version = version_of(words[1]);
     login.min_iterations = (uint32_t)strtoul(words[3], NULL, 10);
     login.max_iterations = (uint32_t)strtoul(words[4], NULL, 10);
@@ -303,8 +303,8 @@ static int run_record(char **words, int prepared, const char *typed)
     if (!read_base64(words[1], &salt))
         status = FE2O3_RECORD_BASE64_DECODE_ERROR;
     if (status == FE2O3_OK)
-        status = (prepared ? fe2o3_scram_record_make_prepared : fe2o3_scram_record_make)(
-            version_of(words[0]), password.bytes, password.len, salt.bytes, salt.len, count, &record);
+        status = fe2o3_scram_record_make(version_of(words[0]), prepared ? FE2O3_PREPARED : FE2O3_TYPED, password.bytes,
+            password.len, salt.bytes, salt.len, count, &record);
     if (status == FE2O3_OK)
         status = fe2o3_scram_record_text(&record, out.bytes, sizeof out.bytes, &out.len);
     if (status == FE2O3_OK)
@@ -322,8 +322,8 @@ static int run_verify(const char *text, int prepared, const char *typed)
     if (status == FE2O3_OK)
         status = fe2o3_scram_record_parse((const uint8_t *)text, strlen(text), &record);
     if (status == FE2O3_OK)
-        status = (prepared ? fe2o3_scram_record_verify_prepared : fe2o3_scram_record_verify)(
-            &record, password.bytes, password.len);
+        status = fe2o3_scram_record_verify(
+            &record, prepared ? FE2O3_PREPARED : FE2O3_TYPED, password.bytes, password.len);
     told(status == FE2O3_OK ? "verified" : "not verified", status);
     return status != FE2O3_OK;
 }

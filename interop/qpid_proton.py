@@ -18,7 +18,7 @@ PYTHON = "/usr/bin/python3"
 KEPT = ("SCRAM-SHA-256", "PLAIN")
 PAST = User("user", "p\u00e4ss")
 DONE = Ending("logged in: Done", True)
-REFUSED = Ending("not logged in: Connection: The login is refused", False)
+REFUSED = Ending("not logged in: Connection: The login was rejected", False)
 
 
 class QpidProton(Peer):
@@ -160,7 +160,7 @@ class ProtonWithCyrus(QpidProton):
 
     def our_scram_clients(self, mechanism: str) -> Iterator[Cell]:
         """It sends its signature by one more challenge, which our client refuses."""
-        refused = "not logged in: Connection: The frame is out of turn"
+        refused = "not logged in: Connection: Unexpected frame"
         for what, count in (("a login", 4096), ("count 100,000", 100_000)):
             yield Cell("client", mechanism, f"{what}: it sends its signature by a challenge",
                        self.log_in(mechanism, count=count), Ending(refused, False),

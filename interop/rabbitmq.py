@@ -19,7 +19,7 @@ SASL_HEADER = b"AMQP\3\1\0\0"
 #: It starts slowly, in seconds.
 START = 400
 DONE = Ending("logged in: Done", None)
-REFUSED = Ending("not logged in: Connection: The login is refused", None)
+REFUSED = Ending("not logged in: Connection: The login was rejected", None)
 
 
 class RabbitMq(Peer):
@@ -123,7 +123,7 @@ class RabbitMq(Peer):
         for mechanism in (*SCRAM, "EXTERNAL"):
             yield cell("client", mechanism, "it does not offer it", self.log_in(mechanism),
                        Ending("not logged in: Connection: Not implemented", None))
-        refused = Ending("not logged in: Connection: The login is refused", False)
+        refused = Ending("not logged in: Connection: The login was rejected", False)
         yield cell("server", "PLAIN", "a login", self.serve("PLAIN"), Ending("logged in: user", True), USER)
         yield cell("server", "PLAIN", "a name with `,` and `=`", self.serve("PLAIN", COMMA, COMMA),
                    Ending("logged in: a,b=c", True))

@@ -63,9 +63,9 @@ static void need(uint32_t status, const char *what) {
     } while (0)
 
 static void make_login(struct login *login, uint32_t version) {
-    login->who = (struct fe2o3_login){version, 0, 1, UINT32_MAX, TEXT("user"), TEXT("pencil"), &login->keys};
-    need(fe2o3_scram_record_make(version, TEXT("pencil"), salt, sizeof salt, 1, &login->record), "a record");
-    need(fe2o3_scram_keys_make(version, TEXT("pencil"), salt, sizeof salt, 1, &login->keys), "keys");
+    login->who = (struct fe2o3_login){version, 0, FE2O3_TYPED, 1, UINT32_MAX, TEXT("user"), TEXT("pencil"), &login->keys};
+    need(fe2o3_scram_record_make(version, FE2O3_TYPED, TEXT("pencil"), salt, sizeof salt, 1, &login->record), "a record");
+    need(fe2o3_scram_keys_make(version, FE2O3_TYPED, TEXT("pencil"), salt, sizeof salt, 1, &login->keys), "keys");
     need(fe2o3_scram_client_first(&login->who, &client, client_nonce, ROOM(login->client_first)), "client-first");
     login->started = client;
     need(fe2o3_scram_server_first(&login->record, &server, server_nonce, GIVEN(login->client_first),
@@ -106,13 +106,13 @@ static void messages(struct login *login, uint32_t version) {
 }
 
 static void records(struct login *login) {
-    COUNT("record-make", (void)0, fe2o3_scram_record_make(FE2O3_SHA_256, TEXT("pencil"), salt, sizeof salt, 1, &record));
+    COUNT("record-make", (void)0, fe2o3_scram_record_make(FE2O3_SHA_256, FE2O3_TYPED, TEXT("pencil"), salt, sizeof salt, 1, &record));
     COUNT("record-write", (void)0, fe2o3_scram_record_text(&login->record, ROOM(out)));
     COUNT("record-read", (void)0, fe2o3_scram_record_parse(GIVEN(login->record_text), &record));
-    COUNT("record-verify", (void)0, fe2o3_scram_record_verify(&login->record, TEXT("pencil")));
+    COUNT("record-verify", (void)0, fe2o3_scram_record_verify(&login->record, FE2O3_TYPED, TEXT("pencil")));
     COUNT("record-of-nobody", (void)0,
           fe2o3_scram_record_mock(FE2O3_SHA_256, salt, sizeof salt, TEXT("nobody"), 32, 1, &record));
-    COUNT("keys-make", (void)0, fe2o3_scram_keys_make(FE2O3_SHA_256, TEXT("pencil"), salt, sizeof salt, 1, &keys));
+    COUNT("keys-make", (void)0, fe2o3_scram_keys_make(FE2O3_SHA_256, FE2O3_TYPED, TEXT("pencil"), salt, sizeof salt, 1, &keys));
     COUNT("client-keys", (void)0, fe2o3_scram_client_get_keys(&login->complete, &keys));
     COUNT("server-user", (void)0, fe2o3_scram_server_claimed_user(GIVEN(login->client_first), ROOM(out)));
     COUNT("lines-find", (void)0,

@@ -67,16 +67,20 @@ enum fe2o3_mechanism {
 
 /* What a client logs in with. */
 enum fe2o3_secret {
-    /* The typed password, which has to be printable ASCII. */
+    /* The password. */
     FE2O3_BY_PASSWORD = 0,
     /* The keys. */
     FE2O3_BY_KEYS = 1,
-    /* The keys if they are of the server's salt and iteration count, otherwise the typed password. */
-    FE2O3_BY_PASSWORD_AND_KEYS = 2,
-    /* The prepared password (fe2o3_saslprep). */
-    FE2O3_BY_PREPARED = 3,
-    /* The keys if they are of the server's salt and iteration count, otherwise the prepared password. */
-    FE2O3_BY_PREPARED_AND_KEYS = 4
+    /* The keys if they are of the server's salt and iteration count, otherwise the password. */
+    FE2O3_BY_PASSWORD_AND_KEYS = 2
+};
+
+/* The form of a password. */
+enum fe2o3_password_form {
+    /* The password as the user typed it, which has to be printable ASCII. */
+    FE2O3_TYPED = 0,
+    /* The password as you prepared it (fe2o3_saslprep): any text, used without change. */
+    FE2O3_PREPARED = 1
 };
 
 /* What fe2o3_saslprep does with code points that Unicode 3.2 does not assign. */
@@ -89,16 +93,20 @@ enum fe2o3_unassigned {
 
 /* What a server offers: a sum of these values. */
 enum fe2o3_offer {
-    /* SCRAM with the hash of the configuration. */
-    FE2O3_OFFER_SCRAM = 1,
+    /* SCRAM-SHA-512. */
+    FE2O3_OFFER_SCRAM_SHA_512 = 1,
+    /* SCRAM-SHA-256. */
+    FE2O3_OFFER_SCRAM_SHA_256 = 2,
+    /* SCRAM-SHA-1, for clients that have no other hash. */
+    FE2O3_OFFER_SCRAM_SHA_1 = 4,
     /* PLAIN, which sends the password in clear. */
-    FE2O3_OFFER_PLAIN = 2,
+    FE2O3_OFFER_PLAIN = 8,
     /* ANONYMOUS. */
-    FE2O3_OFFER_ANONYMOUS = 4,
+    FE2O3_OFFER_ANONYMOUS = 16,
     /* EXTERNAL, if `external_authcid` is not empty. */
-    FE2O3_OFFER_EXTERNAL = 8,
+    FE2O3_OFFER_EXTERNAL = 32,
     /* No mechanism: SCRAM also accepts the GS2 header `y,,`, like fe2o3_scram_server_first_with_cbind_flag_y. */
-    FE2O3_ACCEPT_CBIND_FLAG_Y = 16
+    FE2O3_ACCEPT_CBIND_FLAG_Y = 64
 };
 
 /* How far a login on a connection is. */
@@ -207,7 +215,7 @@ enum fe2o3_status {
     FE2O3_NOT_UTF8 = 3,
     /* The version is none of enum fe2o3_scram_version. */
     FE2O3_NO_SUCH_VERSION = 4,
-    /* A text is longer than the array for it. */
+    /* A text is longer than the array that holds it. */
     FE2O3_TOO_LONG = 5,
     /* The typed password is not printable ASCII. */
     FE2O3_NOT_PRINTABLE = 6,
@@ -217,18 +225,18 @@ enum fe2o3_status {
     FE2O3_NO_SUCH_SECRET = 8,
     /* The struct holds no keys. */
     FE2O3_NO_KEYS = 9,
-    /* The keys, or the record of a line, are of another version. */
+    /* The keys, or the record on a line, are of another version. */
     FE2O3_OTHER_VERSION = 10,
     /* The password is not that of the record. */
     FE2O3_OTHER_PASSWORD = 11,
-    /* The mechanism is none of enum fe2o3_mechanism; or a server offers nothing, or a sum with another value than
-     * those of enum fe2o3_offer. */
+    /* The mechanism is none of enum fe2o3_mechanism, or the offer of a server is empty or not a sum of values of enum
+     * fe2o3_offer. */
     FE2O3_NO_SUCH_MECHANISM = 12,
     /* The connection has ended: its `progress` is not FE2O3_IN_PROGRESS. */
     FE2O3_ENDED = 13,
-    /* The struct of the connection is not one that a call writes. */
+    /* The struct of the connection has a value that no call writes. */
     FE2O3_INVALID_SNAPSHOT = 14,
-    /* The bytes complete no frame that claims a user name. */
+    /* The bytes do not complete a frame that claims a user name. */
     FE2O3_NAMES_NO_USER = 15,
     /* The message is not UTF-8. */
     FE2O3_CLIENT_UTF8_ERROR = 20,
@@ -309,44 +317,44 @@ enum fe2o3_status {
     FE2O3_LINE_FEED_MISSING = 65,
     /* The line has no space. */
     FE2O3_SPACE_MISSING = 66,
-    /* The text before the last space of the line is not an escaped name. */
+    /* The text before the last space of the line is not an escaped user name. */
     FE2O3_INVALID_NAME = 67,
-    /* No line has a record of this version for this name. */
+    /* No line has a record of this version for this user. */
     FE2O3_NO_SUCH_USER = 68,
-    /* The name contains a line feed, or the iteration count is 0. */
+    /* The user name contains a line feed, or the iteration count is 0. */
     FE2O3_NOT_WRITABLE = 69,
-    /* The other side's protocol header is not that of SASL. */
+    /* The peer sent another protocol header than that of SASL. */
     FE2O3_PROTOCOL_HEADER_MISMATCH = 70,
-    /* The size of the frame is below 8 or above 512. */
+    /* The frame has fewer than 8 or more than 512 bytes. */
     FE2O3_FRAME_SIZE = 71,
-    /* The frame is not the expected one. */
+    /* The peer sent another frame than the expected one. */
     FE2O3_UNEXPECTED_FRAME = 72,
     /* The reply does not fit into a frame of 512 bytes. */
     FE2O3_REPLY_TOO_LARGE = 73,
     /* The frame cannot be parsed. */
     FE2O3_MALFORMED_FRAME = 74,
-    /* The type or the data offset of the frame is not that of a SASL frame. */
+    /* The frame has another type or data offset than a SASL frame. */
     FE2O3_NO_SASL_FRAME = 75,
-    /* A size inside the frame needs more than 32 bits. */
+    /* A size inside the frame exceeds 32 bits. */
     FE2O3_FRAME_TOO_LARGE = 76,
-    /* The client does not answer such a frame, or the server does not offer the mechanism. */
+    /* The client cannot answer this frame, or the server does not offer this mechanism. */
     FE2O3_NOT_IMPLEMENTED = 77,
-    /* The login was refused: its credentials are wrong. */
+    /* The server rejected the login: the credentials are wrong. */
     FE2O3_REFUSED_AUTH = 81,
-    /* The login was refused because of a system error. */
+    /* The server rejected the login because of a system error. */
     FE2O3_REFUSED_SYS = 82,
-    /* The login was refused because of a permanent system error. */
+    /* The server rejected the login because of a permanent system error. */
     FE2O3_REFUSED_SYS_PERM = 83,
-    /* The login was refused because of a temporary system error. */
+    /* The server rejected the login because of a temporary system error. */
     FE2O3_REFUSED_SYS_TEMP = 84,
-    /* The number is none of enum fe2o3_unassigned. */
+    /* The argument `unassigned` is none of enum fe2o3_unassigned, or a form none of enum fe2o3_password_form. */
     FE2O3_NO_SUCH_CHOICE = 85,
     /* The prepared text contains a character that RFC 4013, section 2.3, prohibits. */
     FE2O3_PROHIBITED_CHARACTER = 86,
     /* The prepared text mixes right-to-left and left-to-right characters, or does not begin and end with a
      * right-to-left one (RFC 3454, section 6). */
     FE2O3_MIXED_DIRECTIONS = 87,
-    /* The text, or what it is prepared to, contains a code point that Unicode 3.2 does not assign. */
+    /* The text, or the prepared text, contains a code point that Unicode 3.2 does not assign. */
     FE2O3_UNASSIGNED_CODE_POINT = 88
 };
 
@@ -406,20 +414,11 @@ struct fe2o3_scram_record {
     uint8_t server_key[64];
 };
 
-/* Computes the record of a typed password. The password has to be printable ASCII. */
+/* Computes the record of a password. `form` is one of enum fe2o3_password_form. A client logs in with exactly the text
+ * of which the record was made. */
 uint32_t fe2o3_scram_record_make(
     uint32_t version,
-    const uint8_t *password,
-    size_t password_len,
-    const uint8_t *salt,
-    size_t salt_len,
-    uint32_t iterations,
-    struct fe2o3_scram_record *kept);
-
-/* Computes the record of a prepared password (`fe2o3_saslprep`): any text, used without change. A client logs in with
- * exactly that text. */
-uint32_t fe2o3_scram_record_make_prepared(
-    uint32_t version,
+    uint32_t form,
     const uint8_t *password,
     size_t password_len,
     const uint8_t *salt,
@@ -452,17 +451,12 @@ uint32_t fe2o3_scram_record_text(
     size_t out_size,
     size_t *out_len);
 
-/* Compares a typed password, for instance one received by PLAIN, with a record: FE2O3_OK if it is the record's,
- * FE2O3_OTHER_PASSWORD if not. It hashes as often as the record's iteration count says, so pass only records of your
- * own. */
+/* Compares a password, for instance one received by PLAIN, with a record: FE2O3_OK if it is the record's,
+ * FE2O3_OTHER_PASSWORD if not. `form` is one of enum fe2o3_password_form. The call hashes as often as the record's
+ * iteration count says, so pass only your own records. */
 uint32_t fe2o3_scram_record_verify(
     const struct fe2o3_scram_record *kept,
-    const uint8_t *password,
-    size_t password_len);
-
-/* Compares a prepared password with a record, like `fe2o3_scram_record_verify`. The text is used without change. */
-uint32_t fe2o3_scram_record_verify_prepared(
-    const struct fe2o3_scram_record *kept,
+    uint32_t form,
     const uint8_t *password,
     size_t password_len);
 
@@ -509,21 +503,11 @@ struct fe2o3_scram_keys {
     uint8_t server_key[64];
 };
 
-/* Derives the keys of a typed password, for a server that uses this salt and iteration count. The password has to be
- * printable ASCII. */
+/* Derives the keys of a password, for a server that uses this salt and iteration count. `form` is one of enum
+ * fe2o3_password_form. */
 uint32_t fe2o3_scram_keys_make(
     uint32_t version,
-    const uint8_t *password,
-    size_t password_len,
-    const uint8_t *salt,
-    size_t salt_len,
-    uint32_t iterations,
-    struct fe2o3_scram_keys *keys);
-
-/* Derives the keys of a prepared password (`fe2o3_saslprep`), for a server that uses this salt and iteration count.
- * The text is used without change. */
-uint32_t fe2o3_scram_keys_make_prepared(
-    uint32_t version,
+    uint32_t form,
     const uint8_t *password,
     size_t password_len,
     const uint8_t *salt,
@@ -539,6 +523,8 @@ struct fe2o3_login {
     uint32_t version;
     /* What the client logs in with: one of enum fe2o3_secret. */
     uint32_t secret;
+    /* The form of the password: one of enum fe2o3_password_form. */
+    uint32_t form;
     /* The minimum iteration count that the client accepts. RFC 7677 requires at least 4096. */
     uint32_t min_iterations;
     /* The maximum iteration count that the client accepts. */
@@ -546,7 +532,7 @@ struct fe2o3_login {
     /* The user name, without escapes. */
     const uint8_t *username;
     size_t username_len;
-    /* The password, typed or prepared. */
+    /* The password. */
     const uint8_t *password;
     size_t password_len;
     /* The keys of an earlier login, or a struct of zeros. */
@@ -611,6 +597,8 @@ uint32_t fe2o3_scram_client_get_keys(const struct fe2o3_scram_client *client, st
 struct fe2o3_scram_server {
     /* How far the exchange is: one of enum fe2o3_scram_server_state. */
     uint32_t state;
+    /* The hash of the open challenge: one of enum fe2o3_scram_version. */
+    uint32_t version;
     /* The number of bytes of `user` in use. */
     uint32_t user_len;
     /* The number of bytes of `bare` in use. */
@@ -753,20 +741,21 @@ uint32_t fe2o3_sasl_client_receive(
 
 /* ---- The server's side of a connection, over bytes ---- */
 
-/* What a server offers, and the record of one user. You lend the struct to each call. */
+/* What a server offers, and the records of one user. You lend the struct to each call. */
 struct fe2o3_sasl_server_config {
     /* The offered mechanisms: a sum of values of enum fe2o3_offer. PLAIN sends the password in clear, so offer it
      * over TLS only. */
     uint32_t mechanisms;
-    /* The hash of SCRAM and of the record: one of enum fe2o3_scram_version. */
-    uint32_t version;
     /* The iteration count with which PLAIN hashes the password of an unknown user. */
     uint32_t iterations;
-    /* The name of the user whose record this is, without escapes. */
+    /* The name of the user whose records these are, without escapes. */
     const uint8_t *username;
     size_t username_len;
-    /* The record of the user. If it holds no record of `version`, no user is known. */
-    const struct fe2o3_scram_record *record;
+    /* The records of the user, of any hashes. SCRAM with a hash uses the first record of that hash; if there is none,
+     * it does not know the user. PLAIN tests the password against the first record that can be read, so put mock
+     * records last; if there is none, it hashes the password with SHA-256 and rejects the login. */
+    const struct fe2o3_scram_record *records;
+    size_t records_count;
     /* The name of the client that the transport has authenticated, for instance by a certificate. EXTERNAL accepts
      * it. If empty, EXTERNAL is not offered, and an init for it fails with FE2O3_REFUSED_AUTH. */
     const uint8_t *external_authcid;
@@ -849,7 +838,7 @@ struct fe2o3_sasl_frame_view {
  * needs 508 bytes, which is tested before anything is hashed. `nonce` is 32 fresh random bytes.
  *
  * `progress` is FE2O3_IN_PROGRESS while the login goes on, FE2O3_AUTHENTICATED once it is complete, and from
- * FE2O3_REFUSED_AUTH to FE2O3_REFUSED_SYS_TEMP if the outcome refuses it. Pass no body after that.
+ * FE2O3_REFUSED_AUTH to FE2O3_REFUSED_SYS_TEMP if the outcome rejects it. Pass no body after that.
  *
  * This call is for programs that read frames themselves, reject those above 512 bytes, and limit their number. A
  * login takes three bodies of the server for SCRAM, and two for the other mechanisms. A server that may send more can
@@ -890,13 +879,13 @@ uint32_t fe2o3_sasl_server_step_claimed_user(
  *
  * Before the call, look up the record of the user that the body claims (`fe2o3_sasl_server_step_claimed_user`).
  * `progress` is FE2O3_IN_PROGRESS while the login goes on, FE2O3_AUTHENTICATED once it is complete, and from
- * FE2O3_REFUSED_AUTH to FE2O3_REFUSED_SYS_TEMP if the outcome refuses it. Send that outcome too, and pass no body
+ * FE2O3_REFUSED_AUTH to FE2O3_REFUSED_SYS_TEMP if the outcome rejects it. Send that outcome too, and pass no body
  * after it. After a login by any mechanism the struct holds the authenticated user
  * (`fe2o3_scram_server_authenticated_user`). ANONYMOUS has none.
  *
  * This call is for programs that read frames themselves, reject those above 512 bytes, and limit their number. A
  * login takes an init, and for SCRAM one response. A client that may send more can try passwords again and again. A
- * response without a challenge is answered by an outcome that refuses. A frame that no client sends returns
+ * response without a challenge is answered by an outcome that is not OK. A frame that no client sends returns
  * FE2O3_NO_SASL_FRAME. If a name or a message does not fit into the struct, the call returns FE2O3_TOO_LONG, and you
  * have to close the connection. */
 uint32_t fe2o3_sasl_server_step(

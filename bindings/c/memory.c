@@ -101,14 +101,14 @@ static void tried(const char *name, uint32_t (*call)(void))
 
 static uint32_t make(void)
 {
-    return fe2o3_scram_record_make(FE2O3_SHA_256, TEXT("pencil"), salt, 16, 4096, &all.record);
+    return fe2o3_scram_record_make(FE2O3_SHA_256, FE2O3_TYPED, TEXT("pencil"), salt, 16, 4096, &all.record);
 }
 static uint32_t spell(void) { return fe2o3_scram_record_text(&all.record, ROOM(all.out)); }
 static uint32_t parse(void) { return fe2o3_scram_record_parse(GIVEN(all.out), &all.read); }
-static uint32_t verify_password(void) { return fe2o3_scram_record_verify(&all.record, TEXT("pencil")); }
+static uint32_t verify_password(void) { return fe2o3_scram_record_verify(&all.record, FE2O3_TYPED, TEXT("pencil")); }
 static uint32_t make_keys(void)
 {
-    return fe2o3_scram_keys_make(FE2O3_SHA_256, TEXT("pencil"), salt, 16, 4096, &all.keys);
+    return fe2o3_scram_keys_make(FE2O3_SHA_256, FE2O3_TYPED, TEXT("pencil"), salt, 16, 4096, &all.keys);
 }
 static uint32_t prepare(void)
 {
@@ -116,12 +116,12 @@ static uint32_t prepare(void)
 }
 static uint32_t make_prepared(void)
 {
-    return fe2o3_scram_record_make_prepared(FE2O3_SHA_256, GIVEN(all.password), salt, 16, 4096, &all.read);
+    return fe2o3_scram_record_make(FE2O3_SHA_256, FE2O3_PREPARED, GIVEN(all.password), salt, 16, 4096, &all.read);
 }
-static uint32_t verify_prepared(void) { return fe2o3_scram_record_verify_prepared(&all.read, GIVEN(all.password)); }
+static uint32_t verify_prepared(void) { return fe2o3_scram_record_verify(&all.read, FE2O3_PREPARED, GIVEN(all.password)); }
 static uint32_t make_prepared_keys(void)
 {
-    return fe2o3_scram_keys_make_prepared(FE2O3_SHA_256, GIVEN(all.password), salt, 16, 4096, &all.keys);
+    return fe2o3_scram_keys_make(FE2O3_SHA_256, FE2O3_PREPARED, GIVEN(all.password), salt, 16, 4096, &all.keys);
 }
 static uint32_t make_up(void)
 {
@@ -209,9 +209,9 @@ int main(void)
     login = (struct fe2o3_login){.version = FE2O3_SHA_256, .min_iterations = 4096, .max_iterations = 4096,
         .username = TEXT("us,er"), .password = TEXT("pencil"), .keys = &no_keys};
     sasl_login = (struct fe2o3_sasl_login){.hostname = TEXT("host"), .login = login};
-    config = (struct fe2o3_sasl_server_config){.mechanisms = FE2O3_OFFER_SCRAM | FE2O3_OFFER_PLAIN | FE2O3_OFFER_ANONYMOUS
-            | FE2O3_OFFER_EXTERNAL, .version = FE2O3_SHA_256, .iterations = 4096, .username = FE2O3_NONE,
-        .record = &all.record, .external_authcid = TEXT("pe,er")};
+    config = (struct fe2o3_sasl_server_config){.mechanisms = FE2O3_OFFER_SCRAM_SHA_256 | FE2O3_OFFER_PLAIN
+            | FE2O3_OFFER_ANONYMOUS | FE2O3_OFFER_EXTERNAL, .iterations = 4096, .username = FE2O3_NONE,
+        .records = &all.record, .records_count = 1, .external_authcid = TEXT("pe,er")};
     tried("record_make", make);
     tried("record_text", spell);
     tried("record_parse", parse);
@@ -220,9 +220,9 @@ int main(void)
     tried("line", spell_line);
     tried("lines_find", find);
     tried("saslprep", prepare);
-    tried("record_make_prepared", make_prepared);
-    tried("record_verify_prepared", verify_prepared);
-    tried("keys_make_prepared", make_prepared_keys);
+    tried("record_make, prepared", make_prepared);
+    tried("record_verify, prepared", verify_prepared);
+    tried("keys_make, prepared", make_prepared_keys);
     tried("keys_make", make_keys);
     tried("client_first", first);
     tried("server_user", user);
@@ -231,7 +231,8 @@ int main(void)
     tried("client_final", answer);
     tried("server_final", conclude);
     tried("client_verify", verify);
-    login.secret = FE2O3_BY_PREPARED_AND_KEYS;
+    login.secret = FE2O3_BY_PASSWORD_AND_KEYS;
+    login.form = FE2O3_PREPARED;
     login.keys = &all.keys;
     tried("client_first, prepared", first);
     tried("server_first, prepared", challenge);

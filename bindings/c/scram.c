@@ -120,12 +120,12 @@ static void cases(uint32_t version)
     struct exchange one, next;
 
     told(version, "a record is written and read",
-        fe2o3_scram_record_make(version, TEXT("pencil"), salt, sizeof salt, 4096, &record) == FE2O3_OK
+        fe2o3_scram_record_make(version, FE2O3_TYPED, TEXT("pencil"), salt, sizeof salt, 4096, &record) == FE2O3_OK
             && fe2o3_scram_record_text(&record, ROOM(text)) == FE2O3_OK
             && fe2o3_scram_record_parse(GIVEN(text), &read) == FE2O3_OK && memcmp(&read, &record, sizeof read) == 0);
     told(version, "the record knows its password",
-        fe2o3_scram_record_verify(&record, TEXT("pencil")) == FE2O3_OK
-            && fe2o3_scram_record_verify(&record, TEXT("pencils")) != FE2O3_OK);
+        fe2o3_scram_record_verify(&record, FE2O3_TYPED, TEXT("pencil")) == FE2O3_OK
+            && fe2o3_scram_record_verify(&record, FE2O3_TYPED, TEXT("pencils")) != FE2O3_OK);
     told(version, "a login", run(&one, &login, &record) == FE2O3_OK);
     told(version, "the server knows who it is, before and after",
         fe2o3_scram_server_claimed_user(GIVEN(one.client_first), ROOM(user)) == FE2O3_OK && spells(&user, "user")
@@ -133,10 +133,10 @@ static void cases(uint32_t version)
 
     told(version, "the login hands out its keys",
         fe2o3_scram_client_get_keys(&one.client, &keys) == FE2O3_OK
-            && fe2o3_scram_keys_make(version, TEXT("pencil"), salt, sizeof salt, 4096, &made) == FE2O3_OK
+            && fe2o3_scram_keys_make(version, FE2O3_TYPED, TEXT("pencil"), salt, sizeof salt, 4096, &made) == FE2O3_OK
             && memcmp(&keys, &made, sizeof keys) == 0);
     told(version, "a login by keys", run(&next, &by_keys, &record) == FE2O3_OK);
-    fe2o3_scram_record_make(version, TEXT("pencil"), other_salt, sizeof other_salt, 4096, &other);
+    fe2o3_scram_record_make(version, FE2O3_TYPED, TEXT("pencil"), other_salt, sizeof other_salt, 4096, &other);
     told(version, "keys of another salt", run(&next, &by_keys, &other) == FE2O3_CLIENT_STALE_KEYS);
 
     stranger.password_len--;
@@ -162,40 +162,47 @@ static void prepared(uint32_t version, const char *words)
     struct fe2o3_scram_record record = {0}, other = {0};
     struct text password = {{0}, 0}, text = {{0}, 0};
     struct exchange one;
-    struct fe2o3_login login = {.version = version, .secret = FE2O3_BY_PREPARED, .min_iterations = 4096,
+    struct fe2o3_login login = {.version = version, .form = FE2O3_PREPARED, .min_iterations = 4096,
         .max_iterations = 4096, .username = TEXT("user"), .password = FE2O3_NONE, .keys = &no_keys};
 
     told(version, "a password past ASCII is prepared",
         fe2o3_saslprep(TEXT(TYPED), FE2O3_UNASSIGNED_REFUSED, ROOM(password)) == FE2O3_OK
             && spells(&password, PREPARED));
     told(version, "the record of a prepared password",
-        fe2o3_scram_record_make_prepared(version, GIVEN(password), known_salt, sizeof known_salt, 4096, &record)
+        fe2o3_scram_record_make(version, FE2O3_PREPARED, GIVEN(password), known_salt, sizeof known_salt, 4096, &record)
                 == FE2O3_OK
             && fe2o3_scram_record_text(&record, ROOM(text)) == FE2O3_OK && spells(&text, words));
     told(version, "the record knows its prepared password",
-        fe2o3_scram_record_verify_prepared(&record, GIVEN(password)) == FE2O3_OK
-            && fe2o3_scram_record_verify_prepared(&record, TEXT(TYPED)) == FE2O3_OTHER_PASSWORD
-            && fe2o3_scram_record_verify(&record, GIVEN(password)) == FE2O3_OTHER_PASSWORD);
+        fe2o3_scram_record_verify(&record, FE2O3_PREPARED, GIVEN(password)) == FE2O3_OK
+            && fe2o3_scram_record_verify(&record, FE2O3_PREPARED, TEXT(TYPED)) == FE2O3_OTHER_PASSWORD
+            && fe2o3_scram_record_verify(&record, FE2O3_TYPED, GIVEN(password)) == FE2O3_OTHER_PASSWORD);
     login.password = password.bytes;
     login.password_len = password.len;
     told(version, "a login by a prepared password", run(&one, &login, &record) == FE2O3_OK);
     told(version, "its keys",
         fe2o3_scram_client_get_keys(&one.client, &keys) == FE2O3_OK
-            && fe2o3_scram_keys_make_prepared(version, GIVEN(password), known_salt, sizeof known_salt, 4096, &made)
+            && fe2o3_scram_keys_make(version, FE2O3_PREPARED, GIVEN(password), known_salt, sizeof known_salt, 4096, &made)
                 == FE2O3_OK
             && memcmp(&keys, &made, sizeof keys) == 0);
-    login.secret = FE2O3_BY_PREPARED_AND_KEYS;
+    login.secret = FE2O3_BY_PASSWORD_AND_KEYS;
     told(version, "a login by both without keys", run(&one, &login, &record) == FE2O3_NO_KEYS);
     login.keys = &keys;
-    fe2o3_scram_record_make_prepared(version, GIVEN(password), other_salt, sizeof other_salt, 4096, &other);
+    fe2o3_scram_record_make(version, FE2O3_PREPARED, GIVEN(password), other_salt, sizeof other_salt, 4096, &other);
     told(version, "a login by both, also with another salt",
         run(&one, &login, &record) == FE2O3_OK && run(&one, &login, &other) == FE2O3_OK);
     login.secret = FE2O3_BY_PASSWORD;
+    login.form = FE2O3_TYPED;
     told(version, "the same as a typed one is refused",
         run(&one, &login, &record) == FE2O3_CLIENT_NORMALIZE_ERROR
-            && fe2o3_scram_record_make(version, GIVEN(password), salt, sizeof salt, 4096, &other)
+            && fe2o3_scram_record_make(version, FE2O3_TYPED, GIVEN(password), salt, sizeof salt, 4096, &other)
                 == FE2O3_NOT_PRINTABLE);
-    login.secret = 5;
+    login.form = 2;
+    told(version, "a form that is none",
+        run(&one, &login, &record) == FE2O3_NO_SUCH_CHOICE
+            && fe2o3_scram_record_verify(&record, 2, GIVEN(password)) == FE2O3_NO_SUCH_CHOICE
+            && fe2o3_scram_record_make(version, 2, GIVEN(password), salt, sizeof salt, 4096, &other)
+                == FE2O3_NO_SUCH_CHOICE);
+    login.secret = 3;
     told(version, "a secret that is none", run(&one, &login, &record) == FE2O3_NO_SUCH_SECRET);
 }
 
@@ -236,7 +243,7 @@ static void cbind_flag_y(void)
     struct fe2o3_scram_record record = {0};
     struct fe2o3_scram_server server = {0};
     struct text text = {{0}, 0};
-    fe2o3_scram_record_make(FE2O3_SHA_256, TEXT("pencil"), known_salt, sizeof known_salt, 4096, &record);
+    fe2o3_scram_record_make(FE2O3_SHA_256, FE2O3_TYPED, TEXT("pencil"), known_salt, sizeof known_salt, 4096, &record);
     told(FE2O3_SHA_256, "the header `y,,` is refused",
         fe2o3_scram_server_first(&record, &server, server_nonce, TEXT(CBIND_FLAG_Y_FIRST), ROOM(text))
             == FE2O3_SERVER_CANNOT_PARSE_GS2_HEADER);
@@ -257,7 +264,7 @@ int main(void)
 {
     struct fe2o3_scram_record record = {0};
     struct text text = {{0}, 0};
-    fe2o3_scram_record_make(FE2O3_SHA_256, TEXT("pencil"), known_salt, sizeof known_salt, 4096, &record);
+    fe2o3_scram_record_make(FE2O3_SHA_256, FE2O3_TYPED, TEXT("pencil"), known_salt, sizeof known_salt, 4096, &record);
     told(FE2O3_SHA_256, "the record of the standard's example",
         fe2o3_scram_record_text(&record, ROOM(text)) == FE2O3_OK && spells(&text, known_record));
     cases(FE2O3_SHA_1);

@@ -1,4 +1,4 @@
-/* Serves logins of AMQP 1.0 over TCP on the loopback, by SCRAM-SHA-256 and, as if under TLS, by PLAIN:
+/* Serves logins of AMQP 1.0 over TCP on the loopback, by SCRAM-SHA-512, SCRAM-SHA-256 and, as if under TLS, by PLAIN:
  *
  *     server USERS LOGINS [MECHANISM]
  *
@@ -16,19 +16,26 @@
 #include <sys/socket.h>
 #include <unistd.h>
 
-static uint32_t mechanisms = FE2O3_OFFER_SCRAM | FE2O3_OFFER_PLAIN, version = FE2O3_SHA_256;
+static const uint32_t versions[3] = {FE2O3_SHA_512, FE2O3_SHA_256, FE2O3_SHA_1};
+static uint32_t mechanisms = FE2O3_OFFER_SCRAM_SHA_512 | FE2O3_OFFER_SCRAM_SHA_256 | FE2O3_OFFER_PLAIN;
 static uint8_t users[65536], secret[32];
 static size_t users_len;
 
 /* Whether there is such a mechanism, which alone is offered then. */
 static int offer_only(const char *name)
 {
-    mechanisms = strcmp(name, "PLAIN") == 0 ? FE2O3_OFFER_PLAIN : FE2O3_OFFER_ANONYMOUS;
-    if (strncmp(name, "SCRAM-SHA-", 10) != 0)
-        return mechanisms == FE2O3_OFFER_PLAIN || strcmp(name, "ANONYMOUS") == 0;
-    mechanisms = FE2O3_OFFER_SCRAM;
-    version = (uint32_t)atoi(name + 10);
-    return version == FE2O3_SHA_1 || version == FE2O3_SHA_256 || version == FE2O3_SHA_512;
+    static const struct {
+        const char *name;
+        uint32_t offer;
+    } known[] = {{"SCRAM-SHA-512", FE2O3_OFFER_SCRAM_SHA_512}, {"SCRAM-SHA-256", FE2O3_OFFER_SCRAM_SHA_256},
+        {"SCRAM-SHA-1", FE2O3_OFFER_SCRAM_SHA_1}, {"PLAIN", FE2O3_OFFER_PLAIN}, {"ANONYMOUS", FE2O3_OFFER_ANONYMOUS}};
+    size_t i;
+    for (i = 0; i < sizeof known / sizeof *known; i++) {
+        mechanisms = known[i].offer;
+        if (strcmp(name, known[i].name) == 0)
+            return 1;
+    }
+    return 0;
 }
 
 static int random_bytes(uint8_t *bytes, size_t len)
@@ -52,12 +59,19 @@ static int sent(int channel, const uint8_t *bytes, size_t len)
     return 1;
 }
 
-/* The record of a name: that of its line, or one that is made up, so that nobody learns which names there are. */
-static void fetch(const uint8_t *name, size_t len, struct fe2o3_scram_record *record)
+/* The records of a name, one for each hash: those of its lines, and after them mock records, so that nobody learns which
+ * names there are. PLAIN takes the first. */
+static void fetch(const uint8_t *name, size_t len, struct fe2o3_scram_record *records)
 {
-    size_t line = 0;
-    if (fe2o3_scram_lines_find(users, users_len, name, len, version, &line, record) != FE2O3_OK)
-        fe2o3_scram_record_mock(version, secret, sizeof secret, name, len, 16, 4096, record);
+    int has[3];
+    size_t i, line, count = 0;
+    for (i = 0; i < 3; i++) {
+        has[i] = fe2o3_scram_lines_find(users, users_len, name, len, versions[i], &line, &records[count]) == FE2O3_OK;
+        count += (size_t)has[i];
+    }
+    for (i = 0; i < 3; i++)
+        if (!has[i])
+            fe2o3_scram_record_mock(versions[i], secret, sizeof secret, name, len, 16, 4096, &records[count++]);
 }
 
 /* Reads and answers until a client is logged in or the connection is to be closed. Answers the number of a call that is
@@ -67,8 +81,8 @@ static int64_t serve(int channel, struct fe2o3_sasl_server *server)
     uint8_t came[4096], out[520], nonce[32], name[256];
     size_t len = 0, at = 0, taken = 0, out_len = 0, name_len = 0;
     while (server->connection.progress == FE2O3_IN_PROGRESS) {
-        struct fe2o3_scram_record record = {0};
-        struct fe2o3_sasl_server_config config = {mechanisms, version, 4096, name, 0, &record, FE2O3_NONE};
+        struct fe2o3_scram_record records[3] = {{0}};
+        struct fe2o3_sasl_server_config config = {mechanisms, 4096, name, 0, records, 3, FE2O3_NONE};
         uint32_t status;
         if (at == len) {
             ssize_t some = recv(channel, came, sizeof came, 0);
@@ -79,7 +93,7 @@ static int64_t serve(int channel, struct fe2o3_sasl_server *server)
         }
         status = fe2o3_sasl_server_claimed_user(server, came + at, len - at, name, sizeof name, &name_len);
         if (status == FE2O3_OK) {
-            fetch(name, name_len, &record);
+            fetch(name, name_len, records);
             config.username_len = name_len;
         }
         if (!random_bytes(nonce, sizeof nonce))

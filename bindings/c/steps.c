@@ -87,7 +87,7 @@ static int names_no_user(const struct fe2o3_scram_server *server)
 static struct fe2o3_sasl_login login_by(uint32_t mechanism, uint32_t version)
 {
     struct fe2o3_sasl_login login = {mechanism, TEXT("host"),
-        {version, 0, 4096, 100000, TEXT("user"), TEXT("pencil"), &no_keys}};
+        {version, FE2O3_BY_PASSWORD, FE2O3_TYPED, 4096, 100000, TEXT("user"), TEXT("pencil"), &no_keys}};
     return login;
 }
 
@@ -95,16 +95,24 @@ static struct fe2o3_sasl_login login_by(uint32_t mechanism, uint32_t version)
 static struct fe2o3_scram_record record_by(uint32_t version)
 {
     struct fe2o3_scram_record record = {0};
-    fe2o3_scram_record_make(version, TEXT("pencil"), salt, sizeof salt, 4096, &record);
+    fe2o3_scram_record_make(version, FE2O3_TYPED, TEXT("pencil"), salt, sizeof salt, 4096, &record);
     return record;
 }
 
-/* A config of all mechanisms, which knows one user: the one of this record. */
+/* The offer of SCRAM with this hash. */
+static uint32_t offer_of(uint32_t version)
+{
+    return version == FE2O3_SHA_512 ? FE2O3_OFFER_SCRAM_SHA_512
+        : version == FE2O3_SHA_256  ? FE2O3_OFFER_SCRAM_SHA_256
+                                    : FE2O3_OFFER_SCRAM_SHA_1;
+}
+
+/* A config of all mechanisms and of SCRAM with the hash of this record, which knows one user. */
 static struct fe2o3_sasl_server_config config_of(const struct fe2o3_scram_record *record)
 {
     struct fe2o3_sasl_server_config config = {
-        FE2O3_OFFER_SCRAM | FE2O3_OFFER_PLAIN | FE2O3_OFFER_ANONYMOUS | FE2O3_OFFER_EXTERNAL,
-        record->version, 4096, TEXT("user"), record, TEXT("peer")};
+        offer_of(record->version) | FE2O3_OFFER_PLAIN | FE2O3_OFFER_ANONYMOUS | FE2O3_OFFER_EXTERNAL, 4096, TEXT("user"),
+        record, 1, TEXT("peer")};
     return config;
 }
 
@@ -118,7 +126,7 @@ static uint32_t served(struct exchange *one, const struct fe2o3_sasl_server_conf
     if (number != FE2O3_OK && number != FE2O3_NAMES_NO_USER)
         return number;
     if (number != FE2O3_OK || !spells(&name, config->username, config->username_len))
-        with.record = &no_record;
+        with.records = &no_record;
     return fe2o3_sasl_server_step(&with, &one->server, GIVEN(*came), server_nonce, &one->server_progress, ROOM(*next));
 }
 
@@ -201,7 +209,7 @@ static void by_scram(const char *mechanism, uint32_t version)
         ends(&login, &config, FE2O3_AUTHENTICATED, &whole) && names(&whole.server, TEXT("user")));
     told(mechanism, "the login hands out its keys",
         fe2o3_scram_client_get_keys(&whole.client, &keys) == FE2O3_OK
-            && fe2o3_scram_keys_make(version, TEXT("pencil"), salt, sizeof salt, 4096, &made) == FE2O3_OK
+            && fe2o3_scram_keys_make(version, FE2O3_TYPED, TEXT("pencil"), salt, sizeof salt, 4096, &made) == FE2O3_OK
             && memcmp(&keys, &made, sizeof keys) == 0);
     stranger.login.password_len--;
     told(mechanism, "a wrong password",
@@ -221,6 +229,38 @@ static void by_scram(const char *mechanism, uint32_t version)
     told(mechanism, "whom a body names", bodies_name(&config, &whole));
 }
 
+/* A server of all hashes, whose user has records for two of them. */
+static void by_several(void)
+{
+    struct fe2o3_scram_record records[3] = {record_by(FE2O3_SHA_256), record_by(FE2O3_SHA_512), record_by(FE2O3_SHA_512)};
+    struct fe2o3_sasl_login strong = login_by(FE2O3_SCRAM, FE2O3_SHA_512), usual = login_by(FE2O3_SCRAM, FE2O3_SHA_256);
+    struct fe2o3_sasl_login weak = login_by(FE2O3_SCRAM, FE2O3_SHA_1), plain = login_by(FE2O3_PLAIN, 0);
+    struct fe2o3_sasl_server_config config = config_of(&records[0]);
+    struct fe2o3_scram_server server = fresh_server;
+    struct body out;
+    struct exchange one;
+    uint32_t progress = 9;
+    config.mechanisms |= FE2O3_OFFER_SCRAM_SHA_512 | FE2O3_OFFER_SCRAM_SHA_1;
+    config.records_count = 3;
+    records[2].stored_key[0] ^= 1;
+    told("several hashes", "a login with SCRAM-SHA-512",
+        ends(&strong, &config, FE2O3_AUTHENTICATED, &one) && names(&one.server, TEXT("user")));
+    told("several hashes", "a login with SCRAM-SHA-256",
+        ends(&usual, &config, FE2O3_AUTHENTICATED, &one) && names(&one.server, TEXT("user")));
+    told("several hashes", "a hash without a record",
+        ends(&weak, &config, FE2O3_REFUSED_AUTH, &one) && names_no_user(&one.server));
+    told("several hashes", "PLAIN", ends(&plain, &config, FE2O3_AUTHENTICATED, &one));
+    told("several hashes", "the struct keeps the hash of the challenge",
+        fe2o3_sasl_server_step(&config, &server, TEXT(INIT), server_nonce, &progress, ROOM(out)) == FE2O3_OK
+            && spells(&out, TEXT(CHALLENGE)) && server.version == FE2O3_SHA_256);
+    server.version = 3;
+    told("several hashes", "no challenge is open with another number",
+        fe2o3_sasl_server_step(&config, &server, TEXT(RESPONSE), server_nonce, &progress, ROOM(out)) == FE2O3_OK
+            && progress == FE2O3_REFUSED_AUTH && spells(&out, TEXT(BARE_AUTH)));
+    config.records_count = 0;
+    told("several hashes", "no records", ends(&usual, &config, FE2O3_REFUSED_AUTH, &one));
+}
+
 /* Each body of a login, and the offer of one mechanism, byte for byte. */
 static void by_hand(void)
 {
@@ -233,7 +273,7 @@ static void by_hand(void)
         ends(&login, &config, FE2O3_AUTHENTICATED, &one) && one.count == 5 && spells(&one.sent[0], TEXT(OFFERS_ALL))
             && spells(&one.sent[1], TEXT(INIT)) && spells(&one.sent[2], TEXT(CHALLENGE))
             && spells(&one.sent[3], TEXT(RESPONSE)) && spells(&one.sent[4], TEXT(OUTCOME_OK)));
-    config.mechanisms = FE2O3_OFFER_SCRAM;
+    config.mechanisms = FE2O3_OFFER_SCRAM_SHA_256;
     told("SCRAM-SHA-256", "offered alone",
         fe2o3_sasl_server_offer(&config, ROOM(offer)) == FE2O3_OK && spells(&offer, TEXT(OFFERS_SCRAM)));
     config.mechanisms = 0;
@@ -279,7 +319,7 @@ static void by_others(void)
             && spells(&one.sent[1], TEXT("\2\1\0\0\0\x53\x41\xc0\x13\3\xa3\11ANONYMOUS\x40\xa1\4host")));
     told("EXTERNAL", "a login", ends(&external, &config, FE2O3_AUTHENTICATED, &one) && names(&one.server, TEXT("peer"))
             && spells(&one.sent[1], TEXT("\2\1\0\0\0\x53\x41\xc0\x12\3\xa3\10EXTERNAL\x40\xa1\4host")));
-    config.mechanisms = FE2O3_OFFER_SCRAM;
+    config.mechanisms = FE2O3_OFFER_SCRAM_SHA_256;
     told("EXTERNAL", "where it is not offered", run(&one, &external, &config) == FE2O3_NOT_IMPLEMENTED);
     without_peer(&external, config_of(&record));
 }
@@ -336,7 +376,7 @@ static void cbind_flag_y(void)
     told("SCRAM-SHA-256", "the header `y,,` is refused",
         fe2o3_sasl_server_step(&config, &server, TEXT(CBIND_FLAG_Y_INIT), server_nonce, &progress, ROOM(out)) == FE2O3_OK
             && progress == FE2O3_REFUSED_AUTH && spells(&out, TEXT(BARE_AUTH)) && names_no_user(&server));
-    config.mechanisms = FE2O3_OFFER_SCRAM | FE2O3_ACCEPT_CBIND_FLAG_Y;
+    config.mechanisms = FE2O3_OFFER_SCRAM_SHA_256 | FE2O3_ACCEPT_CBIND_FLAG_Y;
     told("SCRAM-SHA-256", "the header `y,,` is taken on wish",
         fe2o3_sasl_server_step(&config, &server, TEXT(CBIND_FLAG_Y_INIT), server_nonce, &progress, ROOM(out)) == FE2O3_OK
             && progress == FE2O3_IN_PROGRESS && spells(&out, TEXT(CHALLENGE))
@@ -350,6 +390,7 @@ static void cbind_flag_y(void)
 
 int main(void)
 {
+    by_several();
     by_hand();
     by_scram("SCRAM-SHA-1", FE2O3_SHA_1);
     by_scram("SCRAM-SHA-256", FE2O3_SHA_256);

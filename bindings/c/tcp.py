@@ -49,7 +49,7 @@ def cases():
     for version, name in MECHANISMS.items():
         known = Secret(version, "pencil", b"a salt of bytes", 4096)
         yield name, "pencil", Broker(known, *OTHERS, name), (0, "logged in: Done")
-        yield name, "pencils", Broker(known, name), (1, "not logged in: Connection: The login is refused")
+        yield name, "pencils", Broker(known, name), (1, "not logged in: Connection: The login was rejected")
         yield name, "pencil", Broker(known, *OTHERS), (1, "not logged in: Connection: Not implemented")
         forged = Broker(known, name, mar=lambda message: message[:-8] + b"AAAAAAA=")
         yield name, "pencil", forged, (1, "not logged in: Client: Server signature mismatch")
@@ -58,7 +58,7 @@ def cases():
     for name in OTHERS:
         yield name, "pencil", Broker(known, *OTHERS), (0, "logged in: Done")
         busy = Broker(known, *OTHERS, code=4)
-        late = "not logged in: Connection: The login is refused by a system error that may pass"
+        late = "not logged in: Connection: The login was rejected: temporary system error"
         yield name, "pencil", busy, (1, late)
 
 
@@ -88,7 +88,7 @@ def to_the_server(client, server):
         name.replace("=", "=3D").replace(",", "=2C") + " " + Secret(SHA_256, word, b"a salt of bytes!", 4096).record_text()
         for name, word in USERS.items()
     ]
-    refused = "not logged in: Connection: The login is refused"
+    refused = "not logged in: Connection: The login was rejected"
     words = [(name, word, f"logged in: {name}") for name, word in USERS.items()]
     words += [("user", "pencils", refused), ("nobody", "pencil", refused)]
     with tempfile.NamedTemporaryFile("w", suffix=".users") as file:

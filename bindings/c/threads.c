@@ -91,9 +91,9 @@ int main(void)
     struct share shares[THREADS];
     size_t logins = 0, differences = 0;
 
-    if (fe2o3_scram_record_make(FE2O3_SHA_1, TEXT("pencil"), salt, sizeof salt, 100, &records[0]) != FE2O3_OK
-        || fe2o3_scram_record_make(FE2O3_SHA_256, TEXT("pencil"), salt, sizeof salt, 100, &records[1]) != FE2O3_OK
-        || fe2o3_scram_record_make(FE2O3_SHA_512, TEXT("pencil"), salt, sizeof salt, 100, &records[2]) != FE2O3_OK) {
+    if (fe2o3_scram_record_make(FE2O3_SHA_1, FE2O3_TYPED, TEXT("pencil"), salt, sizeof salt, 100, &records[0]) != FE2O3_OK
+        || fe2o3_scram_record_make(FE2O3_SHA_256, FE2O3_TYPED, TEXT("pencil"), salt, sizeof salt, 100, &records[1]) != FE2O3_OK
+        || fe2o3_scram_record_make(FE2O3_SHA_512, FE2O3_TYPED, TEXT("pencil"), salt, sizeof salt, 100, &records[2]) != FE2O3_OK) {
         printf("no record\n");
         return 1;
     }

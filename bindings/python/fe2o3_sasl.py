@@ -1,11 +1,11 @@
 """SCRAM (RFC 5802, RFC 7677), and the SASL layer of AMQP 1.0, by the library of `fe2o3_sasl.h`, called by `ctypes`.
 
 The module loads the library that the environment variable FE2O3_SASL_LIB names, otherwise the system's
-`libfe2o3_sasl.so.1`. Importing it fails if the structs of the library have other sizes than those below.
+`libfe2o3_sasl.so.2`. Importing it fails if the structs of the library have other sizes than those below.
 
 A client:
 
-    client = Client(SHA_256, "user", password="pencil")
+    client = Client(SHA_256, "user", password="pencil", min_iterations=4096)
     send(client.first())
     send(client.final(receive()))
     client.verify(receive())            # raises unless the server is authenticated too
@@ -24,8 +24,8 @@ A server:
 Prepare a non-ASCII password on both sides:
 
     password = saslprep("pe\\u0301ncil")
-    record = Record.make_prepared(SHA_256, password)
-    client = Client(SHA_256, "user", prepared_password=password)
+    record = Record.make(SHA_256, password, prepared=True)
+    client = Client(SHA_256, "user", password, prepared=True)
 
 The client's side of a connection of AMQP 1.0, before its first frame of AMQP:
 
@@ -33,7 +33,10 @@ The client's side of a connection of AMQP 1.0, before its first frame of AMQP:
     socket.sendall(side.open())
     rest = b""
     while side.progress == Progress.IN_PROGRESS:
-        answer, rest = side.receive(socket.recv(4096))
+        data = socket.recv(4096)
+        if not data:
+            raise ConnectionError("the server closed the connection")
+        answer, rest = side.receive(data)
         socket.sendall(answer)
     # complete if side.progress is Progress.AUTHENTICATED; then `rest` belongs to AMQP. Otherwise side.why says why not.
 
@@ -62,7 +65,7 @@ import operator
 import os
 import secrets
 import threading
-from typing import Any, Callable, NamedTuple, Optional, TypeVar, Union
+from typing import Any, Callable, Iterable, NamedTuple, Optional, TypeVar, Union
 
 __all__ = [
     "SHA_1",
@@ -184,11 +187,13 @@ class Offer(enum.IntFlag):
     """What a server offers. PLAIN sends the password in clear, so offer it over TLS only. ACCEPT_CBIND_FLAG_Y
     is no mechanism: SCRAM also accepts the GS2 header `y,,`, like `Server.first` with `accept_cbind_flag_y`."""
 
-    SCRAM = 1
-    PLAIN = 2
-    ANONYMOUS = 4
-    EXTERNAL = 8
-    ACCEPT_CBIND_FLAG_Y = 16
+    SCRAM_SHA_512 = 1
+    SCRAM_SHA_256 = 2
+    SCRAM_SHA_1 = 4
+    PLAIN = 8
+    ANONYMOUS = 16
+    EXTERNAL = 32
+    ACCEPT_CBIND_FLAG_Y = 64
 
 
 class _Mechanism(enum.IntEnum):
@@ -206,8 +211,13 @@ class _Secret(enum.IntEnum):
     BY_PASSWORD = 0
     BY_KEYS = 1
     BY_PASSWORD_AND_KEYS = 2
-    BY_PREPARED = 3
-    BY_PREPARED_AND_KEYS = 4
+
+
+class _Form(enum.IntEnum):
+    """The form of a password."""
+
+    TYPED = 0
+    PREPARED = 1
 
 
 class _Unassigned(enum.IntEnum):
@@ -259,6 +269,7 @@ class _LoginStruct(ctypes.Structure):
     _fields_ = [
         ("version", ctypes.c_uint32),
         ("secret", ctypes.c_uint32),
+        ("form", ctypes.c_uint32),
         ("min_iterations", ctypes.c_uint32),
         ("max_iterations", ctypes.c_uint32),
         ("username", ctypes.c_char_p),
@@ -282,6 +293,7 @@ class _ScramClientStruct(ctypes.Structure):
 class _ScramServerStruct(ctypes.Structure):
     _fields_ = [
         ("state", ctypes.c_uint32),
+        ("version", ctypes.c_uint32),
         ("user_len", ctypes.c_uint32),
         ("bare_len", ctypes.c_uint32),
         ("nonce_len", ctypes.c_uint32),
@@ -322,11 +334,11 @@ class _SaslClientStruct(ctypes.Structure):
 class _SaslServerConfigStruct(ctypes.Structure):
     _fields_ = [
         ("mechanisms", ctypes.c_uint32),
-        ("version", ctypes.c_uint32),
         ("iterations", ctypes.c_uint32),
         ("username", ctypes.c_char_p),
         ("username_len", ctypes.c_size_t),
-        ("record", ctypes.POINTER(_ScramRecordStruct)),
+        ("records", ctypes.POINTER(_ScramRecordStruct)),
+        ("records_count", ctypes.c_size_t),
         ("external_authcid", ctypes.c_char_p),
         ("external_authcid_len", ctypes.c_size_t),
     ]
@@ -391,17 +403,6 @@ _EXPORTS: dict[str, tuple[Any, list[Any]]] = {
         ctypes.c_uint32,
         [
             ctypes.c_uint32,
-            ctypes.c_char_p,
-            ctypes.c_size_t,
-            ctypes.c_char_p,
-            ctypes.c_size_t,
-            ctypes.c_uint32,
-            ctypes.POINTER(_ScramRecordStruct),
-        ],
-    ),
-    "fe2o3_scram_record_make_prepared": (
-        ctypes.c_uint32,
-        [
             ctypes.c_uint32,
             ctypes.c_char_p,
             ctypes.c_size_t,
@@ -445,14 +446,7 @@ _EXPORTS: dict[str, tuple[Any, list[Any]]] = {
         ctypes.c_uint32,
         [
             ctypes.POINTER(_ScramRecordStruct),
-            ctypes.c_char_p,
-            ctypes.c_size_t,
-        ],
-    ),
-    "fe2o3_scram_record_verify_prepared": (
-        ctypes.c_uint32,
-        [
-            ctypes.POINTER(_ScramRecordStruct),
+            ctypes.c_uint32,
             ctypes.c_char_p,
             ctypes.c_size_t,
         ],
@@ -484,17 +478,6 @@ _EXPORTS: dict[str, tuple[Any, list[Any]]] = {
         ctypes.c_uint32,
         [
             ctypes.c_uint32,
-            ctypes.c_char_p,
-            ctypes.c_size_t,
-            ctypes.c_char_p,
-            ctypes.c_size_t,
-            ctypes.c_uint32,
-            ctypes.POINTER(_ScramKeysStruct),
-        ],
-    ),
-    "fe2o3_scram_keys_make_prepared": (
-        ctypes.c_uint32,
-        [
             ctypes.c_uint32,
             ctypes.c_char_p,
             ctypes.c_size_t,
@@ -741,7 +724,7 @@ def _load(name: str) -> ctypes.CDLL:
     return library
 
 
-_library = _load(os.environ.get("FE2O3_SASL_LIB") or "libfe2o3_sasl.so.1")
+_library = _load(os.environ.get("FE2O3_SASL_LIB") or "libfe2o3_sasl.so.2")
 
 
 def library_version() -> tuple[int, int, int]:
@@ -799,12 +782,23 @@ def _salt(given: Optional[Bytes]) -> bytes:
     return secrets.token_bytes(16) if given is None else _bytes(given)
 
 
+def _form(prepared: bool) -> int:
+    return _Form.PREPARED if prepared else _Form.TYPED
+
+
 def _make(
-    call: Callable[..., int], struct: ctypes.Structure, version: int, password: Text, salt: Bytes, iterations: int
+    call: Callable[..., int],
+    struct: ctypes.Structure,
+    version: int,
+    password: Text,
+    prepared: bool,
+    salt: Bytes,
+    iterations: int,
 ) -> None:
     """Computes the struct of a password."""
-    secret, salt = _text(password), _bytes(salt)
-    _done(call(_number(version), secret, len(secret), salt, len(salt), _number(iterations), ctypes.byref(struct)))
+    secret, salt, count = _text(password), _bytes(salt), _number(iterations)
+    given = secret, len(secret), salt, len(salt), count
+    _done(call(_number(version), _form(prepared), *given, ctypes.byref(struct)))
 
 
 def saslprep(text: Text, *, unassigned: bool = False) -> str:
@@ -846,17 +840,11 @@ class Keys:
         return keys
 
     @classmethod
-    def make(cls, version: int, password: Text, salt: Bytes, iterations: int) -> Keys:
-        """Derives the keys of a typed password, for a server that uses this salt and iteration count."""
+    def make(cls, version: int, password: Text, salt: Bytes, iterations: int, *, prepared: bool = False) -> Keys:
+        """Derives the keys of a password, for a server that uses this salt and iteration count. The password is a typed
+        one, of printable ASCII; `prepared` takes any text, without change (`saslprep`)."""
         struct = _ScramKeysStruct()
-        _make(_library.fe2o3_scram_keys_make, struct, version, password, salt, iterations)
-        return cls._of(struct)
-
-    @classmethod
-    def make_prepared(cls, version: int, password: Text, salt: Bytes, iterations: int) -> Keys:
-        """Derives the keys of a prepared password (`saslprep`): any text, used without change."""
-        struct = _ScramKeysStruct()
-        _make(_library.fe2o3_scram_keys_make_prepared, struct, version, password, salt, iterations)
+        _make(_library.fe2o3_scram_keys_make, struct, version, password, prepared, salt, iterations)
         return cls._of(struct)
 
     @property
@@ -905,20 +893,19 @@ class Record:
     _struct: _ScramRecordStruct
 
     @classmethod
-    def make(cls, version: int, password: Text, *, salt: Optional[Bytes] = None, iterations: int = 4096) -> Record:
-        """Computes the record of a typed password. The salt defaults to 16 random bytes."""
-        struct = _ScramRecordStruct()
-        _make(_library.fe2o3_scram_record_make, struct, version, password, _salt(salt), iterations)
-        return cls._of(struct)
-
-    @classmethod
-    def make_prepared(
-        cls, version: int, password: Text, *, salt: Optional[Bytes] = None, iterations: int = 4096
+    def make(
+        cls,
+        version: int,
+        password: Text,
+        *,
+        prepared: bool = False,
+        salt: Optional[Bytes] = None,
+        iterations: int = 4096,
     ) -> Record:
-        """Computes the record of a prepared password (`saslprep`): any text, used without change. A client logs in with
-        exactly that text."""
+        """Computes the record of a password. The password is a typed one, of printable ASCII; `prepared` takes any text,
+        without change (`saslprep`), and a client logs in with exactly that text. The salt defaults to 16 random bytes."""
         struct = _ScramRecordStruct()
-        _make(_library.fe2o3_scram_record_make_prepared, struct, version, password, _salt(salt), iterations)
+        _make(_library.fe2o3_scram_record_make, struct, version, password, prepared, _salt(salt), iterations)
         return cls._of(struct)
 
     @classmethod
@@ -979,18 +966,11 @@ class Record:
         passwords."""
         return _written(384, lambda *room: _library.fe2o3_scram_record_text(self._struct, *room)).decode("ascii")
 
-    def verify(self, password: Text) -> bool:
-        """Returns whether a typed password, for instance one received by PLAIN, is the record's. Raises `Refused` if it
-        is not UTF-8."""
-        return self._meets(_library.fe2o3_scram_record_verify, password)
-
-    def verify_prepared(self, password: Text) -> bool:
-        """Returns whether a prepared password is the record's, like `verify`."""
-        return self._meets(_library.fe2o3_scram_record_verify_prepared, password)
-
-    def _meets(self, call: Callable[..., int], password: Text) -> bool:
-        told = _text(password)
-        status = call(self._struct, told, len(told))
+    def verify(self, password: Text, *, prepared: bool = False) -> bool:
+        """Returns whether a password, for instance one received by PLAIN, is the record's. The password is a typed one;
+        `prepared` takes any text, without change (`saslprep`). Raises `Refused` if it is not UTF-8."""
+        text = _text(password)
+        status = _library.fe2o3_scram_record_verify(self._struct, _form(prepared), text, len(text))
         if status == Status.OTHER_PASSWORD:
             return False
         _done(status)
@@ -1018,7 +998,7 @@ class Record:
 class Client:
     """A SCRAM client. It logs in with a password, with the keys of an earlier login, or with both: then it uses the
     keys if they are of the server's salt and iteration count, otherwise the password. The password is a typed one,
-    of printable ASCII, or a prepared one (`saslprep`): any text, used without change.
+    of printable ASCII; `prepared` takes any text, without change (`saslprep`).
 
     Call `first`, `final` and `verify` in this order. `first` starts a new exchange at any time. The login is
     complete only if `verify` does not raise."""
@@ -1032,34 +1012,30 @@ class Client:
         password: Optional[Text] = None,
         keys: Optional[Keys] = None,
         *,
-        prepared_password: Optional[Text] = None,
+        prepared: bool = False,
         min_iterations: int = 4096,
         max_iterations: int = 1_000_000,
     ) -> None:
         """A client that has sent nothing. It rejects an iteration count below the minimum, with which a server could
         guess the password sooner (RFC 7677 requires at least 4096), and one above the maximum, which costs time."""
-        if password is None and prepared_password is None and keys is None:
+        if password is None and keys is None:
             raise ValueError("a login takes a password, keys, or both")
-        if password is not None and prepared_password is not None:
-            raise ValueError("a login takes one password")
-        given = password if prepared_password is None else prepared_password
-        name, typed = _text(username), b"" if given is None else _text(given)
-        if given is None:
+        name, text = _text(username), b"" if password is None else _text(password)
+        if password is None:
             secret = _Secret.BY_KEYS
-        elif prepared_password is None:
-            secret = _Secret.BY_PASSWORD if keys is None else _Secret.BY_PASSWORD_AND_KEYS
         else:
-            secret = _Secret.BY_PREPARED if keys is None else _Secret.BY_PREPARED_AND_KEYS
+            secret = _Secret.BY_PASSWORD if keys is None else _Secret.BY_PASSWORD_AND_KEYS
         held = _ScramKeysStruct() if keys is None else keys._struct
         self._login = _LoginStruct(
             version=_number(version),
             secret=secret,
+            form=_form(prepared),
             min_iterations=_number(min_iterations),
             max_iterations=_number(max_iterations),
             username=name,
             username_len=len(name),
-            password=typed,
-            password_len=len(typed),
+            password=text,
+            password_len=len(text),
             keys=ctypes.pointer(held),
         )
         self._struct = _ScramClientStruct()
@@ -1167,7 +1143,7 @@ def offers(body: Bytes, mechanism: Text) -> bool:
 
 
 class _Login:
-    """What either side of a login tells of it."""
+    """The progress of a login, on either side."""
 
     __slots__ = ()
     _struct: Any
@@ -1350,22 +1326,26 @@ class ClientSteps(_Steps, _ClientSide):
 class _ServerSide(_Login):
     """A server's login: what it offers, and its records."""
 
-    __slots__ = ("_iterations", "_lock", "_mechanisms", "_external_authcid", "_record_of", "_struct", "_version")
+    __slots__ = ("_iterations", "_lock", "_mechanisms", "_external_authcid", "_records_of", "_struct")
 
     def __init__(
         self,
-        record_of: Callable[[str], Optional[Record]],
+        records_of: Callable[[str], Iterable[Record]],
         *,
-        mechanisms: int = Offer.SCRAM,
-        version: int = SHA_256,
+        mechanisms: int = Offer.SCRAM_SHA_512 | Offer.SCRAM_SHA_256,
         iterations: int = 4096,
         external_authcid: Optional[Text] = None,
     ) -> None:
-        """A login by one of the mechanisms. `record_of` returns the record of a name. For an unknown name it returns
-        `Record.mock(..)`, so that the client does not learn which names exist, or None. With the iteration count PLAIN
-        hashes the password of an unknown user. EXTERNAL accepts `external_authcid`, the name that the transport has
-        authenticated. If it is None or empty, EXTERNAL is not offered, and an init for it fails."""
-        self._record_of, self._mechanisms, self._version = record_of, _number(mechanisms), _number(version)
+        """A login by one of the mechanisms, a sum of `Offer`:
+
+            ServerConnection(records_of, mechanisms=Offer.SCRAM_SHA_512 | Offer.SCRAM_SHA_256 | (Offer.PLAIN if tls else 0))
+
+        `records_of` returns the records of a name, of any hashes. SCRAM with a hash uses the first record of that hash.
+        PLAIN uses the first record. For a name without records it returns `Record.mock(..)` for each hash, so that the
+        client does not learn which names exist, or none. With the iteration count PLAIN hashes the password of an
+        unknown user. EXTERNAL accepts `external_authcid`, the name that the transport has authenticated. If it is None
+        or empty, EXTERNAL is not offered, and an init for it fails."""
+        self._records_of, self._mechanisms = records_of, _number(mechanisms)
         self._iterations, self._struct = _number(iterations), self._fresh()
         self._external_authcid = _text("" if external_authcid is None else external_authcid)
         self._lock = threading.RLock()
@@ -1377,16 +1357,16 @@ class _ServerSide(_Login):
         raise NotImplementedError
 
     def _config(self, name: Optional[str]) -> _SaslServerConfigStruct:
-        """Returns the configuration for the library, with the record of this name, if there is one."""
-        record = None if name is None else self._record_of(name)
+        """Returns the configuration for the library, with the records of this name, if there are any."""
+        records = [] if name is None else [record._struct for record in self._records_of(name)]
         known = b"" if name is None else _text(name)
         return _SaslServerConfigStruct(
             mechanisms=self._mechanisms,
-            version=self._version,
             iterations=self._iterations,
             username=known,
             username_len=len(known),
-            record=ctypes.pointer(_ScramRecordStruct() if record is None else record._struct),
+            records=(_ScramRecordStruct * len(records))(*records),
+            records_count=len(records),
             external_authcid=self._external_authcid,
             external_authcid_len=len(self._external_authcid),
         )

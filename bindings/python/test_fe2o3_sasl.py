@@ -73,6 +73,19 @@ def connected(side: ClientConnection, broker: Broker, piece: int, behind: bytes 
     return rest
 
 
+OFFERS = {SHA_1: Offer.SCRAM_SHA_1, SHA_256: Offer.SCRAM_SHA_256, SHA_512: Offer.SCRAM_SHA_512}
+ALL_OTHERS = Offer.PLAIN | Offer.ANONYMOUS | Offer.EXTERNAL
+
+
+def of(known: dict[str, Record]) -> Callable[[str], list[Record]]:
+    """The records of a name, of which there is at most one."""
+    return lambda name: [known[name]] if name in known else []
+
+
+def nobody(name: str) -> list[Record]:
+    return []
+
+
 def nonces(*values: bytes) -> Any:
     return mock.patch("secrets.token_bytes", side_effect=list(values))
 
@@ -272,26 +285,26 @@ class Prepared(Case):
                 with self.subTest(version=version, typed=typed):
                     password = fe2o3_sasl.saslprep(typed)
                     known = Secret(version, prepared_apart(typed), SALT, 4096)
-                    record = Record.make_prepared(version, password, salt=SALT)
-                    other = Record.make_prepared(version, password, salt=OTHER_SALT)
+                    record = Record.make(version, password, prepared=True, salt=SALT)
+                    other = Record.make(version, password, prepared=True, salt=OTHER_SALT)
                     self.assertEqual(record.text(), known.record_text())
-                    self.assertTrue(record.verify_prepared(password))
-                    self.assertEqual(record.verify_prepared(typed), typed == password)
+                    self.assertTrue(record.verify(password, prepared=True))
+                    self.assertEqual(record.verify(typed, prepared=True), typed == password)
                     self.assertEqual(record.verify(password), password.isascii())
-                    client, server = Client(version, "user", prepared_password=password), Server()
+                    client, server = Client(version, "user", password=password, prepared=True), Server()
                     login(client, server, record)
                     self.assertEqual(server.authenticated_user(), "user")
-                    keys, made = client.keys(), Keys.make_prepared(version, password, SALT, 4096)
+                    keys, made = client.keys(), Keys.make(version, password, SALT, 4096, prepared=True)
                     self.assertEqual((keys.client_key, keys.server_key), (known.client_key, known.server_key))
                     self.assertEqual(bytes(keys._struct), bytes(made._struct))
-                    both = Client(version, "user", keys=keys, prepared_password=password)
+                    both = Client(version, "user", keys=keys, password=password, prepared=True)
                     login(both, Server(), record)
                     login(both, Server(), other)
                     self.assertEqual(both.keys().salt, OTHER_SALT)
-                    side = ClientConnection(Client(version, "user", prepared_password=password))
+                    side = ClientConnection(Client(version, "user", password=password, prepared=True))
                     connected(side, Broker(known, MECHANISMS[version]), 4096)
                     self.assertEqual(side.progress, Progress.AUTHENTICATED)
-                    steps = ClientSteps(Client(version, "user", keys=keys, prepared_password=password))
+                    steps = ClientSteps(Client(version, "user", keys=keys, password=password, prepared=True))
                     stepped(steps, Broker(known, MECHANISMS[version]))
                     self.assertEqual(steps.progress, Progress.AUTHENTICATED)
                     if not password.isascii():
@@ -299,10 +312,13 @@ class Prepared(Case):
                         self.refused(Status.CLIENT_NORMALIZE_ERROR, login, plain, Server(), record)
                         self.refused(Status.NOT_PRINTABLE, Record.make, version, password)
                         self.refused(Status.NOT_PRINTABLE, Keys.make, version, password, SALT, 4096)
-        for make in (Record.make_prepared, lambda *given: Keys.make_prepared(*given, SALT, 4096)):
+        for make in (
+            lambda *given: Record.make(*given, prepared=True),
+            lambda *given: Keys.make(*given, SALT, 4096, prepared=True),
+        ):
             self.refused(Status.NOT_UTF8, make, SHA_1, b"\xff")
-        with self.assertRaises(ValueError):
-            Client(SHA_1, "user", "pencil", prepared_password="pencil")
+        status = LIBRARY.fe2o3_scram_record_verify(record._struct, 2, b"a", 1)
+        self.assertEqual(status, Status.NO_SUCH_CHOICE)
 
 
 class Unbound(Case):
@@ -325,13 +341,14 @@ class Unbound(Case):
         for version in VERSIONS:
             known = {"user": Record.make(version, "pencil", salt=SALT)}
             for header in (b"y,,", b"n,,"):
-                for mechanisms in (Offer.SCRAM, Offer.SCRAM | Offer.ACCEPT_CBIND_FLAG_Y, Offer.SCRAM | Offer.PLAIN | 16):
+                scram = OFFERS[version]
+                for mechanisms in (scram, scram | Offer.ACCEPT_CBIND_FLAG_Y, scram | Offer.PLAIN | 64):
                     by = Login(version, "user", "pencil", header)
-                    taken = header == b"n,," or mechanisms != Offer.SCRAM
-                    connection = ServerConnection(known.get, mechanisms=mechanisms, version=version)
+                    taken = header == b"n,," or mechanisms != scram
+                    connection = ServerConnection(of(known), mechanisms=mechanisms)
                     by.begin()
                     served(connection, by, 7)
-                    steps = ServerSteps(known.get, mechanisms=mechanisms, version=version)
+                    steps = ServerSteps(of(known), mechanisms=mechanisms)
                     steps_served(steps, by)
                     for side in (connection, steps):
                         self.assertEqual(side.progress == Progress.AUTHENTICATED, taken)
@@ -447,7 +464,7 @@ class Connections(Case):
                     for by in (Login(version, name, password), Plain(name, password)):
                         for piece in (1, 7, 4096):
                             side = ServerConnection(
-                                known.get, mechanisms=Offer.SCRAM | Offer.PLAIN | Offer.EXTERNAL, version=version
+                                of(known), mechanisms=OFFERS[version] | Offer.PLAIN | Offer.EXTERNAL
                             )
                             by.begin()
                             served(side, by, piece)
@@ -465,12 +482,12 @@ class Connections(Case):
 
     def test_servers_of_other_mechanisms(self) -> None:
         def server(mechanisms: int) -> ServerConnection:
-            return ServerConnection(lambda name: None, mechanisms=mechanisms, external_authcid="peer")
+            return ServerConnection(nobody, mechanisms=mechanisms, external_authcid="peer")
 
         for by, mechanisms, name in (
             (Other("ANONYMOUS"), Offer.ANONYMOUS, None),
             (Other("EXTERNAL"), Offer.EXTERNAL | Offer.PLAIN, "peer"),
-            (Other("EXTERNAL", b"peer"), Offer.EXTERNAL | Offer.SCRAM, "peer"),
+            (Other("EXTERNAL", b"peer"), Offer.EXTERNAL | Offer.SCRAM_SHA_256, "peer"),
         ):
             side = server(mechanisms)
             by.begin()
@@ -482,15 +499,32 @@ class Connections(Case):
             served(side, by, 5)
             self.assertEqual(side.progress, Progress.FAILED)
         self.refused(Status.NO_SUCH_MECHANISM, server(0).receive, b"A")
-        self.refused(Status.NO_SUCH_MECHANISM, server(16).receive, b"A")
-        self.refused(Status.NO_SUCH_VERSION, ServerConnection(lambda name: None, version=2).receive, b"A")
-        self.refused(Status.NOT_UTF8, ServerConnection(lambda name: None, external_authcid=b"\xff").receive, b"A")
+        self.refused(Status.NO_SUCH_MECHANISM, server(64).receive, b"A")
+        self.refused(Status.NO_SUCH_MECHANISM, server(128).receive, b"A")
+        self.refused(Status.NOT_UTF8, ServerConnection(nobody, external_authcid=b"\xff").receive, b"A")
+
+    def test_several_hashes(self) -> None:
+        known = [Record.make(version, "pencil", salt=SALT) for version in (SHA_256, SHA_512)]
+        offers = Offer.SCRAM_SHA_512 | Offer.SCRAM_SHA_256 | Offer.SCRAM_SHA_1 | Offer.PLAIN
+        for by, logged_in in (
+            (Login(SHA_512, "user", "pencil"), True),
+            (Login(SHA_256, "user", "pencil"), True),
+            (Login(SHA_1, "user", "pencil"), False),
+            (Login(SHA_512, "user", "pencils"), False),
+            (Plain("user", "pencil"), True),
+        ):
+            for piece in (1, 7, 4096):
+                side = ServerConnection(lambda name: known, mechanisms=offers)
+                by.begin()
+                served(side, by, piece)
+                self.assertEqual(side.progress, Progress.AUTHENTICATED if logged_in else Progress.FAILED)
+                self.assertEqual(by.logged_in, logged_in)
 
     def test_both_sides(self) -> None:
         for version in VERSIONS:
             record = Record.make(version, "pencil")
             side = ClientConnection(Client(version, "user", "pencil"))
-            server = ServerConnection({"user": record}.get, version=version)
+            server = ServerConnection(of({"user": record}), mechanisms=OFFERS[version])
             to_server, to_client = side.open(), b""
             for _ in range(4):
                 to_client, _ = server.receive(to_server)
@@ -568,7 +602,7 @@ class Steps(Case):
                     client_final, server_final = known.finals(bare, server_first)
                     record = Record.make(version, password, salt=SALT)
                     client = ClientSteps(Client(version, name, password), hostname="broker.example")
-                    server = ServerSteps({name: record}.get, version=version)
+                    server = ServerSteps(of({name: record}), mechanisms=OFFERS[version])
                     offer = server.offer()
                     self.assertEqual(offer, mechanisms_frame(mechanism)[4:])
                     init = client.on_frame(offer)
@@ -670,7 +704,7 @@ class Steps(Case):
                     for by in (Login(version, name, password), Plain(name, password)):
                         if name == "" and isinstance(by, Plain):
                             continue  # (PLAIN has no empty name)
-                        side = ServerSteps({name: record}.get, mechanisms=Offer.SCRAM | Offer.PLAIN, version=version)
+                        side = ServerSteps(of({name: record}), mechanisms=OFFERS[version] | Offer.PLAIN)
                         steps_served(side, by)
                         self.assertEqual((side.progress, by.logged_in), (progress, progress == Progress.AUTHENTICATED))
                         if progress == Progress.AUTHENTICATED:
@@ -685,39 +719,39 @@ class Steps(Case):
         for known in (True, False):
             asked: list[str] = []
 
-            def record_of(name: str) -> Record:
+            def records_of(name: str) -> list[Record]:
                 asked.append(name)
-                return record if known else Record.mock(SHA_256, bytes(32), name)
+                return [record if known else Record.mock(SHA_256, bytes(32), name)]
 
             record = Record.make(SHA_256, "pencil")
-            side, by = ServerSteps(record_of), Login(SHA_256, "a=b,c", "pencil")
+            side, by = ServerSteps(records_of), Login(SHA_256, "a=b,c", "pencil")
             steps_served(side, by)
             self.assertEqual((asked, by.logged_in), (["a=b,c", "a=b,c"], known))
             self.assertEqual(by.code, 0 if known else 1)
             asked.clear()
-            side = ServerSteps(record_of, mechanisms=Offer.ANONYMOUS)
+            side = ServerSteps(records_of, mechanisms=Offer.ANONYMOUS)
             steps_served(side, Other("ANONYMOUS"))
             self.assertEqual((asked, side.progress), ([], Progress.AUTHENTICATED))
 
     def test_external_without_a_peer(self) -> None:
         for peer in (None, "", b""):
-            side = ServerSteps(lambda name: None, mechanisms=15, external_authcid=peer)
+            side = ServerSteps(nobody, mechanisms=Offer.SCRAM_SHA_256 | ALL_OTHERS, external_authcid=peer)
             self.assertEqual(side.offer(), mechanisms_frame(MECHANISMS[SHA_256], "PLAIN", "ANONYMOUS")[4:])
             steps_served(side, Other("EXTERNAL"), ask=True)
             self.closed(side, Status.REFUSED_AUTH)
-            alone = ServerSteps(lambda name: None, mechanisms=Offer.EXTERNAL, external_authcid=peer)
+            alone = ServerSteps(nobody, mechanisms=Offer.EXTERNAL, external_authcid=peer)
             self.refused(Status.NO_SUCH_MECHANISM, alone.offer)
 
     def test_servers_of_other_mechanisms(self) -> None:
         def server(mechanisms: int) -> ServerSteps:
-            return ServerSteps(lambda name: None, mechanisms=mechanisms, external_authcid="peer")
+            return ServerSteps(nobody, mechanisms=mechanisms, external_authcid="peer")
 
         all_of_them = mechanisms_frame(MECHANISMS[SHA_256], "PLAIN", "ANONYMOUS", "EXTERNAL")
-        self.assertEqual(server(15).offer(), all_of_them[4:])
+        self.assertEqual(server(Offer.SCRAM_SHA_256 | ALL_OTHERS).offer(), all_of_them[4:])
         for by, mechanisms, name in (
             (Other("ANONYMOUS"), Offer.ANONYMOUS, None),
             (Other("EXTERNAL"), Offer.EXTERNAL | Offer.PLAIN, "peer"),
-            (Other("EXTERNAL", b"peer"), Offer.EXTERNAL | Offer.SCRAM, "peer"),
+            (Other("EXTERNAL", b"peer"), Offer.EXTERNAL | Offer.SCRAM_SHA_256, "peer"),
         ):
             side = server(mechanisms)
             steps_served(side, by)
@@ -728,16 +762,16 @@ class Steps(Case):
             self.closed(side, Status.REFUSED_AUTH)
         for side, status in (
             (server(0), Status.NO_SUCH_MECHANISM),
-            (server(16), Status.NO_SUCH_MECHANISM),
-            (ServerSteps(lambda name: None, version=2), Status.NO_SUCH_VERSION),
-            (ServerSteps(lambda name: None, external_authcid=b"\xff"), Status.NOT_UTF8),
+            (server(64), Status.NO_SUCH_MECHANISM),
+            (server(128), Status.NO_SUCH_MECHANISM),
+            (ServerSteps(nobody, external_authcid=b"\xff"), Status.NOT_UTF8),
         ):
             self.refused(status, side.offer)
             self.refused(status, side.on_frame, body_of(RESPONSE, short(0xA0, b"")))
 
     def test_refusals_of_a_server(self) -> None:
         record = Record.make(SHA_256, "pencil")
-        side = ServerSteps(lambda name: record)
+        side = ServerSteps(lambda name: [record])
         for body, status in (
             (mechanisms_frame("PLAIN")[4:], Status.NO_SASL_FRAME),
             (body_of(CHALLENGE, short(0xA0, b"")), Status.NO_SASL_FRAME),
@@ -763,7 +797,7 @@ class Steps(Case):
                 keys=ctypes.pointer(keys),
             ),
         )
-        host = ServerSteps(lambda name: Record.make(SHA_256, "p", salt=SALT, iterations=1), mechanisms=15)._config("u")
+        host = ServerSteps(of({"u": Record.make(SHA_256, "p", salt=SALT, iterations=1)}), mechanisms=63)._config("u")
 
         def filled(kind: Any) -> Any:
             size = ctypes.sizeof(kind)
@@ -1003,7 +1037,7 @@ class Arguments(Case):
         login(client, server, record)
         keys = client.keys()
         secret = Secret(SHA_256, password, record.salt, 4096)
-        sides = ClientSteps.plain(name, password), ServerSteps({name: record}.get, mechanisms=Offer.PLAIN)
+        sides = ClientSteps.plain(name, password), ServerSteps(of({name: record}), mechanisms=Offer.PLAIN)
         init = sides[0].on_frame(sides[1].offer())
         self.assertIn(password.encode(), init)
         frame = fe2o3_sasl.view_frame(init)
@@ -1177,7 +1211,8 @@ class RandomStructs(Case):
             version = self.random.choice([*VERSIONS, 0, 2]) if self.chance() else keys.version
             who = fe2o3_sasl._LoginStruct(
                 version=version,
-                secret=self.random.randrange(6),
+                secret=self.random.randrange(4),
+                form=self.random.randrange(3),
                 min_iterations=self.random.randrange(3),
                 max_iterations=self.random.randrange(2, 9),
                 username=b"user",
@@ -1307,8 +1342,8 @@ class RandomStructs(Case):
                 known = Secret(record.version, "pencil", bytes(record.salt)[: record.salt_len], record.iterations)
                 ctypes.memmove(record.stored_key, known.stored_key, len(known.stored_key))
                 ctypes.memmove(record.server_key, known.server_key, len(known.server_key))
-            for export in ("fe2o3_scram_record_verify", "fe2o3_scram_record_verify_prepared"):
-                verified = self.ask(export, (record,), record, b"pencil", 6)
+            for form in (0, 1):
+                verified = self.ask("fe2o3_scram_record_verify", (record,), record, form, b"pencil", 6)
                 self.assertEqual(verified is not None, meets)
         for name, statuses in self.answers.items():
             self.assertIn(Status.OK, statuses, name)

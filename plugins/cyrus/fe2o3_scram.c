@@ -166,8 +166,8 @@ static int client_answer(struct exchange *one, enum expected expected, const sas
     const char *in, unsigned in_len)
 {
     static const struct fe2o3_scram_keys no_keys;
-    const struct fe2o3_login login = {one->mechanism->version,
-        one->prepares ? FE2O3_BY_PREPARED : FE2O3_BY_PASSWORD, LEAST_ITERATIONS, MOST_ITERATIONS,
+    const struct fe2o3_login login = {one->mechanism->version, FE2O3_BY_PASSWORD,
+        one->prepares ? FE2O3_PREPARED : FE2O3_TYPED, LEAST_ITERATIONS, MOST_ITERATIONS,
         BYTES(who->authid, who->alen), BYTES(one->password, one->password_len), &no_keys};
     uint8_t nonce[32];
     switch (expected) {
@@ -257,8 +257,8 @@ static int from_password(struct exchange *one, const sasl_utils_t *utils, const 
         version, secret, sizeof secret, BYTES(who->authid, who->alen), SALT_LEN, count, &one->record);
     memcpy(salt, one->record.salt, SALT_LEN);
     if (status == FE2O3_OK)
-        status = (one->prepares ? fe2o3_scram_record_make_prepared : fe2o3_scram_record_make)(
-            version, BYTES(password, len), salt, SALT_LEN, count, &one->record);
+        status = fe2o3_scram_record_make(version, one->prepares ? FE2O3_PREPARED : FE2O3_TYPED, BYTES(password, len),
+            salt, SALT_LEN, count, &one->record);
     utils->erasebuffer(one->password, sizeof one->password);
     return told(one, utils, status == FE2O3_NOT_UTF8 ? FE2O3_NOT_PRINTABLE : status);
 }

@@ -29,9 +29,9 @@ SECTIONS = [  # in the order of use: a title, the structs, and the functions aft
     ("The library", "Text", "version size status_text"),
     ("Passwords", "", "saslprep"),
     ("Records, which a server stores in place of passwords", "ScramRecord",
-     "scram_record_make scram_record_make_prepared scram_record_mock scram_record_parse scram_record_text"
-     " scram_record_verify scram_record_verify_prepared scram_lines_find scram_line"),
-    ("Keys, which a client can cache in place of a password", "ScramKeys", "scram_keys_make scram_keys_make_prepared"),
+     "scram_record_make scram_record_mock scram_record_parse scram_record_text scram_record_verify"
+     " scram_lines_find scram_line"),
+    ("Keys, which a client can cache in place of a password", "ScramKeys", "scram_keys_make"),
     ("A SCRAM client, over messages", "Login ScramClient",
      "scram_client_first scram_client_final scram_client_verify scram_client_get_keys"),
     ("A SCRAM server, over messages", "ScramServer",
@@ -360,7 +360,7 @@ def python_block(reader):
                             " only. ACCEPT_CBIND_FLAG_Y\n    is no mechanism: SCRAM also accepts the GS2 header `y,,`, like `Server.first`"
                             " with `accept_cbind_flag_y`.",
                             [(one.name.replace("OFFER_", ""), one.number) for one in enums["offer"].values]))
-    for name, title, prefix in [("mechanism", "_Mechanism", ""), ("secret", "_Secret", ""),
+    for name, title, prefix in [("mechanism", "_Mechanism", ""), ("secret", "_Secret", ""), ("password_form", "_Form", ""),
                                 ("unassigned", "_Unassigned", "UNASSIGNED_"), ("scram_server_state", "_ServerState",
                                                                                "SCRAM_SERVER_")]:
         values = [(one.name.replace(prefix, ""), one.number) for one in enums[name].values]

@@ -67,16 +67,20 @@ enum fe2o3_mechanism {
 
 /* What a client logs in with. */
 enum fe2o3_secret {
-    /* The typed password, which has to be printable ASCII. */
+    /* The password. */
     FE2O3_BY_PASSWORD = 0,
     /* The keys. */
     FE2O3_BY_KEYS = 1,
-    /* The keys if they are of the server's salt and iteration count, otherwise the typed password. */
-    FE2O3_BY_PASSWORD_AND_KEYS = 2,
-    /* The prepared password (fe2o3_saslprep). */
-    FE2O3_BY_PREPARED = 3,
-    /* The keys if they are of the server's salt and iteration count, otherwise the prepared password. */
-    FE2O3_BY_PREPARED_AND_KEYS = 4
+    /* The keys if they are of the server's salt and iteration count, otherwise the password. */
+    FE2O3_BY_PASSWORD_AND_KEYS = 2
+};
+
+/* The form of a password. */
+enum fe2o3_password_form {
+    /* The password as the user typed it, which has to be printable ASCII. */
+    FE2O3_TYPED = 0,
+    /* The password as you prepared it (fe2o3_saslprep): any text, used without change. */
+    FE2O3_PREPARED = 1
 };
 
 /* What fe2o3_saslprep does with code points that Unicode 3.2 does not assign. */
@@ -89,16 +93,20 @@ enum fe2o3_unassigned {
 
 /* What a server offers: a sum of these values. */
 enum fe2o3_offer {
-    /* SCRAM with the hash of the configuration. */
-    FE2O3_OFFER_SCRAM = 1,
+    /* SCRAM-SHA-512. */
+    FE2O3_OFFER_SCRAM_SHA_512 = 1,
+    /* SCRAM-SHA-256. */
+    FE2O3_OFFER_SCRAM_SHA_256 = 2,
+    /* SCRAM-SHA-1, for clients that have no other hash. */
+    FE2O3_OFFER_SCRAM_SHA_1 = 4,
     /* PLAIN, which sends the password in clear. */
-    FE2O3_OFFER_PLAIN = 2,
+    FE2O3_OFFER_PLAIN = 8,
     /* ANONYMOUS. */
-    FE2O3_OFFER_ANONYMOUS = 4,
+    FE2O3_OFFER_ANONYMOUS = 16,
     /* EXTERNAL, if `external_authcid` is not empty. */
-    FE2O3_OFFER_EXTERNAL = 8,
+    FE2O3_OFFER_EXTERNAL = 32,
     /* No mechanism: SCRAM also accepts the GS2 header `y,,`, like fe2o3_scram_server_first_with_cbind_flag_y. */
-    FE2O3_ACCEPT_CBIND_FLAG_Y = 16
+    FE2O3_ACCEPT_CBIND_FLAG_Y = 64
 };
 
 /* How far a login on a connection is. */

@@ -1,6 +1,6 @@
 //! What all calls of the library share.
 
-use crate::{sys, RecordError, ScramVersion};
+use crate::{sys, Password, RecordError, ScramVersion};
 use std::io::Read;
 
 /// Returns 32 bytes of the system's random source, `/dev/urandom`.
@@ -59,21 +59,22 @@ pub(crate) fn done(status: u32) -> Result<(), u32> {
 }
 
 /// An export that computes a struct of a password, a salt and an iteration count.
-type Makes<S> = unsafe extern "C" fn(u32, *const u8, usize, *const u8, usize, u32, *mut S) -> u32;
+type Makes<S> = unsafe extern "C" fn(u32, u32, *const u8, usize, *const u8, usize, u32, *mut S) -> u32;
 
 /// Returns the struct that such an export writes over this one.
 pub(crate) fn made<S>(
     make: Makes<S>,
     mut of: S,
     version: ScramVersion,
-    password: &str,
+    password: Password<'_>,
     salt: &[u8],
     iterations: u32,
 ) -> Result<S, RecordError> {
+    let (number, form, password) = (version.number(), password.form(), password.as_str());
     // SAFETY: `make` is an export of the library; the texts are slices that live through the call, and the struct is
     // one of this function.
     let status = unsafe {
-        make(version.number(), password.as_ptr(), password.len(), salt.as_ptr(), salt.len(), iterations, &mut of)
+        make(number, form, password.as_ptr(), password.len(), salt.as_ptr(), salt.len(), iterations, &mut of)
     };
     done(status).map_err(RecordError::of)?;
     Ok(of)

@@ -2,7 +2,7 @@
 
 use crate::calls::{done, filled};
 use crate::keys::NO_KEYS;
-use crate::{generate_nonce, sys, CachedKeys, ScramErrorKind, ScramVersion};
+use crate::{generate_nonce, sys, CachedKeys, Password, ScramErrorKind, ScramVersion};
 use std::fmt;
 use std::marker::PhantomData;
 
@@ -14,6 +14,7 @@ pub(crate) const INITIAL: sys::ScramClient =
 pub(crate) struct Who {
     username: String,
     password: String,
+    form: u32,
     keys: sys::ScramKeys,
     secret: u32,
     version: ScramVersion,
@@ -28,21 +29,23 @@ pub(crate) struct Lent<'a> {
 }
 
 impl Who {
-    /// A login that accepts every iteration count.
+    /// A login that accepts 4096 to 1,000,000 iterations.
     pub(crate) fn new(
         username: String,
-        password: String,
+        password: Password<'_>,
         keys: sys::ScramKeys,
         secret: u32,
         version: ScramVersion,
     ) -> Self {
-        Self { username, password, keys, secret, version, min_iterations: 1, max_iterations: u32::MAX }
+        let (password, form) = (password.as_str().to_owned(), password.form());
+        Self { username, password, form, keys, secret, version, min_iterations: 4096, max_iterations: 1_000_000 }
     }
 
     pub(crate) fn lend(&self) -> Lent<'_> {
         let login = sys::Login {
             version: self.version.number(),
             secret: self.secret,
+            form: self.form,
             min_iterations: self.min_iterations,
             max_iterations: self.max_iterations,
             username: self.username.as_ptr(),
@@ -92,52 +95,46 @@ pub struct ScramClient {
 impl ScramClient {
     /// Returns a client that logs in with a typed password.
     pub fn new(username: impl Into<String>, password: impl Into<String>, scram_version: ScramVersion) -> Self {
-        Self::by(username.into(), password.into(), NO_KEYS, sys::BY_PASSWORD, scram_version)
+        Self::with_password(username, &password.into(), scram_version)
     }
 
-    /// Returns a client that logs in with a prepared password ([`saslprep`](crate::saslprep)): any text, used without
-    /// change.
-    pub fn with_prepared_password(
+    /// Returns a client that logs in with a password. A text is a typed password.
+    pub fn with_password<'a>(
         username: impl Into<String>,
-        password: impl Into<String>,
+        password: impl Into<Password<'a>>,
         scram_version: ScramVersion,
     ) -> Self {
-        Self::by(username.into(), password.into(), NO_KEYS, sys::BY_PREPARED, scram_version)
+        Self::by(username.into(), password.into(), NO_KEYS, sys::BY_PASSWORD, scram_version)
     }
 
     /// Returns a client that logs in with the keys of an earlier login.
     pub fn with_keys(username: impl Into<String>, keys: CachedKeys) -> Self {
-        Self::by(username.into(), String::new(), keys.0, sys::BY_KEYS, keys.version())
+        Self::by(username.into(), Password::Typed(""), keys.0, sys::BY_KEYS, keys.version())
     }
 
     /// Returns a client that logs in with keys if they are of the server's salt and iteration count, and otherwise
-    /// with a typed password.
-    pub fn with_password_and_keys(username: impl Into<String>, password: impl Into<String>, keys: CachedKeys) -> Self {
+    /// with a password. A text is a typed password.
+    pub fn with_password_and_keys<'a>(
+        username: impl Into<String>,
+        password: impl Into<Password<'a>>,
+        keys: CachedKeys,
+    ) -> Self {
         Self::by(username.into(), password.into(), keys.0, sys::BY_PASSWORD_AND_KEYS, keys.version())
     }
 
-    /// Like [`Self::with_password_and_keys`], but with a prepared password.
-    pub fn with_prepared_password_and_keys(
-        username: impl Into<String>,
-        password: impl Into<String>,
-        keys: CachedKeys,
-    ) -> Self {
-        Self::by(username.into(), password.into(), keys.0, sys::BY_PREPARED_AND_KEYS, keys.version())
-    }
-
-    fn by(username: String, password: String, keys: sys::ScramKeys, secret: u32, version: ScramVersion) -> Self {
+    fn by(username: String, password: Password<'_>, keys: sys::ScramKeys, secret: u32, version: ScramVersion) -> Self {
         Self { who: Who::new(username, password, keys, secret, version), state: INITIAL }
     }
 
-    /// Sets the maximum iteration count that the client accepts. The default is no limit.
-    pub fn with_iteration_limit(mut self, limit: u32) -> Self {
-        self.who.max_iterations = limit;
+    /// Sets the maximum iteration count that the client accepts. The default is 1,000,000.
+    pub fn with_iteration_limit(mut self, max_iterations: u32) -> Self {
+        self.who.max_iterations = max_iterations;
         self
     }
 
-    /// Sets the minimum iteration count that the client accepts. The default is 1; RFC 7677 requires at least 4096.
-    pub fn with_min_iterations(mut self, least: u32) -> Self {
-        self.who.min_iterations = least;
+    /// Sets the minimum iteration count that the client accepts. The default is 4096, the minimum of RFC 7677.
+    pub fn with_min_iterations(mut self, min_iterations: u32) -> Self {
+        self.who.min_iterations = min_iterations;
         self
     }
 

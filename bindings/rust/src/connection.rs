@@ -74,12 +74,14 @@ pub(crate) struct LentLogin<'a> {
 impl Login {
     /// Returns the login of a profile. The init has the hostname, if it is not empty.
     pub(crate) fn new(profile: SaslProfile, hostname: Option<&str>) -> Self {
-        let words = |username, password| Who::new(username, password, NO_KEYS, sys::BY_PASSWORD, ScramVersion::Sha256);
+        let words = |username, password: &str| {
+            Who::new(username, password.into(), NO_KEYS, sys::BY_PASSWORD, ScramVersion::Sha256)
+        };
         let (mechanism, who) = match profile {
             SaslProfile::Scram(client) => (sys::SCRAM, client.who),
-            SaslProfile::Plain { username, password } => (sys::PLAIN, words(username, password)),
-            SaslProfile::Anonymous => (sys::ANONYMOUS, words(String::new(), String::new())),
-            SaslProfile::External => (sys::EXTERNAL, words(String::new(), String::new())),
+            SaslProfile::Plain { username, password } => (sys::PLAIN, words(username, &password)),
+            SaslProfile::Anonymous => (sys::ANONYMOUS, words(String::new(), "")),
+            SaslProfile::External => (sys::EXTERNAL, words(String::new(), "")),
         };
         Self { who, mechanism, hostname: hostname.unwrap_or_default().to_owned() }
     }
@@ -150,6 +152,9 @@ impl fmt::Debug for Received {
 /// let mut came = [0; 4096];
 /// while side.progress() == Progress::InProgress {
 ///     let len = socket.read(&mut came)?;
+///     if len == 0 {
+///         return Err("the server closed the connection".into());
+///     }
 ///     let received = side.receive(&came[..len])?;
 ///     socket.write_all(&received.sent)?;
 /// }

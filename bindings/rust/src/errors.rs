@@ -42,7 +42,7 @@ macro_rules! kinds {
         }
 
         impl $name {
-            /// The number by which the library tells this.
+            /// Returns the number of the status in the library.
             pub fn number(self) -> u32 {
                 match self {
                     $($name::$kind => sys::$number,)*
@@ -70,7 +70,7 @@ macro_rules! kinds {
 }
 
 kinds! {
-    /// Why a client refuses what a server sent, or cannot answer it.
+    /// Why a client rejects a message of the server, or cannot answer it.
     ScramErrorKind {
         /// The message is not UTF-8.
         Utf8Error = CLIENT_UTF8_ERROR,
@@ -90,40 +90,40 @@ kinds! {
         IterationCountNotFound = CLIENT_ITERATION_COUNT_NOT_FOUND,
         /// The iteration count is no number from 1 to 4294967295.
         IterationCountParseError = CLIENT_ITERATION_COUNT_PARSE_ERROR,
-        /// The iteration count is below the least that the client accepts.
+        /// The iteration count is below the minimum that the client accepts.
         IterationCountTooSmall = CLIENT_ITERATION_COUNT_TOO_SMALL,
-        /// The iteration count is above the client's limit.
+        /// The iteration count is above the maximum that the client accepts.
         IterationCountTooLarge = CLIENT_ITERATION_COUNT_TOO_LARGE,
-        /// The password as it is typed is not printable ASCII.
+        /// The typed password is not printable ASCII.
         NormalizeError = CLIENT_NORMALIZE_ERROR,
-        /// The message names another salt or another iteration count than the client's keys are of, and the client has
-        /// no password. Whoever is on the way can bring this about: it is no reason to forget the keys.
+        /// The keys are for another salt or iteration count than the message has, and the client has no password. An
+        /// attacker on the path can cause this error, so keep the keys.
         StaleKeys = CLIENT_STALE_KEYS,
-        /// Never answered, since HMAC takes keys of every length.
+        /// Never returned, since HMAC accepts keys of every length.
         HmacErrorInvalidLength = CLIENT_HMAC_ERROR_INVALID_LENGTH,
-        /// Never answered by the client.
+        /// Never returned by the client.
         XorLengthMismatch = CLIENT_XOR_LENGTH_MISMATCH,
         /// The message does not come in this state of the client.
         IllegalClientState = CLIENT_ILLEGAL_CLIENT_STATE,
         /// The server-final message does not begin with `v=`, or has another signature.
         ServerSignatureMismatch = CLIENT_SERVER_SIGNATURE_MISMATCH,
-        /// There was no memory. Nothing has changed, and the call can be made again.
+        /// An allocation failed. Nothing has changed, and you can repeat the call.
         OutOfMemory = OUT_OF_MEMORY,
     }
 }
 
 kinds! {
-    /// Why a server refuses what a client sent, or cannot answer it.
+    /// Why a server rejects a message of the client, or cannot answer it.
     ServerScramErrorKind {
         /// The message is not UTF-8.
         Utf8Error = SERVER_UTF8_ERROR,
-        /// The client-first message does not begin with `n,,`, nor with `y,,` where that is taken.
+        /// The client-first message does not begin with `n,,`, or with `y,,` if that is accepted.
         CannotParseGs2Header = SERVER_CANNOT_PARSE_GS2_HEADER,
-        /// The client-first message does not name a user, or not as a user name is escaped.
+        /// The client-first message has no user name, or one that is not escaped.
         CannotParseUsername = SERVER_CANNOT_PARSE_USERNAME,
         /// The second part of the client-first message is absent or does not begin with `r=`.
         CannotParseClientNonce = SERVER_CANNOT_PARSE_CLIENT_NONCE,
-        /// Never answered, since HMAC takes keys of every length.
+        /// Never returned, since HMAC accepts keys of every length.
         HmacErrorInvalidLength = SERVER_HMAC_ERROR_INVALID_LENGTH,
         /// The proof is not as long as a digest.
         XorLengthMismatch = SERVER_XOR_LENGTH_MISMATCH,
@@ -143,41 +143,41 @@ kinds! {
         AuthenticationFailed = SERVER_AUTHENTICATION_FAILED,
         /// No challenge is open.
         IllegalAuthenticatorState = SERVER_ILLEGAL_AUTHENTICATOR_STATE,
-        /// A name or a message is longer than the library has room for, or the salt of the record than 128 bytes.
+        /// A name or a message does not fit into the struct, or the salt of the record has more than 128 bytes.
         TooLong = TOO_LONG,
         /// A key of the record is not as long as a digest of the version.
         KeyLengthMismatch = RECORD_KEY_LENGTH_MISMATCH,
         /// The iteration count of the record is 0.
         ZeroIterations = ZERO_ITERATIONS,
-        /// There was no memory. Nothing has changed, and the call can be made again.
+        /// An allocation failed. Nothing has changed, and you can repeat the call.
         OutOfMemory = OUT_OF_MEMORY,
     }
 }
 
 kinds! {
-    /// Why there is no record, or there are no keys, of a password or of parts.
+    /// Why no record and no keys can be made of a password or of parts.
     RecordError {
-        /// The password as it is typed is not printable ASCII.
+        /// The typed password is not printable ASCII.
         NotPrintable = NOT_PRINTABLE,
         /// The iteration count is 0.
         ZeroIterations = ZERO_ITERATIONS,
-        /// The salt is longer than 128 bytes, or one that is made up than 64.
+        /// The salt is longer than 128 bytes, or that of a mock record longer than 64.
         TooLong = TOO_LONG,
         /// A key is not as long as a digest of the version.
         KeyLengthMismatch = RECORD_KEY_LENGTH_MISMATCH,
-        /// There was no memory.
+        /// An allocation failed.
         OutOfMemory = OUT_OF_MEMORY,
     }
 }
 
 kinds! {
-    /// Why a text is no record.
+    /// Why a text cannot be parsed as a record.
     RecordTextError {
         /// The text does not have five fields: parts are missing or left over.
         PartsMismatch = RECORD_PARTS_MISMATCH,
-        /// The first field is the name of no mechanism that is known here.
+        /// The first field is not a mechanism that the library supports.
         UnknownMechanism = RECORD_UNKNOWN_MECHANISM,
-        /// The second field is no number from 1 to 4294967295 in decimal without a sign or leading zeros.
+        /// The second field is not a decimal number from 1 to 4294967295 without sign or leading zeros.
         IterationCountParseError = RECORD_ITERATION_COUNT_PARSE_ERROR,
         /// The salt or a key is not base64.
         Base64DecodeError = RECORD_BASE64_DECODE_ERROR,
@@ -185,67 +185,67 @@ kinds! {
         KeyLengthMismatch = RECORD_KEY_LENGTH_MISMATCH,
         /// The salt is longer than 128 bytes.
         TooLong = TOO_LONG,
-        /// There was no memory.
+        /// An allocation failed.
         OutOfMemory = OUT_OF_MEMORY,
     }
 }
 
 kinds! {
-    /// Why SASLprep refuses a text.
+    /// Why SASLprep rejects a text.
     SaslprepError {
-        /// What the text is prepared to holds a character that RFC 4013, section 2.3, prohibits.
+        /// The prepared text contains a character that RFC 4013, section 2.3, prohibits.
         ProhibitedCharacter = PROHIBITED_CHARACTER,
-        /// What the text is prepared to holds a right-to-left character, and a left-to-right one too or another at its
-        /// begin or end (RFC 3454, section 6).
+        /// The prepared text mixes right-to-left and left-to-right characters, or does not begin and end with a
+        /// right-to-left one (RFC 3454, section 6).
         MixedDirections = MIXED_DIRECTIONS,
-        /// The text holds a code point that Unicode 3.2 does not assign, or is prepared to one.
+        /// The text, or the prepared text, contains a code point that Unicode 3.2 does not assign.
         UnassignedCodePoint = UNASSIGNED_CODE_POINT,
-        /// There was no memory.
+        /// An allocation failed.
         OutOfMemory = OUT_OF_MEMORY,
     }
 }
 
 kinds! {
-    /// Why a connection is to be closed, or why a call on one is refused. What SCRAM refuses is `Other`, of which
-    /// [`ConnectionError::scram`] tells the kind.
+    /// Why a connection has to be closed, or why a call on one fails. An error of SCRAM is `Other`;
+    /// [`ConnectionError::scram`] returns its kind.
     ConnectionError {
-        /// The other side's header is not that of SASL.
+        /// The peer sent another protocol header than that of SASL.
         ProtocolHeaderMismatch = PROTOCOL_HEADER_MISMATCH,
-        /// The size of a frame is below 8 or above 512.
+        /// The frame has fewer than 8 or more than 512 bytes.
         FrameSize = FRAME_SIZE,
-        /// The frame is not the one that is due.
+        /// The peer sent another frame than the expected one.
         UnexpectedFrame = UNEXPECTED_FRAME,
-        /// The answer fits in no frame of 512 bytes.
+        /// The reply does not fit into a frame of 512 bytes.
         ReplyTooLarge = REPLY_TOO_LARGE,
-        /// The bytes of the frame are none of its type.
+        /// The frame cannot be parsed.
         MalformedFrame = MALFORMED_FRAME,
-        /// The frame's type or its data offset is not that of a SASL frame.
+        /// The frame has another type or data offset than a SASL frame.
         NoSaslFrame = NO_SASL_FRAME,
-        /// A size of the frame is more than 32 bits can say.
+        /// A size inside the frame exceeds 32 bits.
         FrameTooLarge = FRAME_TOO_LARGE,
-        /// The frame is none that the client answers, or the server does not have its mechanism.
+        /// The client cannot answer this frame, or the server does not offer this mechanism.
         NotImplemented = NOT_IMPLEMENTED,
-        /// The login is refused: its credentials were.
+        /// The server rejected the login: the credentials are wrong.
         RefusedAuth = REFUSED_AUTH,
-        /// The login is refused by a system error.
+        /// The server rejected the login because of a system error.
         RefusedSys = REFUSED_SYS,
-        /// The login is refused by a system error that stays.
+        /// The server rejected the login because of a permanent system error.
         RefusedSysPerm = REFUSED_SYS_PERM,
-        /// The login is refused by a system error that may pass.
+        /// The server rejected the login because of a temporary system error.
         RefusedSysTemp = REFUSED_SYS_TEMP,
-        /// Nothing is offered that the server could answer by.
+        /// The server offers no mechanism.
         NoSuchMechanism = NO_SUCH_MECHANISM,
-        /// A name or a message is longer than the library has room for. The connection is to be closed.
+        /// A name or a message does not fit into the struct. Close the connection.
         TooLong = TOO_LONG,
         /// The connection has ended.
         Ended = ENDED,
-        /// There was no memory. Nothing has changed, and the call can be made again.
+        /// An allocation failed. Nothing has changed, and you can repeat the call.
         OutOfMemory = OUT_OF_MEMORY,
     }
 }
 
 impl ConnectionError {
-    /// Why SCRAM refuses what the server sent, where that is why.
+    /// Returns the error of SCRAM, if it is one.
     pub fn scram(self) -> Option<ScramErrorKind> {
         match self {
             ConnectionError::OutOfMemory => None,

@@ -1,7 +1,7 @@
 //! The keys that a client can cache in place of its password.
 
 use crate::calls::{done, head, made, put};
-use crate::{sys, RecordError, ScramVersion};
+use crate::{sys, Password, RecordError, ScramVersion};
 use std::fmt;
 
 pub(crate) const NO_KEYS: sys::ScramKeys =
@@ -23,24 +23,15 @@ pub(crate) const NO_KEYS: sys::ScramKeys =
 pub struct CachedKeys(pub(crate) sys::ScramKeys);
 
 impl CachedKeys {
-    /// Derives the keys of a typed password.
-    pub fn from_password(
+    /// Derives the keys of a password, for a server that uses this salt and iteration count. A text is a typed
+    /// password.
+    pub fn from_password<'a>(
         version: ScramVersion,
-        password: &str,
+        password: impl Into<Password<'a>>,
         salt: &[u8],
         iterations: u32,
     ) -> Result<Self, RecordError> {
-        made(sys::fe2o3_scram_keys_make, NO_KEYS, version, password, salt, iterations).map(Self)
-    }
-
-    /// Derives the keys of a prepared password ([`saslprep`](crate::saslprep)): any text, used without change.
-    pub fn from_prepared_password(
-        version: ScramVersion,
-        password: &str,
-        salt: &[u8],
-        iterations: u32,
-    ) -> Result<Self, RecordError> {
-        made(sys::fe2o3_scram_keys_make_prepared, NO_KEYS, version, password, salt, iterations).map(Self)
+        made(sys::fe2o3_scram_keys_make, NO_KEYS, version, password.into(), salt, iterations).map(Self)
     }
 
     /// Returns keys from their stored parts.

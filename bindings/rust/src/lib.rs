@@ -12,7 +12,7 @@
 //! # fn main() -> Result<(), Box<dyn std::error::Error>> {
 //! let credential = SingleScramCredential::new("user", "pencil", ScramVersion::Sha256)?;
 //! let mut server = ScramAuthenticator::new(credential);
-//! let mut client = ScramClient::new("user", "pencil", ScramVersion::Sha256);
+//! let mut client = ScramClient::new("user", "pencil", ScramVersion::Sha256).with_min_iterations(4096);
 //!
 //! let client_first = client.compute_client_first_message();
 //! let server_first = server.compute_server_first_message(&client_first)?.ok_or("no such user")?;
@@ -34,6 +34,7 @@ mod client;
 mod connection;
 mod errors;
 mod keys;
+mod password;
 mod preparation;
 mod records;
 mod server;
@@ -51,10 +52,11 @@ pub use errors::{
     ConnectionError, RecordError, RecordTextError, SaslprepError, ScramErrorKind, ServerScramErrorKind, Status,
 };
 pub use keys::CachedKeys;
+pub use password::Password;
 pub use preparation::{saslprep, Unassigned};
 pub use records::{ScramRecord, StoredPassword};
 pub use server::{ScramAuthenticator, ScramCredentialProvider, SingleScramCredential};
-pub use serving::{Offers, ServerNegotiation};
+pub use serving::{PasswordServer, ServerNegotiation, UserRecords};
 pub use steps::{Answered, ClientSteps, ServerSteps};
 pub use version::ScramVersion;
 

@@ -6,10 +6,10 @@ use crate::{sys, SaslprepError};
 /// Whether a text may contain code points that Unicode 3.2 does not assign.
 #[derive(Clone, Copy, Debug, PartialEq, Eq)]
 pub enum Unassigned {
-    /// It may, like a query: a text that is only compared with stored ones.
+    /// Unassigned code points are allowed, as in a query: a text that is only compared with stored ones.
     Allowed,
 
-    /// It may not, like a stored text.
+    /// Unassigned code points are rejected, as in a stored text.
     Refused,
 }
 

@@ -1,7 +1,7 @@
 //! What a server stores of a password.
 
 use crate::calls::{done, filled, head, made, put};
-use crate::{sys, RecordError, RecordTextError, ScramVersion};
+use crate::{sys, Password, RecordError, RecordTextError, ScramVersion};
 use std::fmt;
 use std::str::FromStr;
 
@@ -56,36 +56,15 @@ impl fmt::Debug for StoredPassword<'_> {
 pub struct ScramRecord(pub(crate) sys::ScramRecord);
 
 impl ScramRecord {
-    /// Computes the record of a typed password. The salt has to be random, and fresh for each record.
-    pub fn from_password(
+    /// Computes the record of a password. A text is a typed password. The salt has to be random, and fresh for each
+    /// record.
+    pub fn from_password<'a>(
         version: ScramVersion,
-        password: &str,
+        password: impl Into<Password<'a>>,
         salt: &[u8],
         iterations: u32,
     ) -> Result<Self, RecordError> {
-        made(sys::fe2o3_scram_record_make, NO_RECORD, version, password, salt, iterations).map(Self)
-    }
-
-    /// Computes the record of a prepared password: any text, used without change.
-    ///
-    /// ```
-    /// use fe2o3_sasl_proved::{saslprep, ScramRecord, ScramVersion, Unassigned};
-    ///
-    /// # fn main() -> Result<(), Box<dyn std::error::Error>> {
-    /// let prepared = saslprep("pe\u{301}ncil", Unassigned::Refused)?;
-    /// assert_eq!(prepared, "p\u{e9}ncil");
-    /// let record = ScramRecord::from_prepared_password(ScramVersion::Sha256, &prepared, b"random bytes", 4096)?;
-    /// assert!(record.verify_prepared_password(&prepared) && !record.verify_password(&prepared));
-    /// # Ok(())
-    /// # }
-    /// ```
-    pub fn from_prepared_password(
-        version: ScramVersion,
-        password: &str,
-        salt: &[u8],
-        iterations: u32,
-    ) -> Result<Self, RecordError> {
-        made(sys::fe2o3_scram_record_make_prepared, NO_RECORD, version, password, salt, iterations).map(Self)
+        made(sys::fe2o3_scram_record_make, NO_RECORD, version, password.into(), salt, iterations).map(Self)
     }
 
     /// Returns the record of these parts.
@@ -157,17 +136,12 @@ impl ScramRecord {
         String::from_utf8(text.expect("there is memory for a text")).expect("a record's text is ASCII")
     }
 
-    /// Returns whether a typed password, for instance one received by PLAIN, is the record's.
-    pub fn verify_password(&self, password: &str) -> bool {
+    /// Returns whether a password, for instance one received by PLAIN, is the record's. A text is a typed password.
+    pub fn verify_password<'a>(&self, password: impl Into<Password<'a>>) -> bool {
+        let password = password.into();
+        let (form, text) = (password.form(), password.as_str());
         // SAFETY: the record is borrowed, and the password is a slice that lives through the call.
-        let status = unsafe { sys::fe2o3_scram_record_verify(&self.0, password.as_ptr(), password.len()) };
-        done(status).is_ok()
-    }
-
-    /// Returns whether a prepared password is the record's.
-    pub fn verify_prepared_password(&self, password: &str) -> bool {
-        // SAFETY: the record is borrowed, and the password is a slice that lives through the call.
-        let status = unsafe { sys::fe2o3_scram_record_verify_prepared(&self.0, password.as_ptr(), password.len()) };
+        let status = unsafe { sys::fe2o3_scram_record_verify(&self.0, form, text.as_ptr(), text.len()) };
         done(status).is_ok()
     }
 

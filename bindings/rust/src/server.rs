@@ -2,13 +2,15 @@
 
 use crate::calls::filled;
 use crate::{
-    generate_nonce, sys, ScramRecord, ScramVersion, ServerScramErrorKind, StoredPassword, DEFAULT_SCRAM_ITERATIONS,
+    generate_nonce, sys, ScramRecord, ScramVersion, ServerScramErrorKind, StoredPassword, UserRecords,
+    DEFAULT_SCRAM_ITERATIONS,
 };
 use std::fmt;
 use std::sync::Arc;
 
 pub(crate) const NO_CHALLENGE: sys::ScramServer = sys::ScramServer {
     state: 0,
+    version: 0,
     user_len: 0,
     bare_len: 0,
     nonce_len: 0,
@@ -90,6 +92,16 @@ impl ScramCredentialProvider for SingleScramCredential {
     }
 }
 
+impl UserRecords for SingleScramCredential {
+    fn records(&self, username: &str) -> Vec<ScramRecord> {
+        if username == self.username {
+            vec![self.record.clone()]
+        } else {
+            Vec::new()
+        }
+    }
+}
+
 impl fmt::Debug for SingleScramCredential {
     fn fmt(&self, f: &mut fmt::Formatter<'_>) -> fmt::Result {
         f.debug_struct("SingleScramCredential")
@@ -101,10 +113,17 @@ impl fmt::Debug for SingleScramCredential {
 
 /// The settings of mock records.
 #[derive(Clone)]
-struct MockSettings {
-    secret: [u8; 32],
-    salt_len: usize,
-    iterations: u32,
+pub(crate) struct MockSettings {
+    pub(crate) secret: [u8; 32],
+    pub(crate) salt_len: usize,
+    pub(crate) iterations: u32,
+}
+
+impl MockSettings {
+    /// Returns the mock record of a name.
+    pub(crate) fn record(&self, version: ScramVersion, username: &str) -> Result<ScramRecord, ServerScramErrorKind> {
+        Ok(ScramRecord::mock(version, &self.secret, username, self.salt_len, self.iterations)?)
+    }
 }
 
 /// A server over a store of credentials.
@@ -116,9 +135,9 @@ struct MockSettings {
 ///
 /// # fn main() -> Result<(), Box<dyn std::error::Error>> {
 /// let credential = SingleScramCredential::new("user", "pencil", ScramVersion::Sha256)?;
-/// let secret = generate_nonce(); // in earnest kept as long as the records
+/// let secret = generate_nonce(); // in production, kept as long as the records
 /// let mut server = ScramAuthenticator::new(credential).mock_unknown_users(secret, 32, 4096);
-/// let mut client = ScramClient::new("unknown", "pencil", ScramVersion::Sha256);
+/// let mut client = ScramClient::new("unknown", "pencil", ScramVersion::Sha256).with_min_iterations(4096);
 ///
 /// let client_first = client.compute_client_first_message();
 /// let server_first = server.compute_server_first_message(&client_first)?.expect("each name is answered");
@@ -154,11 +173,6 @@ impl<C: ScramCredentialProvider + Clone> ScramAuthenticator<C> {
     pub fn accept_cbind_flag_y(mut self) -> Self {
         self.cbind_flag_y = true;
         self
-    }
-
-    /// Returns whether the server accepts the GS2 header `y,,`.
-    pub(crate) fn accepts_cbind_flag_y(&self) -> bool {
-        self.cbind_flag_y
     }
 
     /// Returns the store of credentials.
@@ -261,16 +275,13 @@ impl<C: ScramCredentialProvider + Clone> ScramAuthenticator<C> {
     }
 
     /// Returns the record of a user, or a mock record; `None` if there is neither.
-    pub(crate) fn record(&self, username: &str) -> Result<Option<ScramRecord>, ServerScramErrorKind> {
+    fn record(&self, username: &str) -> Result<Option<ScramRecord>, ServerScramErrorKind> {
         let version = *self.credentials.scram_version();
         if let Some(stored) = self.credentials.get_stored_password(username) {
             return Ok(Some(ScramRecord::from_parts(version, &stored)?));
         }
         match &self.mock {
-            Some(settings) => {
-                let MockSettings { secret, salt_len, iterations } = settings;
-                Ok(Some(ScramRecord::mock(version, secret, username, *salt_len, *iterations)?))
-            }
+            Some(settings) => Ok(Some(settings.record(version, username)?)),
             None => Ok(None),
         }
     }

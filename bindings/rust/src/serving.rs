@@ -3,62 +3,76 @@
 use crate::calls::filled;
 use crate::connection::{progress_of, Progress, Received, FRESH};
 use crate::records::ScramRecord;
-use crate::server::{authenticated_user, ScramAuthenticator, ScramCredentialProvider, NO_CHALLENGE};
-use crate::{generate_nonce, sys, ConnectionError, DEFAULT_SCRAM_ITERATIONS};
+use crate::server::{authenticated_user, MockSettings, NO_CHALLENGE};
+use crate::{generate_nonce, sys, ConnectionError, ScramVersion, DEFAULT_SCRAM_ITERATIONS};
+use std::collections::HashMap;
 use std::fmt;
 use std::marker::PhantomData;
+use std::sync::Arc;
 
 /// The most bytes that are sent at once: a header, and after it a frame (AMQP 1.0, part 5, section 5.3.1).
 const SENT_MOST: usize = 520;
 
-/// The struct of no record.
-const NO_RECORD: sys::ScramRecord = sys::ScramRecord {
-    version: 0,
-    iterations: 0,
-    salt_len: 0,
-    salt: [0; 128],
-    stored_key: [0; 64],
-    server_key: [0; 64],
-};
-
-/// Which mechanisms a server offers.
-#[derive(Clone, Copy, Debug, Default, PartialEq, Eq)]
-pub struct Offers {
-    /// SCRAM with the version of the credentials.
-    pub scram: bool,
-
-    /// PLAIN (RFC 4616). The client sends the password in clear, so offer it over TLS only.
-    pub plain: bool,
-
-    /// ANONYMOUS (RFC 4505).
-    pub anonymous: bool,
-
-    /// EXTERNAL (RFC 4422, appendix A), offered only if the transport has authenticated a client
-    /// (`with_external_authcid`).
-    pub external: bool,
+/// The records of users, of any hashes.
+pub trait UserRecords {
+    /// Returns the records of a user, whose name has no escapes; none if there is no such user. SCRAM with a hash uses
+    /// the first record of that hash, and PLAIN the first record.
+    fn records(&self, username: &str) -> Vec<ScramRecord>;
 }
 
-impl Offers {
-    /// Only SCRAM.
-    pub fn scram() -> Self {
-        Offers { scram: true, ..Self::default() }
-    }
-
-    /// Returns the sum for the library.
-    fn sum(self) -> u32 {
-        sys::OFFER_SCRAM * u32::from(self.scram)
-            + sys::OFFER_PLAIN * u32::from(self.plain)
-            + sys::OFFER_ANONYMOUS * u32::from(self.anonymous)
-            + sys::OFFER_EXTERNAL * u32::from(self.external)
+impl<T: UserRecords + ?Sized> UserRecords for Arc<T> {
+    fn records(&self, username: &str) -> Vec<ScramRecord> {
+        self.as_ref().records(username)
     }
 }
 
-/// What a server offers, and its credentials.
+impl UserRecords for HashMap<String, Vec<ScramRecord>> {
+    fn records(&self, username: &str) -> Vec<ScramRecord> {
+        self.get(username).cloned().unwrap_or_default()
+    }
+}
+
+/// Returns the value of the library for SCRAM with this hash.
+fn offer_of(version: ScramVersion) -> u32 {
+    match version {
+        ScramVersion::Sha1 => sys::OFFER_SCRAM_SHA_1,
+        ScramVersion::Sha256 => sys::OFFER_SCRAM_SHA_256,
+        ScramVersion::Sha512 => sys::OFFER_SCRAM_SHA_512,
+    }
+}
+
+/// Returns the records as the library takes them.
+fn structs(records: &[ScramRecord]) -> Vec<sys::ScramRecord> {
+    records.iter().map(|record| record.0).collect()
+}
+
+/// The hashes of SCRAM, the strongest first.
+const HASHES: [ScramVersion; 3] = [ScramVersion::Sha512, ScramVersion::Sha256, ScramVersion::Sha1];
+
+/// A server of SCRAM, PLAIN, ANONYMOUS and EXTERNAL over the records of users. Without options it offers SCRAM-SHA-512
+/// and SCRAM-SHA-256.
+///
+/// ```
+/// use fe2o3_sasl_proved::*;
+/// use std::collections::HashMap;
+///
+/// # fn main() -> Result<(), Box<dyn std::error::Error>> {
+/// # let (secret, is_tls) = (generate_nonce(), false);
+/// let mut records = HashMap::new();
+/// let record = ScramRecord::from_password(ScramVersion::Sha256, "pencil", &generate_nonce(), 4096)?;
+/// records.insert("user".to_owned(), vec![record]);
+/// let server = PasswordServer::new(records).mock_unknown_users(secret, 32, 4096).plain_under_tls(is_tls);
+/// let side = ServerNegotiation::new(server);
+/// # drop(side);
+/// # Ok(())
+/// # }
+/// ```
 #[derive(Clone)]
-pub(crate) struct Config<C: ScramCredentialProvider + Clone> {
-    authenticator: ScramAuthenticator<C>,
-    offers: Offers,
-    external_authcid: Option<String>,
+pub struct PasswordServer<R: UserRecords + Clone> {
+    records: R,
+    mock: Option<MockSettings>,
+    mechanisms: u32,
+    external_authcid: String,
 }
 
 /// A configuration for the library, whose pointers point to what is borrowed for `'a`.
@@ -67,38 +81,82 @@ pub(crate) struct LentConfig<'a> {
     from: PhantomData<&'a ()>,
 }
 
-impl<C: ScramCredentialProvider + Clone> Config<C> {
-    pub(crate) fn new(authenticator: ScramAuthenticator<C>, offers: Offers) -> Self {
-        Self { authenticator, offers, external_authcid: None }
+impl<R: UserRecords + Clone> PasswordServer<R> {
+    /// Returns a server over these records.
+    pub fn new(records: R) -> Self {
+        let mechanisms = sys::OFFER_SCRAM_SHA_512 + sys::OFFER_SCRAM_SHA_256;
+        Self { records, mock: None, mechanisms, external_authcid: String::new() }
     }
 
-    /// Makes EXTERNAL accept this name.
-    pub(crate) fn with_external_authcid(self, external_authcid: String) -> Self {
-        Self { external_authcid: Some(external_authcid), ..self }
+    /// Offers or does not offer what this value of the library stands for.
+    fn with(mut self, offer: u32, is_offered: bool) -> Self {
+        self.mechanisms = if is_offered { self.mechanisms | offer } else { self.mechanisms & !offer };
+        self
     }
 
-    /// Returns the record of the claimed user, if a name is claimed and has a record.
-    pub(crate) fn record(&self, name: Option<&str>) -> Result<Option<ScramRecord>, ConnectionError> {
-        match name {
-            Some(name) => self.authenticator.record(name).map_err(|why| ConnectionError::of(why.number())),
-            None => Ok(None),
+    /// Makes the server offer SCRAM with these hashes.
+    pub fn hashes(self, hashes: &[ScramVersion]) -> Self {
+        HASHES.into_iter().fold(self, |server, version| server.with(offer_of(version), hashes.contains(&version)))
+    }
+
+    /// Makes the server answer an unknown user with a mock record ([`ScramRecord::mock`]). PLAIN hashes the password of
+    /// an unknown user with the same iteration count.
+    pub fn mock_unknown_users(mut self, secret: [u8; 32], salt_len: usize, iterations: u32) -> Self {
+        self.mock = Some(MockSettings { secret, salt_len, iterations });
+        self
+    }
+
+    /// Makes the server offer PLAIN (RFC 4616) only if the connection is under TLS: the client sends the password in
+    /// clear.
+    pub fn plain_under_tls(self, is_tls: bool) -> Self {
+        self.with(sys::OFFER_PLAIN, is_tls)
+    }
+
+    /// Makes the server offer ANONYMOUS (RFC 4505).
+    pub fn anonymous(self, is_offered: bool) -> Self {
+        self.with(sys::OFFER_ANONYMOUS, is_offered)
+    }
+
+    /// Makes the server offer EXTERNAL (RFC 4422, appendix A) for the name that the transport has authenticated. If the
+    /// name is empty, EXTERNAL is not offered, and an init for it fails.
+    pub fn external(self, authcid: impl Into<String>) -> Self {
+        let server = self.with(sys::OFFER_EXTERNAL, true);
+        Self { external_authcid: authcid.into(), ..server }
+    }
+
+    /// Makes SCRAM also accept the GS2 header `y,,`: the client supports channel binding, and was offered no mechanism
+    /// with `-PLUS` (RFC 5802, section 6). Only for a server that offers none.
+    pub fn accept_cbind_flag_y(self) -> Self {
+        self.with(sys::ACCEPT_CBIND_FLAG_Y, true)
+    }
+
+    /// Returns the records of the claimed user, and after them a mock record for each other offered hash.
+    pub(crate) fn records(&self, name: Option<&str>) -> Result<Vec<sys::ScramRecord>, ConnectionError> {
+        let Some(name) = name else { return Ok(Vec::new()) };
+        let mut records = self.records.records(name);
+        let Some(mock) = &self.mock else { return Ok(structs(&records)) };
+        for version in HASHES {
+            let is_offered = self.mechanisms & offer_of(version) != 0;
+            if is_offered && records.iter().all(|record| record.version() != version) {
+                let record = mock.record(version, name);
+                records.push(record.map_err(|why| ConnectionError::of(why.number()))?);
+            }
         }
+        Ok(structs(&records))
     }
 
-    /// Returns the configuration with the record of a user, if there is one.
-    pub(crate) fn lend<'a>(&'a self, name: Option<&'a str>, record: Option<&'a ScramRecord>) -> LentConfig<'a> {
+    /// Returns the configuration with the records of a user.
+    pub(crate) fn lend<'a>(&'a self, name: Option<&'a str>, records: &'a [sys::ScramRecord]) -> LentConfig<'a> {
         let username = name.unwrap_or_default();
-        let external_authcid = self.external_authcid.as_deref().unwrap_or_default();
         let config = sys::SaslServerConfig {
-            mechanisms: self.offers.sum()
-                + sys::ACCEPT_CBIND_FLAG_Y * u32::from(self.authenticator.accepts_cbind_flag_y()),
-            version: self.authenticator.credentials().scram_version().number(),
-            iterations: DEFAULT_SCRAM_ITERATIONS,
+            mechanisms: self.mechanisms,
+            iterations: self.mock.as_ref().map_or(DEFAULT_SCRAM_ITERATIONS, |mock| mock.iterations),
             username: username.as_ptr(),
             username_len: username.len(),
-            record: record.map_or(&NO_RECORD, |record| &record.0),
-            external_authcid: external_authcid.as_ptr(),
-            external_authcid_len: external_authcid.len(),
+            records: records.as_ptr(),
+            records_count: records.len(),
+            external_authcid: self.external_authcid.as_ptr(),
+            external_authcid_len: self.external_authcid.len(),
         };
         LentConfig { config, from: PhantomData }
     }
@@ -123,8 +181,9 @@ pub(crate) fn named(
 ///
 /// # fn main() -> Result<(), Box<dyn std::error::Error>> {
 /// let credential = SingleScramCredential::new("user", "pencil", ScramVersion::Sha256)?;
-/// let mut server = ServerNegotiation::new(ScramAuthenticator::new(credential), Offers::scram());
-/// let mut client = ClientNegotiation::new(ScramClient::new("user", "pencil", ScramVersion::Sha256), None);
+/// let mut server = ServerNegotiation::new(PasswordServer::new(credential));
+/// let client = ScramClient::new("user", "pencil", ScramVersion::Sha256).with_min_iterations(4096);
+/// let mut client = ClientNegotiation::new(client, None);
 /// let mut to_server = ClientNegotiation::open();
 /// while !to_server.is_empty() {
 ///     let answer = server.receive(&to_server)?.sent;
@@ -136,24 +195,16 @@ pub(crate) fn named(
 /// # }
 /// ```
 #[derive(Clone)]
-pub struct ServerNegotiation<C: ScramCredentialProvider + Clone> {
-    config: Config<C>,
+pub struct ServerNegotiation<R: UserRecords + Clone> {
+    config: PasswordServer<R>,
     state: sys::SaslServer,
 }
 
-impl<C: ScramCredentialProvider + Clone> ServerNegotiation<C> {
-    /// Returns a new connection with the credentials and options of this server. The server's own exchange is not
-    /// affected.
-    pub fn new(authenticator: ScramAuthenticator<C>, offers: Offers) -> Self {
+impl<R: UserRecords + Clone> ServerNegotiation<R> {
+    /// Returns a new connection to this server.
+    pub fn new(server: PasswordServer<R>) -> Self {
         let state = sys::SaslServer { connection: FRESH, scram: NO_CHALLENGE };
-        Self { config: Config::new(authenticator, offers), state }
-    }
-
-    /// Sets the name that the transport has authenticated, which EXTERNAL accepts. Without one, or with an empty one,
-    /// EXTERNAL is not offered, and an init for it fails.
-    pub fn with_external_authcid(mut self, external_authcid: impl Into<String>) -> Self {
-        self.config = self.config.with_external_authcid(external_authcid.into());
-        self
+        Self { config: server, state }
     }
 
     /// Takes received bytes, until all are used or the login ends. After an error the frames before the one that failed
@@ -167,8 +218,8 @@ impl<C: ScramCredentialProvider + Clone> ServerNegotiation<C> {
         while received.taken < bytes.len() && self.progress() == Progress::InProgress {
             let rest = &bytes[received.taken..];
             let name = self.named(rest)?;
-            let record = self.config.record(name.as_deref())?;
-            let (taken, sent) = self.step(rest, name.as_deref(), record.as_ref())?;
+            let records = self.config.records(name.as_deref())?;
+            let (taken, sent) = self.step(rest, name.as_deref(), &records)?;
             received.taken += taken;
             received.sent.extend(sent);
         }
@@ -193,15 +244,15 @@ impl<C: ScramCredentialProvider + Clone> ServerNegotiation<C> {
         })
     }
 
-    /// Calls the library once, with the record of the claimed user, if there is one.
+    /// Calls the library once, with the records of the claimed user.
     fn step(
         &mut self,
         bytes: &[u8],
         name: Option<&str>,
-        record: Option<&ScramRecord>,
+        records: &[sys::ScramRecord],
     ) -> Result<(usize, Vec<u8>), ConnectionError> {
         let nonce = generate_nonce();
-        let lent = self.config.lend(name, record);
+        let lent = self.config.lend(name, records);
         let state = &mut self.state;
         let mut taken = 0;
         let sent = filled(SENT_MOST, |out, len| {
@@ -237,7 +288,7 @@ impl<C: ScramCredentialProvider + Clone> ServerNegotiation<C> {
     }
 }
 
-impl<C: ScramCredentialProvider + Clone> fmt::Debug for ServerNegotiation<C> {
+impl<R: UserRecords + Clone> fmt::Debug for ServerNegotiation<R> {
     fn fmt(&self, f: &mut fmt::Formatter<'_>) -> fmt::Result {
         f.debug_struct("ServerNegotiation").field("progress", &self.progress()).finish_non_exhaustive()
     }

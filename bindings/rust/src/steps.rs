@@ -3,9 +3,8 @@
 use crate::calls::filled;
 use crate::client::INITIAL;
 use crate::connection::{Login, Progress};
-use crate::records::ScramRecord;
-use crate::server::{authenticated_user, ScramAuthenticator, ScramCredentialProvider, NO_CHALLENGE};
-use crate::serving::{named, Config, Offers};
+use crate::server::{authenticated_user, NO_CHALLENGE};
+use crate::serving::{named, PasswordServer, UserRecords};
 use crate::{generate_nonce, sys, CachedKeys, ConnectionError, SaslProfile};
 use std::fmt;
 
@@ -179,8 +178,9 @@ impl fmt::Debug for ClientSteps {
 ///
 /// # fn main() -> Result<(), Box<dyn std::error::Error>> {
 /// let credential = SingleScramCredential::new("user", "pencil", ScramVersion::Sha256)?;
-/// let mut server = ServerSteps::new(ScramAuthenticator::new(credential), Offers::scram());
-/// let mut client = ClientSteps::new(ScramClient::new("user", "pencil", ScramVersion::Sha256), None);
+/// let mut server = ServerSteps::new(PasswordServer::new(credential));
+/// let client = ScramClient::new("user", "pencil", ScramVersion::Sha256).with_min_iterations(4096);
+/// let mut client = ClientSteps::new(client, None);
 ///
 /// let mut to_client = server.sasl_mechanisms()?;
 /// for _ in 0..2 {
@@ -194,29 +194,21 @@ impl fmt::Debug for ClientSteps {
 /// # }
 /// ```
 #[derive(Clone)]
-pub struct ServerSteps<C: ScramCredentialProvider + Clone> {
-    config: Config<C>,
+pub struct ServerSteps<R: UserRecords + Clone> {
+    config: PasswordServer<R>,
     state: sys::ScramServer,
     progress: Progress,
 }
 
-impl<C: ScramCredentialProvider + Clone> ServerSteps<C> {
-    /// Returns a login that has not begun, with the credentials and options of this server. The server's own exchange
-    /// is not affected.
-    pub fn new(authenticator: ScramAuthenticator<C>, offers: Offers) -> Self {
-        Self { config: Config::new(authenticator, offers), state: NO_CHALLENGE, progress: Progress::InProgress }
-    }
-
-    /// Sets the name that the transport has authenticated, which EXTERNAL accepts. Without one, or with an empty one,
-    /// EXTERNAL is not offered, and an init for it fails.
-    pub fn with_external_authcid(mut self, external_authcid: impl Into<String>) -> Self {
-        self.config = self.config.with_external_authcid(external_authcid.into());
-        self
+impl<R: UserRecords + Clone> ServerSteps<R> {
+    /// Returns a login at this server that has not begun.
+    pub fn new(server: PasswordServer<R>) -> Self {
+        Self { config: server, state: NO_CHALLENGE, progress: Progress::InProgress }
     }
 
     /// Returns the frame body with which the server offers its mechanisms. Send it after the client's SASL header.
     pub fn sasl_mechanisms(&self) -> Result<Vec<u8>, ConnectionError> {
-        let lent = self.config.lend(None, None);
+        let lent = self.config.lend(None, &[]);
         filled(BODY_MOST, |out, len| {
             // SAFETY: the configuration's pointers point to what `lent` borrows; the room and its length are borrowed
             // for writing, and so overlap nothing.
@@ -239,8 +231,8 @@ impl<C: ScramCredentialProvider + Clone> ServerSteps<C> {
     pub fn on_frame_with(&mut self, body: &[u8], nonce: &[u8; 32]) -> Result<Answered, ConnectionError> {
         goes_on(self.progress)?;
         let name = self.named(body)?;
-        let record = self.config.record(name.as_deref())?;
-        let answered = self.step(body, nonce, name.as_deref(), record.as_ref())?;
+        let records = self.config.records(name.as_deref())?;
+        let answered = self.step(body, nonce, name.as_deref(), &records)?;
         self.progress = answered.progress;
         Ok(answered)
     }
@@ -263,15 +255,15 @@ impl<C: ScramCredentialProvider + Clone> ServerSteps<C> {
         })
     }
 
-    /// Calls the library once, with the record of the claimed user, if there is one.
+    /// Calls the library once, with the records of the claimed user.
     fn step(
         &mut self,
         body: &[u8],
         nonce: &[u8; 32],
         name: Option<&str>,
-        record: Option<&ScramRecord>,
+        records: &[sys::ScramRecord],
     ) -> Result<Answered, ConnectionError> {
-        let lent = self.config.lend(name, record);
+        let lent = self.config.lend(name, records);
         let state = &mut self.state;
         stepped(|progress, out, len| {
             // SAFETY: the configuration's pointers point to what `lent` borrows, and the body is a slice that lives
@@ -304,7 +296,7 @@ impl<C: ScramCredentialProvider + Clone> ServerSteps<C> {
     }
 }
 
-impl<C: ScramCredentialProvider + Clone> fmt::Debug for ServerSteps<C> {
+impl<R: UserRecords + Clone> fmt::Debug for ServerSteps<R> {
     fn fmt(&self, f: &mut fmt::Formatter<'_>) -> fmt::Result {
         f.debug_struct("ServerSteps").field("progress", &self.progress).finish_non_exhaustive()
     }

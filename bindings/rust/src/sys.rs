@@ -15,7 +15,7 @@ pub const NOT_UTF8: u32 = 3;
 /// The version is none of the `scram_version` constants.
 pub const NO_SUCH_VERSION: u32 = 4;
 
-/// A text is longer than the array for it.
+/// A text is longer than the array that holds it.
 pub const TOO_LONG: u32 = 5;
 
 /// The typed password is not printable ASCII.
@@ -30,23 +30,23 @@ pub const NO_SUCH_SECRET: u32 = 8;
 /// The struct holds no keys.
 pub const NO_KEYS: u32 = 9;
 
-/// The keys, or the record of a line, are of another version.
+/// The keys, or the record on a line, are of another version.
 pub const OTHER_VERSION: u32 = 10;
 
 /// The password is not that of the record.
 pub const OTHER_PASSWORD: u32 = 11;
 
-/// The mechanism is none of the `mechanism` constants; or a server offers nothing, or a sum with another value than
-/// those of the `offer` constants.
+/// The mechanism is none of the `mechanism` constants, or the offer of a server is empty or not a sum of values of enum
+/// fe2o3_offer.
 pub const NO_SUCH_MECHANISM: u32 = 12;
 
 /// The connection has ended: its `progress` is not IN_PROGRESS.
 pub const ENDED: u32 = 13;
 
-/// The struct of the connection is not one that a call writes.
+/// The struct of the connection has a value that no call writes.
 pub const INVALID_SNAPSHOT: u32 = 14;
 
-/// The bytes complete no frame that claims a user name.
+/// The bytes do not complete a frame that claims a user name.
 pub const NAMES_NO_USER: u32 = 15;
 
 /// The message is not UTF-8.
@@ -165,22 +165,22 @@ pub const LINE_FEED_MISSING: u32 = 65;
 /// The line has no space.
 pub const SPACE_MISSING: u32 = 66;
 
-/// The text before the last space of the line is not an escaped name.
+/// The text before the last space of the line is not an escaped user name.
 pub const INVALID_NAME: u32 = 67;
 
-/// No line has a record of this version for this name.
+/// No line has a record of this version for this user.
 pub const NO_SUCH_USER: u32 = 68;
 
-/// The name contains a line feed, or the iteration count is 0.
+/// The user name contains a line feed, or the iteration count is 0.
 pub const NOT_WRITABLE: u32 = 69;
 
-/// The other side's protocol header is not that of SASL.
+/// The peer sent another protocol header than that of SASL.
 pub const PROTOCOL_HEADER_MISMATCH: u32 = 70;
 
-/// The size of the frame is below 8 or above 512.
+/// The frame has fewer than 8 or more than 512 bytes.
 pub const FRAME_SIZE: u32 = 71;
 
-/// The frame is not the expected one.
+/// The peer sent another frame than the expected one.
 pub const UNEXPECTED_FRAME: u32 = 72;
 
 /// The reply does not fit into a frame of 512 bytes.
@@ -189,28 +189,28 @@ pub const REPLY_TOO_LARGE: u32 = 73;
 /// The frame cannot be parsed.
 pub const MALFORMED_FRAME: u32 = 74;
 
-/// The type or the data offset of the frame is not that of a SASL frame.
+/// The frame has another type or data offset than a SASL frame.
 pub const NO_SASL_FRAME: u32 = 75;
 
-/// A size inside the frame needs more than 32 bits.
+/// A size inside the frame exceeds 32 bits.
 pub const FRAME_TOO_LARGE: u32 = 76;
 
-/// The client does not answer such a frame, or the server does not offer the mechanism.
+/// The client cannot answer this frame, or the server does not offer this mechanism.
 pub const NOT_IMPLEMENTED: u32 = 77;
 
-/// The login was refused: its credentials are wrong.
+/// The server rejected the login: the credentials are wrong.
 pub const REFUSED_AUTH: u32 = 81;
 
-/// The login was refused because of a system error.
+/// The server rejected the login because of a system error.
 pub const REFUSED_SYS: u32 = 82;
 
-/// The login was refused because of a permanent system error.
+/// The server rejected the login because of a permanent system error.
 pub const REFUSED_SYS_PERM: u32 = 83;
 
-/// The login was refused because of a temporary system error.
+/// The server rejected the login because of a temporary system error.
 pub const REFUSED_SYS_TEMP: u32 = 84;
 
-/// The number is none of the `unassigned` constants.
+/// The argument `unassigned` is none of the `unassigned` constants, or a form none of the `password_form` constants.
 pub const NO_SUCH_CHOICE: u32 = 85;
 
 /// The prepared text contains a character that RFC 4013, section 2.3, prohibits.
@@ -220,7 +220,7 @@ pub const PROHIBITED_CHARACTER: u32 = 86;
 /// one (RFC 3454, section 6).
 pub const MIXED_DIRECTIONS: u32 = 87;
 
-/// The text, or what it is prepared to, contains a code point that Unicode 3.2 does not assign.
+/// The text, or the prepared text, contains a code point that Unicode 3.2 does not assign.
 pub const UNASSIGNED_CODE_POINT: u32 = 88;
 
 /// `scram_version`: SCRAM-SHA-1.
@@ -244,20 +244,20 @@ pub const ANONYMOUS: u32 = 2;
 /// `mechanism`: EXTERNAL (RFC 4422, appendix A).
 pub const EXTERNAL: u32 = 3;
 
-/// `secret`: The typed password, which has to be printable ASCII.
+/// `secret`: The password.
 pub const BY_PASSWORD: u32 = 0;
 
 /// `secret`: The keys.
 pub const BY_KEYS: u32 = 1;
 
-/// `secret`: The keys if they are of the server's salt and iteration count, otherwise the typed password.
+/// `secret`: The keys if they are of the server's salt and iteration count, otherwise the password.
 pub const BY_PASSWORD_AND_KEYS: u32 = 2;
 
-/// `secret`: The prepared password (fe2o3_saslprep).
-pub const BY_PREPARED: u32 = 3;
+/// `password_form`: The password as the user typed it, which has to be printable ASCII.
+pub const TYPED: u32 = 0;
 
-/// `secret`: The keys if they are of the server's salt and iteration count, otherwise the prepared password.
-pub const BY_PREPARED_AND_KEYS: u32 = 4;
+/// `password_form`: The password as you prepared it (fe2o3_saslprep): any text, used without change.
+pub const PREPARED: u32 = 1;
 
 /// `unassigned`: Rejects unassigned code points: the call returns UNASSIGNED_CODE_POINT.
 pub const UNASSIGNED_REFUSED: u32 = 0;
@@ -265,20 +265,26 @@ pub const UNASSIGNED_REFUSED: u32 = 0;
 /// `unassigned`: Allows unassigned code points, and leaves them unchanged.
 pub const UNASSIGNED_ALLOWED: u32 = 1;
 
-/// `offer`: SCRAM with the hash of the configuration.
-pub const OFFER_SCRAM: u32 = 1;
+/// `offer`: SCRAM-SHA-512.
+pub const OFFER_SCRAM_SHA_512: u32 = 1;
+
+/// `offer`: SCRAM-SHA-256.
+pub const OFFER_SCRAM_SHA_256: u32 = 2;
+
+/// `offer`: SCRAM-SHA-1, for clients that have no other hash.
+pub const OFFER_SCRAM_SHA_1: u32 = 4;
 
 /// `offer`: PLAIN, which sends the password in clear.
-pub const OFFER_PLAIN: u32 = 2;
+pub const OFFER_PLAIN: u32 = 8;
 
 /// `offer`: ANONYMOUS.
-pub const OFFER_ANONYMOUS: u32 = 4;
+pub const OFFER_ANONYMOUS: u32 = 16;
 
 /// `offer`: EXTERNAL, if `external_authcid` is not empty.
-pub const OFFER_EXTERNAL: u32 = 8;
+pub const OFFER_EXTERNAL: u32 = 32;
 
 /// `offer`: No mechanism: SCRAM also accepts the GS2 header `y,,`, like fe2o3_scram_server_first_with_cbind_flag_y.
-pub const ACCEPT_CBIND_FLAG_Y: u32 = 16;
+pub const ACCEPT_CBIND_FLAG_Y: u32 = 64;
 
 /// `progress`: The login goes on: the other side has to send more.
 pub const IN_PROGRESS: u32 = 0;
@@ -414,6 +420,8 @@ pub struct Login {
     pub version: u32,
     /// What the client logs in with: one of the `secret` constants.
     pub secret: u32,
+    /// The form of the password: one of the `password_form` constants.
+    pub form: u32,
     /// The minimum iteration count that the client accepts. RFC 7677 requires at least 4096.
     pub min_iterations: u32,
     /// The maximum iteration count that the client accepts.
@@ -421,7 +429,7 @@ pub struct Login {
     /// The user name, without escapes.
     pub username: *const u8,
     pub username_len: usize,
-    /// The password, typed or prepared.
+    /// The password.
     pub password: *const u8,
     pub password_len: usize,
     /// The keys of an earlier login, or a struct of zeros.
@@ -456,6 +464,8 @@ pub struct ScramClient {
 pub struct ScramServer {
     /// How far the exchange is: one of the `scram_server_state` constants.
     pub state: u32,
+    /// The hash of the open challenge: one of the `scram_version` constants.
+    pub version: u32,
     /// The number of bytes of `user` in use.
     pub user_len: u32,
     /// The number of bytes of `bare` in use.
@@ -519,22 +529,23 @@ pub struct SaslClient {
     pub scram: ScramClient,
 }
 
-/// What a server offers, and the record of one user. You lend the struct to each call.
+/// What a server offers, and the records of one user. You lend the struct to each call.
 #[repr(C)]
 #[derive(Clone, Copy)]
 pub struct SaslServerConfig {
     /// The offered mechanisms: a sum of values of the `offer` constants. PLAIN sends the password in clear, so offer it
     /// over TLS only.
     pub mechanisms: u32,
-    /// The hash of SCRAM and of the record: one of the `scram_version` constants.
-    pub version: u32,
     /// The iteration count with which PLAIN hashes the password of an unknown user.
     pub iterations: u32,
-    /// The name of the user whose record this is, without escapes.
+    /// The name of the user whose records these are, without escapes.
     pub username: *const u8,
     pub username_len: usize,
-    /// The record of the user. If it holds no record of `version`, no user is known.
-    pub record: *const ScramRecord,
+    /// The records of the user, of any hashes. SCRAM with a hash uses the first record of that hash; if there is none,
+    /// it does not know the user. PLAIN tests the password against the first record that can be read, so put mock
+    /// records last; if there is none, it hashes the password with SHA-256 and rejects the login.
+    pub records: *const ScramRecord,
+    pub records_count: usize,
     /// The name of the client that the transport has authenticated, for instance by a certificate. EXTERNAL accepts it.
     /// If empty, EXTERNAL is not offered, and an init for it fails with REFUSED_AUTH.
     pub external_authcid: *const u8,
@@ -620,20 +631,11 @@ extern "C" {
         out_size: usize,
         out_len: *mut usize) -> u32;
 
-    /// Computes the record of a typed password. The password has to be printable ASCII.
+    /// Computes the record of a password. `form` is one of the `password_form` constants. A client logs in with exactly
+    /// the text of which the record was made.
     pub fn fe2o3_scram_record_make(
         version: u32,
-        password: *const u8,
-        password_len: usize,
-        salt: *const u8,
-        salt_len: usize,
-        iterations: u32,
-        kept: *mut ScramRecord) -> u32;
-
-    /// Computes the record of a prepared password (`fe2o3_saslprep`): any text, used without change. A client logs in
-    /// with exactly that text.
-    pub fn fe2o3_scram_record_make_prepared(
-        version: u32,
+        form: u32,
         password: *const u8,
         password_len: usize,
         salt: *const u8,
@@ -666,14 +668,12 @@ extern "C" {
         out_size: usize,
         out_len: *mut usize) -> u32;
 
-    /// Compares a typed password, for instance one received by PLAIN, with a record: OK if it is the record's,
-    /// OTHER_PASSWORD if not. It hashes as often as the record's iteration count says, so pass only records of your
-    /// own.
-    pub fn fe2o3_scram_record_verify(kept: *const ScramRecord, password: *const u8, password_len: usize) -> u32;
-
-    /// Compares a prepared password with a record, like `fe2o3_scram_record_verify`. The text is used without change.
-    pub fn fe2o3_scram_record_verify_prepared(
+    /// Compares a password, for instance one received by PLAIN, with a record: OK if it is the record's, OTHER_PASSWORD
+    /// if not. `form` is one of the `password_form` constants. The call hashes as often as the record's iteration count
+    /// says, so pass only your own records.
+    pub fn fe2o3_scram_record_verify(
         kept: *const ScramRecord,
+        form: u32,
         password: *const u8,
         password_len: usize) -> u32;
 
@@ -702,21 +702,11 @@ extern "C" {
         out_size: usize,
         out_len: *mut usize) -> u32;
 
-    /// Derives the keys of a typed password, for a server that uses this salt and iteration count. The password has to
-    /// be printable ASCII.
+    /// Derives the keys of a password, for a server that uses this salt and iteration count. `form` is one of enum
+    /// fe2o3_password_form.
     pub fn fe2o3_scram_keys_make(
         version: u32,
-        password: *const u8,
-        password_len: usize,
-        salt: *const u8,
-        salt_len: usize,
-        iterations: u32,
-        keys: *mut ScramKeys) -> u32;
-
-    /// Derives the keys of a prepared password (`fe2o3_saslprep`), for a server that uses this salt and iteration
-    /// count. The text is used without change.
-    pub fn fe2o3_scram_keys_make_prepared(
-        version: u32,
+        form: u32,
         password: *const u8,
         password_len: usize,
         salt: *const u8,
@@ -873,7 +863,7 @@ extern "C" {
     /// `out` needs 508 bytes, which is tested before anything is hashed. `nonce` is 32 fresh random bytes.
     ///
     /// `progress` is IN_PROGRESS while the login goes on, AUTHENTICATED once it is complete, and from REFUSED_AUTH to
-    /// REFUSED_SYS_TEMP if the outcome refuses it. Pass no body after that.
+    /// REFUSED_SYS_TEMP if the outcome rejects it. Pass no body after that.
     ///
     /// This call is for programs that read frames themselves, reject those above 512 bytes, and limit their number. A
     /// login takes three bodies of the server for SCRAM, and two for the other mechanisms. A server that may send more
@@ -914,13 +904,13 @@ extern "C" {
     ///
     /// Before the call, look up the record of the user that the body claims (`fe2o3_sasl_server_step_claimed_user`).
     /// `progress` is IN_PROGRESS while the login goes on, AUTHENTICATED once it is complete, and from REFUSED_AUTH to
-    /// REFUSED_SYS_TEMP if the outcome refuses it. Send that outcome too, and pass no body after it. After a login by
+    /// REFUSED_SYS_TEMP if the outcome rejects it. Send that outcome too, and pass no body after it. After a login by
     /// any mechanism the struct holds the authenticated user (`fe2o3_scram_server_authenticated_user`). ANONYMOUS has
     /// none.
     ///
     /// This call is for programs that read frames themselves, reject those above 512 bytes, and limit their number. A
     /// login takes an init, and for SCRAM one response. A client that may send more can try passwords again and again.
-    /// A response without a challenge is answered by an outcome that refuses. A frame that no client sends returns
+    /// A response without a challenge is answered by an outcome that is not OK. A frame that no client sends returns
     /// NO_SASL_FRAME. If a name or a message does not fit into the struct, the call returns TOO_LONG, and you have to
     /// close the connection.
     pub fn fe2o3_sasl_server_step(

@@ -1,6 +1,7 @@
 //! Logins over the bytes of a connection, against frames that are written here (AMQP 1.0, part 5, section 5.3.3).
 
 use fe2o3_sasl_proved::*;
+use std::collections::HashMap;
 
 const HEADER: &[u8] = b"AMQP\x03\x01\x00\x00";
 const CHALLENGE: u8 = 0x42;
@@ -46,6 +47,11 @@ fn fields(frame: &[u8]) -> Vec<Option<Vec<u8>>> {
 
 fn server(version: ScramVersion) -> ScramAuthenticator<SingleScramCredential> {
     ScramAuthenticator::new(SingleScramCredential::new("user", "pencil", version).unwrap())
+}
+
+/// A server of one user, which offers SCRAM with this hash.
+fn offering(version: ScramVersion) -> PasswordServer<SingleScramCredential> {
+    PasswordServer::new(SingleScramCredential::new("user", "pencil", version).unwrap()).hashes(&[version])
 }
 
 /// A connection of a client of SCRAM up to its outcome, of which the bytes and some of AMQP's come last.
@@ -135,7 +141,7 @@ fn refusals() {
     assert_eq!(why.scram(), Some(ScramErrorKind::ClientNonceMismatch));
 }
 
-fn joined(client: &mut ClientNegotiation, server: &mut ServerNegotiation<SingleScramCredential>) {
+fn joined<R: UserRecords + Clone>(client: &mut ClientNegotiation, server: &mut ServerNegotiation<R>) {
     let mut to_server = ClientNegotiation::open();
     while !to_server.is_empty() {
         let answer = server.receive(&to_server).unwrap().sent;
@@ -147,7 +153,6 @@ fn joined(client: &mut ClientNegotiation, server: &mut ServerNegotiation<SingleS
 fn both_sides() {
     let plain = |password: &str| SaslProfile::Plain { username: "user".to_owned(), password: password.to_owned() };
     let scram = |password: &str| ScramClient::new("user", password, ScramVersion::Sha256).into();
-    let all = Offers { scram: true, plain: true, anonymous: true, external: true };
     let refused = Progress::Failed(ConnectionError::RefusedAuth);
     for (profile, progress, user) in [
         (scram("pencil"), Progress::Authenticated, Some("user")),
@@ -158,7 +163,8 @@ fn both_sides() {
         (plain("pencils"), refused, None),
     ] {
         let mut client = ClientNegotiation::new(profile, None);
-        let mut side = ServerNegotiation::new(server(ScramVersion::Sha256), all).with_external_authcid("peer");
+        let all = offering(ScramVersion::Sha256).plain_under_tls(true).anonymous(true).external("peer");
+        let mut side = ServerNegotiation::new(all);
         joined(&mut client, &mut side);
         assert_eq!((client.progress(), side.progress()), (progress, progress));
         assert_eq!(side.authenticated_user().as_deref(), user);
@@ -170,23 +176,54 @@ fn both_sides() {
 fn a_client_that_could_bind_a_channel() {
     let init = frame(0x41, &[b"\xa3\x0dSCRAM-SHA-256", &binary(b"y,,n=user,r=x")]);
     let came = [HEADER, &init].concat();
-    let mut side = ServerNegotiation::new(server(ScramVersion::Sha256), Offers::scram());
+    let mut side = ServerNegotiation::new(offering(ScramVersion::Sha256));
     side.receive(&came).unwrap();
     assert_eq!(side.progress(), Progress::Failed(ConnectionError::RefusedAuth));
-    let mut side = ServerNegotiation::new(server(ScramVersion::Sha256).accept_cbind_flag_y(), Offers::scram());
+    let mut side = ServerNegotiation::new(offering(ScramVersion::Sha256).accept_cbind_flag_y());
     let sent = side.receive(&came).unwrap().sent;
     assert_eq!(side.progress(), Progress::InProgress);
     let challenge = fields(&sent[offer("SCRAM-SHA-256").len()..]);
     assert!(challenge[0].as_deref().unwrap().starts_with(b"r=x"));
-    let mut side = ServerNegotiation::new(server(ScramVersion::Sha256).accept_cbind_flag_y(), Offers::default());
+    let mut side = ServerNegotiation::new(offering(ScramVersion::Sha256).accept_cbind_flag_y().hashes(&[]));
     assert_eq!(side.receive(HEADER), Err(ConnectionError::NoSuchMechanism));
 }
 
 #[test]
 fn a_server_that_offers_nothing() {
-    let mut side = ServerNegotiation::new(server(ScramVersion::Sha1), Offers::default());
+    let mut side = ServerNegotiation::new(offering(ScramVersion::Sha1).hashes(&[]));
     assert_eq!(side.receive(HEADER), Err(ConnectionError::NoSuchMechanism));
-    let mut side = ServerNegotiation::new(server(ScramVersion::Sha1), Offers::scram());
+    let mut side = ServerNegotiation::new(offering(ScramVersion::Sha1));
     assert!(side.receive(b"AMQP\0\x01\0\0").unwrap().sent.starts_with(HEADER));
     assert_eq!(side.progress(), Progress::Failed(ConnectionError::ProtocolHeaderMismatch));
+}
+
+/// A user of two hashes, at a server that offers three and PLAIN.
+#[test]
+fn a_server_of_several_hashes() {
+    let hashes = [ScramVersion::Sha512, ScramVersion::Sha256, ScramVersion::Sha1];
+    let record = |version| ScramRecord::from_password(version, "pencil", &[1; 16], 4096).unwrap();
+    let records = HashMap::from([("user".to_owned(), vec![record(hashes[1]), record(hashes[0])])]);
+    let server = PasswordServer::new(records).hashes(&hashes).mock_unknown_users([3; 32], 16, 4096);
+    let refused = Progress::Failed(ConnectionError::RefusedAuth);
+    let scram = |user: &str, password: &str, version| ScramClient::new(user, password, version).into();
+    let plain = |password: &str| SaslProfile::Plain { username: "user".to_owned(), password: password.to_owned() };
+    for (profile, progress) in [
+        (scram("user", "pencil", hashes[0]), Progress::Authenticated),
+        (scram("user", "pencil", hashes[1]), Progress::Authenticated),
+        (scram("user", "pencil", hashes[2]), refused),
+        (scram("user", "pencils", hashes[0]), refused),
+        (scram("nobody", "pencil", hashes[0]), refused),
+        (plain("pencil"), Progress::Authenticated),
+        (plain("pencils"), refused),
+    ] {
+        let mut client = ClientNegotiation::new(profile, None);
+        let mut side = ServerNegotiation::new(server.clone().plain_under_tls(true));
+        joined(&mut client, &mut side);
+        assert_eq!((client.progress(), side.progress()), (progress, progress));
+    }
+    let mut side = ServerNegotiation::new(server);
+    let offered = side.receive(HEADER).unwrap().sent;
+    let names = hashes.map(|version| version.mechanism());
+    assert!(names.iter().all(|name| offered.windows(name.len()).any(|part| part == name.as_bytes())));
+    assert!(offered.windows(5).all(|part| part != b"PLAIN"));
 }

@@ -98,7 +98,7 @@ fn logins_by_keys() {
 
 #[test]
 fn a_salt_longer_than_keys_have_room_for_is_answered() {
-    let mut client = ScramClient::new("user", "pencil", ScramVersion::Sha256);
+    let mut client = ScramClient::new("user", "pencil", ScramVersion::Sha256).with_min_iterations(1);
     let nonce = challenged(&mut client);
     let challenge = format!("r={}x,s={},i=1", nonce, "YWFh".repeat(43));
     assert!(client.compute_client_final_message(&challenge).is_ok());
@@ -150,8 +150,7 @@ fn the_record_of_the_example_in_rfc_7677() {
     assert_eq!(record(ScramVersion::Sha256, &RFC_SALT).to_text(), text);
 }
 
-/// A password past ASCII as it is typed, what SASLprep prepares it to, and the records of that with the salt
-/// above: the text by Python's `stringprep` and `unicodedata`, the keys by its `hashlib` and `hmac`.
+/// A non-ASCII password as typed, what SASLprep prepares it to, and the records of that with the salt above: the text by Python's `stringprep` and `unicodedata`, the keys by its `hashlib` and `hmac`.
 const TYPED: &str = "pe\u{301}nci\u{ad}l";
 const PREPARED: &str = "p\u{e9}ncil";
 const PREPARED_RECORDS: [&str; 3] = [
@@ -167,19 +166,20 @@ const PREPARED_RECORDS: [&str; 3] = [
 fn prepared_passwords() {
     assert_eq!(saslprep(TYPED, Unassigned::Refused).as_deref(), Ok(PREPARED));
     for (version, text) in VERSIONS.into_iter().zip(PREPARED_RECORDS) {
-        let record = ScramRecord::from_prepared_password(version, PREPARED, &RFC_SALT, 4096).unwrap();
+        let password = Password::Prepared(PREPARED);
+        let record = ScramRecord::from_password(version, password, &RFC_SALT, 4096).unwrap();
         assert_eq!(record.to_text(), text);
-        assert!(record.verify_prepared_password(PREPARED) && !record.verify_prepared_password(TYPED));
+        assert!(record.verify_password(password) && !record.verify_password(Password::Prepared(TYPED)));
         assert!(!record.verify_password(PREPARED));
 
         let server = || ScramAuthenticator::new(SingleScramCredential::with_record("user", record.clone()));
-        let other = ScramRecord::from_prepared_password(version, PREPARED, &OTHER_SALT, 4096).unwrap();
-        let mut client = ScramClient::with_prepared_password("user", PREPARED, version);
+        let other = ScramRecord::from_password(version, password, &OTHER_SALT, 4096).unwrap();
+        let mut client = ScramClient::with_password("user", password, version);
         assert_eq!(log_in(&mut client, &mut server()), Ok(()));
         let keys = client.keys().unwrap();
-        let made = CachedKeys::from_prepared_password(version, PREPARED, &RFC_SALT, 4096).unwrap();
+        let made = CachedKeys::from_password(version, password, &RFC_SALT, 4096).unwrap();
         assert!(keys.client_key() == made.client_key() && keys.server_key() == made.server_key());
-        let mut by_both = ScramClient::with_prepared_password_and_keys("user", PREPARED, keys);
+        let mut by_both = ScramClient::with_password_and_keys("user", password, keys);
         assert_eq!(log_in(&mut by_both, &mut server()), Ok(()));
         let mut another = ScramAuthenticator::new(SingleScramCredential::with_record("user", other));
         assert_eq!(log_in(&mut by_both, &mut another), Ok(()));
@@ -187,7 +187,7 @@ fn prepared_passwords() {
         let refused = Err(Refused::ByClient(ScramErrorKind::NormalizeError));
         assert_eq!(log_in(&mut ScramClient::new("user", PREPARED, version), &mut server()), refused);
         let refused = Err(Refused::ByServer(ServerScramErrorKind::AuthenticationFailed));
-        let mut unprepared = ScramClient::with_prepared_password("user", TYPED, version);
+        let mut unprepared = ScramClient::with_password("user", Password::Prepared(TYPED), version);
         assert_eq!(log_in(&mut unprepared, &mut server()), refused);
     }
 }
@@ -247,7 +247,7 @@ fn a_client_that_could_bind_a_channel() {
 #[test]
 fn what_is_no_record() {
     let version = ScramVersion::Sha256;
-    let made = |password, salt: &[u8], count| ScramRecord::from_password(version, password, salt, count).err();
+    let made = |password: &str, salt: &[u8], count| ScramRecord::from_password(version, password, salt, count).err();
     assert_eq!(made("\u{e9}", &SALT, 4096), Some(RecordError::NotPrintable));
     assert_eq!(made("pencil", &SALT, 0), Some(RecordError::ZeroIterations));
     assert_eq!(made("pencil", &[0; 129], 1), Some(RecordError::TooLong));
@@ -306,7 +306,7 @@ fn what_a_client_refuses() {
     assert_eq!(client.validate_server_final(b"e=other-error"), Err(ServerSignatureMismatch));
     assert!(client.keys().is_none());
 
-    let mut accented = ScramClient::new("user", "p\u{e9}ncil", ScramVersion::Sha256);
+    let mut accented = ScramClient::new("user", "p\u{e9}ncil", ScramVersion::Sha256).with_min_iterations(2);
     let nonce = challenged(&mut accented);
     let refused = accented.compute_client_final_message(&format!("r={}x,s=YQ==,i=2", nonce));
     assert_eq!(refused, Err(NormalizeError));

@@ -21,7 +21,7 @@ const SERVER_NONCE_TEXT: &str = "AgAAAAAAAAAAAAAAAAAAAAAAAAAAAAAAAAAAAAAAAAA=";
 const PROOF: &str = "MIHdNcfet0LbDJOcfcN6eFJrJahL13kbab8XbO3ku+k=";
 const SIGNATURE: &str = "50uHbJV+ANf1NSOfnBbK910b8IC4PmQ5G06TO7VnXz8=";
 
-/// The same of a client that could bind a channel, whose GS2 header is `y,,`.
+/// The proof of a client with the GS2 channel-binding flag `y`, and the signature for it.
 const UNBOUND_PROOF: &str = "SJ1/Pm0x+vAkhmfEkR72IPuVMVkUt0BF477aSDSc3vM=";
 const UNBOUND_SIGNATURE: &str = "mZx4E2gu+jcdDC0u/pNy5NPrR0Zh6PMH8UcHTIgvIxU=";
 
@@ -77,20 +77,23 @@ fn record(version: ScramVersion) -> ScramRecord {
 
 type Store = SingleScramCredential;
 
-fn server(version: ScramVersion, offers: Offers) -> ServerSteps<Store> {
-    let credential = SingleScramCredential::with_record("user", record(version));
-    ServerSteps::new(ScramAuthenticator::new(credential), offers).with_external_authcid("peer")
+/// The server of one user, which offers SCRAM with this hash.
+fn scram(version: ScramVersion) -> PasswordServer<Store> {
+    PasswordServer::new(SingleScramCredential::with_record("user", record(version))).hashes(&[version])
 }
 
-/// The same, which hides the users whom it does not know.
+/// With all other mechanisms.
+fn with_all(server: PasswordServer<Store>) -> PasswordServer<Store> {
+    server.plain_under_tls(true).anonymous(true).external("peer")
+}
+
+fn server(version: ScramVersion) -> ServerSteps<Store> {
+    ServerSteps::new(scram(version))
+}
+
+/// A server that answers unknown users like known ones.
 fn hiding(version: ScramVersion) -> ServerSteps<Store> {
-    let credential = SingleScramCredential::with_record("user", record(version));
-    let server = ScramAuthenticator::new(credential).mock_unknown_users([3; 32], SALT.len(), 4096);
-    ServerSteps::new(server, Offers::scram())
-}
-
-fn all() -> Offers {
-    Offers { scram: true, plain: true, anonymous: true, external: true }
+    ServerSteps::new(scram(version).mock_unknown_users([3; 32], SALT.len(), 4096))
 }
 
 fn plain(password: &str) -> SaslProfile {
@@ -115,7 +118,7 @@ fn joined(client: &mut ClientSteps, server: &mut ServerSteps<Store>) -> Result<(
 
 #[test]
 fn each_body_of_a_login() {
-    let mut server = server(ScramVersion::Sha256, all());
+    let mut server = ServerSteps::new(with_all(scram(ScramVersion::Sha256)));
     let mut client = ClientSteps::new(ScramClient::new("user", "pencil", ScramVersion::Sha256), Some("host"));
     let (ours, theirs) = (nonce(1), nonce(2));
     let both = format!("r={CLIENT_NONCE_TEXT}{SERVER_NONCE_TEXT}");
@@ -143,11 +146,10 @@ fn a_client_that_could_bind_a_channel() {
     let both = format!("r={CLIENT_NONCE_TEXT}{SERVER_NONCE_TEXT}");
     let response = body(RESPONSE, &[&binary(&format!("c=eSws,{both},p={UNBOUND_PROOF}"))]);
 
-    let mut plain = server(ScramVersion::Sha256, Offers::scram());
+    let mut plain = server(ScramVersion::Sha256);
     assert_eq!(plain.on_frame(&init), Ok(Answered { body: outcome(1), progress: REFUSED }));
 
-    let credential = SingleScramCredential::with_record("user", record(ScramVersion::Sha256));
-    let mut server = ServerSteps::new(ScramAuthenticator::new(credential).accept_cbind_flag_y(), Offers::scram());
+    let mut server = ServerSteps::new(scram(ScramVersion::Sha256).accept_cbind_flag_y());
     let challenge = server.on_frame_with(&init, &nonce(2)).unwrap();
     assert_eq!(challenge.body, body(CHALLENGE, &[&binary(&format!("{both},s={SALT_TEXT},i=4096"))]));
     let last = server.on_frame(&response).unwrap();
@@ -158,10 +160,10 @@ fn a_client_that_could_bind_a_channel() {
 #[test]
 fn prepared_passwords() {
     let password = saslprep("pe\u{301}ncil", Unassigned::Refused).unwrap();
-    let record = ScramRecord::from_prepared_password(ScramVersion::Sha256, &password, &SALT, 4096).unwrap();
+    let record = ScramRecord::from_password(ScramVersion::Sha256, Password::Prepared(&password), &SALT, 4096).unwrap();
     let credential = SingleScramCredential::with_record("user", record);
-    let server = || ServerSteps::new(ScramAuthenticator::new(credential.clone()), Offers::scram());
-    let client = ScramClient::with_prepared_password("user", password, ScramVersion::Sha256);
+    let server = || ServerSteps::new(PasswordServer::new(credential.clone()));
+    let client = ScramClient::with_password("user", Password::Prepared(&password), ScramVersion::Sha256);
     let (mut side, mut other) = (ClientSteps::new(client, None), server());
     assert_eq!(joined(&mut side, &mut other), Ok(()));
     assert_eq!((side.progress(), other.authenticated_user().as_deref()), (Progress::Authenticated, Some("user")));
@@ -170,7 +172,7 @@ fn prepared_passwords() {
 #[test]
 fn logins_by_scram() {
     for version in [ScramVersion::Sha1, ScramVersion::Sha256, ScramVersion::Sha512] {
-        let mut side = server(version, Offers::scram());
+        let mut side = server(version);
         assert_eq!(side.sasl_mechanisms().unwrap(), list_of(&[version.mechanism()]));
         let mut client = ClientSteps::new(ScramClient::new("user", "pencil", version), None);
         assert_eq!((joined(&mut client, &mut side), side.authenticated_user().as_deref()), (Ok(()), Some("user")));
@@ -178,10 +180,10 @@ fn logins_by_scram() {
 
         let keys = client.keys().unwrap();
         let mut by_keys = ClientSteps::new(ScramClient::with_keys("user", keys), None);
-        assert_eq!(joined(&mut by_keys, &mut server(version, Offers::scram())), Ok(()));
+        assert_eq!(joined(&mut by_keys, &mut server(version)), Ok(()));
         assert_eq!(by_keys.progress(), Progress::Authenticated);
 
-        let sides = || [server(version, Offers::scram()), hiding(version)];
+        let sides = || [server(version), hiding(version)];
         let strangers = [("user", "pencils"), ("nobody", "pencil")];
         for ((user, password), mut side) in strangers.into_iter().flat_map(|who| sides().map(|side| (who, side))) {
             let mut client = ClientSteps::new(ScramClient::new(user, password, version), None);
@@ -201,7 +203,7 @@ fn other_mechanisms() {
         (SaslProfile::Anonymous, asked("ANONYMOUS", NULL), Progress::Authenticated, None),
         (SaslProfile::External, asked("EXTERNAL", NULL), Progress::Authenticated, Some("peer")),
     ] {
-        let mut side = server(ScramVersion::Sha256, all());
+        let mut side = ServerSteps::new(with_all(scram(ScramVersion::Sha256)));
         let mut client = ClientSteps::new(profile, Some("host"));
         let sent = client.on_frame(&side.sasl_mechanisms().unwrap()).unwrap();
         assert_eq!(sent.body, init);
@@ -214,19 +216,15 @@ fn other_mechanisms() {
 
 #[test]
 fn external_without_a_peer() {
-    let steps = |offers| {
-        let credential = SingleScramCredential::with_record("user", record(ScramVersion::Sha256));
-        ServerSteps::new(ScramAuthenticator::new(credential), offers)
-    };
     let init = body(INIT, &[&symbol("EXTERNAL"), NULL, &short(0xa1, b"host")]);
     for peer in [None, Some("")] {
-        let named =
-            |side: ServerSteps<Store>| if let Some(peer) = peer { side.with_external_authcid(peer) } else { side };
-        let mut side = named(steps(all()));
+        let named = |server: PasswordServer<Store>| if let Some(peer) = peer { server.external(peer) } else { server };
+        let others = scram(ScramVersion::Sha256).plain_under_tls(true).anonymous(true);
+        let mut side = ServerSteps::new(named(others));
         assert_eq!(side.sasl_mechanisms().unwrap(), list_of(&["SCRAM-SHA-256", "PLAIN", "ANONYMOUS"]));
         assert_eq!(side.on_frame(&init).unwrap().body, outcome(1));
         assert_eq!((side.progress(), side.authenticated_user()), (REFUSED, None));
-        let alone = named(steps(Offers { external: true, ..Offers::default() }));
+        let alone = ServerSteps::new(named(scram(ScramVersion::Sha256).hashes(&[])));
         assert_eq!(alone.sasl_mechanisms(), Err(ConnectionError::NoSuchMechanism));
     }
 }
@@ -238,7 +236,7 @@ fn a_server_without_the_verifier_is_not_believed() {
     let other = StoredPassword { server_key: &[0; 32], ..stored };
     let credential =
         SingleScramCredential::with_record("user", ScramRecord::from_parts(ScramVersion::Sha256, &other).unwrap());
-    let mut side = ServerSteps::new(ScramAuthenticator::new(credential), Offers::scram());
+    let mut side = ServerSteps::new(PasswordServer::new(credential));
     let mut client = ClientSteps::new(ScramClient::new("user", "pencil", ScramVersion::Sha256), None);
     let why = joined(&mut client, &mut side).unwrap_err();
     assert_eq!(why.scram(), Some(ScramErrorKind::ServerSignatureMismatch));
@@ -280,7 +278,7 @@ fn refusals_of_a_client() {
 
 #[test]
 fn refusals_of_a_server() {
-    let mut side = server(ScramVersion::Sha256, Offers::scram());
+    let mut side = server(ScramVersion::Sha256);
     assert_eq!(side.on_frame(&outcome(0)), Err(ConnectionError::NoSaslFrame));
     assert_eq!(side.on_frame(&[2, 1, 0, 0]), Err(ConnectionError::MalformedFrame));
     let long = wide_init(&format!("n,,n=user,r={}", "x".repeat(420)));
@@ -292,15 +290,15 @@ fn refusals_of_a_server() {
     assert_eq!(reply, Answered { body: outcome(1), progress: REFUSED });
 
     let nobody = body(INIT, &[&symbol("ANONYMOUS")]);
-    let reply = server(ScramVersion::Sha256, Offers::scram()).on_frame(&nobody).unwrap();
+    let reply = server(ScramVersion::Sha256).on_frame(&nobody).unwrap();
     assert_eq!(reply, Answered { body: outcome(1), progress: REFUSED });
-    let nothing = server(ScramVersion::Sha256, Offers::default());
+    let nothing = ServerSteps::new(scram(ScramVersion::Sha256).hashes(&[]));
     assert_eq!(nothing.sasl_mechanisms(), Err(ConnectionError::NoSuchMechanism));
 }
 
 #[test]
 fn what_has_ended_stays() {
-    let mut side = server(ScramVersion::Sha256, all());
+    let mut side = ServerSteps::new(with_all(scram(ScramVersion::Sha256)));
     let mut client = ClientSteps::new(plain("pencil"), None);
     joined(&mut client, &mut side).unwrap();
     let init = body(INIT, &[&symbol("ANONYMOUS")]);
@@ -314,7 +312,7 @@ fn what_has_ended_stays() {
 fn no_debug_shows_a_secret() {
     // What is sent by PLAIN holds the password, and so each of its bytes in a row.
     let secret = |text: &str| format!("{:?}", text.as_bytes()).trim_matches(&['[', ']'][..]).to_owned();
-    let mut side = server(ScramVersion::Sha256, all());
+    let mut side = ServerSteps::new(with_all(scram(ScramVersion::Sha256)));
     let mut client = ClientSteps::new(plain("pencil"), None);
     let answered = client.on_frame(&side.sasl_mechanisms().unwrap()).unwrap();
     assert!(format!("{:?}", answered.body).contains(&secret("pencil")));

@@ -1,4 +1,4 @@
-//! Files of the crate fe2o3-amqp over this one: compiled with the changes that README.md tells, and a login by each of
+//! Files of the crate fe2o3-amqp over this one: compiled with the changes that README.md lists, and a login by each of
 //! them. FE2O3_AMQP names the folder of that crate; where it is not set nothing is tried.
 
 use std::fs;
@@ -7,7 +7,7 @@ use std::process::Command;
 
 const UNCHANGED: [&str; 2] = ["sasl_profile/scram.rs", "acceptor/sasl_acceptor.rs"];
 
-/// A text in which the words, which stand in it once, are others.
+/// A text with these words, which occur in it once, replaced by others.
 fn changed(text: &str, words: &str, others: &str) -> String {
     assert_eq!(text.matches(words).count(), 1, "{}", words);
     text.replace(words, others)

@@ -1,23 +1,172 @@
--- A server of passwords over one list of records: SCRAM of two hashes, and PLAIN where it is offered (AMQP 1.0, part 5,
--- section 5.3.3.1).
-use Rattle.std.specs.Prelude.{◌<◌, ℕ, Bool, true, false, Option, Some, None, MatchOption, List, [], ◌∷◌, codes, option_map}
+-- A server of SCRAM, PLAIN, ANONYMOUS and EXTERNAL over one list of records, of which some mechanisms are offered (AMQP
+-- 1.0, part 5, section 5.3.3.1).
+use Rattle.std.specs.Prelude.{◌≡◌, ◌<◌, ℕ, Bool, true, false, if◌then◌else◌, Option, Some, None, MatchOption, List, [], ◌∷◌, codes, option_map}
+use Rattle.fe2o3_sasl_wire.specs.SaslFrames.{SaslFrame}
 use Rattle.fe2o3_scram.specs.declared.hmac.ScramVersion.{ScramVersion}
-use Rattle.fe2o3_scram.specs.declared.hmac.ScramVersion.TheVariants.{Sha256, Sha512}
-use Rattle.fe2o3_scram.specs.Credentials.{Store, serving}
-use Rattle.fe2o3_scram.specs.Mixed.{MultiRecords, provider_for}
+use Rattle.fe2o3_scram.specs.declared.hmac.ScramVersion.TheVariants.{Sha1, Sha256, Sha512}
+use Rattle.fe2o3_scram.specs.Credentials.{Provider, Record, Store, kept, serving}
+use Rattle.fe2o3_scram.specs.Mixed.{MultiRecords, is_version, provider_for}
 use Rattle.fe2o3_scram.specs.MockSettings.{MockSettings, mocking}
-use Rattle.fe2o3_scram.specs.ScramServer.{Initial, served_by, state_in}
+use Rattle.fe2o3_scram.specs.ScramServer.{ServerState, Initial, ServerFirstSent, challenge_kept, open_challenge, served_by, state_in}
+use Rattle.fe2o3_scram.specs.ServerFirst.{ServerChallenge}
 use Rattle.fe2o3_scram.specs.declared.scram_server.ScramAuthenticator.{ScramAuthenticator}
-use Rattle.fe2o3_sasl_core.specs.AnyMechanism.{BothStates}
+use Rattle.fe2o3_scram.specs.declared.scram_server.open_challenge.OpenChallenge.{OpenChallenge}
+use Rattle.fe2o3_sasl_core.specs.AnyMechanism.{BothStates, any_mechanism_allocates, any_mechanism_hmacs, any_mechanism_machine, both_names, part_names}
 use Rattle.fe2o3_sasl_core.specs.AnyMechanismSides.{both_states}
-use Rattle.fe2o3_sasl_core.specs.PlainServer.{PlainState, plain_state}
-use Rattle.fe2o3_sasl_core.specs.RestrictMechanisms.{Offering, offering_of}
-use Rattle.fe2o3_sasl_core.specs.SaslAcceptor.{Acceptor, ScramAcceptor}
-use Rattle.fe2o3_sasl_core.specs.declared.any_mechanism.AnyMechanism.{AnyMechanism}
+use Rattle.fe2o3_sasl_core.specs.Costs.{acceptor_hmacs}
+use Rattle.fe2o3_sasl_core.specs.ExternalServer.{External, external_machine, external_of, external_user}
+use Rattle.fe2o3_sasl_core.specs.PlainServer.{PlainState, plain_allocates, plain_hmacs, plain_machine, plain_state}
+use Rattle.fe2o3_sasl_core.specs.RestrictMechanisms.{Offering, offering_allocates, offering_hmacs, offering_machine, offering_names, offering_of}
+use Rattle.fe2o3_sasl_core.specs.SaslAcceptor.{Acceptor, AnonymousAcceptor, ScramAcceptor, acceptor_allocates, acceptor_machine, acceptor_names, acceptor_user}
+use Rattle.fe2o3_sasl_core.specs.declared.any_mechanism.Selected.{Selected}
+use Rattle.fe2o3_sasl_core.specs.declared.any_mechanism.Selected.TheVariants.{First, Second}
 use Rattle.fe2o3_sasl_core.specs.declared.password_server.Mock.{Mock}
+use Rattle.fe2o3_sasl_core.specs.declared.password_server.Restored.{Restored}
+use Rattle.fe2o3_sasl_core.specs.declared.password_server.PasswordServer.{PasswordServer as Server}
 use Rattle.fe2o3_sasl_core.specs.declared.password_server.PasswordServerBuilder.{PasswordServerBuilder}
-use Rattle.fe2o3_sasl_core.specs.declared.plain_server.PlainServer.{PlainServer}
-use Rattle.fe2o3_sasl_core.specs.declared.restrict_mechanisms.RestrictMechanisms.{RestrictMechanisms}
+use Rattle.fe2o3_sasl_core.specs.declared.password_server.ScramHashes.{ScramHashes}
+use Rattle.fe2o3_sasl_core.specs.declared.password_server.others.Others.{Others}
+use Rattle.fe2o3_sasl_core.specs.declared.password_server.scrams.Scrams.{Scrams}
+
+-- ---- the state, and what it answers
+
+-- SCRAM-SHA-512, then SCRAM-SHA-256 and SCRAM-SHA-1
+abbrev pub ScramStates : Type 0
+ScramStates = BothStates Acceptor (BothStates Acceptor Acceptor)
+
+-- PLAIN, then ANONYMOUS and EXTERNAL
+abbrev pub OtherStates : Type 0
+OtherStates = BothStates PlainState (BothStates Acceptor External)
+
+abbrev pub PasswordParts : Type 0
+PasswordParts = BothStates ScramStates OtherStates
+
+-- all of them, and the names that may be offered
+abbrev pub PasswordState : Type 0
+PasswordState = Offering PasswordParts
+
+-- the names of the mechanisms (RFC 5802, RFC 7677, RFC 4616, RFC 4505, RFC 4422), and of these the offered ones
+abbrev pub plain_names : PlainState → List (List ℕ)
+plain_names plain = codes "PLAIN" ∷ []
+
+abbrev pub external_names : External → List (List ℕ)
+external_names external = codes "EXTERNAL" ∷ []
+
+abbrev pub weaker_names : BothStates Acceptor Acceptor → List (List ℕ)
+weaker_names parts = both_names (acceptor_names parts.first) (acceptor_names parts.second)
+
+abbrev pub scrams_names : ScramStates → List (List ℕ)
+scrams_names parts = both_names (acceptor_names parts.first) (weaker_names parts.second)
+
+abbrev pub last_names : BothStates Acceptor External → List (List ℕ)
+last_names parts = both_names (acceptor_names parts.first) (external_names parts.second)
+
+abbrev pub others_names : OtherStates → List (List ℕ)
+others_names parts = both_names (plain_names parts.first) (last_names parts.second)
+
+abbrev pub parts_names : PasswordParts → List (List ℕ)
+parts_names parts = both_names (scrams_names parts.first) (others_names parts.second)
+
+abbrev pub password_names : PasswordState → List (List ℕ)
+password_names server = offering_names parts_names server
+
+-- the machine: the reply to an init and to a response
+abbrev pub weaker_machine : BothStates Acceptor Acceptor → List ℕ → SaslFrame → SaslFrame → BothStates Acceptor Acceptor → Type 0
+weaker_machine parts nonce frame reply next =
+    any_mechanism_machine acceptor_names acceptor_names acceptor_machine acceptor_machine parts nonce frame reply next
+
+abbrev pub scrams_machine : ScramStates → List ℕ → SaslFrame → SaslFrame → ScramStates → Type 0
+scrams_machine parts nonce frame reply next =
+    any_mechanism_machine acceptor_names weaker_names acceptor_machine weaker_machine parts nonce frame reply next
+
+abbrev pub last_machine : BothStates Acceptor External → List ℕ → SaslFrame → SaslFrame → BothStates Acceptor External → Type 0
+last_machine parts nonce frame reply next =
+    any_mechanism_machine acceptor_names external_names acceptor_machine external_machine parts nonce frame reply next
+
+abbrev pub others_machine : OtherStates → List ℕ → SaslFrame → SaslFrame → OtherStates → Type 0
+others_machine parts nonce frame reply next =
+    any_mechanism_machine plain_names last_names plain_machine last_machine parts nonce frame reply next
+
+abbrev pub parts_machine : PasswordParts → List ℕ → SaslFrame → SaslFrame → PasswordParts → Type 0
+parts_machine parts nonce frame reply next =
+    any_mechanism_machine scrams_names others_names scrams_machine others_machine parts nonce frame reply next
+
+abbrev pub password_machine : PasswordState → List ℕ → SaslFrame → SaslFrame → PasswordState → Type 0
+password_machine server nonce frame reply next = offering_machine parts_names parts_machine server nonce frame reply next
+
+-- where it asks for memory
+abbrev pub weaker_allocates : BothStates Acceptor Acceptor → SaslFrame → Type 0
+weaker_allocates = any_mechanism_allocates acceptor_names acceptor_names acceptor_allocates acceptor_allocates
+
+abbrev pub scrams_allocates : ScramStates → SaslFrame → Type 0
+scrams_allocates = any_mechanism_allocates acceptor_names weaker_names acceptor_allocates weaker_allocates
+
+abbrev pub last_allocates : BothStates Acceptor External → SaslFrame → Type 0
+last_allocates = any_mechanism_allocates acceptor_names external_names acceptor_allocates (λ _ _. ⊥)
+
+abbrev pub others_allocates : OtherStates → SaslFrame → Type 0
+others_allocates = any_mechanism_allocates plain_names last_names plain_allocates last_allocates
+
+abbrev pub parts_allocates : PasswordParts → SaslFrame → Type 0
+parts_allocates = any_mechanism_allocates scrams_names others_names scrams_allocates others_allocates
+
+abbrev pub password_allocates : PasswordState → SaslFrame → Type 0
+password_allocates = offering_allocates parts_names parts_allocates
+
+-- how many HMAC values it makes
+abbrev pub weaker_hmacs : BothStates Acceptor Acceptor → SaslFrame → ℕ → Type 0
+weaker_hmacs = any_mechanism_hmacs acceptor_names acceptor_names acceptor_hmacs acceptor_hmacs
+
+abbrev pub scrams_hmacs : ScramStates → SaslFrame → ℕ → Type 0
+scrams_hmacs = any_mechanism_hmacs acceptor_names weaker_names acceptor_hmacs weaker_hmacs
+
+abbrev pub last_hmacs : BothStates Acceptor External → SaslFrame → ℕ → Type 0
+last_hmacs = any_mechanism_hmacs acceptor_names external_names acceptor_hmacs (λ _ _ n. n ≡ 0)
+
+abbrev pub others_hmacs : OtherStates → SaslFrame → ℕ → Type 0
+others_hmacs = any_mechanism_hmacs plain_names last_names plain_hmacs last_hmacs
+
+abbrev pub parts_hmacs : PasswordParts → SaslFrame → ℕ → Type 0
+parts_hmacs = any_mechanism_hmacs scrams_names others_names scrams_hmacs others_hmacs
+
+abbrev pub password_hmacs : PasswordState → SaslFrame → ℕ → Type 0
+password_hmacs = offering_hmacs parts_names parts_hmacs
+
+-- the authenticated user: that of the mechanism of the last init
+abbrev pub scrams_user : ScramStates → Option (List ℕ)
+scrams_user parts = part_names parts.selected (acceptor_user parts.first)
+    (part_names parts.second.selected (acceptor_user parts.second.first) (acceptor_user parts.second.second))
+
+abbrev pub others_user : OtherStates → Option (List ℕ)
+others_user parts = part_names parts.selected parts.first.user
+    (part_names parts.second.selected None (external_user parts.second.second))
+
+abbrev pub password_user : PasswordState → Option (List ℕ)
+password_user server = let parts = server.inner in
+    part_names parts.selected (scrams_user parts.first) (others_user parts.second)
+
+-- what this part has, of two
+abbrev pub of_part : {A : Type 0} → Option Selected → Option A → Option A → Option A
+of_part None first second = None
+of_part (Some First) first second = first
+of_part (Some Second) first second = second
+
+-- the open challenge of SCRAM by this hash, with the hash
+abbrev pub open_of : ScramVersion → Acceptor → Option (ScramVersion × ServerChallenge)
+open_of version (ScramAcceptor provider state) = option_map (λ challenge. (version, challenge)) (open_challenge state)
+open_of version acceptor = None
+
+-- the open challenge of SCRAM by the hash of the last init
+abbrev pub weaker_open : BothStates Acceptor Acceptor → Option (ScramVersion × ServerChallenge)
+weaker_open parts = of_part parts.selected (open_of Sha256 parts.first) (open_of Sha1 parts.second)
+
+abbrev pub scrams_open : ScramStates → Option (ScramVersion × ServerChallenge)
+scrams_open parts = of_part parts.selected (open_of Sha512 parts.first) (weaker_open parts.second)
+
+abbrev pub password_open : PasswordState → Option (ScramVersion × ServerChallenge)
+password_open server = of_part server.inner.selected (scrams_open server.inner.first) None
+
+-- ---- the server of the settings
 
 -- settings of mock authentication for every hash: the secret, the length of a salt, and the iteration count
 pub record MockChoice : Type 0 where
@@ -25,12 +174,27 @@ pub record MockChoice : Type 0 where
   pub salt_len : ℕ
   pub count : ℕ
 
--- what a server of passwords offers and knows: the records, the settings of mock authentication, if any, and whether
--- PLAIN is offered
+-- an open challenge: the hash of its mechanism, and the record that it was made with
+pub record OpenExchange : Type 0 where
+  pub version : ScramVersion
+  pub challenge : ServerChallenge
+  pub stored : Record
+
+-- what a server offers and knows: the records; the settings of mock authentication, if any; the hashes of SCRAM, and
+-- whether the GS2 flag `y` is accepted; whether PLAIN is offered, the hash of its records and the iteration count for an
+-- unknown user, if one is set; whether ANONYMOUS is; the name of EXTERNAL, which is not offered if the name is empty; and
+-- the open challenge, if any
 pub record PasswordSettings : Type 0 where
   pub records : MultiRecords
   pub mock : Option MockChoice
+  pub hashes : ScramHashes
+  pub cbind_flag_y : Bool
   pub plain : Bool
+  pub plain_version : ScramVersion
+  pub plain_count : Option ℕ
+  pub anonymous : Bool
+  pub external : List ℕ
+  pub restored : Option OpenExchange
 
 -- those settings for one hash
 abbrev pub mock_for : ScramVersion → MockChoice → MockSettings
@@ -46,54 +210,169 @@ abbrev pub HasLongSalts : PasswordSettings → Type 0
 HasLongSalts settings = MatchOption settings.mock ⊥ (λ mock. 64 < mock.salt_len)
 
 -- the iteration count by which PLAIN answers an unknown user
-abbrev pub count_of_unknown : Option MockChoice → ℕ
-count_of_unknown None = 4096
-count_of_unknown (Some mock) = mock.count
+abbrev pub count_of_unknown : Option ℕ → Option MockChoice → ℕ
+count_of_unknown (Some count) mock = count
+count_of_unknown None None = 4096
+count_of_unknown None (Some mock) = mock.count
 
--- its state: SCRAM by two hashes, then PLAIN
-abbrev pub PasswordState : Type 0
-PasswordState = Offering (BothStates (BothStates Acceptor Acceptor) PlainState)
+-- the provider of SCRAM by one hash: the records of that hash
+abbrev pub scram_provider : PasswordSettings → ScramVersion → Provider
+scram_provider settings version = mocking (option_map (mock_for version) settings.mock)
+    (serving settings.cbind_flag_y (provider_for version settings.records))
 
--- SCRAM by one hash, over the records of that hash, before a login
-abbrev pub scram_part : PasswordSettings → ScramVersion → Acceptor
-scram_part settings version = ScramAcceptor
-    (mocking (option_map (mock_for version) settings.mock)
-    (serving false (provider_for version settings.records))) Initial
+-- the parts of SCRAM to which the last init went, if it was of this hash: of all, and of SCRAM-SHA-256 and SCRAM-SHA-1
+abbrev pub first_asked : Option ScramVersion → Option Selected
+first_asked None = None
+first_asked (Some Sha512) = Some First
+first_asked (Some version) = Some Second
 
--- the names that are offered, the strongest first
-abbrev pub password_names : Bool → List (List ℕ)
-password_names true = codes "SCRAM-SHA-512" ∷ codes "SCRAM-SHA-256" ∷ codes "PLAIN" ∷ []
-password_names false = codes "SCRAM-SHA-512" ∷ codes "SCRAM-SHA-256" ∷ []
+abbrev pub second_asked : Option ScramVersion → Option Selected
+second_asked (Some Sha256) = Some First
+second_asked (Some Sha1) = Some Second
+second_asked asked = None
 
--- the server before a login. PLAIN tests passwords against the records for SCRAM-SHA-256
-abbrev pub password_server : PasswordSettings → PasswordState
-password_server settings = record {
-  inner = record {
-    first = record { first = scram_part settings Sha512; second = scram_part settings Sha256; selected = None };
-    second = record { provider = provider_for Sha256 settings.records; count = count_of_unknown settings.mock; user = None };
+-- SCRAM by each hash in a state of its own, with these parts selected
+abbrev pub scrams_in : PasswordSettings → (ScramVersion → ServerState) → Option Selected → Option Selected → ScramStates
+scrams_in settings states selected weaker = record {
+  first = ScramAcceptor (scram_provider settings Sha512) (states Sha512);
+  second = record {
+    first = ScramAcceptor (scram_provider settings Sha256) (states Sha256);
+    second = ScramAcceptor (scram_provider settings Sha1) (states Sha1);
+    selected = weaker;
+  };
+  selected = selected;
+}
+
+-- the user of EXTERNAL: with an empty name EXTERNAL is not offered, so that this user is never reported
+abbrev pub external_name : List ℕ → List ℕ
+external_name [] = codes "nobody"
+external_name (byte ∷ bytes) = byte ∷ bytes
+
+-- PLAIN, ANONYMOUS and EXTERNAL before any init
+abbrev pub others_of : PasswordSettings → OtherStates
+others_of settings = record {
+  first = record {
+    provider = provider_for settings.plain_version settings.records;
+    count = count_of_unknown settings.plain_count settings.mock;
+    user = None;
+  };
+  second = record {
+    first = AnonymousAcceptor;
+    second = record { user = external_name settings.external; accepted = false };
     selected = None;
   };
-  allowed = password_names settings.plain;
+  selected = None;
 }
+
+-- a name that is offered, and otherwise the empty one, which no mechanism has
+abbrev pub name_where : Bool → List ℕ → List ℕ
+name_where true name = name
+name_where false name = []
+
+abbrev pub external_mechanism : List ℕ → List ℕ
+external_mechanism [] = []
+external_mechanism (byte ∷ bytes) = codes "EXTERNAL"
+
+-- the names that may be offered, the strongest first
+abbrev pub names_for : PasswordSettings → List (List ℕ)
+names_for settings = name_where settings.hashes.sha_512 (codes "SCRAM-SHA-512")
+    ∷ name_where settings.hashes.sha_256 (codes "SCRAM-SHA-256")
+    ∷ name_where settings.hashes.sha_1 (codes "SCRAM-SHA-1")
+    ∷ name_where settings.plain (codes "PLAIN")
+    ∷ name_where settings.anonymous (codes "ANONYMOUS")
+    ∷ external_mechanism settings.external
+    ∷ []
+
+-- the hash of the open challenge
+abbrev pub asked_of : Option OpenExchange → Option ScramVersion
+asked_of restored = option_map (λ (exchange : OpenExchange). exchange.version) restored
+
+-- the acceptors of the settings, with SCRAM in this state
+abbrev pub offering_for : {S : Type 0} → PasswordSettings → S → Offering (BothStates S OtherStates)
+offering_for settings scrams = record {
+  inner = record {
+    first = scrams;
+    second = others_of settings;
+    selected = option_map (λ (version : ScramVersion). First) (asked_of settings.restored);
+  };
+  allowed = names_for settings;
+}
+
+-- the server of the settings with these states of SCRAM, and these parts selected
+abbrev pub password_server_in : PasswordSettings → (ScramVersion → ServerState) → Option Selected → Option Selected
+    → Option Selected → PasswordState
+password_server_in settings states part selected weaker = record {
+  inner = record {
+    first = scrams_in settings states selected weaker;
+    second = others_of settings;
+    selected = part;
+  };
+  allowed = names_for settings;
+}
+
+-- the states of SCRAM: the open challenge in that of its hash
+abbrev pub opened_where : Bool → OpenExchange → ServerState
+opened_where true exchange = ServerFirstSent exchange.challenge exchange.stored
+opened_where false exchange = Initial
+
+abbrev pub opened : Option OpenExchange → ScramVersion → ServerState
+opened None version = Initial
+opened (Some exchange) version = opened_where (is_version exchange.version version) exchange
+
+-- the server before a login, or with its open challenge
+abbrev pub password_server : PasswordSettings → PasswordState
+password_server settings = password_server_in settings (opened settings.restored)
+    (option_map (λ (version : ScramVersion). First) (asked_of settings.restored)) (first_asked (asked_of settings.restored))
+    (second_asked (asked_of settings.restored))
+
+-- the settings offer no mechanism
+abbrev pub OffersNothing : PasswordSettings → Type 0
+OffersNothing settings = password_names (password_server settings) ≡ []
+
+-- ---- the code's values
 
 -- the acceptor of SCRAM that a value is
 abbrev pub scram_state : ScramAuthenticator Store → Acceptor
 scram_state scram = ScramAcceptor (served_by (λ store. store) scram) (state_in scram)
 
--- the state of the server that a value is
-abbrev pub password_state : RestrictMechanisms (AnyMechanism (AnyMechanism (ScramAuthenticator Store)
-    (ScramAuthenticator Store)) (PlainServer Store)) → PasswordState
-password_state server =
-    offering_of (both_states (both_states scram_state scram_state) (plain_state (λ store. store))) server
+-- the states of all of SCRAM, and of the others
+abbrev pub scrams_state : Scrams → ScramStates
+scrams_state scrams = both_states scram_state (both_states scram_state scram_state) scrams.joined
 
--- the settings of mock authentication that the code holds
+abbrev pub others_state : Others → OtherStates
+others_state others =
+    both_states (plain_state (λ store. store)) (both_states (λ _. AnonymousAcceptor) external_of) others.joined
+
+-- the state of the server that a value is
+abbrev pub password_state : Server → PasswordState
+password_state server = offering_of (both_states scrams_state others_state) server.acceptors
+
+-- an open challenge with its hash
+abbrev pub challenge_with : ScramVersion × OpenChallenge → ScramVersion × ServerChallenge
+challenge_with shown = (shown.0, challenge_kept shown.1)
+
+-- the settings that the code holds
 abbrev pub mock_held : Mock → MockChoice
 mock_held mock = record { secret = mock.secret.now; salt_len = mock.salt_len; count = mock.iterations }
+
+abbrev pub restored_held : Restored → OpenExchange
+restored_held held = record {
+  version = held.version;
+  challenge = challenge_kept held.challenge.now;
+  stored = kept held.stored.now;
+}
 
 -- the settings that a builder holds
 abbrev pub settings_of : PasswordServerBuilder → PasswordSettings
 settings_of builder = record {
   records = builder.records.now;
   mock = option_map mock_held builder.mock;
+  hashes = builder.hashes;
+  cbind_flag_y = builder.cbind_flag_y;
   plain = builder.plain;
+  plain_version = builder.plain_version;
+  plain_count = builder.plain_iterations;
+  anonymous = builder.anonymous;
+  external = builder.external.now;
+  restored = option_map restored_held builder.restored;
 }

@@ -1,4 +1,4 @@
--- That what a client answers has room: its message behind a bound that the challenge tells, its signature in a struct.
+-- That what a client answers has room: its message within a bound by the length of the challenge, its signature in a struct.
 use Rattle.std.proofs.Common.{true, false, rules, arith, refl, sym, inl, inr, ap, ◌≢◌, ◌∙◌, ◌≡◌, ◌≤◌, ◌<◌, ◌+◌, ◌++◌, ◌∷◌, ◌⊎◌, [], ℕ, List, length, take}
 use Rattle.std.proofs.Math.Dec.{eqb}
 use Rattle.std.proofs.lemmas.Bool.{cases_lt}
@@ -27,7 +27,7 @@ use Rattle.fe2o3_scram.specs.declared.scram_messages.error.ScramErrorKind.TheVar
 use Rattle.std.specs.Str.{IsUtf8}
 use Rattle.sasl_c.specs.declared.status.Status.{Status}
 use Rattle.sasl_c.specs.declared.status.Status.TheVariants as statuses
-use Rattle.sasl_c.specs.declared.client.Login.{Login}
+use Rattle.sasl_c.specs.declared.login.Login.{Login}
 use Rattle.sasl_c.specs.declared.client.ScramClient.{ScramClient as Struct}
 use Rattle.sasl_c.specs.Client.{AnswersByMessage, AwaitsSignature, Verifies, HasSecret, Holds, IsAnswer, IsClientOf, IsTestedLogin, IsNoLogin, IsNoSecret, IsReached, IsSecretOf, IsSide, IsState, NotAnswered, Responds, WritesClient, complete_struct, name_tests}
 use Rattle.sasl_c.specs.declared.keys.ScramKeys.{ScramKeys as KeysStruct}
@@ -129,7 +129,7 @@ moved_login login side state is = record {
   most = is.most;
 }
 
--- and behind an answer
+-- and after an answer
 pub answering_login : (login : Login) (state : ClientState) (side next : ClientSide) (text message : List ℕ)
     → AnswersIn state side text (Ok message) next → IsClientOf login side → IsClientOf login next
 answering_login login (ClientFirstSent nonce bare) side next text message held is =
@@ -182,7 +182,7 @@ as_sent login before version secret nonce bare text answer spelled first held =
     (carried (λ given. AnswersServerFirst version (client_of given secret (limits_of login)) bare text answer) nonce
     (base64_text before.nonce) spelled held)
 
--- what it answers by a secret, and what it refuses
+-- what it answers by a secret, and what it rejects
 pub answered_by : (login : Login) (before : Struct) (version : ScramVersion) (secret : Secret)
     (nonce bare text : List ℕ)
     (answer : Answer) → IsVersion login.version version → IsSecretOf login secret → before.state ≡ 1
@@ -312,7 +312,7 @@ not_due login before text version known is other =
       ),
     )
 
--- the message has room behind the bound
+-- the message is within the bound
 pub answer_has_room : (login : Login) (before : Struct) (text message signature : List ℕ) (keys : ClientKeys)
     → (next : ClientSide) × AnswersByMessage login before text message next
     × (next.state ≡ ClientFinalSent signature (Some keys))
@@ -322,7 +322,7 @@ answer_has_room login before text message signature keys held =
     let given = held.1.0 in
     omega (arith, (answer_fits given.state given held.0 text message held.1.2).0)
 
--- the struct of a client that waits is that of the client behind the answer
+-- the struct of a client that waits is that of the client after the answer
 pub responds : (login : Login) (before after : Struct) (text message signature : List ℕ) (keys : ClientKeys)
     → (next : ClientSide) × AnswersByMessage login before text message next
     × (next.state ≡ ClientFinalSent signature (Some keys))
@@ -338,7 +338,7 @@ responds login before after text message signature keys held waits written =
     let writes = carried (WritesClient after) (ClientFinalSent signature (Some keys)) next.state (sym held.2) written in
     (next, held.1, (is, state), writes)
 
--- other refusals
+-- other errors
 pub no_text : (login : Login) (before : Struct) (text : List ℕ) → ¬ IsUtf8 text
     → Responds login text before before (Err (statuses.Client Utf8Error))
 unfolding Responds
@@ -368,7 +368,7 @@ always_waits login before text message signature keys held long =
     fits.1.3 in
     absurd (omega (arith, few, long))
 
--- ---- whether the server is believed
+-- ---- whether the server is authenticated
 
 pub verifying_login : (login : Login) (state : ClientState) (side next : ClientSide) (text : List ℕ)
     → VerifiesIn state side text (Ok tt) next → IsClientOf login side → IsClientOf login next

@@ -1,16 +1,17 @@
 -- Why a login is none.
-use Rattle.std.proofs.Common.{arith, inl, inr, refl, ◌∷◌, ◌≡◌, ◌≢◌, ◌≤◌, ◌<◌}
+use Rattle.std.proofs.Common.{arith, inl, inr, refl, List, [], ◌∷◌, ◌≡◌, ◌≢◌, ◌≤◌, ◌<◌}
 use Rattle.std.specs.Str.{IsUtf8}
 use Rattle.fe2o3_scram.specs.declared.hmac.ScramVersion.{ScramVersion}
-use Rattle.sasl_c.specs.declared.client.Login.{Login}
+use Rattle.sasl_c.specs.declared.login.Login.{Login}
 use Rattle.sasl_c.specs.declared.status.Status.{Status}
 use Rattle.sasl_c.specs.declared.status.Status.TheVariants as statuses
 use Rattle.fe2o3_scram.specs.ClientSecret.{Password, Keys, Both}
-use Rattle.fe2o3_scram.specs.Passwords.{Prepared, Typed}
+use Rattle.fe2o3_scram.specs.Passwords.{PasswordText}
 use Rattle.fe2o3_scram.specs.Readings.{IsFirst, NoneHolds}
 use Rattle.sasl_c.specs.declared.keys.ScramKeys.{ScramKeys as KeysStruct}
 use Rattle.sasl_c.specs.Client.{HasSecret, HoldsNone, IsNoLogin, IsNoSecret, keys_tests, name_tests}
 use Rattle.sasl_c.specs.Keys.{ShowsSomeKeys, shown_keys}
+use Rattle.sasl_c.specs.Passwords.{IsPassword, password_tests}
 use Rattle.sasl_c.specs.Records.{IsVersion}
 
 -- its version and its user are some, and its secret is none
@@ -19,55 +20,32 @@ pub no_secret : (login : Login) (known : ScramVersion) (status : Status) → IsV
 no_secret login known status is utf8 wrong = inr (((λ none. none known is), ((λ other. other utf8), tt)), wrong)
 
 -- why its secret is none
-pub no_password : (login : Login) (status : Status) → login.secret ≡ 0 → status ≡ statuses.NotUtf8
-    → ¬ IsUtf8 login.password.now → IsNoSecret login status
+pub no_password : (login : Login) (status : Status) → login.secret ≡ 0
+    → IsFirst (password_tests login.form login.password.now) status → IsNoSecret login status
 unfolding IsNoSecret
-no_password login status is same wrong = inl (inl is, same, wrong)
-
-pub no_prepared : (login : Login) (status : Status) → login.secret ≡ 3 → status ≡ statuses.NotUtf8
-    → ¬ IsUtf8 login.password.now → IsNoSecret login status
-unfolding IsNoSecret
-no_prepared login status is same wrong = inl (inr is, same, wrong)
+no_password login status is first = inl (is, first)
 
 pub no_keys : (login : Login) (status : Status) → login.secret ≡ 1 → IsFirst (keys_tests login) status
     → IsNoSecret login status
 unfolding IsNoSecret
 no_keys login status is first = inr (inl (is, first))
 
-pub neither_password : (login : Login) (status : Status) → login.secret ≡ 2 → status ≡ statuses.NotUtf8
-    → ¬ IsUtf8 login.password.now → IsNoSecret login status
+pub neither_password : (login : Login) (status : Status) → login.secret ≡ 2
+    → IsFirst (password_tests login.form login.password.now) status → IsNoSecret login status
 unfolding IsNoSecret
-neither_password login status is same wrong = inr (inr (inl (inl is, inl (wrong, same))))
+neither_password login status is first = inr (inr (inl (is, inl first)))
 
-pub neither_prepared : (login : Login) (status : Status) → login.secret ≡ 4 → status ≡ statuses.NotUtf8
-    → ¬ IsUtf8 login.password.now → IsNoSecret login status
+pub neither_keys : (login : Login) (status : Status) → login.secret ≡ 2
+    → NoneHolds (password_tests login.form login.password.now) → IsFirst (keys_tests login) status
+    → IsNoSecret login status
 unfolding IsNoSecret
-neither_prepared login status is same wrong = inr (inr (inl (inr is, inl (wrong, same))))
+neither_keys login status is none first = inr (inr (inl (is, inr (none, first))))
 
-pub neither_keys : (login : Login) (status : Status) → login.secret ≡ 2 → IsUtf8 login.password.now
-    → IsFirst (keys_tests login) status → IsNoSecret login status
-unfolding IsNoSecret
-neither_keys login status is utf8 first = inr (inr (inl (inl is, inr ((λ other. other utf8), first))))
-
-pub prepared_no_keys : (login : Login) (status : Status) → login.secret ≡ 4 → IsUtf8 login.password.now
-    → IsFirst (keys_tests login) status → IsNoSecret login status
-unfolding IsNoSecret
-prepared_no_keys login status is utf8 first = inr (inr (inl (inr is, inr ((λ other. other utf8), first))))
-
-pub other_secret : (login : Login) → 4 < login.secret → IsNoSecret login statuses.NoSuchSecret
+pub other_secret : (login : Login) → 2 < login.secret → IsNoSecret login statuses.NoSuchSecret
 unfolding IsNoSecret
 other_secret login wide = inr (inr (inr (wide, refl)))
 
-pub ruleset no_secrets = (
-  no_password,
-  no_prepared,
-  no_keys,
-  neither_password,
-  neither_prepared,
-  neither_keys,
-  prepared_no_keys,
-  other_secret,
-)
+pub ruleset no_secrets = (no_password, no_keys, neither_password, neither_keys, other_secret)
 
 -- ---- what its keys are
 
@@ -102,100 +80,56 @@ pub ruleset keys_there = (are_none, are_other, are_there)
 
 -- ---- a login that has a secret
 
--- no test of its keys holds
-no_first : (login : Login) (status : Status) → NoneHolds (keys_tests login) → IsFirst (keys_tests login) status → ⊥
-no_first login status none (inl (first, same)) = none.0 first
-no_first login status none (inr (first, inl (second, same))) = none.1.0 second
-no_first login status none (inr (first, inr (second, nothing))) = nothing
+-- where no test holds, none is the first
+no_first : (tests : List (Status × Type 0)) (status : Status) → NoneHolds tests → IsFirst tests status → ⊥
+no_first [] status none first = first
+no_first (test ∷ tests) status none (inl (holds, same)) = none.0 holds
+no_first (test ∷ tests) status none (inr (passed, first)) = no_first tests status none.1 first
 
-only_password : (login : Login) (status : Status) → login.secret ≡ 0 → IsUtf8 login.password.now
-    → ¬ IsNoSecret login status
+only_password : (login : Login) (status : Status) → login.secret ≡ 0
+    → NoneHolds (password_tests login.form login.password.now) → ¬ IsNoSecret login status
 unfolding IsNoSecret
-only_password login status is utf8 (inl (which, same, wrong)) = wrong utf8
-only_password login status is utf8 (inr (inl (one, first))) = absurd (omega (arith, is, one))
-only_password login status is utf8 (inr (inr (inl (inl two, first)))) = absurd (omega (arith, is, two))
-only_password login status is utf8 (inr (inr (inl (inr four, first)))) = absurd (omega (arith, is, four))
-only_password login status is utf8 (inr (inr (inr (wide, same)))) = absurd (omega (arith, is, wide))
-
-only_prepared : (login : Login) (status : Status) → login.secret ≡ 3 → IsUtf8 login.password.now
-    → ¬ IsNoSecret login status
-unfolding IsNoSecret
-only_prepared login status is utf8 (inl (which, same, wrong)) = wrong utf8
-only_prepared login status is utf8 (inr (inl (one, first))) = absurd (omega (arith, is, one))
-only_prepared login status is utf8 (inr (inr (inl (inl two, first)))) = absurd (omega (arith, is, two))
-only_prepared login status is utf8 (inr (inr (inl (inr four, first)))) = absurd (omega (arith, is, four))
-only_prepared login status is utf8 (inr (inr (inr (wide, same)))) = absurd (omega (arith, is, wide))
+only_password login status is none (inl (zero, first)) = no_first (password_tests login.form login.password.now) status none first
+only_password login status is none (inr (inl (one, first))) = absurd (omega (arith, is, one))
+only_password login status is none (inr (inr (inl (two, first)))) = absurd (omega (arith, is, two))
+only_password login status is none (inr (inr (inr (wide, same)))) = absurd (omega (arith, is, wide))
 
 only_keys : (login : Login) (status : Status) → login.secret ≡ 1 → NoneHolds (keys_tests login)
     → ¬ IsNoSecret login status
 unfolding IsNoSecret
-only_keys login status is none (inl (inl zero, same, wrong)) = absurd (omega (arith, is, zero))
-only_keys login status is none (inl (inr three, same, wrong)) = absurd (omega (arith, is, three))
-only_keys login status is none (inr (inl (one, first))) = no_first login status none first
-only_keys login status is none (inr (inr (inl (inl two, first)))) = absurd (omega (arith, is, two))
-only_keys login status is none (inr (inr (inl (inr four, first)))) = absurd (omega (arith, is, four))
+only_keys login status is none (inl (zero, first)) = absurd (omega (arith, is, zero))
+only_keys login status is none (inr (inl (one, first))) = no_first (keys_tests login) status none first
+only_keys login status is none (inr (inr (inl (two, first)))) = absurd (omega (arith, is, two))
 only_keys login status is none (inr (inr (inr (wide, same)))) = absurd (omega (arith, is, wide))
 
-no_both : (login : Login) (status : Status) → IsUtf8 login.password.now → NoneHolds (keys_tests login)
-    → IsFirst ((statuses.NotUtf8, ¬ IsUtf8 login.password.now) ∷ keys_tests login) status → ⊥
-no_both login status utf8 none (inl (wrong, same)) = wrong utf8
-no_both login status utf8 none (inr (right, first)) = no_first login status none first
-
-both_typed : (login : Login) (status : Status) → login.secret ≡ 2 → IsUtf8 login.password.now
-    → NoneHolds (keys_tests login) → ¬ IsNoSecret login status
+only_both : (login : Login) (status : Status) → login.secret ≡ 2
+    → NoneHolds (password_tests login.form login.password.now) → NoneHolds (keys_tests login) → ¬ IsNoSecret login status
 unfolding IsNoSecret
-both_typed login status is utf8 none (inl (which, same, wrong)) = wrong utf8
-both_typed login status is utf8 none (inr (inl (one, first))) = absurd (omega (arith, is, one))
-both_typed login status is utf8 none (inr (inr (inl (which, first)))) = no_both login status utf8 none first
-both_typed login status is utf8 none (inr (inr (inr (wide, same)))) = absurd (omega (arith, is, wide))
+only_both login status is passed none (inl (zero, first)) = absurd (omega (arith, is, zero))
+only_both login status is passed none (inr (inl (one, first))) = absurd (omega (arith, is, one))
+only_both login status is passed none (inr (inr (inl (two, inl first)))) = no_first (password_tests login.form login.password.now) status passed first
+only_both login status is passed none (inr (inr (inl (two, inr (other, first))))) = no_first (keys_tests login) status none first
+only_both login status is passed none (inr (inr (inr (wide, same)))) = absurd (omega (arith, is, wide))
 
-both_prepared : (login : Login) (status : Status) → login.secret ≡ 4 → IsUtf8 login.password.now
-    → NoneHolds (keys_tests login) → ¬ IsNoSecret login status
-unfolding IsNoSecret
-both_prepared login status is utf8 none (inl (which, same, wrong)) = wrong utf8
-both_prepared login status is utf8 none (inr (inl (one, first))) = absurd (omega (arith, is, one))
-both_prepared login status is utf8 none (inr (inr (inl (which, first)))) = no_both login status utf8 none first
-both_prepared login status is utf8 none (inr (inr (inr (wide, same)))) = absurd (omega (arith, is, wide))
-
-pub has_password : (login : Login) → login.secret ≡ 0 → IsUtf8 login.password.now → HasSecret login
+pub has_password : (login : Login) (password : PasswordText) → login.secret ≡ 0
+    → IsPassword login.form login.password.now password → NoneHolds (password_tests login.form login.password.now)
+    → HasSecret login
 unfolding HasSecret
-has_password login is utf8 =
-    ((Password (Typed login.password.now), (is, refl)), λ status. only_password login status is utf8)
-
-pub has_prepared : (login : Login) → login.secret ≡ 3 → IsUtf8 login.password.now → HasSecret login
-unfolding HasSecret
-has_prepared login is utf8 =
-    ((Password (Prepared login.password.now), (is, refl)), λ status. only_prepared login status is utf8)
+has_password login password is given none = ((Password password, (is, given)), λ status. only_password login status is none)
 
 pub has_keys : (login : Login) → login.secret ≡ 1 → NoneHolds (keys_tests login) → ShowsSomeKeys login.keys.now
     → HasSecret login
 unfolding HasSecret
 has_keys login is none shows = ((Keys shows.0, (is, shows.1)), λ status. only_keys login status is none)
 
-pub has_both : (login : Login) → login.secret ≡ 2 → IsUtf8 login.password.now → NoneHolds (keys_tests login)
-    → ShowsSomeKeys login.keys.now → HasSecret login
+pub has_both : (login : Login) (password : PasswordText) → login.secret ≡ 2
+    → IsPassword login.form login.password.now password → NoneHolds (password_tests login.form login.password.now)
+    → NoneHolds (keys_tests login) → ShowsSomeKeys login.keys.now → HasSecret login
 unfolding HasSecret
-has_both login is utf8 none shows = (
-  (Both (Typed login.password.now) shows.0, (is, refl, shows.1)),
-  λ status. both_typed login status is utf8 none,
-)
+has_both login password is given passed none shows =
+    ((Both password shows.0, (is, given, shows.1)), λ status. only_both login status is passed none)
 
-pub has_both_prepared : (login : Login) → login.secret ≡ 4 → IsUtf8 login.password.now → NoneHolds (keys_tests login)
-    → ShowsSomeKeys login.keys.now → HasSecret login
-unfolding HasSecret
-has_both_prepared login is utf8 none shows = (
-  (Both (Prepared login.password.now) shows.0, (is, refl, shows.1)),
-  λ status. both_prepared login status is utf8 none,
-)
-
-pub ruleset secret_tests = (
-  no_secrets,
-  has_password,
-  has_prepared,
-  has_keys,
-  has_both,
-  has_both_prepared,
-)
+pub ruleset secret_tests = (no_secrets, has_password, has_keys, has_both)
 
 -- ---- a login
 

@@ -1,4 +1,4 @@
--- What a client of a connection comes to (AMQP 1.0, part 5, section 5.3.2).
+-- What a client of a connection reaches (AMQP 1.0, part 5, section 5.3.2).
 use Rattle.std.proofs.Common.{arith, refl, sym, ap, inl, inr, ◌∙◌, ◌≡◌, ◌≤◌, ◌<◌, ◌⊎◌, ◌+◌, ◌++◌, ℕ, List, [], length, IsTrue}
 use Rattle.std.specs.Prelude.{Option, Some, None, false, IfSome, MatchOption, Result, Ok, Err, drop, nat_eq, if◌then◌else◌}
 use Rattle.std.proofs.lemmas.Bool.{cases_lt}
@@ -27,7 +27,7 @@ use Rattle.fe2o3_sasl_negotiation.specs.Framing.{IsPart}
 use Rattle.fe2o3_sasl_negotiation.specs.Negotiations.{Side, SideOutput, Sends, ReceivesAt}
 use Rattle.fe2o3_sasl_negotiation.specs.Snapshot.{client_fits, client_due, IsClientKept, side_of}
 use Rattle.fe2o3_sasl_negotiation.proofs.lemmas.UnitLemmas.{length-framed}
-use Rattle.sasl_c.specs.declared.client.Login.{Login as Words}
+use Rattle.sasl_c.specs.declared.login.Login.{Login as Words}
 use Rattle.sasl_c.specs.declared.client.ScramClient.{ScramClient as ScramStruct}
 use Rattle.sasl_c.specs.declared.connection.Connection.{Connection as Kept}
 use Rattle.sasl_c.specs.declared.sasl_client.SaslClient.{SaslClient as Struct}
@@ -43,7 +43,7 @@ use Rattle.sasl_c.proofs.StatusLemmas.{carried}
 use Rattle.fe2o3_sasl_core.specs.declared.sasl_profile.error.ProfileError.{ProfileError}
 use Rattle.fe2o3_sasl_core.specs.declared.sasl_profile.error.ProfileError.TheVariants.{NotImplemented, Scram, StaleKeys, Frame as FrameFault, OutOfMemory}
 
--- ---- a profile that a login comes to stays one
+-- ---- a profile that a login reaches stays one
 
 same_stands : (words : Words) (client after : ClientSide) → after ≡ client → ClientIsReached words client → ClientIsReached words after
 same_stands words client after same stands = carried (ClientIsReached words) client after (sym same) stands
@@ -261,7 +261,7 @@ part_short (Frame turn) come part = go (cases_lt (length come) 4)
     go (inl few) = omega (arith, few)
     go (inr four) = omega (arith, (part four).0.1, (part four).1)
 
--- what is behind a call of this login
+-- what is reached after a call of this login
 record Behind (login : Login) (next : Side Profile) (sent : List ℕ) : Type 0 where
   comes : ProfileIsReached login next.state
   limit : next.limit ≡ 512
@@ -305,7 +305,7 @@ receives_behind login hostname side next bytes nonce taken sent wanting is limit
 
 -- ---- structs
 
--- the profile of a struct is one that the login comes to
+-- the profile of a struct is one that the login reaches
 pub profile_comes : (login : Login) (scram : ScramStruct) (profile : Profile) → IsProfile login scram profile
     → ProfileIsReached login profile
 profile_comes login scram (ScramProfile side) is = (is.0, (is.1.0, reached side.user scram side.state is.1.1))
@@ -313,7 +313,7 @@ profile_comes login scram (PlainProfile user password) is = is
 profile_comes login scram AnonymousProfile is = is
 profile_comes login scram ExternalProfile is = is
 
--- the struct that a profile was set down as
+-- the struct that a profile was saved as
 pub shows_scram : (login : Login) (profile : Profile) (machine : ClientSide) (answer : Option ScramStruct)
     → profile ≡ ScramProfile machine → ProfileIsReached login profile
     → ((user : List ℕ) → IsReached user machine.state
@@ -424,7 +424,7 @@ none_holds client kept keeps wanting =
     let stands = carried (λ s. Keeps client.connection s kept.expected kept.held.now) kept.progress InProgress wanting keeps in
     ((λ ended. ended stands.progress), ((λ nothing. nothing kept.expected kept.held.now stands), tt))
 
--- no test of the struct is told as out of memory
+-- no test of the struct is reported as out of memory
 pub tests_without_memory : (connection : Kept) (status : Status) → IsFirst (side_tests connection) status
     → status ≡ statuses.OutOfMemory → ⊥
 tests_without_memory connection status (inl (ended, is)) same = absurd (cc)
@@ -494,7 +494,7 @@ pub not_received : (login : Login) (bytes nonce : List ℕ) (before after : Stru
 unfolding ReceivesAsClient
 not_received login bytes nonce before after taken status wrong = wrong
 
--- what the side behind a call is, and what is sent
+-- what the side after a call is, and what is sent
 pub behind_all : (login : Login) (before : Struct) (hostname : Option (List ℕ)) (side next : Side Profile)
     (bytes nonce old items : List ℕ) (taken : ℕ) → IsClient login before side → side.progress ≡ InProgress → old ≡ []
     → (sent : List ℕ) × (items ≡ old ++ sent) × ClientReceives hostname side bytes nonce taken sent next

@@ -1,20 +1,22 @@
 -- What structs show of a server of a connection, and of which server they are (AMQP 1.0, part 5, section 5.3.2).
-use Rattle.std.proofs.Common.{arith, refl, sym, ap, inl, inr, ◌∙◌, ◌≡◌, ◌≢◌, ◌≤◌, ◌<◌, ◌∷◌, ℕ, List, [], length}
-use Rattle.std.specs.Prelude.{Bool, true, false, MatchOption, Option, Some, None, Ok, Err, take}
+use Rattle.std.proofs.Common.{arith, refl, sym, ap, inl, inr, ◌∙◌, ◌≡◌, ◌≢◌, ◌≤◌, ◌<◌, ◌∷◌, ◌++◌, ℕ, List, [], length}
+use Rattle.std.specs.Prelude.{Bool, true, false, MatchOption, Option, Some, None, Ok, Err, option_map, slice_get, take}
 use Rattle.std.specs.Str.{IsUtf8}
-use Rattle.std.proofs.lemmas.List.{length-take}
+use Rattle.std.proofs.lemmas.List.{append-nil, append_assoc, length-take}
 use Rattle.fe2o3_scram.specs.declared.hmac.ScramVersion.{ScramVersion}
 use Rattle.fe2o3_scram.specs.declared.hmac.ScramVersion.TheVariants as versions
 use Rattle.fe2o3_scram.specs.declared.scram_messages.channel_binding_flag.ChannelBindingFlag.{ChannelBindingFlag}
 use Rattle.fe2o3_scram.specs.declared.scram_messages.channel_binding_flag.ChannelBindingFlag.TheVariants.{NotSupported, ClientSupports}
-use Rattle.fe2o3_scram.specs.Credentials.{Records, VersionedRecord, versioned}
+use Rattle.fe2o3_scram.specs.Credentials.{VersionedRecord}
+use Rattle.fe2o3_scram.specs.Mixed.{MultiRecords}
 use Rattle.fe2o3_scram.specs.ClientFinal.{ClientFinal, ReadsClientFinal, Server}
 use Rattle.fe2o3_scram.specs.Hmac.{digest_len}
 use Rattle.fe2o3_scram.proofs.lemmas.hashes.DigestLemmas.{length-digest}
 use Rattle.fe2o3_scram.specs.Readings.{NoneHolds}
-use Rattle.fe2o3_scram.specs.ScramServer.{ServerState, Initial, open_challenge, server_against}
+use Rattle.fe2o3_scram.specs.ScramServer.{ServerState, server_against}
 use Rattle.fe2o3_scram.specs.ServerFirst.{ServerChallenge}
 use Rattle.fe2o3_sasl_core.specs.declared.any_mechanism.Selected.{Selected}
+use Rattle.fe2o3_sasl_core.specs.declared.any_mechanism.Selected.TheVariants.{First}
 use Rattle.fe2o3_sasl_negotiation.specs.Sides.{ServerConnectionSide}
 use Rattle.fe2o3_sasl_negotiation.specs.declared.progress.CloseReason.{CloseReason}
 use Rattle.fe2o3_sasl_negotiation.specs.declared.progress.Progress.{Progress}
@@ -27,9 +29,11 @@ use Rattle.sasl_c.specs.declared.sasl_server.SaslServer.{SaslServer as Struct}
 use Rattle.sasl_c.specs.declared.server.ScramServer.{ScramServer as ScramStruct}
 use Rattle.sasl_c.specs.declared.status.Status.{Status}
 use Rattle.sasl_c.specs.declared.status.Status.TheVariants as statuses
-use Rattle.sasl_c.specs.Records.{IsVersion, ShowsRecord, SpellsStruct}
-use Rattle.sasl_c.specs.SaslServer.{All, Code, ServerIsReached, HasNoServerWords, HasNoStruct, HasRecords, IsAll, IsNoConfig, IsOf, IsServer, HasNone, config_tests, ShowsBy, ShowsOpen, ShowsSide, ShowsProgress, ShowsState, ShowsExchange, State, allowed_of, one_where, open_in, struct_server, NoRecordIsUnmet, no_record as record_without_keys, opened_by, side_in, side_struct, state_names, value_state, state_struct, struct_by, sum_of, user_in}
-use Rattle.sasl_c.specs.Server.{IsAuthenticated, ChallengeHasRoom, IsOpen, open_number}
+use Rattle.sasl_c.specs.Records.{ShowsRecord, SpellsStruct}
+use Rattle.sasl_c.specs.SaslServer.{AddsRecord, HasNoServerWords, HasNone, HasNoStruct, HasRecords, IsNoConfig, IsOf, IsServer, NoRecordIsUnmet, ServerIsReached, ShowRecords, ShowsBy, ShowsOpen, ShowsProgress, ShowsSide, ShowsState, Stands, State, config_tests, exchange_of, version_of_first, no_record as record_without_keys, one_where, settings_for, side_in, side_struct, state_struct, struct_by, sum_of}
+use Rattle.fe2o3_sasl_core.specs.PasswordServer.{asked_of, first_asked, opened, password_names, password_open, password_server, password_server_in, password_state, password_user, second_asked}
+use Rattle.fe2o3_sasl_core.specs.declared.password_server.PasswordServer.{PasswordServer}
+use Rattle.sasl_c.specs.Server.{IsAuthenticated, ChallengeHasRoom, IsOpen, IsOpenBy, open_number}
 use Rattle.sasl_c.specs.Status.{version_number}
 use Rattle.sasl_c.proofs.StatusLemmas.{carried}
 
@@ -39,15 +43,17 @@ within : (is : Bool) (n : ℕ) → one_where is n ≤ n
 within true n = omega arith
 within false n = omega arith
 
--- a sum has 31 at most
-pub sum_small : (choice : Choice) → sum_of choice ≤ 31
+-- a sum is at most 127
+pub sum_small : (choice : Choice) → sum_of choice ≤ 127
 sum_small choice = omega (
   arith,
-  within choice.scram 1,
-  within choice.plain 2,
-  within choice.anonymous 4,
-  within choice.external 8,
-  within choice.cbind_flag_y 16,
+  within choice.sha_512 1,
+  within choice.sha_256 2,
+  within choice.sha_1 4,
+  within choice.plain 8,
+  within choice.anonymous 16,
+  within choice.external 32,
+  within choice.cbind_flag_y 64,
 )
 
 -- ---- the record of a configuration's user
@@ -94,38 +100,46 @@ shows_none kept statuses.MixedDirections shown wrong is = absurd wrong
 shows_none kept statuses.ProhibitedCharacter shown wrong is = absurd wrong
 shows_none kept statuses.NoSuchChoice shown wrong is = absurd wrong
 
--- a number is that of one version
-one_number : (version other : ScramVersion) → version_number version ≡ version_number other → version ≡ other
-one_number versions.Sha1 versions.Sha1 same = refl
-one_number versions.Sha1 versions.Sha256 same = absurd (omega (arith, same))
-one_number versions.Sha1 versions.Sha512 same = absurd (omega (arith, same))
-one_number versions.Sha256 versions.Sha1 same = absurd (omega (arith, same))
-one_number versions.Sha256 versions.Sha256 same = refl
-one_number versions.Sha256 versions.Sha512 same = absurd (omega (arith, same))
-one_number versions.Sha512 versions.Sha1 same = absurd (omega (arith, same))
-one_number versions.Sha512 versions.Sha256 same = absurd (omega (arith, same))
-one_number versions.Sha512 versions.Sha512 same = refl
+pub no_record : (kept : Kept) (status : Status) (shown : VersionedRecord) → SpellsStruct kept (Err status)
+    → ¬ ShowsRecord kept shown
+no_record kept status shown wrong is = shows_none kept status shown wrong is
 
-pub no_record : (config : Config) (version : ScramVersion) (status : Status) → SpellsStruct config.record.now (Err status)
-    → HasRecords config version []
-no_record config version status wrong =
-    inr (λ stored is. shows_none config.record.now status (versioned version stored) wrong is, refl)
+-- the structs that are left after one that shows none, and after one that shows this record
+pub skips : (user : List ℕ) (kept : Kept) (more : List Kept) (records : MultiRecords)
+    → ((shown : VersionedRecord) → ¬ ShowsRecord kept shown) → ShowRecords user (kept ∷ more) records
+    → ShowRecords user more records
+skips user kept more records none (inl (shown, rest, is, then, same)) = absurd (none shown is)
+skips user kept more records none (inr (other, then)) = then
 
-pub other_version : (config : Config) (version : ScramVersion) (shown : VersionedRecord) → ShowsRecord config.record.now shown
-    → shown.version ≢ version → HasRecords config version []
-other_version config version shown is other =
-    inr (λ stored held. other (one_number shown.version version (is.0 ∙ sym held.0)), refl)
+-- the first that shows one has its hash
+pub first_shown : (user : List ℕ) (kept : Kept) (more : List Kept) (records : MultiRecords) (shown : VersionedRecord)
+    → ShowsRecord kept shown → ShowRecords user (kept ∷ more) records → shown.version ≡ version_of_first records
+first_shown user kept more records shown is (inl (other, rest, shows, then, same)) =
+    one_number shown.version other.version (is.0 ∙ sym shows.0) ∙ sym (ap version_of_first same)
+first_shown user kept more records shown is (inr (none, then)) = absurd (none shown is)
 
-pub one_record : (config : Config) (version : ScramVersion) (shown : VersionedRecord) (name : List ℕ)
-    → ShowsRecord config.record.now shown → shown.version ≡ version → name ≡ config.username.now
-    → HasRecords config version ((name, shown.stored) ∷ [])
-one_record config version shown name is same named = inl (
-  shown.stored,
-  carried (λ (v : ScramVersion). ShowsRecord config.record.now (versioned v shown.stored)) shown.version version same is,
-  ap (λ (n : List ℕ). (n, shown.stored) ∷ []) named,
-)
+-- the records so far, of the structs before those that are left
+abbrev pub ShowSoFar : List ℕ → List Kept → List Kept → MultiRecords → Type 0
+ShowSoFar user kepts left records =
+    (rest : MultiRecords) → ShowRecords user left rest → ShowRecords user kepts (records ++ rest)
 
-pub ruleset store = (no_record, other_version, one_record)
+pub so_far_none : (user : List ℕ) (kepts : List Kept) → ShowSoFar user kepts kepts []
+so_far_none user kepts = λ rest is. is
+
+pub so_far_more : (user : List ℕ) (kepts left : List Kept) (kept : Kept) (before after : MultiRecords)
+    → ShowSoFar user kepts (kept ∷ left) before → AddsRecord user kept before after → ShowSoFar user kepts left after
+so_far_more user kepts left kept before after shows (inl (shown, is, then)) = λ rest more.
+    carried (ShowRecords user kepts) (before ++ ((user, shown) ∷ rest)) (after ++ rest)
+    (sym (ap (λ (a : MultiRecords). a ++ rest) then ∙ append_assoc before ((user, shown) ∷ []) rest))
+    (shows ((user, shown) ∷ rest) (inl (shown, rest, is, more, refl)))
+so_far_more user kepts left kept before after shows (inr (none, then)) = λ rest more.
+    carried (ShowRecords user kepts) (before ++ rest) (after ++ rest)
+    (sym (ap (λ (a : MultiRecords). a ++ rest) then)) (shows rest (inr (none, more)))
+
+pub so_far_all : (user : List ℕ) (kepts : List Kept) (records : MultiRecords) → ShowSoFar user kepts [] records
+    → ShowRecords user kepts records
+so_far_all user kepts records shows =
+    carried (ShowRecords user kepts) (records ++ []) records (append-nil records) (shows [] refl)
 
 -- ---- a record without keys
 
@@ -149,117 +163,94 @@ never_met challenge version text message next ((final, read, sent), then) =
 
 -- ---- the server of a configuration
 
--- the server that is offered of all four
-whole : (config : Config) (version : ScramVersion) (choice : Choice) (all other : All) (names : List (List ℕ))
-    (server : State) → names ≡ allowed_of version choice config.external_authcid.now → server ≡ record { inner = all; allowed = names }
-    → all ≡ other → server ≡ record { inner = other; allowed = allowed_of version choice config.external_authcid.now }
-whole config version choice all other names server named is same = is
-    ∙ (ap (λ (n : List (List ℕ)). offering all n) named ∙ ap (λ a. offering a (allowed_of version choice config.external_authcid.now)) same)
-  where
-    offering : All → List (List ℕ) → State
-    offering inner allowed = record { inner = inner; allowed = allowed }
+-- the library's server with the open challenge that a struct shows
+module _ (config : Config) (choice : Choice) (records : MultiRecords) where
+  abbrev served : Option (ScramVersion × ServerChallenge) → State
+  served shown = password_server (settings_for config choice records (option_map (exchange_of records) shown))
 
-is_of : (config : Config) (version : ScramVersion) (choice : Choice) (records : Records) (state : ServerState)
-    (other : Records → ServerState) (asked last : Option Selected) (server : State) → IsVersion config.version version → sum_of choice ≡ config.mechanisms
-    → HasRecords config version records → server ≡ struct_server config version choice records state asked → state ≡ other records
-    → asked ≡ last → IsOf config other last server
-unfolding IsOf
-is_of config version choice records state other asked last server known sum has is same too = (
-  version,
-  choice,
-  records,
-  known,
-  sum,
-  has,
-  is
-      ∙ (ap (λ (s : ServerState). struct_server config version choice records s asked) same
-      ∙ ap (λ (a : Option Selected). struct_server config version choice records (other records) a) too),
-)
+  abbrev states_for : Option (ScramVersion × ServerChallenge) → ScramVersion → ServerState
+  states_for shown = opened (option_map (exchange_of records) shown)
 
-shows_it : (scram : ScramStruct) (server : State) (challenge : Option ServerChallenge) → open_in server ≡ challenge
-    → ShowsOpen scram challenge → ShowsOpen scram (open_in server)
-shows_it scram server challenge same shows =
-    carried (ShowsOpen scram) challenge (open_in server) (sym same) shows
+  stands : (shown : Option (ScramVersion × ServerChallenge)) → Stands records shown (states_for shown)
+      (first_asked (asked_of (option_map (exchange_of records) shown)))
+      (second_asked (asked_of (option_map (exchange_of records) shown)))
+  stands None = ((λ version. refl), refl, refl)
+  stands (Some (versions.Sha1, challenge)) = (refl, (refl, refl))
+  stands (Some (versions.Sha256, challenge)) = (refl, (refl, refl))
+  stands (Some (versions.Sha512, challenge)) = (refl, refl)
 
--- the server that was made of a configuration and of what a struct shows
-pub made : (config : Config) (version : ScramVersion) (choice : Choice) (scram : ScramStruct) (all : All)
-    (names : List (List ℕ)) (server : State) → IsVersion config.version version → sum_of choice ≡ config.mechanisms
-    → names ≡ allowed_of version choice config.external_authcid.now → server ≡ record { inner = all; allowed = names }
-    → IsAll config version choice.cbind_flag_y scram all → ServerIsReached config InProgress server × ShowsState scram InProgress server
-made config version choice scram all names server known sum named is (records, state, asked, has, stands, same) =
-    go stands
-  where
-    all_is : server ≡ struct_server config version choice records state asked
-    all_is = whole config version choice all _ names server named is same
+  served_in : (shown : Option (ScramVersion × ServerChallenge)) → served shown
+      ≡ password_server_in (settings_for config choice records None) (states_for shown)
+      (option_map (λ (exchange : ScramVersion × ServerChallenge). First) shown)
+      (first_asked (asked_of (option_map (exchange_of records) shown)))
+      (second_asked (asked_of (option_map (exchange_of records) shown)))
+  served_in None = refl
+  served_in (Some shown) = refl
 
-    go : ShowsExchange records scram state asked → ServerIsReached config InProgress server × ShowsState scram InProgress server
-    go (inl (challenge, opened, stood, last)) = (
-      inr (
-        challenge,
-        is_of config version choice records state (opened_by challenge) asked _ server known sum has all_is stood
-            last,
-      ),
-      shows_it scram server (Some challenge) (ap open_in all_is ∙ ap open_challenge stood) opened,
-    )
-    go (inr (none, stood, last)) = (
-      inl (is_of config version choice records state (λ _. Initial) asked _ server known sum has all_is stood last),
-      shows_it scram server None (ap open_in all_is ∙ ap open_challenge stood) none,
-    )
+  opened_in : (shown : Option (ScramVersion × ServerChallenge)) → password_open (served shown) ≡ shown
+  opened_in None = refl
+  opened_in (Some (versions.Sha1, challenge)) = refl
+  opened_in (Some (versions.Sha256, challenge)) = refl
+  opened_in (Some (versions.Sha512, challenge)) = refl
+
+  is_of : (shown : Option (ScramVersion × ServerChallenge)) (server : State) → sum_of choice ≡ config.mechanisms
+      → HasRecords config records → server ≡ served shown → IsOf config shown server
+  unfolding IsOf
+  is_of shown server sum has is = (
+    choice,
+    records,
+    states_for shown,
+    first_asked (asked_of (option_map (exchange_of records) shown)),
+    second_asked (asked_of (option_map (exchange_of records) shown)),
+    sum,
+    has,
+    stands shown,
+    is ∙ served_in shown,
+  )
+
+  pub made : (scram : ScramStruct) (shown : Option (ScramVersion × ServerChallenge)) (server : State)
+      → sum_of choice ≡ config.mechanisms → HasRecords config records → ShowsOpen scram shown → server ≡ served shown
+      → ServerIsReached config InProgress server × ShowsState scram InProgress server
+  made scram shown server sum has shows is = (
+    (shown, is_of shown server sum has is),
+    carried (ShowsOpen scram) shown (password_open server) (sym (ap password_open is ∙ opened_in shown)) shows,
+  )
 
 -- why there is none
-pub no_version : (config : Config) → ((known : ScramVersion) → ¬ IsVersion config.version known)
-    → IsNoConfig config statuses.NoSuchVersion
-unfolding IsNoConfig
-no_version config none = inl (inl (none, refl))
-
-pub no_choice : (config : Config) (version : ScramVersion) → IsVersion config.version version
-    → ((choice : Choice) → sum_of choice ≢ config.mechanisms) → IsNoConfig config statuses.NoSuchMechanism
-unfolding IsNoConfig
-no_choice config version known none = inl (inr ((λ wrong. wrong version known), inl (none, refl)))
-
-pub no_words : (config : Config) (version : ScramVersion) (choice : Choice) (status : Status)
-    → IsVersion config.version version → sum_of choice ≡ config.mechanisms → HasNoServerWords config status
-    → IsNoConfig config status
-unfolding IsNoConfig
-no_words config version choice status known sum (is, inl wrong) =
-    inl (inr ((λ none. none version known), inr ((λ none. none choice sum), inl (wrong, is))))
-no_words config version choice status known sum (is, inr (name, wrong)) = inl (inr (
-  (λ none. none version known),
-  inr ((λ none. none choice sum), inr ((λ other. other name), inl (wrong, is))),
-))
-
-pub no_offer : (config : Config) (version : ScramVersion) (choice : Choice) (scram : ScramStruct) (all : All)
-    (names : List (List ℕ)) (server : State) → IsVersion config.version version → sum_of choice ≡ config.mechanisms
-    → names ≡ allowed_of version choice config.external_authcid.now → server ≡ record { inner = all; allowed = names }
-    → IsAll config version choice.cbind_flag_y scram all → IsUtf8 config.username.now → IsUtf8 config.external_authcid.now
-    → state_names server ≡ []
+pub no_choice : (config : Config) → ((choice : Choice) → sum_of choice ≢ config.mechanisms)
     → IsNoConfig config statuses.NoSuchMechanism
 unfolding IsNoConfig
-no_offer config version choice scram all names server known sum named is (records, state, asked, has, stands, same)
-    name peer nothing = inr (
-      (
-        (λ none. none version known),
-        ((λ none. none choice sum), ((λ wrong. wrong name), ((λ wrong. wrong peer), tt))),
-      ),
-      refl,
-      (
-        λ _. state,
-        asked,
-        server,
-        is_of config version choice records state (λ _. state) asked asked server known sum has
-            (whole config version choice all _ names server named is same) refl refl,
-        nothing,
-      ),
-    )
+no_choice config none = inl (inl (none, refl))
 
-pub no_test : (config : Config) (version : ScramVersion) (choice : Choice) → IsVersion config.version version
-    → sum_of choice ≡ config.mechanisms → IsUtf8 config.username.now → IsUtf8 config.external_authcid.now → NoneHolds (config_tests config)
-no_test config version choice known sum name peer = (
-  (λ none. none version known),
+pub no_words : (config : Config) (choice : Choice) (status : Status) → sum_of choice ≡ config.mechanisms
+    → HasNoServerWords config status → IsNoConfig config status
+unfolding IsNoConfig
+no_words config choice status sum (is, inl wrong) = inl (inr ((λ none. none choice sum), inl (wrong, is)))
+no_words config choice status sum (is, inr (name, wrong)) =
+    inl (inr ((λ none. none choice sum), inr ((λ other. other name), inl (wrong, is))))
+
+pub no_offer : (config : Config) (choice : Choice) (records : MultiRecords)
+    (shown : Option (ScramVersion × ServerChallenge)) → sum_of choice ≡ config.mechanisms → HasRecords config records
+    → IsUtf8 config.username.now → IsUtf8 config.external_authcid.now
+    → password_names (served config choice records shown) ≡ [] → IsNoConfig config statuses.NoSuchMechanism
+unfolding IsNoConfig
+no_offer config choice records shown sum has name peer nothing = inr (
   ((λ none. none choice sum), ((λ wrong. wrong name), ((λ wrong. wrong peer), tt))),
+  refl,
+  (
+    shown,
+    served config choice records shown,
+    is_of config choice records shown (served config choice records shown) sum has refl,
+    nothing,
+  ),
 )
 
-pub ruleset acceptor = (no_version, no_choice, no_words, no_test)
+pub no_test : (config : Config) (choice : Choice) → sum_of choice ≡ config.mechanisms → IsUtf8 config.username.now
+    → IsUtf8 config.external_authcid.now → NoneHolds (config_tests config)
+no_test config choice sum name peer =
+    ((λ none. none choice sum), ((λ wrong. wrong name), ((λ wrong. wrong peer), tt)))
+
+pub ruleset acceptor = (no_choice, no_words, no_test)
 
 -- ---- what the struct of SCRAM shows
 
@@ -285,7 +276,7 @@ user_room scram user is =
     omega (arith, ap length is.2, long, is.1)
 
 -- what is shown of a login that stands so
-stands_so : (scram : ScramStruct) (progress other : Progress) (opened last : Option ServerChallenge)
+stands_so : (scram : ScramStruct) (progress other : Progress) (opened last : Option (ScramVersion × ServerChallenge))
     (user name : Option (List ℕ)) → progress ≡ other → opened ≡ last → user ≡ name
     → ShowsProgress scram other last name → ShowsProgress scram progress opened user
 stands_so scram progress other opened last user name same is named shows =
@@ -293,51 +284,52 @@ stands_so scram progress other opened last user name same is named shows =
     (carried (λ o. ShowsProgress scram other o user) last opened (sym is)
     (carried (λ (u : Option (List ℕ)). ShowsProgress scram other last u) name user (sym named) shows))
 
-pub shows_challenge : (scram : ScramStruct) (progress : Progress) (opened : Option ServerChallenge)
-    (user : Option (List ℕ)) (challenge : ServerChallenge) → progress ≡ InProgress → opened ≡ Some challenge
-    → IsOpen scram challenge → ShowsProgress scram progress opened user
-shows_challenge scram progress opened user challenge wants some is =
-    stands_so scram progress InProgress opened (Some challenge) user user wants some refl is
+pub shows_challenge : (scram : ScramStruct) (progress : Progress) (opened : Option (ScramVersion × ServerChallenge))
+    (user : Option (List ℕ)) (version : ScramVersion) (challenge : ServerChallenge) → progress ≡ InProgress
+    → opened ≡ Some (version, challenge) → scram.version ≡ version_number version → IsOpen scram challenge
+    → ShowsProgress scram progress opened user
+shows_challenge scram progress opened user version challenge wants some hash is =
+    stands_so scram progress InProgress opened (Some (version, challenge)) user user wants some refl (sym hash, is)
 
 -- no number of an open challenge is 0
 never_zero : (header : ChannelBindingFlag) → 0 ≡ open_number header → ⊥
 never_zero NotSupported same = omega (arith, same)
 never_zero ClientSupports same = omega (arith, same)
 
-pub shows_no_challenge : (scram : ScramStruct) (progress : Progress) (opened : Option ServerChallenge)
+pub shows_no_challenge : (scram : ScramStruct) (progress : Progress) (opened : Option (ScramVersion × ServerChallenge))
     (user : Option (List ℕ)) → progress ≡ InProgress → opened ≡ None → scram.state ≡ 0
     → ShowsProgress scram progress opened user
 shows_no_challenge scram progress opened user wants none fresh =
     stands_so scram progress InProgress opened None user user wants none refl
-    (λ challenge is. never_zero challenge.header (sym fresh ∙ is.0))
+    (λ version challenge is. never_zero challenge.header (sym fresh ∙ is.1.0))
 
-pub no_challenge_room : (progress : Progress) (opened : Option ServerChallenge) (user : Option (List ℕ))
-    (challenge : ServerChallenge) → progress ≡ InProgress → opened ≡ Some challenge → ¬ ChallengeHasRoom challenge
-    → (scram : ScramStruct) → ¬ ShowsProgress scram progress opened user
-no_challenge_room progress opened user challenge wants some wide scram shows =
-    let is = stands_so scram InProgress progress (Some challenge) opened user user (sym wants) (sym some) refl shows in
-    wide (open_room scram challenge is)
+pub no_challenge_room : (progress : Progress) (opened : Option (ScramVersion × ServerChallenge)) (user : Option (List ℕ))
+    (version : ScramVersion) (challenge : ServerChallenge) → progress ≡ InProgress → opened ≡ Some (version, challenge)
+    → ¬ ChallengeHasRoom challenge → (scram : ScramStruct) → ¬ ShowsProgress scram progress opened user
+no_challenge_room progress opened user version challenge wants some wide scram shows =
+    let is = stands_so scram InProgress progress (Some (version, challenge)) opened user user (sym wants) (sym some) refl
+    shows in wide (open_room scram challenge is.1)
 
-pub shows_user : (scram : ScramStruct) (progress : Progress) (opened : Option ServerChallenge) (user : Option (List ℕ))
+pub shows_user : (scram : ScramStruct) (progress : Progress) (opened : Option (ScramVersion × ServerChallenge)) (user : Option (List ℕ))
     (name : List ℕ) → progress ≡ Authenticated → user ≡ Some name → IsAuthenticated scram name
     → ShowsProgress scram progress opened user
 shows_user scram progress opened user name in_is some is =
     stands_so scram progress Authenticated opened opened user (Some name) in_is refl some is
 
-pub shows_no_user : (scram : ScramStruct) (progress : Progress) (opened : Option ServerChallenge)
+pub shows_no_user : (scram : ScramStruct) (progress : Progress) (opened : Option (ScramVersion × ServerChallenge))
     (user : Option (List ℕ)) → progress ≡ Authenticated → user ≡ None → scram.state ≡ 0
     → ShowsProgress scram progress opened user
 shows_no_user scram progress opened user in_is none fresh =
     stands_so scram progress Authenticated opened opened user None in_is refl none fresh
 
-pub no_user_room : (progress : Progress) (opened : Option ServerChallenge) (user : Option (List ℕ)) (name : List ℕ)
+pub no_user_room : (progress : Progress) (opened : Option (ScramVersion × ServerChallenge)) (user : Option (List ℕ)) (name : List ℕ)
     → progress ≡ Authenticated → user ≡ Some name → 256 < length name
     → (scram : ScramStruct) → ¬ ShowsProgress scram progress opened user
 no_user_room progress opened user name in_is some long scram shows =
     let is = stands_so scram Authenticated progress opened opened (Some name) user (sym in_is) refl (sym some) shows in
     absurd (omega (arith, user_room scram name is, long))
 
-pub shows_closed : (scram : ScramStruct) (progress : Progress) (opened : Option ServerChallenge)
+pub shows_closed : (scram : ScramStruct) (progress : Progress) (opened : Option (ScramVersion × ServerChallenge))
     (user : Option (List ℕ)) (why : CloseReason) → progress ≡ Failed why → scram.state ≡ 0
     → ShowsProgress scram progress opened user
 shows_closed scram progress opened user why closed fresh =
@@ -354,40 +346,40 @@ pub ruleset shown = (
 )
 
 -- so it is of a server whose challenge and user these are
-pub shows_as : (progress : Progress) (server : State) (opened : Option ServerChallenge) (user : Option (List ℕ))
-    (answer : Option ScramStruct) → opened ≡ open_in server → user ≡ user_in server
+pub shows_as : (progress : Progress) (server : State) (opened : Option (ScramVersion × ServerChallenge)) (user : Option (List ℕ))
+    (answer : Option ScramStruct) → opened ≡ password_open server → user ≡ password_user server
     → MatchOption answer ((scram : ScramStruct) → ¬ ShowsProgress scram progress opened user)
     (λ scram. ShowsProgress scram progress opened user)
     → MatchOption answer ((scram : ScramStruct) → ¬ ShowsState scram progress server)
     (λ scram. ShowsState scram progress server)
 shows_as progress server opened user answer is named held =
     carried (λ (u : Option (List ℕ)).
-    MatchOption answer ((scram : ScramStruct) → ¬ ShowsProgress scram progress (open_in server) u)
-    (λ scram. ShowsProgress scram progress (open_in server) u)) user (user_in server) named
-    (carried (λ (o : Option ServerChallenge).
+    MatchOption answer ((scram : ScramStruct) → ¬ ShowsProgress scram progress (password_open server) u)
+    (λ scram. ShowsProgress scram progress (password_open server) u)) user (password_user server) named
+    (carried (λ (o : Option (ScramVersion × ServerChallenge)).
     MatchOption answer ((scram : ScramStruct) → ¬ ShowsProgress scram progress o user)
-    (λ scram. ShowsProgress scram progress o user)) opened (open_in server) is held)
+    (λ scram. ShowsProgress scram progress o user)) opened (password_open server) is held)
 
 -- ---- the structs of a side
 
 -- what a struct of SCRAM shows of an acceptor
-abbrev pub Shown : ScramStruct → Progress → Code → Type 0
-Shown scram progress acceptor = ShowsState scram progress (value_state acceptor)
+abbrev pub Shown : ScramStruct → Progress → PasswordServer → Type 0
+Shown scram progress acceptor = ShowsState scram progress (password_state acceptor)
 
 -- and the one that is written for it
-abbrev pub written_for : Progress → Code → ScramStruct
-written_for progress acceptor = state_struct progress (value_state acceptor)
+abbrev pub written_for : Progress → PasswordServer → ScramStruct
+written_for progress acceptor = state_struct progress (password_state acceptor)
 
-pub writes_side : (server : Struct) (next : ServerConnectionSide Code) → server ≡ struct_by value_state written_for next
+pub writes_side : (server : Struct) (next : ServerConnectionSide PasswordServer) → server ≡ struct_by password_state written_for next
     → server ≡ side_struct (side_in next)
 writes_side server next written = written
 
-pub shows_side : (server : Struct) (next : ServerConnectionSide Code) → ShowsBy value_state Shown server next
+pub shows_side : (server : Struct) (next : ServerConnectionSide PasswordServer) → ShowsBy password_state Shown server next
     → ShowsSide server (side_in next)
 unfolding ShowsSide
 shows_side server next shows = shows
 
-pub shows_nothing : (next : ServerConnectionSide Code) → HasNone value_state Shown next → HasNoStruct (side_in next)
+pub shows_nothing : (next : ServerConnectionSide PasswordServer) → HasNone password_state Shown next → HasNoStruct (side_in next)
 unfolding HasNoStruct
 shows_nothing next none = none
 

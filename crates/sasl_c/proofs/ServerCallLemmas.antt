@@ -1,6 +1,6 @@
 -- What a call makes of a server's side of a connection (AMQP 1.0, part 5, section 5.3.2).
 use Rattle.std.proofs.Common.{arith, refl, sym, ap, inl, inr, ◌∙◌, ◌≡◌, ◌≢◌, ◌≤◌, ◌⊎◌, ◌++◌, ℕ, List, [], length, IsTrue}
-use Rattle.std.specs.Prelude.{Bool, true, false, Option, Some, None, Result, Ok, Err, drop}
+use Rattle.std.specs.Prelude.{Bool, true, false, Option, Some, None, Result, Ok, Err, drop, option_map}
 use Rattle.std.proofs.lemmas.List.{length-append}
 use Rattle.fe2o3_sasl_wire.specs.declared.amqp_types.SaslCode.{SaslCode}
 use Rattle.fe2o3_sasl_wire.specs.declared.amqp_types.SaslCode.TheVariants as outcomes
@@ -10,10 +10,12 @@ use Rattle.fe2o3_sasl_wire.specs.FrameView.{shown}
 use Rattle.fe2o3_sasl_wire.specs.SaslFrames as frames
 use Rattle.fe2o3_sasl_wire.specs.SaslFrames.{SaslFrame, canonical}
 use Rattle.fe2o3_scram.specs.declared.hmac.ScramVersion.{ScramVersion}
+use Rattle.fe2o3_scram.specs.declared.hmac.ScramVersion.TheVariants as versions
 use Rattle.fe2o3_scram.specs.declared.scram_messages.error.ServerScramErrorKind.{ServerScramErrorKind}
-use Rattle.fe2o3_scram.specs.Credentials.{Provider, Record, Records, serving}
+use Rattle.fe2o3_scram.specs.Credentials.{Provider, Record}
+use Rattle.fe2o3_scram.specs.Mixed.{MultiRecords}
 use Rattle.fe2o3_scram.specs.Readings.{IsFirst, NoneHolds}
-use Rattle.fe2o3_scram.specs.ScramServer.{ChallengesFrom, ServerState, Initial, ServerFirstSent}
+use Rattle.fe2o3_scram.specs.ScramServer.{ChallengesFrom, ServerState, ServerFirstSent}
 use Rattle.fe2o3_scram.specs.ServerFirst.{ServerChallenge}
 use Rattle.fe2o3_sasl_core.specs.declared.any_mechanism.Selected.{Selected}
 use Rattle.fe2o3_sasl_core.specs.declared.any_mechanism.Selected.TheVariants.{First, Second}
@@ -21,7 +23,7 @@ use Rattle.fe2o3_sasl_core.specs.Bodies.{carried as sent_or_not, server_says}
 use Rattle.fe2o3_sasl_core.specs.Events.{Given, ServerSays, Challenged, Concluded, Failed}
 use Rattle.fe2o3_sasl_core.specs.ExternalServer.{External, external_machine}
 use Rattle.fe2o3_sasl_core.specs.RestrictMechanisms.{OfferingReplies, is_passed_on}
-use Rattle.fe2o3_sasl_core.specs.AnyMechanism.{PartReplies, part_for}
+use Rattle.fe2o3_sasl_core.specs.AnyMechanism.{BothStates, PartReplies, part_for}
 use Rattle.fe2o3_sasl_core.specs.PlainServer.{PlainState, plain_machine}
 use Rattle.fe2o3_sasl_core.specs.Runs.{AcceptorGives}
 use Rattle.fe2o3_sasl_core.specs.SaslAcceptor.{Acceptor, ScramAcceptor, AnonymousAcceptor, acceptor_machine, acceptor_names, ends_with, server_frame}
@@ -47,7 +49,9 @@ use Rattle.sasl_c.specs.declared.sasl_server.SaslServer.{SaslServer as Struct}
 use Rattle.sasl_c.specs.declared.status.Status.{Status}
 use Rattle.sasl_c.specs.declared.status.Status.TheVariants as statuses
 use Rattle.sasl_c.specs.Connection.{Keeps, KeepsNoPart, side_tests, KeepsNoPartOf}
-use Rattle.sasl_c.specs.SaslServer.{All, Code, ServerIsReached, HasNone, IsNoConfig, IsNoServer, IsOf, IsServer, Last, NotReceived, Others, Received, ShowsBy, ShowsSide, ShowsState, State, all_machine, all_names, external_names, last_machine, last_names, other_machine, other_names, plain_names, struct_server, opened_by, or_no_record, side_in, side_struct, state_machine, state_names, value_state, struct_by}
+use Rattle.sasl_c.specs.SaslServer.{HasNone, IsNoConfig, IsNoServer, IsOf, IsServer, NotReceived, Received, ServerIsReached, ShowsBy, ShowsSide, ShowsState, Stands, State, or_no_record, record_for, settings_for, side_in, side_struct, struct_by}
+use Rattle.fe2o3_sasl_core.specs.PasswordServer.{OtherStates, PasswordParts, PasswordSettings, ScramStates, external_names, last_machine, last_names, names_for, others_machine, others_names, others_of, parts_machine, parts_names, password_machine, password_names, password_server_in, password_state, plain_names, scram_provider, scrams_in, scrams_machine, scrams_names, weaker_machine, weaker_names}
+use Rattle.fe2o3_sasl_core.specs.declared.password_server.PasswordServer.{PasswordServer}
 use Rattle.sasl_c.proofs.SaslClientLemmas.{one_due, part_short, tests_without_memory}
 use Rattle.sasl_c.proofs.SaslServerLemmas.{Shown, is_server, no_server, shows_nothing, shows_side, writes_side, written_for}
 use Rattle.sasl_c.proofs.StatusLemmas.{carried}
@@ -86,7 +90,7 @@ anonymous_ends next nonce (frames.Challenge text) reply is = absurd is
 anonymous_ends next nonce (frames.Outcome code more) reply is = absurd is
 
 -- ANONYMOUS and EXTERNAL end it
-last_ends : (last next : Last) (part : Option Selected) (nonce : List ℕ) (frame reply : SaslFrame)
+last_ends : (last next : BothStates Acceptor External) (part : Option Selected) (nonce : List ℕ) (frame reply : SaslFrame)
     → last.first ≡ AnonymousAcceptor → PartReplies acceptor_machine external_machine last part nonce frame reply next
     → Ends reply
 last_ends last next None nonce frame reply is (same, then) = ends_so reply outcomes.Auth same
@@ -96,7 +100,7 @@ last_ends last next (Some Second) nonce frame reply is (moved, held, then) =
     external_ends last.second moved nonce frame reply held
 
 -- and so does PLAIN
-others_end : (others next : Others) (part : Option Selected) (nonce : List ℕ) (frame reply : SaslFrame)
+others_end : (others next : OtherStates) (part : Option Selected) (nonce : List ℕ) (frame reply : SaslFrame)
     → others.second.first ≡ AnonymousAcceptor
     → PartReplies plain_machine last_machine others part nonce frame reply next → Ends reply
 others_end others next None nonce frame reply is (same, then) = ends_so reply outcomes.Auth same
@@ -149,75 +153,192 @@ scram_opens provider state nonce (frames.Outcome code more) reply next is = absu
 abbrev Goes : Config → SaslFrame → State → Type 0
 Goes config reply next = Ends reply ⊎ ServerIsReached config InProgress next
 
-module _ (config : Config) (version : ScramVersion) (choice : Choice) (records : Records) where
-  abbrev one : ServerState → Option Selected → State
-  one state asked = struct_server config version choice records state asked
+-- the states with another for this hash
+abbrev with_state : ScramVersion → ServerState → (ScramVersion → ServerState) → ScramVersion → ServerState
+with_state versions.Sha1 state states versions.Sha1 = state
+with_state versions.Sha256 state states versions.Sha256 = state
+with_state versions.Sha512 state states versions.Sha512 = state
+with_state version state states other = states other
 
-  abbrev scram_provider : Provider
-  scram_provider = serving choice.cbind_flag_y (record { version = version; records = records })
+module _ (config : Config) (choice : Choice) (records : MultiRecords) where
+  abbrev settings : PasswordSettings
+  settings = settings_for config choice records None
+
+  abbrev provider : ScramVersion → Provider
+  provider version = scram_provider settings version
+
+  -- the state of SCRAM by a hash once it has an open challenge
+  abbrev waits_for : ScramVersion → ServerChallenge → ServerState
+  waits_for version challenge = ServerFirstSent challenge (record_for records version challenge.user)
+
+  -- SCRAM, or all, with an open challenge
+  abbrev ScramsOpen : ScramStates → Type 0
+  ScramsOpen next = (version : ScramVersion) × (challenge : ServerChallenge) × (states : ScramVersion → ServerState)
+      × (selected weaker : Option Selected) × Stands records (Some (version, challenge)) states selected weaker
+      × (next ≡ scrams_in settings states selected weaker)
 
   abbrev Then : SaslFrame → State → Type 0
-  Then reply next =
-      Ends reply ⊎ ((challenge : ServerChallenge) × (next ≡ one (opened_by challenge records) (Some First)))
+  Then reply next = Ends reply ⊎ ((version : ScramVersion) × (challenge : ServerChallenge)
+      × (states : ScramVersion → ServerState) × (selected weaker : Option Selected)
+      × Stands records (Some (version, challenge)) states selected weaker
+      × (next ≡ password_server_in settings states (Some First) selected weaker))
 
-  opened : (state : ServerState) (asked : Option Selected) (all : All) (acceptor : Acceptor) (next : State)
-      (reply : SaslFrame) → Ends reply ⊎ Opens scram_provider acceptor
-      → all ≡ record { first = acceptor; second = (one state asked).inner.second; selected = Some First }
-      → next ≡ record (one state asked) { inner = all } → Then reply next
-  opened state asked all acceptor next reply (inl ends) is same = inl ends
-  opened state asked all acceptor next reply (inr (challenge, stored, found, opens)) is same = inr (
-    challenge,
-    same ∙ ap (λ (a : All). with_all a)
-        (is ∙ ap with_first (opens ∙ ap (opened_with challenge) (sym (ap or_no_record found)))),
-  )
+  -- an acceptor with an open challenge is that of the record for its hash
+  waits : (version : ScramVersion) (acceptor : Acceptor) → (opens : Opens (provider version) acceptor)
+      → acceptor ≡ ScramAcceptor (provider version) (waits_for version opens.0)
+  waits version acceptor (challenge, stored, found, opens) = opens ∙ ap (opened_with challenge) (sym (ap or_no_record found))
     where
       opened_with : ServerChallenge → Record → Acceptor
-      opened_with made stored = ScramAcceptor scram_provider (ServerFirstSent made stored)
+      opened_with made stored = ScramAcceptor (provider version) (ServerFirstSent made stored)
 
-      with_all : All → State
-      with_all a = record (one state asked) { inner = a }
+  weaker_open : (states : ScramVersion → ServerState) (selected weaker part : Option Selected) (nonce : List ℕ)
+      (frame reply : SaslFrame) (moved : BothStates Acceptor Acceptor) (next : ScramStates)
+      → PartReplies acceptor_machine acceptor_machine (scrams_in settings states selected weaker).second part nonce frame reply
+      moved
+      → next ≡ record { first = (scrams_in settings states selected weaker).first; second = moved; selected = Some Second }
+      → Ends reply ⊎ ScramsOpen next
+  weaker_open states selected weaker None nonce frame reply moved next (same, then) is =
+      inl (ends_so reply outcomes.Auth same)
+  weaker_open states selected weaker (Some First) nonce frame reply moved next (acceptor, held, then) is =
+      go (scram_opens (provider versions.Sha256) (states versions.Sha256) nonce frame reply acceptor held)
+    where
+      with_acceptor : Acceptor → ScramStates
+      with_acceptor a = record {
+        first = (scrams_in settings states selected weaker).first;
+        second = record { first = a; second = (scrams_in settings states selected weaker).second.second; selected = Some First };
+        selected = Some Second;
+      }
 
-      with_first : Acceptor → All
-      with_first a = record { first = a; second = (one state asked).inner.second; selected = Some First }
+      with_moved : BothStates Acceptor Acceptor → ScramStates
+      with_moved m =
+          record { first = (scrams_in settings states selected weaker).first; second = m; selected = Some Second }
 
-  part_goes : (state : ServerState) (asked part : Option Selected) (nonce : List ℕ) (frame reply : SaslFrame) (all : All)
-      (next : State)
-      → PartReplies acceptor_machine other_machine (one state asked).inner part nonce frame reply all
-      → next ≡ record (one state asked) { inner = all } → Then reply next
-  part_goes state asked None nonce frame reply all next (same, then) is = inl (ends_so reply outcomes.Auth same)
-  part_goes state asked (Some First) nonce frame reply all next (moved, held, then) is =
-      opened state asked all moved next reply (scram_opens _ state nonce frame reply moved held) then is
-  part_goes state asked (Some Second) nonce frame reply all next (moved, held, then) is =
-      inl (others_end (one state asked).inner.second moved
-      (part_for plain_names last_names (one state asked).inner.second frame) nonce frame reply refl held)
+      go : Ends reply ⊎ Opens (provider versions.Sha256) acceptor → Ends reply ⊎ ScramsOpen next
+      go (inl ends) = inl ends
+      go (inr opens) = inr (
+        versions.Sha256,
+        opens.0,
+        with_state versions.Sha256 (waits_for versions.Sha256 opens.0) states,
+        Some Second,
+        Some First,
+        (refl, (refl, refl)),
+        is ∙ (ap with_moved then ∙ ap with_acceptor (waits versions.Sha256 acceptor opens)),
+      )
+  weaker_open states selected weaker (Some Second) nonce frame reply moved next (acceptor, held, then) is =
+      go (scram_opens (provider versions.Sha1) (states versions.Sha1) nonce frame reply acceptor held)
+    where
+      with_acceptor : Acceptor → ScramStates
+      with_acceptor a = record {
+        first = (scrams_in settings states selected weaker).first;
+        second = record { first = (scrams_in settings states selected weaker).second.first; second = a; selected = Some Second };
+        selected = Some Second;
+      }
 
-  offered_goes : (state : ServerState) (asked : Option Selected) (passed : Bool) (nonce : List ℕ)
-      (frame reply : SaslFrame) (next : State)
-      → OfferingReplies all_machine (one state asked) passed nonce frame reply next → Then reply next
-  offered_goes state asked false nonce frame reply next (same, then) = inl (ends_so reply outcomes.Auth same)
-  offered_goes state asked true nonce frame reply next (moved, held, then) =
-      part_goes state asked (part_for acceptor_names other_names (one state asked).inner frame) nonce frame reply moved
-      next held then
+      with_moved : BothStates Acceptor Acceptor → ScramStates
+      with_moved m =
+          record { first = (scrams_in settings states selected weaker).first; second = m; selected = Some Second }
 
-of_goes : (config : Config) (state : Records → ServerState) (asked : Option Selected) (server next : State) (nonce : List ℕ)
-    (frame reply : SaslFrame) → IsOf config state asked server → state_machine server nonce frame reply next
-    → Goes config reply next
-unfolding IsOf
-of_goes config state asked server next nonce frame reply (version, choice, records, known, sum, has, is) held =
-    go (offered_goes config version choice records (state records) asked
-    (is_passed_on all_names (struct_server config version choice records (state records) asked) frame) nonce frame reply next
-    (carried (λ (s : State). state_machine s nonce frame reply next) server _ is held))
-  where
-    go : Then config version choice records reply next → Goes config reply next
-    go (inl ends) = inl ends
-    go (inr (challenge, same)) = inr (inr (challenge, (version, choice, records, known, sum, has, same)))
+      go : Ends reply ⊎ Opens (provider versions.Sha1) acceptor → Ends reply ⊎ ScramsOpen next
+      go (inl ends) = inl ends
+      go (inr opens) = inr (
+        versions.Sha1,
+        opens.0,
+        with_state versions.Sha1 (waits_for versions.Sha1 opens.0) states,
+        Some Second,
+        Some Second,
+        (refl, (refl, refl)),
+        is ∙ (ap with_moved then ∙ ap with_acceptor (waits versions.Sha1 acceptor opens)),
+      )
+
+  scrams_open : (states : ScramVersion → ServerState) (selected weaker part : Option Selected) (nonce : List ℕ)
+      (frame reply : SaslFrame) (next : ScramStates)
+      → PartReplies acceptor_machine weaker_machine (scrams_in settings states selected weaker) part nonce frame reply next
+      → Ends reply ⊎ ScramsOpen next
+  scrams_open states selected weaker None nonce frame reply next (same, then) = inl (ends_so reply outcomes.Auth same)
+  scrams_open states selected weaker (Some First) nonce frame reply next (acceptor, held, then) =
+      go (scram_opens (provider versions.Sha512) (states versions.Sha512) nonce frame reply acceptor held)
+    where
+      with_acceptor : Acceptor → ScramStates
+      with_acceptor a =
+          record { first = a; second = (scrams_in settings states selected weaker).second; selected = Some First }
+
+      go : Ends reply ⊎ Opens (provider versions.Sha512) acceptor → Ends reply ⊎ ScramsOpen next
+      go (inl ends) = inl ends
+      go (inr opens) = inr (
+        versions.Sha512,
+        opens.0,
+        with_state versions.Sha512 (waits_for versions.Sha512 opens.0) states,
+        Some First,
+        weaker,
+        (refl, refl),
+        then ∙ ap with_acceptor (waits versions.Sha512 acceptor opens),
+      )
+  scrams_open states selected weaker (Some Second) nonce frame reply next (moved, held, then) =
+      weaker_open states selected weaker
+      (part_for acceptor_names acceptor_names (scrams_in settings states selected weaker).second frame) nonce frame reply
+      moved next held then
+
+  part_goes : (states : ScramVersion → ServerState) (at selected weaker part : Option Selected) (nonce : List ℕ)
+      (frame reply : SaslFrame) (all : PasswordParts) (next : State)
+      → PartReplies scrams_machine others_machine (password_server_in settings states at selected weaker).inner part nonce
+      frame reply all
+      → next ≡ record (password_server_in settings states at selected weaker) { inner = all } → Then reply next
+  part_goes states at selected weaker None nonce frame reply all next (same, then) is =
+      inl (ends_so reply outcomes.Auth same)
+  part_goes states at selected weaker (Some First) nonce frame reply all next (moved, held, then) is =
+      go (scrams_open states selected weaker
+      (part_for acceptor_names weaker_names (scrams_in settings states selected weaker) frame) nonce frame reply moved held)
+    where
+      with_all : PasswordParts → State
+      with_all a = record { inner = a; allowed = names_for settings }
+
+      with_scrams : ScramStates → PasswordParts
+      with_scrams s = record { first = s; second = others_of settings; selected = Some First }
+
+      go : Ends reply ⊎ ScramsOpen moved → Then reply next
+      go (inl ends) = inl ends
+      go (inr (version, challenge, others, part, last, stands, same)) = inr (
+        version,
+        challenge,
+        others,
+        part,
+        last,
+        stands,
+        is ∙ ap with_all (then ∙ ap with_scrams same),
+      )
+  part_goes states at selected weaker (Some Second) nonce frame reply all next (moved, held, then) is =
+      inl (others_end (others_of settings) moved (part_for plain_names last_names (others_of settings) frame) nonce frame
+      reply refl held)
+
+  offered_goes : (states : ScramVersion → ServerState) (at selected weaker : Option Selected) (passed : Bool)
+      (nonce : List ℕ) (frame reply : SaslFrame) (next : State)
+      → OfferingReplies parts_machine (password_server_in settings states at selected weaker) passed nonce frame reply next
+      → Then reply next
+  offered_goes states at selected weaker false nonce frame reply next (same, then) =
+      inl (ends_so reply outcomes.Auth same)
+  offered_goes states at selected weaker true nonce frame reply next (moved, held, then) =
+      part_goes states at selected weaker
+      (part_for scrams_names others_names (password_server_in settings states at selected weaker).inner frame) nonce frame
+      reply moved next held then
 
 comes_goes : (config : Config) (server next : State) (nonce : List ℕ) (frame reply : SaslFrame)
-    → ServerIsReached config InProgress server → state_machine server nonce frame reply next → Goes config reply next
-comes_goes config server next nonce frame reply (inl fresh) held =
-    of_goes config (λ _. Initial) None server next nonce frame reply fresh held
-comes_goes config server next nonce frame reply (inr (challenge, waits)) held =
-    of_goes config (opened_by challenge) (Some First) server next nonce frame reply waits held
+    → ServerIsReached config InProgress server → password_machine server nonce frame reply next → Goes config reply next
+unfolding IsOf
+comes_goes config server next nonce frame reply
+    (shown, (choice, records, states, selected, weaker, sum, has, stands, is)) held =
+    go (offered_goes config choice records states at selected weaker
+    (is_passed_on parts_names (password_server_in (settings_for config choice records None) states at selected weaker) frame)
+    nonce frame reply next (carried (λ (s : State). password_machine s nonce frame reply next) server _ is held))
+  where
+    at : Option Selected
+    at = option_map (λ (exchange : ScramVersion × ServerChallenge). First) shown
+
+    go : Then config choice records reply next → Goes config reply next
+    go (inl ends) = inl ends
+    go (inr (version, challenge, others, part, last, then, same)) = inr (
+      Some (version, challenge),
+      (choice, records, others, part, last, sum, has, then, same),
+    )
 
 -- ---- so a server that sends a challenge is one that the configuration comes to
 
@@ -242,7 +363,7 @@ carried_comes config server moved next body reply (Some sent) (inr comes) says i
 
 pub gives_comes : (config : Config) (server next : State) (event : Given) (spelled : Result SaslFrame Error)
     (body : List ℕ) → ServerIsReached config InProgress server
-    → AcceptorGives state_machine server event spelled (Challenged body) next → ServerIsReached config InProgress next
+    → AcceptorGives password_machine server event spelled (Challenged body) next → ServerIsReached config InProgress next
 gives_comes config server next event (Err fault) body comes is = absurd (not_failed body fault is.0)
 gives_comes config server next event (Ok (frames.Mechanisms names)) body comes is =
     absurd (not_failed body faults.NotImplemented is.0)
@@ -338,12 +459,12 @@ says_fine config (Failed faults.NotImplemented) turn answer next comes same = cl
 says_fine config (Failed faults.TooLarge) turn answer next comes same = closes_fine config answer next _ _ same
 
 answers_fine : (config : Config) (expected : Expected) (server next : State) (nonce unit : List ℕ) (answer : SideOutput)
-    → ServerIsReached config InProgress server → ServerSideAnswers state_names state_machine expected server nonce unit answer next
+    → ServerIsReached config InProgress server → ServerSideAnswers password_names password_machine expected server nonce unit answer next
     → Fine config answer next
 answers_fine config Header server next nonce unit answer comes (inl (other, same), kept) =
     header_fine config answer (closes ProtocolHeaderMismatch Header) next same tt (omega arith)
 answers_fine config Header server next nonce unit answer comes (inr (is, (first, offers, same)), kept) =
-    let both = first_fine config first server (offer_body (state_names server)) comes offers in
+    let both = first_fine config first server (offer_body (password_names server)) comes offers in
     header_fine config answer first next same
     (carried (λ (s : State). ServerIsReached config first.progress s) server next (sym kept) both.0) both.1
 answers_fine config (Frame turn) server next nonce unit answer comes (Err fault, spells, unread) =
@@ -355,7 +476,7 @@ answers_fine config (Frame turn) server next nonce unit answer comes
     let event : Given = record { body = drop 4 unit; nonce = nonce } in
     says_fine config says turn answer next
     (λ body same. gives_comes config server next event spelled body comes
-    (carried (λ (s : ServerSays). AcceptorGives state_machine server event spelled s next) says (Challenged body) same
+    (carried (λ (s : ServerSays). AcceptorGives password_machine server event spelled s next) says (Challenged body) same
     gives)) said
 
 -- ---- a call
@@ -379,7 +500,7 @@ behind config next other sent more same is comes limit held short =
     })
 
 wanting_behind : (config : Config) (side next : Side State) (bytes nonce : List ℕ) (taken : ℕ) (sent : List ℕ)
-    → ReceivesAt InProgress (ServerSideAnswers state_names state_machine) side bytes nonce taken sent next
+    → ReceivesAt InProgress (ServerSideAnswers password_names password_machine) side bytes nonce taken sent next
     → side.progress ≡ InProgress → side.limit ≡ 512 → ServerIsReached config InProgress side.state → Behind config next sent
 wanting_behind config side next bytes nonce taken sent (inl (part, waits)) wants limit comes =
     behind config next _ sent [] waits.2 waits.1
@@ -395,36 +516,36 @@ wanting_behind config side next bytes nonce taken sent (inr (inr (answer, state,
 
 receives_behind : (config : Config) (before : Struct) (side next : Side State) (bytes nonce : List ℕ) (taken : ℕ)
     (sent : List ℕ) → IsServer config before side → side.progress ≡ InProgress
-    → ServerReceives state_names state_machine side bytes nonce taken sent next → Behind config next sent
+    → ServerReceives password_names password_machine side bytes nonce taken sent next → Behind config next sent
 unfolding IsServer
 receives_behind config before side next bytes nonce taken sent is wants held =
     wanting_behind config side next bytes nonce taken sent
-    (carried (λ s. ReceivesAt s (ServerSideAnswers state_names state_machine) side bytes nonce taken sent next)
+    (carried (λ s. ReceivesAt s (ServerSideAnswers password_names password_machine) side bytes nonce taken sent next)
     side.progress InProgress wants held) wants is.1
     (carried (λ (s : Progress). ServerIsReached config s side.state) side.progress InProgress wants is.2)
 
 pub behind_comes : (config : Config) (before : Struct) (side next : Side State) (bytes nonce : List ℕ) (taken : ℕ)
     (sent : List ℕ) → IsServer config before side → side.progress ≡ InProgress
-    → ServerReceives state_names state_machine side bytes nonce taken sent next
+    → ServerReceives password_names password_machine side bytes nonce taken sent next
     → ServerIsReached config next.progress next.state
 behind_comes config before side next bytes nonce taken sent is wants held =
     (receives_behind config before side next bytes nonce taken sent is wants held).comes
 
 pub behind_limit : (config : Config) (before : Struct) (side next : Side State) (bytes nonce : List ℕ) (taken : ℕ)
     (sent : List ℕ) → IsServer config before side → side.progress ≡ InProgress
-    → ServerReceives state_names state_machine side bytes nonce taken sent next → next.limit ≡ 512
+    → ServerReceives password_names password_machine side bytes nonce taken sent next → next.limit ≡ 512
 behind_limit config before side next bytes nonce taken sent is wants held =
     (receives_behind config before side next bytes nonce taken sent is wants held).limit
 
 pub behind_held : (config : Config) (before : Struct) (side next : Side State) (bytes nonce : List ℕ) (taken : ℕ)
     (sent : List ℕ) → IsServer config before side → side.progress ≡ InProgress
-    → ServerReceives state_names state_machine side bytes nonce taken sent next → length next.held ≤ 512
+    → ServerReceives password_names password_machine side bytes nonce taken sent next → length next.held ≤ 512
 behind_held config before side next bytes nonce taken sent is wants held =
     (receives_behind config before side next bytes nonce taken sent is wants held).held
 
 pub behind_short : (config : Config) (before : Struct) (side next : Side State) (bytes nonce : List ℕ) (taken : ℕ)
     (sent : List ℕ) → IsServer config before side → side.progress ≡ InProgress
-    → ServerReceives state_names state_machine side bytes nonce taken sent next → length sent ≤ 520
+    → ServerReceives password_names password_machine side bytes nonce taken sent next → length sent ≤ 520
 behind_short config before side next bytes nonce taken sent is wants held =
     (receives_behind config before side next bytes nonce taken sent is wants held).short
 
@@ -444,7 +565,7 @@ taken_up config before kept state keeps wants limit comes shows = (
 
 pub received : (config : Config) (bytes nonce : List ℕ) (before after : Struct) (side next : Side State) (taken : ℕ)
     (sent : List ℕ) → IsServer config before side → side.progress ≡ InProgress
-    → ServerReceives state_names state_machine side bytes nonce taken sent next → IsServer config after next
+    → ServerReceives password_names password_machine side bytes nonce taken sent next → IsServer config after next
     → after ≡ side_struct next → Received config bytes nonce before after taken sent
 unfolding Received
 received config bytes nonce before after side next taken sent is wants held then written =
@@ -452,7 +573,7 @@ received config bytes nonce before after side next taken sent is wants held then
 
 pub too_long : (config : Config) (bytes nonce : List ℕ) (before : Struct) (side next : Side State) (taken : ℕ)
     (sent : List ℕ) → IsServer config before side → side.progress ≡ InProgress
-    → ServerReceives state_names state_machine side bytes nonce taken sent next
+    → ServerReceives password_names password_machine side bytes nonce taken sent next
     → ((other : Struct) → ¬ IsServer config other next)
     → NotReceived config bytes nonce before statuses.TooLong
 unfolding NotReceived
@@ -515,13 +636,8 @@ pub not_kept : (config : Config) (bytes nonce : List ℕ) (before : Struct) (kep
 unfolding NotReceived IsNoServer
 not_kept config bytes nonce before kept state status keeps wants limit mock comes (is, wrong) = inl (inr (
   none_holds before.connection kept keeps wants,
-  inr (is, keeps_no_server before.connection kept keeps wants limit mock wrong, config_has comes),
+  inr (is, keeps_no_server before.connection kept keeps wants limit mock wrong, (comes.0, state, comes.1)),
 ))
-  where
-    config_has : ServerIsReached config InProgress state → (at : Records → ServerState) × (asked : Option Selected)
-        × (server : State) × IsOf config at asked server
-    config_has (inl fresh) = ((λ _. Initial), None, state, fresh)
-    config_has (inr (challenge, waits)) = (opened_by challenge, Some First, state, waits)
 
 -- what comes of a side that was taken up
 module _ (config : Config) (bytes nonce : List ℕ) (before : Struct) (kept : Snapshot) (state : State)
@@ -534,13 +650,13 @@ module _ (config : Config) (bytes nonce : List ℕ) (before : Struct) (kept : Sn
   is = taken_up config before kept state keeps wants limit known.0 known.1
 
   -- a side that it can be behind these bytes
-  abbrev Follows : ℕ → List ℕ → ServerConnectionSide Code → Type 0
+  abbrev Follows : ℕ → List ℕ → ServerConnectionSide PasswordServer → Type 0
   Follows taken sent next =
-      ServerReceives state_names state_machine taken_side bytes nonce taken sent (side_in next)
+      ServerReceives password_names password_machine taken_side bytes nonce taken sent (side_in next)
 
   pub answered : (after : Struct) (taken : ℕ) (sent : List ℕ)
-      → (next : ServerConnectionSide Code) × Follows taken sent next × ShowsBy value_state Shown after next
-      × (after ≡ struct_by value_state written_for next) → Received config bytes nonce before after taken sent
+      → (next : ServerConnectionSide PasswordServer) × Follows taken sent next × ShowsBy password_state Shown after next
+      × (after ≡ struct_by password_state written_for next) → Received config bytes nonce before after taken sent
   answered after taken sent (next, held, shows, written) =
       received config bytes nonce before after taken_side (side_in next) taken sent is wants held
       (is_server config after (side_in next) (shows_side after next shows)
@@ -549,14 +665,14 @@ module _ (config : Config) (bytes nonce : List ℕ) (before : Struct) (kept : Sn
       (writes_side after next written)
 
   pub short_answer : (after : Struct) (taken : ℕ) (sent : List ℕ)
-      → (next : ServerConnectionSide Code) × Follows taken sent next × ShowsBy value_state Shown after next
-      × (after ≡ struct_by value_state written_for next) → length sent ≤ 520
+      → (next : ServerConnectionSide PasswordServer) × Follows taken sent next × ShowsBy password_state Shown after next
+      × (after ≡ struct_by password_state written_for next) → length sent ≤ 520
   short_answer after taken sent (next, held, shows, written) =
       behind_short config before taken_side (side_in next) bytes nonce taken sent is wants held
 
   pub unanswered : (status : Status) → shown kept.user ≡ None → ((status ≡ statuses.InvalidSnapshot) × ¬ IsServerKept kept)
-      ⊎ ((status ≡ statuses.TooLong) × ((next : ServerConnectionSide Code) × (taken : ℕ) × (sent : List ℕ)
-      × Follows taken sent next × HasNone value_state Shown next)) → NotReceived config bytes nonce before status
+      ⊎ ((status ≡ statuses.TooLong) × ((next : ServerConnectionSide PasswordServer) × (taken : ℕ) × (sent : List ℕ)
+      × Follows taken sent next × HasNone password_state Shown next)) → NotReceived config bytes nonce before status
   unanswered status mock (inl wrong) =
       not_kept config bytes nonce before kept state status keeps wants limit mock known.0 wrong
   unanswered status mock (inr (same, (next, taken, sent, held, none))) =

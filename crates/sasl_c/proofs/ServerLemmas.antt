@@ -31,7 +31,7 @@ use Rattle.sasl_c.specs.declared.status.WriteError.{WriteError}
 use Rattle.sasl_c.specs.declared.status.WriteError.TheVariants.{RoomTooSmall, Other}
 use Rattle.sasl_c.specs.Status.{AsksText, Fills, Room, server_status}
 
--- a message that is refused
+-- a message that is rejected
 pub unread : (cbind_flag_y : Bool) (kept : Kept) (nonce text : List ℕ) (why : ServerScramErrorKind) (status : Status)
     → (why ≢ NoMemory → ReadsClientFirst cbind_flag_y text (Err why)) → status ≡ server_status why
     → status ≢ statuses.OutOfMemory → NotChallenged cbind_flag_y kept nonce text status
@@ -59,15 +59,15 @@ one_challenge state challenge shown stored stands opened =
 
 -- what is written of it
 pub opens_text : (cbind_flag_y : Bool) (kept : Kept) (nonce text : List ℕ) (challenge shown : ServerChallenge)
-    (before after : Struct) (room filled : Room) (answer : Result (Unit {0}) WriteError)
+    (number : ℕ) (before after : Struct) (room filled : Room) (answer : Result (Unit {0}) WriteError)
     → MakesChallenge cbind_flag_y kept nonce text challenge → shown ≡ challenge
-    → WritesChallenge shown before after room filled answer
+    → WritesChallenge number shown before after room filled answer
     → Fills (Challenges cbind_flag_y kept nonce text) room filled answer
-opens_text cbind_flag_y kept nonce text challenge shown before after room filled (Ok done) held same is =
+opens_text cbind_flag_y kept nonce text challenge shown number before after room filled (Ok done) held same is =
     (shown.first, (challenge, held, ap (λ (c : ServerChallenge). c.first) same), is.2, is.3, is.4)
-opens_text cbind_flag_y kept nonce text challenge shown before after room filled (Err RoomTooSmall) held same is =
+opens_text cbind_flag_y kept nonce text challenge shown number before after room filled (Err RoomTooSmall) held same is =
     (is.1, (shown.first, (challenge, held, ap (λ (c : ServerChallenge). c.first) same), is.2))
-opens_text cbind_flag_y kept nonce text challenge shown before after room filled (Err (Other status)) held same is = (
+opens_text cbind_flag_y kept nonce text challenge shown number before after room filled (Err (Other status)) held same is = (
   is.1,
   is.2,
   λ _. carried (λ s. NotChallenged cbind_flag_y kept nonce text s) statuses.TooLong status (sym is.3)
@@ -78,20 +78,20 @@ opens_text cbind_flag_y kept nonce text challenge shown before after room filled
 pub opens_exchange : (cbind_flag_y : Bool) (kept : Kept) (nonce text : List ℕ) (challenge shown : ServerChallenge)
     (before after : Struct) (room filled : Room) (answer : Result (Unit {0}) WriteError)
     → MakesChallenge cbind_flag_y kept nonce text challenge → shown ≡ challenge
-    → WritesChallenge shown before after room filled answer
+    → WritesChallenge kept.version shown before after room filled answer
     → OpensExchange cbind_flag_y kept nonce text before after answer
 opens_exchange cbind_flag_y kept nonce text challenge shown before after room filled (Ok done) held same is =
-    (challenge, held, carried (λ c. IsOpen after c) shown challenge same is.0, is.1 ∙ ap open_struct same)
+    (challenge, held, carried (λ c. IsOpen after c) shown challenge same is.0, is.1 ∙ ap (open_struct kept.version) same)
 opens_exchange cbind_flag_y kept nonce text challenge shown before after room filled (Err RoomTooSmall) held same is = is.0
 opens_exchange cbind_flag_y kept nonce text challenge shown before after room filled (Err (Other status)) held same is =
     is.0
 
-pub opens_asks : (Asks : Type 0) (challenge : ServerChallenge) (before after : Struct) (room filled : Room)
-    (answer : Result (Unit {0}) WriteError) → WritesChallenge challenge before after room filled answer
+pub opens_asks : (Asks : Type 0) (number : ℕ) (challenge : ServerChallenge) (before after : Struct) (room filled : Room)
+    (answer : Result (Unit {0}) WriteError) → WritesChallenge number challenge before after room filled answer
     → AsksText Asks answer
-opens_asks Asks challenge before after room filled (Ok done) is = tt
-opens_asks Asks challenge before after room filled (Err RoomTooSmall) is = λ same. absurd (cc)
-opens_asks Asks challenge before after room filled (Err (Other status)) is =
+opens_asks Asks number challenge before after room filled (Ok done) is = tt
+opens_asks Asks number challenge before after room filled (Err RoomTooSmall) is = λ same. absurd (cc)
+opens_asks Asks number challenge before after room filled (Err (Other status)) is =
     λ same. let other : Other statuses.TooLong ≡ Other statuses.OutOfMemory = ap Other (sym is.3) ∙ same in absurd (cc)
 
 -- a server without mock authentication that takes whom another takes answers what that one answers
@@ -117,7 +117,7 @@ challenged cbind_flag_y kept nonce text user message shown store state next is s
     (one_user user shown) same answers in
     (challenge, stored, then, (shown, user, is, given))
 
--- the record stands under the name that the message has, so its user is never unknown
+-- the record is stored under the name that the message has, so its user is never unknown
 pub never_unknown : (cbind_flag_y : Bool) (kept : Kept) (nonce text user : List ℕ) (shown : VersionedRecord) (store : Store)
     (state next : ServerState) (first : ClientFirst) (status : Status) → ReadsClientFirst cbind_flag_y text (Ok first)
     → user ≡ first.user → store ≡ one_user user shown
@@ -191,7 +191,7 @@ pub keeps_none : (kept : Kept) (before : Struct) (text : List ℕ) (challenge : 
 unfolding Concludes
 keeps_none kept before text challenge status is wrong = inr (inl (challenge, is, wrong))
 
--- memory is asked for where the message comes to a base64 text
+-- memory is requested where the message reaches a base64 text
 pub final_asks : (kept : Kept) (before : Struct) (text : List ℕ) (challenge : ServerChallenge) (shown : VersionedRecord)
     (why : ServerScramErrorKind) (status : Status) → IsOpen before challenge → ShowsRecord kept shown
     → (why ≡ NoMemory → ReachesBase64 challenge.header challenge.nonce text) → status ≡ server_status why
@@ -199,7 +199,7 @@ pub final_asks : (kept : Kept) (before : Struct) (text : List ℕ) (challenge : 
 final_asks kept before text challenge shown why status is shows comes gives memory =
     ((challenge, is, comes (server_is_memory why status gives memory)), (shown, shows))
 
--- and costs no HMAC value for a message that is refused
+-- and costs no HMAC value for a message that is rejected
 pub memory_costs : (A : Type 0) (kept : Kept) (before : Struct) (text : List ℕ) (challenge : ServerChallenge)
     (shown : VersionedRecord) (why : ServerScramErrorKind) (status : Status) (counted after : ℕ)
     → IsOpen before challenge → ShowsRecord kept shown → FinalCosts {A = A}

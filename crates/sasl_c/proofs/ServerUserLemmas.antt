@@ -1,4 +1,4 @@
--- Whom a frame names that comes to a server (RFC 5802, section 7; RFC 4616, section 2).
+-- The user name that a frame claims to a server (RFC 5802, section 7; RFC 4616, section 2).
 use Rattle.std.proofs.Common.{true, arith, refl, sym, ap, inl, inr, ◌∙◌, ◌≡◌, ◌≢◌, ℕ, List, length}
 use Rattle.std.specs.Prelude.{Ok, Err, codes}
 use Rattle.fe2o3_sasl_wire.specs.declared.sasl_frames.error.Error.{Error}
@@ -29,7 +29,7 @@ use Rattle.sasl_c.specs.Server.{ReadsFirst}
 use Rattle.sasl_c.proofs.ServerCallLemmas.{keeps_no_part, none_holds}
 use Rattle.sasl_c.proofs.StatusLemmas.{carried}
 
--- a message that is refused names nobody
+-- a message that is rejected claims no user name
 pub refused : (text : List ℕ) (why : ServerScramErrorKind) (first : ClientFirst) → ReadsClientFirst true text (Err why)
     → ReadsClientFirst true text (Ok first) → ⊥
 refused text why first wrong reads = let same = one_client_first true text (Err why) (Ok first) wrong reads in absurd
@@ -108,7 +108,7 @@ body_unread scram turn body fault reads = inl (fault, reads)
 
 pub ruleset body_user = (body_asks, body_names, body_names_no_user, body_unread)
 
--- ---- whom bytes name
+-- ---- the user name that bytes claim
 
 one_turn : (expected : Expected) (turn other : FrameKind) → expected ≡ Frame turn → expected ≡ Frame other → turn ≡ other
 one_turn expected turn other is too = let same : Frame turn ≡ Frame other = sym is ∙ too in cc

@@ -1,4 +1,4 @@
--- That a refusal is out of memory only where that is its kind.
+-- That an error is out of memory only where that is its kind.
 use Rattle.std.proofs.Common.{ap, refl, sym, ◌∙◌, ◌≡◌, ◌≢◌, ℕ, List}
 use Rattle.fe2o3_scram.specs.declared.scram_messages.error.ScramErrorKind.{ScramErrorKind}
 use Rattle.fe2o3_scram.specs.declared.scram_messages.error.ScramErrorKind.TheVariants as client
@@ -57,7 +57,7 @@ server_is_memory server.AuthenticationFailed status gives memory = absurd (cc)
 server_is_memory server.IllegalAuthenticatorState status gives memory = absurd (cc)
 server_is_memory server.OutOfMemory status gives memory = refl
 
--- what holds of an answer's value, and of its refusal, where it says more
+-- what holds of an answer's value, and of its error, where it says more
 pub ok_so : {A E : Type 0} (answer : Result A E) (P Q : A → Type 0) → ((x : A) → P x → Q x) → IfOk answer P
     → IfOk answer Q
 ok_so (Ok x) P Q says held = says x held

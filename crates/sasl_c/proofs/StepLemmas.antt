@@ -1,4 +1,4 @@
--- What a step over the body of a frame comes to, of a client and of a server that stand in structs (AMQP 1.0, part 5,
+-- What a step over a frame body reaches, of a client and of a server that are kept in structs (AMQP 1.0, part 5,
 -- section 5.3.2).
 use Rattle.std.proofs.Common.{arith, refl, sym, ap, inl, inr, ◌≡◌, ◌≤◌, ℕ, List, length}
 use Rattle.std.specs.Prelude.{Option}
@@ -18,7 +18,8 @@ use Rattle.sasl_c.specs.declared.status.Status.{Status}
 use Rattle.sasl_c.specs.declared.status.Status.TheVariants as statuses
 use Rattle.sasl_c.specs.Connection.{profile_status}
 use Rattle.sasl_c.specs.SaslClient.{ProfileIsReached as LoginComes, HasNoHostname, IsHostname, IsNoProfile, IsProfile}
-use Rattle.sasl_c.specs.SaslServer.{ServerIsReached, IsNoConfig, State, state_machine, value_state}
+use Rattle.fe2o3_sasl_core.specs.PasswordServer.{password_machine, password_state}
+use Rattle.sasl_c.specs.SaslServer.{ServerIsReached, IsNoConfig, State}
 use Rattle.sasl_c.specs.Steps.{ClientHides, ClientNotStepped, ClientStepped, ClientTells, IsStepped, NotStepped, ProfileNotStepped, ProfileStepped, ServerNotStepped, ServerStepped, ServerTells, ConfigServes, behind_code, progress_number}
 use Rattle.sasl_c.proofs.SaslClientLemmas.{gives_comes as profile_gives, profile_comes}
 use Rattle.sasl_c.proofs.SaslServerLemmas.{Shown, written_for}
@@ -38,7 +39,7 @@ client_short (Answered body) sent stands is = no_longer body sent is.0.0 is.0.1
 client_short (Reported code more) sent stands is = omega (arith, ap length is.0)
 client_short (Refused fault) sent stands is = absurd is
 
--- the profile behind a step is one that the login comes to
+-- the profile after a step is one that the login reaches
 client_comes : (login : Login) (before : ClientStruct) (hostname : Option (List ℕ)) (profile next : Profile)
     (event : Given) (says : ClientSays) → IsProfile login before profile
     → ProfileSteps hostname profile event says next → LoginComes login next
@@ -111,7 +112,7 @@ server_short (Challenged body) sent stands is = no_longer body sent is.0.0 is.0.
 server_short (Concluded code body) sent stands is = no_longer body sent is.0.0 is.0.1
 server_short (Failed fault) sent stands is = absurd is
 
--- the acceptor behind a step is one that the configuration comes to
+-- the acceptor after a step is one that the configuration reaches
 code_comes : (config : Config) (code : SaslCode) (next : State) → ServerIsReached config (behind_code code) next
 code_comes config outcomes.Ok next = tt
 code_comes config outcomes.Auth next = tt
@@ -120,7 +121,7 @@ code_comes config outcomes.SysPerm next = tt
 code_comes config outcomes.SysTemp next = tt
 
 server_comes : (config : Config) (event : Given) (server next : State) (says : ServerSays) (sent : List ℕ)
-    (stands : Progress) → ServerIsReached config InProgress server → AcceptorSteps state_machine server event says next
+    (stands : Progress) → ServerIsReached config InProgress server → AcceptorSteps password_machine server event says next
     → ServerTells says sent stands → ServerIsReached config stands next
 server_comes config event server next (Challenged body) sent stands comes steps tells =
     carried (λ (s : Progress). ServerIsReached config s next) InProgress stands (sym tells.1)
@@ -131,7 +132,7 @@ server_comes config event server next (Failed fault) sent stands comes steps tel
 
 pub server_stepped : (config : Config) (event : Given) (before after : ServerStruct) (server : State)
     (stands : Progress) (sent : List ℕ) → ConfigServes config before InProgress server
-    → IsStepped value_state state_machine Shown written_for server event after stands sent
+    → IsStepped password_state password_machine Shown written_for server event after stands sent
     → ServerStepped config event before after (progress_number stands) sent
 unfolding ServerStepped
 server_stepped config event before after server stands sent serves (next, says, steps, tells, shows, written) = (
@@ -139,18 +140,18 @@ server_stepped config event before after server stands sent serves (next, says, 
   stands,
   serves,
   (
-    value_state next,
+    password_state next,
     says,
     steps,
     tells,
-    (server_comes config event server (value_state next) says sent stands serves.0 steps tells, shows),
+    (server_comes config event server (password_state next) says sent stands serves.0 steps tells, shows),
     written,
   ),
   refl,
 )
 
 pub server_steps_short : (server : State) (event : Given) (after : ServerStruct) (stands : Progress) (sent : List ℕ)
-    → IsStepped value_state state_machine Shown written_for server event after stands sent → length sent ≤ 508
+    → IsStepped password_state password_machine Shown written_for server event after stands sent → length sent ≤ 508
 server_steps_short server event after stands sent (next, says, steps, tells, shows, written) =
     server_short says sent stands tells
 
@@ -160,14 +161,14 @@ unfolding ServerNotStepped
 server_no_config config event before status wrong = inl wrong
 
 pub server_not_stepped : (config : Config) (event : Given) (before : ServerStruct) (server : State) (status : Status)
-    → ConfigServes config before InProgress server → NotStepped value_state state_machine Shown server event status
+    → ConfigServes config before InProgress server → NotStepped password_state password_machine Shown server event status
     → ServerNotStepped config event before status
 unfolding ServerNotStepped
 server_not_stepped config event before server status serves (next, says, steps, inl hides) =
-    inr (server, serves, (value_state next, says, steps, inl hides))
+    inr (server, serves, (password_state next, says, steps, inl hides))
 server_not_stepped config event before server status serves
     (next, says, steps, inr (is, (stands, sent, tells, none))) = inr (
       server,
       serves,
-      (value_state next, says, steps, inr (is, (stands, sent, tells, λ after shows. none after shows.1))),
+      (password_state next, says, steps, inr (is, (stands, sent, tells, λ after shows. none after shows.1))),
     )

@@ -1,4 +1,4 @@
--- A SCRAM client that stands in structs of C between its calls (RFC 5802, sections 3 and 5).
+-- A SCRAM client that is kept in structs of C between its calls (RFC 5802, sections 3 and 5).
 use Rattle.std.specs.Prelude.{◌≡◌, ◌≢◌, ◌<◌, ◌≤◌, ◌⊎◌, ℕ, List, [], ◌∷◌, length, replicate, take, Option, Some, None, Result, Ok, Err}
 use Rattle.std.specs.Str.{IsUtf8}
 use Rattle.fe2o3_scram.specs.declared.hmac.ScramVersion.{ScramVersion}
@@ -8,31 +8,27 @@ use Rattle.fe2o3_scram.specs.ClientFinal.{Answer}
 use Rattle.fe2o3_scram.specs.ClientFirst.{client_first, client_first_bare}
 use Rattle.fe2o3_scram.specs.ClientKeys.{ClientKeys}
 use Rattle.fe2o3_scram.specs.ClientSecret.{Secret, Password, Keys, Both}
-use Rattle.fe2o3_scram.specs.Passwords.{Prepared, Typed}
 use Rattle.fe2o3_scram.specs.ScramClient.{AnswersIn, VerifiesIn, ClientSide, ClientState, ClientInitial, ClientFirstSent, ClientFinalSent, Complete, started}
 use Rattle.fe2o3_scram.specs.Hmac.{zero_filled}
 use Rattle.fe2o3_scram.specs.Readings.{IsFirst, NoneHolds}
 use Rattle.fe2o3_scram.specs.ServerFinal.{ReachesVerifier}
 use Rattle.fe2o3_scram.specs.Texts.{base64_text}
 use Rattle.sasl_c.specs.declared.client.ScramClient.{ScramClient as Struct}
-use Rattle.sasl_c.specs.declared.client.Login.{Login}
+use Rattle.sasl_c.specs.declared.login.Login.{Login}
 use Rattle.sasl_c.specs.declared.keys.ScramKeys.{ScramKeys as KeysStruct}
 use Rattle.sasl_c.specs.declared.status.Status.{Status}
 use Rattle.sasl_c.specs.declared.status.Status.TheVariants as statuses
 use Rattle.sasl_c.specs.declared.status.WriteError.{WriteError}
 use Rattle.sasl_c.specs.Keys.{KeysHaveRoom, ShowsKeys, WritesKeys, no_keys_struct}
+use Rattle.sasl_c.specs.Passwords.{IsPassword, password_tests}
 use Rattle.sasl_c.specs.Records.{IsVersion}
 use Rattle.sasl_c.specs.Status.{client_status}
 
--- the secret of a login: its password as it is typed, its keys, or both; or its password as it was prepared, or both
--- with that
+-- the secret of a login: its password, its keys, or both
 abbrev pub IsSecretOf : Login → Secret → Type 0
-IsSecretOf login (Password (Typed text)) = (login.secret ≡ 0) × (text ≡ login.password.now)
+IsSecretOf login (Password password) = (login.secret ≡ 0) × IsPassword login.form login.password.now password
 IsSecretOf login (Keys keys) = (login.secret ≡ 1) × ShowsKeys login.keys.now keys
-IsSecretOf login (Both (Typed text) keys) = (login.secret ≡ 2) × (text ≡ login.password.now)
-    × ShowsKeys login.keys.now keys
-IsSecretOf login (Password (Prepared text)) = (login.secret ≡ 3) × (text ≡ login.password.now)
-IsSecretOf login (Both (Prepared text) keys) = (login.secret ≡ 4) × (text ≡ login.password.now)
+IsSecretOf login (Both password keys) = (login.secret ≡ 2) × IsPassword login.form login.password.now password
     × ShowsKeys login.keys.now keys
 
 -- a client of this login
@@ -48,14 +44,13 @@ abbrev pub keys_tests : Login → List (Status × Type 0)
 keys_tests login = (statuses.NoKeys, (keys : ClientKeys) → ¬ ShowsKeys login.keys.now keys)
     ∷ (statuses.OtherVersion, login.keys.now.version ≢ login.version) ∷ []
 
--- the tests of its secret, by what it has: a password is UTF-8
+-- why a login has no secret: the first test that holds of its password, of its keys, or of both in this order
 unfoldable pub IsNoSecret : Login → Status → Type 0
-IsNoSecret login status = ((login.secret ≡ 0 ⊎ login.secret ≡ 3)
-    × (status ≡ statuses.NotUtf8) × ¬ IsUtf8 login.password.now)
+IsNoSecret login status = ((login.secret ≡ 0) × IsFirst (password_tests login.form login.password.now) status)
     ⊎ ((login.secret ≡ 1) × IsFirst (keys_tests login) status)
-    ⊎ ((login.secret ≡ 2 ⊎ login.secret ≡ 4)
-    × IsFirst ((statuses.NotUtf8, ¬ IsUtf8 login.password.now) ∷ keys_tests login) status)
-    ⊎ ((4 < login.secret) × (status ≡ statuses.NoSuchSecret))
+    ⊎ ((login.secret ≡ 2) × (IsFirst (password_tests login.form login.password.now) status
+    ⊎ (NoneHolds (password_tests login.form login.password.now) × IsFirst (keys_tests login) status)))
+    ⊎ ((2 < login.secret) × (status ≡ statuses.NoSuchSecret))
 
 -- the tests of its version and its user, in their order
 abbrev pub name_tests : Login → List (Status × Type 0)
@@ -84,7 +79,7 @@ Holds kept None = HoldsNone kept
 Holds kept (Some keys) = ShowsKeys kept keys ⊎ (¬ KeysHaveRoom keys × HoldsNone kept)
 
 -- the struct of a client of this user in this state: what was sent last, 1 for the client-first message and 2 for the
--- client-final message; 3 is a login whose server was believed, and all else a client that has sent nothing
+-- client-final message; 3 is a login whose server was authenticated, and every other number a client that has sent nothing
 abbrev pub IsState : List ℕ → Struct → ClientState → Type 0
 IsState user client ClientInitial = (client.state ≢ 1) × (client.state ≡ 2 → 64 < client.signature_len)
 IsState user client (ClientFirstSent nonce bare) = (client.state ≡ 1) × (nonce ≡ base64_text client.nonce)
@@ -93,12 +88,12 @@ IsState user client (ClientFinalSent signature keys) = (client.state ≡ 2) × (
     × (signature ≡ take client.signature_len client.signature) × Holds client.keys keys
 IsState user client (Complete keys) = (client.state ≡ 3) × Holds client.keys keys
 
--- the struct waits for a signature
+-- the struct expects a signature
 abbrev pub AwaitsSignature : Struct → Type 0
 AwaitsSignature client = (client.state ≡ 2) × (client.signature_len ≤ 64)
 
--- what holds of each state that a client comes to: its message is that of its user, and the signature that it waits for
--- has room
+-- what holds of each state that a client reaches: its message is that of its user, and the signature that it expects has
+-- room
 abbrev pub IsReached : List ℕ → ClientState → Type 0
 IsReached user (ClientFirstSent nonce bare) = bare ≡ client_first_bare user nonce
 IsReached user (ClientFinalSent signature keys) = length signature ≤ 64
@@ -130,7 +125,7 @@ started_struct nonce = record {
   keys = no_keys_struct;
 }
 
--- of one that has sent its client-final message, and waits for this signature
+-- of one that has sent its client-final message, and expects this signature
 abbrev pub waiting_struct : List ℕ → KeysStruct → Struct
 waiting_struct signature keys = record {
   state = 2;
@@ -159,7 +154,7 @@ WritesClient written (ClientFinalSent signature keys) = (kept : KeysStruct) × W
     × (written ≡ waiting_struct signature kept)
 WritesClient written (Complete keys) = (kept : KeysStruct) × WritesKeys kept keys × (written ≡ complete_struct kept)
 
--- ---- what the calls answer (RFC 5802, section 5), and the struct after them
+-- ---- what the calls return (RFC 5802, section 5), and the struct after them
 
 -- the client-first message
 abbrev pub Starts : Login → List ℕ → Result (List ℕ) Status → Type 0
@@ -173,7 +168,7 @@ StartsClient login nonce before after (Ok done) = ((side : ClientSide) × IsClie
     × IsSide login after (started side nonce)) × (after ≡ started_struct nonce)
 StartsClient login nonce before after (Err why) = after ≡ before
 
--- a refusal of a client by the library
+-- an error of the library for the client of a struct
 abbrev pub Refuses : Login → Struct → (ClientSide → ScramErrorKind → Type 0) → Status → Type 0
 Refuses login before Because status = (why : ScramErrorKind) × (status ≡ client_status why)
     × ((side : ClientSide) × IsSide login before side × Because side why)
@@ -184,41 +179,41 @@ AnswersByMessage login before text message next = (side : ClientSide) × IsSide 
     × AnswersIn side.state side text (Ok message) next
 
 -- an answer to a text: its message is the one by which the struct's client answers, and its signature and its keys are
--- those of the client behind it
+-- those of the client after it
 abbrev pub IsAnswer : Login → Struct → List ℕ → Answer → Type 0
 IsAnswer login before text answer = (next : ClientSide) × AnswersByMessage login before text answer.message next
     × (next.state ≡ ClientFinalSent answer.signature (Some answer.keys))
 
--- why a text is not answered: there is no such login, or its client refuses the text
+-- why a text is not answered: there is no such login, or its client rejects the text
 unfoldable pub NotAnswered : Login → Struct → List ℕ → Status → Type 0
 NotAnswered login before text status = IsNoLogin login status
     ⊎ Refuses login before (λ side why. AnswersIn side.state side text (Err why) side) status
 
--- the client-final message; bytes that are not UTF-8 are refused before all else
+-- the client-final message; bytes that are not UTF-8 are rejected first
 unfoldable pub Responds : Login → List ℕ → Struct → Struct → Result (List ℕ) Status → Type 0
 Responds login text before after (Ok message) = (next : ClientSide) × AnswersByMessage login before text message next
     × IsSide login after next × WritesClient after next.state
 Responds login text before after (Err status) = ((status ≡ client_status Utf8Error) × ¬ IsUtf8 text)
     ⊎ (IsUtf8 text × NotAnswered login before text status)
 
--- memory is asked for to answer a server-first message: the message is UTF-8, the login is one, and its client-first
+-- memory is requested to answer a server-first message: the message is UTF-8, the login is one, and its client-first
 -- message was sent last
 abbrev pub AnswerAsks : Login → List ℕ → Struct → Type 0
 AnswerAsks login text before = IsUtf8 text × IsTestedLogin login × (before.state ≡ 1)
 
--- memory is asked for to verify a server-final message: the login is one, its client waits for a signature, and the
+-- memory is requested to verify a server-final message: the login is one, its client waits for a signature, and the
 -- message is read as far as its own
 abbrev pub VerifyAsks : Login → List ℕ → Struct → Type 0
 VerifyAsks login text before = IsTestedLogin login × AwaitsSignature before × ReachesVerifier text
 
--- whether the server is believed
+-- the server is authenticated, or it is not
 unfoldable pub Verifies : Login → List ℕ → Struct → Struct → Result (Unit {0}) Status → Type 0
 Verifies login text before after (Ok done) = (side next : ClientSide) × IsSide login before side
     × VerifiesIn side.state side text (Ok done) next × IsSide login after next × (after ≡ complete_struct before.keys)
 Verifies login text before after (Err status) = (after ≡ before) × (status ≢ statuses.OutOfMemory
     → IsNoLogin login status ⊎ Refuses login before (λ side why. VerifiesIn side.state side text (Err why) side) status)
 
--- the keys of a login whose server was believed, and of no other
+-- the keys of a login whose server was authenticated, and of no other
 abbrev pub HandsOut : Struct → Result KeysStruct Status → Type 0
 HandsOut client (Ok keys) = (client.state ≡ 3) × (keys ≡ client.keys) × (keys.version ≢ 0)
 HandsOut client (Err statuses.NoKeys) = (client.state ≡ 3) × (client.keys.version ≡ 0)

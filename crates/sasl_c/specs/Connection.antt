@@ -1,4 +1,4 @@
--- A side of a connection that stands in a struct of C between its calls (AMQP 1.0, part 5, section 5.3.2).
+-- A side of a connection that is kept in a struct of C between its calls (AMQP 1.0, part 5, section 5.3.2).
 use Rattle.std.specs.Prelude.{◌≡◌, ◌≢◌, ◌≤◌, ℕ, List, [], ◌∷◌, length, take, Bool, IsTrue}
 use Rattle.fe2o3_sasl_wire.specs.declared.amqp_types.SaslCode.{SaslCode}
 use Rattle.fe2o3_sasl_wire.specs.declared.amqp_types.SaslCode.TheVariants as outcomes
@@ -46,7 +46,7 @@ code_status outcomes.Sys = statuses.RefusedSys
 code_status outcomes.SysPerm = statuses.RefusedSysPerm
 code_status outcomes.SysTemp = statuses.RefusedSysTemp
 
--- why a profile refuses what a server sent
+-- why a profile rejects what a server sent
 abbrev pub profile_status : ProfileError → Status
 profile_status profile.NotImplemented = statuses.NotImplemented
 profile_status (profile.Scram kind) = client_status kind
@@ -85,13 +85,13 @@ connection_struct progress expected held = record {
   held = zero_filled 512 held;
 }
 
--- the struct says that a side stands so
+-- the struct has this progress of a side
 abbrev pub SaysProgress : Struct → Progress → Type 0
 SaysProgress kept InProgress = kept.progress ≡ 0
 SaysProgress kept Authenticated = kept.progress ≡ 1
 SaysProgress kept (Failed why) = (kept.progress ≡ 2) × (kept.why ≡ status_number (closed_status why))
 
--- the struct keeps how a side stands, what is expected, and what has come of that
+-- the struct keeps the progress of a side, what is expected, and the bytes of it that were received
 pub record Keeps (kept : Struct) (stands : Progress) (unit : Expected) (come : List ℕ) : Type 0 where
   pub progress : SaysProgress kept stands
   pub expected : expected_number unit ≡ kept.expected
@@ -102,13 +102,13 @@ pub record Keeps (kept : Struct) (stands : Progress) (unit : Expected) (come : L
 abbrev pub IsSideOf : {S : Type 0} → Struct → Side S → Type 0
 IsSideOf kept side = Keeps kept side.progress side.expected side.held × (side.limit ≡ 512)
 
--- the tests of a struct before it is that of a side that wants more bytes, in their order: it has not ended, and its
+-- the tests of a struct before it is that of a side that expects more bytes, in their order: it has not ended, and its
 -- numbers keep something
 abbrev pub side_tests : Struct → List (Status × Type 0)
 side_tests kept = (statuses.Ended, kept.progress ≢ 0)
     ∷ (statuses.InvalidSnapshot, (expected : Expected) (held : List ℕ) → ¬ Keeps kept InProgress expected held) ∷ []
 
--- no side keeps what the struct does: all that is expected has come, or a size that no frame may have
+-- no side keeps what the struct does: all that is expected was received, or a size that no frame may have
 abbrev pub KeepsNoPart : Struct → Type 0
 KeepsNoPart kept = (expected : Expected) (held : List ℕ) → Keeps kept InProgress expected held → ¬ IsPart expected 512 held
 

@@ -1,4 +1,4 @@
--- What a struct of C shows of a frame that is read where it stands (AMQP 1.0, part 5, section 5.3.3).
+-- What a struct of C shows of a frame that is read in place (AMQP 1.0, part 5, section 5.3.3).
 use Rattle.std.specs.Prelude.{◌≡◌, ℕ, Option, Some, None, List, [], length, Result, Ok, Err}
 use Rattle.std.specs.List.{Contains}
 use Rattle.std.specs.Str.{IsUtf8}
@@ -39,7 +39,7 @@ ShowsFrame view (frames.Challenge text) = ShowsFields view 66 0 0 [] (Some text)
 ShowsFrame view (frames.Response text) = ShowsFields view 67 0 0 [] (Some text) None
 ShowsFrame view (frames.Outcome code more) = ShowsFields view 68 (code_number code) 0 [] more None
 
--- the struct behind a call: that of the frame that the body has, or the one before it
+-- the struct after a call: that of the frame that the body has, or the one before it
 abbrev pub Views : List ℕ → Struct → Struct → Result (Unit {0}) Status → Type 0
 Views body before after (Ok done) = (frame : SaslFrame) × ReadsBody body (Ok (frame, after.taken))
     × ShowsFrame after frame

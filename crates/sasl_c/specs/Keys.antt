@@ -3,7 +3,6 @@ use Rattle.std.specs.Prelude.{◌≡◌, ◌<◌, ◌≤◌, ◌⊎◌, ℕ, Lis
 use Rattle.fe2o3_scram.specs.declared.hmac.ScramVersion.{ScramVersion}
 use Rattle.fe2o3_scram.specs.ClientKeys.{AreSized, ClientKeys, keys_of, keys_with}
 use Rattle.fe2o3_scram.specs.Hmac.{digest_len, zero_filled}
-use Rattle.fe2o3_scram.specs.Passwords.{PasswordText, password_bytes}
 use Rattle.fe2o3_scram.specs.Readings.{Reads}
 use Rattle.sasl_c.specs.declared.keys.ScramKeys.{ScramKeys as Struct}
 use Rattle.sasl_c.specs.declared.status.Status.{Status}
@@ -63,8 +62,8 @@ ShowsNoKeys kept statuses.NoSuchVersion = (known : ScramVersion) → ¬ IsVersio
 ShowsNoKeys kept statuses.TooLong = 128 < kept.salt_len
 ShowsNoKeys kept status = ⊥
 
--- what comes of making the keys of a password (RFC 5802, section 3): the first refusal that holds, or their struct
-abbrev pub MakesKeysStruct : ℕ → PasswordText → List ℕ → ℕ → Result Struct Status → Type 0
-MakesKeysStruct version password salt count answer = Reads (struct_making_tests version password salt count)
+-- the keys of a password (RFC 5802, section 3): the first error that holds, or their struct
+abbrev pub MakesKeysStruct : ℕ → ℕ → List ℕ → List ℕ → ℕ → Result Struct Status → Type 0
+MakesKeysStruct version form password salt count answer = Reads (struct_making_tests version form password salt count)
     (λ made. (known : ScramVersion) × IsVersion version known
-    × (made ≡ keys_struct (keys_of known (password_bytes password) salt count))) answer
+    × (made ≡ keys_struct (keys_of known password salt count))) answer

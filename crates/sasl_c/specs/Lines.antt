@@ -44,7 +44,7 @@ NotChosen users name known status =
     × (record_at (provider_for known users).records name ≡ Some stored) × ¬ RecordHasRoom (versioned known stored)))
 
 -- what is found of a user in a text: the first record of the version, as a struct, or why there is none; a line that
--- is not read is told by its number from 1, and no line by 0
+-- is not read is given by its number from 1, and no line by 0
 unfoldable pub FindsRecord : List ℕ → List ℕ → ℕ → ℕ → Result Struct Status → Type 0
 FindsRecord lines name version line (Ok made) = (known : ScramVersion) × (users : MultiRecords)
     × HasUsers lines version known users × Chosen users name known made
@@ -55,13 +55,13 @@ FindsRecord lines name version line (Err status) =
     ⊎ ((known : ScramVersion) × (users : MultiRecords) × HasUsers lines version known users
     × NotChosen users name known status)))
 
--- memory is asked for to find a record: the version is known, the name and the text are UTF-8, and a line that is
+-- memory is requested to find a record: the version is known, the name and the text are UTF-8, and a line that is
 -- reached has a user
 abbrev pub FindAsks : List ℕ → List ℕ → ℕ → Type 0
 FindAsks lines name version = ((known : ScramVersion) × IsVersion version known) × IsUtf8 name × IsUtf8 lines
     × ((line : ℕ) × UpToMixed lines line ReachesUser)
 
--- and the struct behind a call, and the number
+-- the struct after a call, and the number of the line
 abbrev pub FindsInto : List ℕ → List ℕ → ℕ → ℕ → ℕ → Struct → Struct → Result (Unit {0}) Status → Type 0
 FindsInto lines name version line told before after (Ok done) = FindsRecord lines name version 0 (Ok after) × (told ≡ line)
 FindsInto lines name version line told before after (Err status) = (after ≡ before)

@@ -1,10 +1,15 @@
--- A password as C hands it in (RFC 5802, section 2.2).
-use Rattle.std.specs.Prelude.{ℕ, List}
+-- A password as C passes it: its bytes, and the number of its form (RFC 5802, section 2.2).
+use Rattle.std.specs.Prelude.{◌≡◌, ◌<◌, ℕ, List, [], ◌∷◌}
+use Rattle.std.specs.Str.{IsUtf8}
 use Rattle.fe2o3_scram.specs.Passwords.{PasswordText, Typed, Prepared}
-use Rattle.sasl_c.specs.declared.passwords.PasswordForm.{PasswordForm}
-use Rattle.sasl_c.specs.declared.passwords.PasswordForm.TheVariants as forms
+use Rattle.sasl_c.specs.declared.status.Status.{Status}
+use Rattle.sasl_c.specs.declared.status.Status.TheVariants as statuses
 
--- a text as a password of this form: as it is typed, or prepared by who hands it in
-abbrev pub in_form : PasswordForm → List ℕ → PasswordText
-in_form forms.Typed text = Typed text
-in_form forms.Prepared text = Prepared text
+-- the password of these bytes: typed where the form is 0, prepared by the caller where it is 1
+abbrev pub IsPassword : ℕ → List ℕ → PasswordText → Type 0
+IsPassword form bytes (Typed text) = (form ≡ 0) × (text ≡ bytes)
+IsPassword form bytes (Prepared text) = (form ≡ 1) × (text ≡ bytes)
+
+-- the tests of a password, in their order
+abbrev pub password_tests : ℕ → List ℕ → List (Status × Type 0)
+password_tests form bytes = (statuses.NoSuchChoice, 1 < form) ∷ (statuses.NotUtf8, ¬ IsUtf8 bytes) ∷ []

@@ -5,12 +5,14 @@ use Rattle.fe2o3_scram.specs.declared.hmac.ScramVersion.{ScramVersion}
 use Rattle.fe2o3_scram.specs.Credentials.{MeetsRecord, Record, VersionedRecord, record_of, versioned}
 use Rattle.fe2o3_scram.specs.MockSettings.{mock_record}
 use Rattle.fe2o3_scram.specs.Hmac.{digest_len, zero_filled}
-use Rattle.fe2o3_scram.specs.Passwords.{IsNormal, PasswordText, password_bytes}
-use Rattle.fe2o3_scram.specs.Readings.{Reads}
+use Rattle.fe2o3_scram.specs.Passwords.{PasswordText}
+use Rattle.fe2o3_scram.specs.Readings.{IsFirst, NoneHolds, Reads}
 use Rattle.fe2o3_scram.specs.RecordText.{ReadsRecord, record_text}
+use Rattle.fe2o3_scram.specs.SaslprepAscii.{IsPrintable}
 use Rattle.sasl_c.specs.declared.records.ScramRecord.{ScramRecord as Struct}
 use Rattle.sasl_c.specs.declared.status.Status.{Status}
 use Rattle.sasl_c.specs.declared.status.Status.TheVariants as statuses
+use Rattle.sasl_c.specs.Passwords.{IsPassword, password_tests}
 use Rattle.sasl_c.specs.Status.{version_number}
 
 -- the version of a number
@@ -52,19 +54,19 @@ abbrev pub ShowsSomeRecord : Struct → Type 0
 ShowsSomeRecord kept = (shown : VersionedRecord) × ShowsRecord kept shown
 
 -- the tests before a record is made of a password (RFC 4013, section 2; RFC 5802, section 5.1), in their order
-abbrev pub struct_making_tests : ℕ → PasswordText → List ℕ → ℕ → List (Status × Type 0)
-struct_making_tests version password salt count =
-    (statuses.NoSuchVersion, (known : ScramVersion) → ¬ IsVersion version known)
-    ∷ (statuses.NotUtf8, ¬ IsUtf8 (password_bytes password)) ∷ (statuses.TooLong, 128 < length salt)
-    ∷ (statuses.NotPrintable, ¬ IsNormal password) ∷ (statuses.ZeroIterations, count ≡ 0) ∷ []
+abbrev pub struct_making_tests : ℕ → ℕ → List ℕ → List ℕ → ℕ → List (Status × Type 0)
+struct_making_tests version form password salt count =
+    (statuses.NoSuchVersion, (known : ScramVersion) → ¬ IsVersion version known) ∷ (statuses.NoSuchChoice, 1 < form)
+    ∷ (statuses.NotUtf8, ¬ IsUtf8 password) ∷ (statuses.TooLong, 128 < length salt)
+    ∷ (statuses.NotPrintable, (form ≡ 0) × ¬ IsPrintable password) ∷ (statuses.ZeroIterations, count ≡ 0) ∷ []
 
--- what comes of making a record of a password (RFC 5802, section 3): the first refusal that holds, or its struct
-abbrev pub MakesRecordStruct : ℕ → PasswordText → List ℕ → ℕ → Result Struct Status → Type 0
-MakesRecordStruct version password salt count answer = Reads (struct_making_tests version password salt count)
-    (λ made. (known : ScramVersion) × IsVersion version known × (made ≡ record_struct
-    (record { version = known; stored = record_of known (password_bytes password) salt count }))) answer
+-- the record of a password (RFC 5802, section 3): the first error that holds, or its struct
+abbrev pub MakesRecordStruct : ℕ → ℕ → List ℕ → List ℕ → ℕ → Result Struct Status → Type 0
+MakesRecordStruct version form password salt count answer = Reads (struct_making_tests version form password salt count)
+    (λ made. (known : ScramVersion) × IsVersion version known
+    × (made ≡ record_struct (record { version = known; stored = record_of known password salt count }))) answer
 
--- what comes of reading a record's text (RFC 5803, section 2): its struct, or why it is none
+-- the record of a text (RFC 5803, section 2): its struct, or why there is none
 abbrev pub ParsesStruct : List ℕ → Result Struct Status → Type 0
 ParsesStruct text (Ok made) = (kept : VersionedRecord) × ReadsRecord text (Ok kept) × RecordHasRoom kept
     × (made ≡ record_struct kept)
@@ -80,25 +82,24 @@ SpellsStruct kept (Err statuses.NoSuchVersion) = (known : ScramVersion) → ¬ I
 SpellsStruct kept (Err statuses.TooLong) = 128 < kept.salt_len
 SpellsStruct kept (Err status) = ⊥
 
--- the tests before a record is made up for a name, in their order
+-- the tests before a mock record is made for a name, in their order
 abbrev pub mock_tests : ℕ → List ℕ → ℕ → List (Status × Type 0)
 mock_tests version name salt_len =
     (statuses.NoSuchVersion, (known : ScramVersion) → ¬ IsVersion version known) ∷ (statuses.NotUtf8, ¬ IsUtf8 name)
     ∷ (statuses.TooLong, 64 < salt_len) ∷ []
 
--- what comes of making up a record for a name: the first refusal that holds, or its struct
+-- the mock record of a name: the first error that holds, or its struct
 abbrev pub MakesUp : ℕ → List ℕ → List ℕ → ℕ → ℕ → Result Struct Status → Type 0
 MakesUp version secret name salt_len count answer = Reads (mock_tests version name salt_len)
     (λ made. (known : ScramVersion) × IsVersion version known × (made ≡ record_struct (versioned known
     (mock_record (record { version = known; secret = secret; salt_len = salt_len; count = count }) name)))) answer
 
--- whether a password that was told is that of the record (RFC 5802, section 3); or that the struct shows none, or it
--- shows one and the password is not UTF-8, or it is and is another one
-abbrev pub VerifiesPassword : Struct → PasswordText → Result (Unit {0}) Status → Type 0
-VerifiesPassword kept password (Ok done) = (shown : VersionedRecord) × ShowsRecord kept shown
-    × MeetsRecord shown.version password shown.stored
-VerifiesPassword kept password (Err status) = SpellsStruct kept (Err status)
-    ⊎ ((shown : VersionedRecord) × ShowsRecord kept shown
-    × (((status ≡ statuses.NotUtf8) × ¬ IsUtf8 (password_bytes password))
-    ⊎ ((status ≡ statuses.OtherPassword) × IsUtf8 (password_bytes password)
-    × ¬ MeetsRecord shown.version password shown.stored)))
+-- the password is that of the record (RFC 5802, section 3); or the struct shows no record, or it shows one and a test
+-- of the password holds, or none holds and the record is that of another password
+abbrev pub VerifiesPassword : Struct → ℕ → List ℕ → Result (Unit {0}) Status → Type 0
+VerifiesPassword kept form bytes (Ok done) = (shown : VersionedRecord) × ShowsRecord kept shown
+    × ((password : PasswordText) × IsPassword form bytes password × MeetsRecord shown.version password shown.stored)
+VerifiesPassword kept form bytes (Err status) = SpellsStruct kept (Err status)
+    ⊎ ((shown : VersionedRecord) × ShowsRecord kept shown × (IsFirst (password_tests form bytes) status
+    ⊎ (NoneHolds (password_tests form bytes) × (status ≡ statuses.OtherPassword) × ((password : PasswordText)
+    × IsPassword form bytes password × ¬ MeetsRecord shown.version password shown.stored))))

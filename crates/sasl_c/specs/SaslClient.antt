@@ -1,4 +1,4 @@
--- The client's side of a connection that stands in structs of C between its calls (AMQP 1.0, part 5, section 5.3.2).
+-- The client's side of a connection that is kept in structs of C between its calls (AMQP 1.0, part 5, section 5.3.2).
 use Rattle.std.specs.Prelude.{◌≡◌, ◌≢◌, ◌<◌, ◌⊎◌, ℕ, Option, Some, None, List, [], Result, Ok, Err}
 use Rattle.std.specs.Str.{IsUtf8}
 use Rattle.fe2o3_scram.specs.Readings.{IsFirst, NoneHolds}
@@ -9,7 +9,7 @@ use Rattle.fe2o3_sasl_negotiation.specs.ClientNegotiation.{ClientReceives}
 use Rattle.fe2o3_sasl_negotiation.specs.Framing.{sasl_header}
 use Rattle.fe2o3_sasl_negotiation.specs.Negotiations.{Side}
 use Rattle.fe2o3_sasl_negotiation.specs.Snapshot.{client_due}
-use Rattle.sasl_c.specs.declared.client.Login.{Login as Words}
+use Rattle.sasl_c.specs.declared.login.Login.{Login as Words}
 use Rattle.sasl_c.specs.declared.client.ScramClient.{ScramClient as ScramStruct}
 use Rattle.sasl_c.specs.declared.sasl_client.SaslClient.{SaslClient as Struct}
 use Rattle.sasl_c.specs.declared.sasl_client.SaslLogin.{SaslLogin as Login}
@@ -61,7 +61,7 @@ abbrev pub WritesSide : Struct → Side Profile → Type 0
 WritesSide written side = (written.connection ≡ connection_struct side.progress side.expected side.held)
     × WritesProfile written.scram side.state
 
--- why the structs are those of no side that wants more bytes: the tests of the connection, those of the hostname and of
+-- why the structs are those of no side that expects more bytes: the tests of the connection, those of the hostname and of
 -- the profile, and last that what was kept is a part of what is expected
 abbrev pub IsNoClient : Login → Struct → Status → Type 0
 IsNoClient login client status = IsFirst (side_tests client.connection) status
@@ -69,15 +69,15 @@ IsNoClient login client status = IsFirst (side_tests client.connection) status
     ⊎ (¬ HasNoHostname login × (IsNoProfile login status ⊎ ((status ≡ statuses.InvalidSnapshot)
     × KeepsNoPartOf client_due client.connection × ((profile : Profile) × IsProfile login client.scram profile))))))
 
--- none of the tests holds that come before memory is asked for: those of the connection, and that of the hostname
+-- none of the tests holds that come before memory is requested: those of the connection, and that of the hostname
 abbrev pub ReadsClient : Login → Struct → Type 0
 ReadsClient login client = NoneHolds (side_tests client.connection) × ¬ HasNoHostname login
 
--- a client of SCRAM that a login comes to
+-- a client of SCRAM that a login reaches
 abbrev pub ClientIsReached : Words → ClientSide → Type 0
 ClientIsReached words side = IsClientOf words side × IsReached side.user side.state
 
--- and the profile that a login comes to
+-- the profile that a login reaches
 abbrev pub ProfileIsReached : Login → Profile → Type 0
 ProfileIsReached login (ScramProfile side) = (login.mechanism ≡ 0) × ClientIsReached login.login side
 ProfileIsReached login (PlainProfile user password) = (login.mechanism ≡ 1) × (user ≡ login.login.username.now)

@@ -1,28 +1,24 @@
 -- The server's side of a connection that stands in structs of C between its calls (AMQP 1.0, part 5, section 5.3.2).
-use Rattle.std.specs.Prelude.{◌≡◌, ◌≢◌, ◌<◌, ◌⊎◌, ◌+◌, ℕ, Bool, true, false, Option, Some, None, List, [], ◌∷◌, codes, length, Result, Ok, Err}
+use Rattle.std.specs.Prelude.{◌≡◌, ◌≢◌, ◌<◌, ◌⊎◌, ◌+◌, ℕ, Bool, true, false, Option, Some, None, List, [], ◌∷◌, ◌++◌, codes, length, option_map, Result, Ok, Err}
 use Rattle.std.specs.Str.{IsUtf8}
 use Rattle.fe2o3_sasl_wire.specs.declared.sasl_frames.error.Error.{Error}
 use Rattle.fe2o3_sasl_wire.specs.SaslFrames.{SaslFrame}
 use Rattle.fe2o3_sasl_wire.specs.SaslFrames as frames
 use Rattle.fe2o3_scram.specs.declared.hmac.ScramVersion.{ScramVersion}
-use Rattle.fe2o3_scram.specs.declared.scram_server.ScramAuthenticator.{ScramAuthenticator}
 use Rattle.fe2o3_scram.specs.ClientFirst.{ClientFirst, HasEscapes, ReadsClientFirst}
-use Rattle.fe2o3_scram.specs.Credentials.{Record, Records, Store, record_at, serving, versioned}
+use Rattle.fe2o3_scram.specs.Credentials.{Record, VersionedRecord, record_at}
+use Rattle.fe2o3_scram.specs.declared.hmac.ScramVersion.TheVariants.{Sha1, Sha256, Sha512}
+use Rattle.fe2o3_sasl_core.specs.declared.any_mechanism.Selected.{Selected}
+use Rattle.fe2o3_sasl_core.specs.declared.any_mechanism.Selected.TheVariants.{First, Second}
+use Rattle.fe2o3_scram.specs.Mixed.{MultiRecords, provider_for}
 use Rattle.fe2o3_scram.specs.Hmac.{mechanism_name}
 use Rattle.fe2o3_scram.specs.Readings.{IsFirst, NoneHolds}
-use Rattle.fe2o3_scram.specs.ScramServer.{ConcludesFrom, ServerState, Initial, ServerFirstSent, open_challenge, served_by, state_in}
+use Rattle.fe2o3_scram.specs.ScramServer.{ConcludesFrom, ServerState, Initial, ServerFirstSent}
 use Rattle.fe2o3_scram.specs.ServerFirst.{ServerChallenge}
-use Rattle.fe2o3_sasl_core.specs.declared.restrict_mechanisms.RestrictMechanisms.{RestrictMechanisms}
-use Rattle.fe2o3_sasl_core.specs.declared.any_mechanism.AnyMechanism.{AnyMechanism}
-use Rattle.fe2o3_sasl_core.specs.declared.any_mechanism.Selected.{Selected}
-use Rattle.fe2o3_sasl_core.specs.declared.any_mechanism.Selected.TheVariants.{First}
 use Rattle.fe2o3_sasl_core.specs.Bodies.{SpellsBody}
-use Rattle.fe2o3_sasl_core.specs.ExternalServer.{External, external_machine, external_of, external_user}
-use Rattle.fe2o3_sasl_core.specs.RestrictMechanisms.{Offering, offering_machine, offering_names, offering_of}
-use Rattle.fe2o3_sasl_core.specs.AnyMechanism.{BothStates, both_names, any_mechanism_machine, part_names}
-use Rattle.fe2o3_sasl_core.specs.AnyMechanismSides.{both_states}
-use Rattle.fe2o3_sasl_core.specs.PlainServer.{IsTaken, PlainParts, PlainState, SpellsPlain, plain_machine, plain_state}
-use Rattle.fe2o3_sasl_core.specs.SaslAcceptor.{Acceptor, ScramAcceptor, AnonymousAcceptor, acceptor_machine, acceptor_names, acceptor_user}
+use Rattle.fe2o3_sasl_core.specs.PlainServer.{IsTaken, PlainParts, SpellsPlain}
+use Rattle.fe2o3_sasl_core.specs.PasswordServer.{OpenExchange, PasswordSettings, PasswordState, name_where, password_machine, password_names, password_open, password_server_in, password_state, password_user}
+use Rattle.fe2o3_sasl_core.specs.declared.password_server.PasswordServer.{PasswordServer}
 use Rattle.fe2o3_sasl_negotiation.specs.declared.progress.Expected.{Expected}
 use Rattle.fe2o3_sasl_negotiation.specs.declared.progress.Expected.TheVariants.{Header}
 use Rattle.fe2o3_sasl_negotiation.specs.declared.progress.Progress.{Progress}
@@ -35,7 +31,6 @@ use Rattle.fe2o3_sasl_negotiation.specs.ServerNegotiation.{ServerReceives}
 use Rattle.fe2o3_sasl_negotiation.specs.Snapshot.{server_due}
 use Rattle.fe2o3_sasl_negotiation.specs.Sides.{ServerConnectionSide, acceptor_in, server_side}
 use Rattle.sasl_c.specs.declared.connection.Connection.{Connection}
-use Rattle.sasl_c.specs.declared.others.Others.{Others as OthersCode}
 use Rattle.sasl_c.specs.declared.sasl_server.Choice.{Choice}
 use Rattle.sasl_c.specs.declared.sasl_server.SaslServerConfig.{SaslServerConfig as Config}
 use Rattle.sasl_c.specs.declared.sasl_server.SaslServer.{SaslServer as Struct}
@@ -43,150 +38,65 @@ use Rattle.sasl_c.specs.declared.server.ScramServer.{ScramServer as ScramStruct}
 use Rattle.sasl_c.specs.declared.status.Status.{Status}
 use Rattle.sasl_c.specs.declared.status.Status.TheVariants as statuses
 use Rattle.sasl_c.specs.Connection.{IsSideOf, Keeps, KeepsNoPart, side_tests, connection_struct, KeepsNoPartOf}
-use Rattle.sasl_c.specs.Records.{IsVersion, ShowsRecord}
-use Rattle.sasl_c.specs.Server.{IsAuthenticated, IsOpen, fresh_server_struct, authenticated_struct, open_struct}
-
--- ---- the library's acceptor: one server of SCRAM, PLAIN, ANONYMOUS and EXTERNAL, of which some are offered
-
--- ANONYMOUS and EXTERNAL; with PLAIN; and with SCRAM
-abbrev pub Last : Type 0
-Last = BothStates Acceptor External
-
-abbrev pub Others : Type 0
-Others = BothStates PlainState Last
-
-abbrev pub All : Type 0
-All = BothStates Acceptor Others
-
--- its state
-abbrev pub State : Type 0
-State = Offering All
-
--- the names of its mechanisms (RFC 4505, RFC 4422, RFC 4616, RFC 5802)
-abbrev pub external_names : External → List (List ℕ)
-external_names external = codes "EXTERNAL" ∷ []
-
-abbrev pub last_names : Last → List (List ℕ)
-last_names parts = both_names (acceptor_names parts.first) (external_names parts.second)
-
-abbrev pub plain_names : PlainState → List (List ℕ)
-plain_names plain = codes "PLAIN" ∷ []
-
-abbrev pub other_names : Others → List (List ℕ)
-other_names parts = both_names (plain_names parts.first) (last_names parts.second)
-
-abbrev pub all_names : All → List (List ℕ)
-all_names parts = both_names (acceptor_names parts.first) (other_names parts.second)
-
--- those that it offers
-abbrev pub state_names : State → List (List ℕ)
-state_names state = offering_names all_names state
-
--- its machine: what it replies to an init and to a response
-abbrev pub last_machine : Last → List ℕ → SaslFrame → SaslFrame → Last → Type 0
-last_machine parts nonce frame reply next =
-    any_mechanism_machine acceptor_names external_names acceptor_machine external_machine parts nonce frame reply next
-
-abbrev pub other_machine : Others → List ℕ → SaslFrame → SaslFrame → Others → Type 0
-other_machine parts nonce frame reply next =
-    any_mechanism_machine plain_names last_names plain_machine last_machine parts nonce frame reply next
-
-abbrev pub all_machine : All → List ℕ → SaslFrame → SaslFrame → All → Type 0
-all_machine parts nonce frame reply next =
-    any_mechanism_machine acceptor_names other_names acceptor_machine other_machine parts nonce frame reply next
-
-abbrev pub state_machine : State → List ℕ → SaslFrame → SaslFrame → State → Type 0
-state_machine state nonce frame reply next = offering_machine all_names all_machine state nonce frame reply next
-
--- who has logged in: whom the mechanism of the last init names
-abbrev pub other_user : Others → Option (List ℕ)
-other_user others = let last = others.second in part_names others.selected others.first.user
-    (part_names last.selected None (external_user last.second))
-
-abbrev pub user_in : State → Option (List ℕ)
-user_in state = let all = state.inner in part_names all.selected (acceptor_user all.first) (other_user all.second)
-
--- the challenge of SCRAM that is open
-abbrev pub open_of : Acceptor → Option ServerChallenge
-open_of (ScramAcceptor provider state) = open_challenge state
-open_of acceptor = None
-
-abbrev pub open_in : State → Option ServerChallenge
-open_in state = open_of state.inner.first
+use Rattle.sasl_c.specs.Records.{ShowsRecord}
+use Rattle.sasl_c.specs.Status.{version_number}
+use Rattle.sasl_c.specs.declared.records.ScramRecord.{ScramRecord as Kept}
+use Rattle.sasl_c.specs.Server.{IsAuthenticated, IsOpen, IsOpenBy, fresh_server_struct, authenticated_struct, open_struct}
 
 -- ---- the server of a configuration
+
+-- its state: that of the library's server of these mechanisms
+abbrev pub State : Type 0
+State = PasswordState
 
 -- a number where it is so, and else 0
 abbrev pub one_where : Bool → ℕ → ℕ
 one_where true n = n
 one_where false n = 0
 
--- the sum of the mechanisms' numbers: 1 SCRAM, 2 PLAIN, 4 ANONYMOUS, 8 EXTERNAL; and 16 where SCRAM takes a client that
--- could bind a channel (RFC 5802, section 6)
+-- the sum of the mechanisms' numbers: 1 SCRAM-SHA-512, 2 SCRAM-SHA-256, 4 SCRAM-SHA-1, 8 PLAIN, 16 ANONYMOUS, 32
+-- EXTERNAL; and 64 if SCRAM accepts the GS2 flag `y` (RFC 5802, section 6)
 abbrev pub sum_of : Choice → ℕ
-sum_of choice = one_where choice.scram 1 + one_where choice.plain 2 + one_where choice.anonymous 4
-    + one_where choice.external 8 + one_where choice.cbind_flag_y 16
+sum_of choice = one_where choice.sha_512 1 + one_where choice.sha_256 2 + one_where choice.sha_1 4
+    + one_where choice.plain 8 + one_where choice.anonymous 16 + one_where choice.external 32
+    + one_where choice.cbind_flag_y 64
 
--- a name where it is so, and else the empty one, which no mechanism has
-abbrev pub name_where : Bool → List ℕ → List ℕ
-name_where true name = name
-name_where false name = []
+-- the records that an array of structs shows, in their order, each for this user
+abbrev pub ShowRecords : List ℕ → List Kept → MultiRecords → Type 0
+ShowRecords user [] records = records ≡ []
+ShowRecords user (kept ∷ more) records =
+    ((shown : VersionedRecord) × (rest : MultiRecords) × ShowsRecord kept shown × ShowRecords user more rest
+    × (records ≡ (user, shown) ∷ rest))
+    ⊎ (((shown : VersionedRecord) → ¬ ShowsRecord kept shown) × ShowRecords user more records)
 
--- the mechanism of a name that the transport may have authenticated (RFC 4422, appendix A.1): EXTERNAL, and of the empty
--- name, which says that it authenticated nobody, the empty one
-abbrev pub external_mechanism : List ℕ → List ℕ
-external_mechanism [] = []
-external_mechanism (byte ∷ bytes) = codes "EXTERNAL"
+-- the records with that of one more struct behind them, if it shows one
+abbrev pub AddsRecord : List ℕ → Kept → MultiRecords → MultiRecords → Type 0
+AddsRecord user kept before after =
+    ((shown : VersionedRecord) × ShowsRecord kept shown × (after ≡ before ++ ((user, shown) ∷ [])))
+    ⊎ (((shown : VersionedRecord) → ¬ ShowsRecord kept shown) × (after ≡ before))
 
--- the name of the acceptor of EXTERNAL: that of the peer; where that is empty this acceptor is not offered, so that it is
--- never asked, and its name is never told
-abbrev pub external_name : List ℕ → List ℕ
-external_name [] = codes "nobody"
-external_name (byte ∷ bytes) = byte ∷ bytes
+-- the records of a configuration (RFC 5802, section 3)
+abbrev pub HasRecords : Config → MultiRecords → Type 0
+HasRecords config records = ShowRecords config.username.now config.records.now records
 
--- the names that may be offered
-abbrev pub allowed_of : ScramVersion → Choice → List ℕ → List (List ℕ)
-allowed_of version choice peer = name_where choice.scram (mechanism_name version)
-    ∷ name_where choice.plain (codes "PLAIN")
-    ∷ name_where choice.anonymous (codes "ANONYMOUS")
-    ∷ name_where choice.external (external_mechanism peer)
-    ∷ []
+-- the hash of the first record, by which PLAIN tests a password; where there is none, SHA-256
+abbrev pub version_of_first : MultiRecords → ScramVersion
+version_of_first [] = Sha256
+version_of_first (user ∷ users) = user.1.version
 
--- the records of a configuration (RFC 5802, section 3): that of its user, where the struct shows one of the configuration's version, and
--- else none, so that nobody is known
-abbrev pub HasRecords : Config → ScramVersion → Records → Type 0
-HasRecords config version records =
-    ((stored : Record) × ShowsRecord config.record.now (versioned version stored)
-    × (records ≡ (config.username.now, stored) ∷ []))
-    ⊎ (((stored : Record) → ¬ ShowsRecord config.record.now (versioned version stored)) × (records ≡ []))
-
--- PLAIN over a store, ANONYMOUS and EXTERNAL, which lets in this name, before any init
-abbrev pub others_of : Store → ℕ → List ℕ → Others
-others_of store count peer = record {
-  first = record { provider = store; count = count; user = None };
-  second = record {
-    first = AnonymousAcceptor;
-    second = record { user = external_name peer; accepted = false };
-    selected = None;
-  };
-  selected = None;
-}
-
--- all four mechanisms over a store, SCRAM in this state, and the one that the last init went to; SCRAM takes a client
--- that could bind a channel on wish
-abbrev pub all_of : Bool → Store → ℕ → List ℕ → ServerState → Option Selected → All
-all_of cbind_flag_y store count peer state asked = record {
-  first = ScramAcceptor (serving cbind_flag_y store) state;
-  second = others_of store count peer;
-  selected = asked;
-}
-
--- the server of these
-abbrev pub struct_server : Config → ScramVersion → Choice → Records → ServerState → Option Selected → State
-struct_server config version choice records state asked = record {
-  inner = all_of choice.cbind_flag_y (record { version = version; records = records }) config.iterations config.external_authcid.now state
-      asked;
-  allowed = allowed_of version choice config.external_authcid.now;
+-- the settings of the library's server
+abbrev pub settings_for : Config → Choice → MultiRecords → Option OpenExchange → PasswordSettings
+settings_for config choice records restored = record {
+  records = records;
+  mock = None;
+  hashes = record { sha_512 = choice.sha_512; sha_256 = choice.sha_256; sha_1 = choice.sha_1 };
+  cbind_flag_y = choice.cbind_flag_y;
+  plain = choice.plain;
+  plain_version = version_of_first records;
+  plain_count = Some config.iterations;
+  anonymous = choice.anonymous;
+  external = name_where choice.external config.external_authcid.now;
+  restored = restored;
 }
 
 -- a record without keys, which no proof meets
@@ -203,44 +113,52 @@ abbrev pub or_no_record : Option Record → Record
 or_no_record None = no_record
 or_no_record (Some stored) = stored
 
--- the record of a user, and where there is none one without keys, which no proof meets
-abbrev pub record_or_none : Records → List ℕ → Record
-record_or_none records user = or_no_record (record_at records user)
+-- the record of a user for a hash, and where there is none one without keys, which no proof meets
+abbrev pub record_for : MultiRecords → ScramVersion → List ℕ → Record
+record_for records version user = or_no_record (record_at (provider_for version records).records user)
 
--- the state of SCRAM in which this challenge is open, by the record of its user
-abbrev pub opened_by : ServerChallenge → Records → ServerState
-opened_by challenge records = ServerFirstSent challenge (record_or_none records challenge.user)
+-- an open challenge, with the record of its user for its hash
+abbrev pub exchange_of : MultiRecords → ScramVersion × ServerChallenge → OpenExchange
+exchange_of records shown = record {
+  version = shown.0;
+  challenge = shown.1;
+  stored = record_for records shown.0 shown.1.user;
+}
 
--- the server is that of a configuration, with SCRAM in the state that follows from the configuration's records, and the
--- mechanism that was asked last
-unfoldable pub IsOf : Config → (Records → ServerState) → Option Selected → State → Type 0
-IsOf config state asked server = (version : ScramVersion) × (choice : Choice) × (records : Records)
-    × IsVersion config.version version × (sum_of choice ≡ config.mechanisms) × HasRecords config version records
-    × (server ≡ struct_server config version choice records (state records) asked)
+-- the last init was of this hash, by the parts of SCRAM that are selected
+abbrev pub Asked : ScramVersion → Option Selected → Option Selected → Type 0
+Asked Sha512 selected weaker = selected ≡ Some First
+Asked Sha256 selected weaker = (selected ≡ Some Second) × (weaker ≡ Some First)
+Asked Sha1 selected weaker = (selected ≡ Some Second) × (weaker ≡ Some Second)
 
--- the servers that a configuration comes to while more bytes are wanted: before the init, and with a challenge of SCRAM open
+-- the states of SCRAM: without an open challenge each is that before a login, and with one that of its hash has the
+-- challenge, and the last init was of this hash. The states of the other hashes play no part then: a response goes to the
+-- hash of the last init, and an init begins an exchange of its own
+abbrev pub Stands : MultiRecords → Option (ScramVersion × ServerChallenge) → (ScramVersion → ServerState)
+    → Option Selected → Option Selected → Type 0
+Stands records None states selected weaker =
+    ((version : ScramVersion) → states version ≡ Initial) × (selected ≡ None) × (weaker ≡ None)
+Stands records (Some shown) states selected weaker =
+    (states shown.0 ≡ ServerFirstSent shown.1 (record_for records shown.0 shown.1.user)) × Asked shown.0 selected weaker
+
+-- the server is that of a configuration, with this open challenge
+unfoldable pub IsOf : Config → Option (ScramVersion × ServerChallenge) → State → Type 0
+IsOf config shown server = (choice : Choice) × (records : MultiRecords) × (states : ScramVersion → ServerState)
+    × (selected weaker : Option Selected) × (sum_of choice ≡ config.mechanisms) × HasRecords config records
+    × Stands records shown states selected weaker
+    × (server ≡ password_server_in (settings_for config choice records None) states
+    (option_map (λ (exchange : ScramVersion × ServerChallenge). First) shown) selected weaker)
+
+-- the servers that a configuration comes to while more bytes are wanted: before the init, and with an open challenge
 abbrev pub ServerIsReached : Config → Progress → State → Type 0
-ServerIsReached config InProgress server = IsOf config (λ records. Initial) None server
-    ⊎ ((challenge : ServerChallenge) × IsOf config (opened_by challenge) (Some First) server)
+ServerIsReached config InProgress server = (shown : Option (ScramVersion × ServerChallenge)) × IsOf config shown server
 ServerIsReached config Authenticated server = Unit {0}
 ServerIsReached config (Failed why) server = Unit {0}
 
 -- the struct shows this challenge as open, or that none is
-abbrev pub ShowsOpen : ScramStruct → Option ServerChallenge → Type 0
-ShowsOpen scram None = (challenge : ServerChallenge) → ¬ IsOpen scram challenge
-ShowsOpen scram (Some challenge) = IsOpen scram challenge
-
--- so is the server of SCRAM of a struct, and what was asked last
-abbrev pub ShowsExchange : Records → ScramStruct → ServerState → Option Selected → Type 0
-ShowsExchange records scram state asked = ((challenge : ServerChallenge) × IsOpen scram challenge
-    × (state ≡ opened_by challenge records) × (asked ≡ Some First))
-    ⊎ (((challenge : ServerChallenge) → ¬ IsOpen scram challenge) × (state ≡ Initial) × (asked ≡ None))
-
--- and so all four mechanisms of a configuration in the exchange that a struct shows
-abbrev pub IsAll : Config → ScramVersion → Bool → ScramStruct → All → Type 0
-IsAll config version cbind_flag_y scram all = (records : Records) × (state : ServerState) × (asked : Option Selected)
-    × HasRecords config version records × ShowsExchange records scram state asked
-    × (all ≡ all_of cbind_flag_y (record { version = version; records = records }) config.iterations config.external_authcid.now state asked)
+abbrev pub ShowsOpen : ScramStruct → Option (ScramVersion × ServerChallenge) → Type 0
+ShowsOpen scram None = (version : ScramVersion) (challenge : ServerChallenge) → ¬ IsOpenBy scram version challenge
+ShowsOpen scram (Some shown) = IsOpenBy scram shown.0 shown.1
 
 -- the struct shows that this user has logged in, or nothing of whom no name is known
 abbrev pub ShowsUser : ScramStruct → Option (List ℕ) → Type 0
@@ -250,26 +168,26 @@ ShowsUser scram (Some user) = IsAuthenticated scram user
 -- the struct of SCRAM shows how far a login is that stands so: the challenge that is open, who has logged in, or
 -- nothing
 -- once it is closed
-abbrev pub ShowsProgress : ScramStruct → Progress → Option ServerChallenge → Option (List ℕ) → Type 0
+abbrev pub ShowsProgress : ScramStruct → Progress → Option (ScramVersion × ServerChallenge) → Option (List ℕ) → Type 0
 ShowsProgress scram InProgress opened user = ShowsOpen scram opened
 ShowsProgress scram Authenticated opened user = ShowsUser scram user
 ShowsProgress scram (Failed why) opened user = scram.state ≡ 0
 
 -- the struct of SCRAM that a call writes for such a login
-abbrev pub progress_struct : Progress → Option ServerChallenge → Option (List ℕ) → ScramStruct
+abbrev pub progress_struct : Progress → Option (ScramVersion × ServerChallenge) → Option (List ℕ) → ScramStruct
 progress_struct InProgress None user = fresh_server_struct
-progress_struct InProgress (Some challenge) user = open_struct challenge
+progress_struct InProgress (Some shown) user = open_struct (version_number shown.0) shown.1
 progress_struct Authenticated opened None = fresh_server_struct
 progress_struct Authenticated opened (Some user) = authenticated_struct user
 progress_struct (Failed why) opened user = fresh_server_struct
 
 -- so it shows a server
 abbrev pub ShowsState : ScramStruct → Progress → State → Type 0
-ShowsState scram progress server = ShowsProgress scram progress (open_in server) (user_in server)
+ShowsState scram progress server = ShowsProgress scram progress (password_open server) (password_user server)
 
 -- the struct that a call writes for a server
 abbrev pub state_struct : Progress → State → ScramStruct
-state_struct progress server = progress_struct progress (open_in server) (user_in server)
+state_struct progress server = progress_struct progress (password_open server) (password_user server)
 
 -- the structs show a side, where this says what the one of SCRAM shows of its acceptor
 abbrev pub ShowsBy : {A S : Type 0} → (A → S) → (ScramStruct → Progress → A → Type 0) → Struct → ServerConnectionSide A
@@ -316,8 +234,7 @@ HasNoServerWords config status = (status ≡ statuses.NotUtf8)
 
 -- the tests of a configuration, in their order
 abbrev pub config_tests : Config → List (Status × Type 0)
-config_tests config = (statuses.NoSuchVersion, (known : ScramVersion) → ¬ IsVersion config.version known)
-    ∷ (statuses.NoSuchMechanism, (choice : Choice) → sum_of choice ≢ config.mechanisms)
+config_tests config = (statuses.NoSuchMechanism, (choice : Choice) → sum_of choice ≢ config.mechanisms)
     ∷ (statuses.NotUtf8, ¬ IsUtf8 config.username.now) ∷ (statuses.NotUtf8, ¬ IsUtf8 config.external_authcid.now) ∷ []
 
 -- why a configuration has no server: a test that holds, or a server that would offer nothing, in place of which ANONYMOUS were
@@ -325,8 +242,8 @@ config_tests config = (statuses.NoSuchVersion, (known : ScramVersion) → ¬ IsV
 unfoldable pub IsNoConfig : Config → Status → Type 0
 IsNoConfig config status = IsFirst (config_tests config) status
     ⊎ (NoneHolds (config_tests config) × (status ≡ statuses.NoSuchMechanism)
-    × ((state : Records → ServerState) × (asked : Option Selected) × (server : State) × IsOf config state asked server
-    × (state_names server ≡ [])))
+    × ((shown : Option (ScramVersion × ServerChallenge)) × (server : State) × IsOf config shown server
+    × (password_names server ≡ [])))
 
 -- why the structs are those of no side that wants more bytes: the tests of the connection, those of the configuration, and last
 -- that what was kept is a part of what is expected
@@ -334,12 +251,12 @@ unfoldable pub IsNoServer : Config → Struct → Status → Type 0
 IsNoServer config server status = IsFirst (side_tests server.connection) status
     ⊎ (NoneHolds (side_tests server.connection) × (IsNoConfig config status
     ⊎ ((status ≡ statuses.InvalidSnapshot) × KeepsNoPartOf server_due server.connection
-    × ((state : Records → ServerState) × (asked : Option Selected) × (kept : State) × IsOf config state asked kept))))
+    × ((shown : Option (ScramVersion × ServerChallenge)) × (kept : State) × IsOf config shown kept))))
 
 -- a call answers bytes: between two structs, what the library's side of the connection makes of them
 unfoldable pub Received : Config → List ℕ → List ℕ → Struct → Struct → ℕ → List ℕ → Type 0
 Received config bytes nonce before after taken sent = (side next : Side State) × IsServer config before side
-    × (side.progress ≡ InProgress) × ServerReceives state_names state_machine side bytes nonce taken sent next
+    × (side.progress ≡ InProgress) × ServerReceives password_names password_machine side bytes nonce taken sent next
     × IsServer config after next × (after ≡ side_struct next)
 
 -- or it does not, because the structs are those of no side, or no struct is that of the side behind the call
@@ -347,7 +264,7 @@ unfoldable pub NotReceived : Config → List ℕ → List ℕ → Struct → Sta
 NotReceived config bytes nonce before status = IsNoServer config before status
     ⊎ ((status ≡ statuses.TooLong) × ((side next : Side State) × (taken : ℕ) × (sent : List ℕ)
     × IsServer config before side × (side.progress ≡ InProgress)
-    × ServerReceives state_names state_machine side bytes nonce taken sent next
+    × ServerReceives password_names password_machine side bytes nonce taken sent next
     × ((other : Struct) → ¬ IsServer config other next)))
 
 -- what a call makes of bytes
@@ -415,12 +332,12 @@ abbrev pub AwaitsFrame : Connection → Type 0
 AwaitsFrame kept = (expected : Expected) × (held : List ℕ) × Keeps kept InProgress expected held × IsPart expected 512 held × (expected ≢ Header)
 
 -- a side with no machine
-abbrev pub Kept : Type 0
-Kept = Side (Unit {0})
+abbrev pub AnySide : Type 0
+AnySide = Side (Unit {0})
 
 -- the user whom the frame names that these bytes complete
 unfoldable pub Named : Struct → List ℕ → List ℕ → Type 0
-Named server bytes name = (side : Kept) × (turn : FrameKind) × (body : List ℕ) × IsSideOf server.connection side
+Named server bytes name = (side : AnySide) × (turn : FrameKind) × (body : List ℕ) × IsSideOf server.connection side
     × Completes side bytes turn body × BodyNames server.scram turn body name
 
 -- or why there is none: the structs are of no side that wants more bytes, or these complete no frame, or one that names
@@ -428,7 +345,7 @@ Named server bytes name = (side : Kept) × (turn : FrameKind) × (body : List �
 unfoldable pub NotNamed : Struct → List ℕ → Status → Type 0
 NotNamed server bytes status = IsFirst (side_tests server.connection) status
     ⊎ (NoneHolds (side_tests server.connection) × (((status ≡ statuses.InvalidSnapshot) × KeepsNoPart server.connection)
-    ⊎ ((status ≡ statuses.NamesNoUser) × ((side : Kept) × IsSideOf server.connection side
+    ⊎ ((status ≡ statuses.NamesNoUser) × ((side : AnySide) × IsSideOf server.connection side
     × (side.progress ≡ InProgress) × (((turn : FrameKind) (body : List ℕ) → ¬ Completes side bytes turn body)
     ⊎ ((turn : FrameKind) × (body : List ℕ) × Completes side bytes turn body
     × BodyNamesNoUser server.scram turn body))))))
@@ -440,27 +357,6 @@ Names server bytes (Err status) = NotNamed server bytes status
 
 -- ---- the code's values
 
--- the acceptor's type
-abbrev pub Code : Type 0
-Code = RestrictMechanisms (AnyMechanism (ScramAuthenticator Store) OthersCode)
-
--- the acceptor of SCRAM that a value is
-abbrev pub scram_acceptor : ScramAuthenticator Store → Acceptor
-scram_acceptor machine = ScramAcceptor (served_by (λ (store : Store). store) machine) (state_in machine)
-
--- those beside it
-abbrev pub other_state : OthersCode → Others
-other_state others = both_states (plain_state (λ store. store)) (both_states (λ _. AnonymousAcceptor) external_of)
-    others.joined
-
--- the four that a value is
-abbrev pub all_in : AnyMechanism (ScramAuthenticator Store) OthersCode → All
-all_in all = both_states scram_acceptor other_state all
-
--- its state
-abbrev pub value_state : Code → State
-value_state acceptor = offering_of all_in acceptor
-
 -- the side that a value is
-abbrev pub side_in : ServerConnectionSide Code → Side State
-side_in server = server_side value_state server
+abbrev pub side_in : ServerConnectionSide PasswordServer → Side State
+side_in server = server_side password_state server

@@ -1,6 +1,7 @@
--- A SCRAM server that stands in a struct of C between its calls (RFC 5802, sections 3 and 5).
+-- A SCRAM server that is kept in a struct of C between its calls (RFC 5802, sections 3 and 5).
 use Rattle.std.specs.Prelude.{Bool, true, ◌≡◌, ◌≤◌, ◌⊎◌, ℕ, List, [], ◌∷◌, length, replicate, take, Some, Result, Ok, Err}
 use Rattle.std.specs.Str.{IsUtf8}
+use Rattle.fe2o3_scram.specs.declared.hmac.ScramVersion.{ScramVersion}
 use Rattle.fe2o3_scram.specs.declared.scram_messages.error.ServerScramErrorKind.{ServerScramErrorKind}
 use Rattle.fe2o3_scram.specs.declared.scram_messages.error.ServerScramErrorKind.TheVariants.{IllegalAuthenticatorState, OutOfMemory}
 use Rattle.fe2o3_scram.specs.ClientFinal.{ReachesBase64, server_of}
@@ -17,7 +18,7 @@ use Rattle.sasl_c.specs.declared.records.ScramRecord.{ScramRecord as Kept}
 use Rattle.sasl_c.specs.declared.server.ScramServer.{ScramServer as Struct}
 use Rattle.sasl_c.specs.declared.status.Status.{Status}
 use Rattle.sasl_c.specs.declared.status.Status.TheVariants as statuses
-use Rattle.sasl_c.specs.Records.{ShowsSomeRecord, ShowsRecord, SpellsStruct}
+use Rattle.sasl_c.specs.Records.{IsVersion, ShowsSomeRecord, ShowsRecord, SpellsStruct}
 use Rattle.sasl_c.specs.declared.status.WriteError.{WriteError}
 use Rattle.sasl_c.specs.declared.status.WriteError.TheVariants.{RoomTooSmall, Other}
 use Rattle.sasl_c.specs.Status.{Lacks, Room, server_status, with_written}
@@ -56,16 +57,21 @@ abbrev pub IsOpen : Struct → ServerChallenge → Type 0
 IsOpen server challenge = (server.state ≡ open_number challenge.header) × AreLengths server
     × (challenge ≡ struct_challenge challenge.header server) × IsUtf8 challenge.user
 
--- the struct is that of a server that has logged this user in
+-- with this hash
+abbrev pub IsOpenBy : Struct → ScramVersion → ServerChallenge → Type 0
+IsOpenBy server version challenge = IsVersion server.version version × IsOpen server challenge
+
+-- the struct is that of a server that has authenticated this user
 abbrev pub IsAuthenticated : Struct → List ℕ → Type 0
 IsAuthenticated server user = (server.state ≡ 2) × (server.user_len ≤ 256) × (user ≡ take server.user_len server.user)
 
 -- ---- the structs that calls write: every field that a state does not name is zero, and so is each byte after a length
 
--- of a server with no open challenge, which has logged nobody in
+-- of a server with no open challenge and no authenticated user
 abbrev pub fresh_server_struct : Struct
 fresh_server_struct = record {
   state = 0;
+  version = 0;
   user_len = 0;
   bare_len = 0;
   nonce_len = 0;
@@ -76,10 +82,11 @@ fresh_server_struct = record {
   first = replicate 1024 0;
 }
 
--- of one whose challenge is open
-abbrev pub open_struct : ServerChallenge → Struct
-open_struct challenge = record {
+-- of one whose challenge is open, by the hash of this number
+abbrev pub open_struct : ℕ → ServerChallenge → Struct
+open_struct version challenge = record {
   state = open_number challenge.header;
+  version = version;
   user_len = length challenge.user;
   bare_len = length challenge.bare;
   nonce_len = length challenge.nonce;
@@ -90,10 +97,11 @@ open_struct challenge = record {
   first = zero_filled 1024 challenge.first;
 }
 
--- of one that has logged in the user whose name is so many bytes of this array
+-- of one that has authenticated the user whose name is that many bytes of this array
 abbrev pub user_struct : ℕ → List ℕ → Struct
 user_struct len array = record {
   state = 2;
+  version = 0;
   user_len = len;
   bare_len = 0;
   nonce_len = 0;
@@ -104,19 +112,19 @@ user_struct len array = record {
   first = replicate 1024 0;
 }
 
--- of one that has logged this user in
+-- of one that has authenticated this user
 abbrev pub authenticated_struct : List ℕ → Struct
 authenticated_struct user = user_struct (length user) (zero_filled 256 user)
 
--- ---- what the calls answer (RFC 5802, section 5), and the struct after them
+-- ---- what the calls return (RFC 5802, section 5), and the struct after them
 
--- a client-first message is answered by this challenge, where the record is that of the user whom it names; a client
--- that could bind a channel is taken on wish
+-- a client-first message is answered by this challenge, where the record is that of the user that it claims; the GS2
+-- channel-binding flag `y` is accepted where the argument says so
 unfoldable pub MakesChallenge : Bool → Kept → List ℕ → List ℕ → ServerChallenge → Type 0
 MakesChallenge cbind_flag_y kept nonce text challenge = (shown : VersionedRecord) × (user : List ℕ) × ShowsRecord kept shown
     × AnswersClientFirst (serving cbind_flag_y (one_user user shown)) (base64_text nonce) text (Ok (Some challenge))
 
--- why a client-first message is not answered: it is refused; or it is read, and the struct of the record shows none; or
+-- why a client-first message is not answered: it is rejected; or it is read, and the struct of the record shows none; or
 -- there is a challenge, and a text of it has no room in the struct
 unfoldable pub NotChallenged : Bool → Kept → List ℕ → List ℕ → Status → Type 0
 NotChallenged cbind_flag_y kept nonce text status =
@@ -125,7 +133,7 @@ NotChallenged cbind_flag_y kept nonce text status =
     ⊎ ((status ≡ statuses.TooLong) × ((challenge : ServerChallenge) × MakesChallenge cbind_flag_y kept nonce text challenge
     × ¬ ChallengeHasRoom challenge))
 
--- a client-first message comes to ask for memory: its user name has escapes, or it is read
+-- memory is requested for a client-first message: its user name has escapes, or it is read
 abbrev pub ReadsFirst : Bool → List ℕ → Type 0
 ReadsFirst cbind_flag_y text = HasEscapes cbind_flag_y text ⊎ ((first : ClientFirst) × ReadsClientFirst cbind_flag_y text (Ok first))
 
@@ -138,42 +146,44 @@ Challenges cbind_flag_y kept nonce text (Err status) = NotChallenged cbind_flag_
 -- the struct after it
 abbrev pub OpensExchange : Bool → Kept → List ℕ → List ℕ → Struct → Struct → Result (Unit {0}) WriteError → Type 0
 OpensExchange cbind_flag_y kept nonce text before after (Ok done) = (challenge : ServerChallenge)
-    × MakesChallenge cbind_flag_y kept nonce text challenge × IsOpen after challenge × (after ≡ open_struct challenge)
+    × MakesChallenge cbind_flag_y kept nonce text challenge × IsOpen after challenge
+    × (after ≡ open_struct kept.version challenge)
 OpensExchange cbind_flag_y kept nonce text before after (Err why) = after ≡ before
 
 -- the message of a challenge is written, and the struct that shows the challenge; or nothing changes, since the challenge
 -- has no room in the struct, or its message none where it is to be written
-abbrev pub WritesChallenge : ServerChallenge → Struct → Struct → Room → Room → Result (Unit {0}) WriteError → Type 0
-WritesChallenge challenge before after room filled (Ok done) = IsOpen after challenge × (after ≡ open_struct challenge)
+abbrev pub WritesChallenge : ℕ → ServerChallenge → Struct → Struct → Room → Room → Result (Unit {0}) WriteError → Type 0
+WritesChallenge version challenge before after room filled (Ok done) = IsOpen after challenge
+    × (after ≡ open_struct version challenge)
     × (length challenge.first ≤ length room.bytes) × (filled.bytes ≡ with_written challenge.first room.bytes)
     × (filled.len ≡ length challenge.first)
-WritesChallenge challenge before after room filled (Err RoomTooSmall) = (after ≡ before)
+WritesChallenge version challenge before after room filled (Err RoomTooSmall) = (after ≡ before)
     × (filled.bytes ≡ room.bytes) × Lacks room filled challenge.first
-WritesChallenge challenge before after room filled (Err (Other status)) = (after ≡ before)
+WritesChallenge version challenge before after room filled (Err (Other status)) = (after ≡ before)
     × (filled.bytes ≡ room.bytes) × (filled.len ≡ room.len) × (status ≡ statuses.TooLong) × ¬ ChallengeHasRoom challenge
 
--- the user whom the message of an init claims to be, behind either GS2 header
+-- the user name that a client-first message claims, after either GS2 header
 abbrev pub ClaimedUser : List ℕ → Result (List ℕ) Status → Type 0
 ClaimedUser text (Ok name) = (first : ClientFirst) × ReadsClientFirst true text (Ok first) × (name ≡ first.user)
 ClaimedUser text (Err status) = (why : ServerScramErrorKind) × (status ≡ server_status why)
     × ReadsClientFirst true text (Err why)
 
--- the struct's open challenge is answered by this message, where the record is that of its user; whom a server takes
--- plays no part once the challenge is open
+-- the struct's open challenge is answered by this message, where the record is that of its user; which GS2 header a server
+-- accepts plays no part once the challenge is open
 unfoldable pub ConcludesLogin : Kept → Struct → List ℕ → List ℕ → List ℕ → Type 0
 ConcludesLogin kept before text message user = (challenge : ServerChallenge) × (shown : VersionedRecord) × IsOpen before challenge
     × ShowsRecord kept shown × (user ≡ challenge.user)
     × ConcludesFrom (ServerFirstSent challenge shown.stored) shown.version text (Ok (Some message))
     (ServerFinalSent user)
 
--- memory is asked for to answer a client-final message: a challenge is open, the struct of the record shows one, and
+-- memory is requested to answer a client-final message: a challenge is open, the struct of the record shows one, and
 -- the message is read as far as its first base64 text
 abbrev pub FinalAsks : Kept → List ℕ → Struct → Type 0
 FinalAsks kept text before = ((challenge : ServerChallenge) × IsOpen before challenge
     × ReachesBase64 challenge.header challenge.nonce text) × ShowsSomeRecord kept
 
 -- the HMAC values of an answer that is out of memory, as a meter shows them before and after: none for a message that
--- is refused, and at most two
+-- is rejected, and at most two
 abbrev pub MemoryCosts : Kept → List ℕ → Struct → ℕ → ℕ → Type 0
 MemoryCosts kept text before counted after = (challenge : ServerChallenge) × (shown : VersionedRecord)
     × IsOpen before challenge × ShowsRecord kept shown × FinalCosts {A = Unit {0}}
@@ -181,7 +191,7 @@ MemoryCosts kept text before counted after = (challenge : ServerChallenge) × (s
     (Err OutOfMemory) counted after
 
 -- the server-final message, and the struct after it; or that no challenge is open, or one is and the struct of the
--- record shows none, or it shows one and the message is refused
+-- record shows none, or it shows one and the message is rejected
 unfoldable pub Concludes : Kept → List ℕ → Struct → Struct → Result (List ℕ) Status → Type 0
 Concludes kept text before after (Ok message) = (user : List ℕ) × ConcludesLogin kept before text message user
     × IsAuthenticated after user × (after ≡ authenticated_struct user)
@@ -193,7 +203,7 @@ Concludes kept text before after (Err status) =
     × ConcludesFrom (ServerFirstSent challenge shown.stored) shown.version text (Err why)
     (ServerFirstSent challenge shown.stored)))
 
--- who has logged in
+-- the authenticated user
 abbrev pub TellsUser : Struct → Result (List ℕ) Status → Type 0
 TellsUser server (Ok user) = IsAuthenticated server user
 TellsUser server (Err status) = (status ≡ server_status IllegalAuthenticatorState)

@@ -1,7 +1,9 @@
--- What a call from C answers: a number, in which 0 says that it is done.
+-- What a call from C returns: a number, in which 0 says that it succeeded.
 use Rattle.std.specs.Prelude.{◌≡◌, ◌≢◌, ◌<◌, ◌≤◌, ◌++◌, ℕ, List, length, drop, IfErr, Result, Ok, Err}
 use Rattle.fe2o3_scram.specs.declared.hmac.ScramVersion.{ScramVersion}
 use Rattle.fe2o3_scram.specs.declared.hmac.ScramVersion.TheVariants as versions
+use Rattle.fe2o3_scram.specs.declared.keys.RecordError.{RecordError}
+use Rattle.fe2o3_scram.specs.declared.keys.RecordError.TheVariants as records
 use Rattle.fe2o3_scram.specs.declared.credentials.record_text.RecordTextError.{RecordTextError}
 use Rattle.fe2o3_scram.specs.declared.credentials.record_text.RecordTextError.TheVariants as texts
 use Rattle.fe2o3_scram.specs.declared.scram_messages.error.ScramErrorKind.{ScramErrorKind}
@@ -20,7 +22,7 @@ version_number versions.Sha1 = 1
 version_number versions.Sha256 = 256
 version_number versions.Sha512 = 512
 
--- the number of why a text is no record
+-- the number of an error of a record's text
 abbrev pub record_text_number : RecordTextError → ℕ
 record_text_number texts.PartsMismatch = 60
 record_text_number texts.UnknownMechanism = 61
@@ -29,7 +31,7 @@ record_text_number texts.Base64DecodeError = 63
 record_text_number texts.KeyLengthMismatch = 64
 record_text_number texts.OutOfMemory = 1
 
--- the number of why a client refuses a message
+-- the number of an error of a client
 abbrev pub client_number : ScramErrorKind → ℕ
 client_number client.Utf8Error = 20
 client_number client.InsufficientParts = 21
@@ -50,7 +52,7 @@ client_number client.IllegalClientState = 35
 client_number client.ServerSignatureMismatch = 36
 client_number client.OutOfMemory = 1
 
--- the number of why a server refuses a message
+-- the number of an error of a server
 abbrev pub server_number : ServerScramErrorKind → ℕ
 server_number server.Utf8Error = 40
 server_number server.CannotParseGs2Header = 41
@@ -68,7 +70,7 @@ server_number server.AuthenticationFailed = 52
 server_number server.IllegalAuthenticatorState = 53
 server_number server.OutOfMemory = 1
 
--- the number of why a call is not done
+-- the number of a status
 abbrev pub status_number : Status → ℕ
 status_number statuses.OutOfMemory = 1
 status_number statuses.NotUtf8 = 3
@@ -109,15 +111,21 @@ status_number statuses.ProhibitedCharacter = 86
 status_number statuses.MixedDirections = 87
 status_number statuses.UnassignedCodePoint = 88
 
--- why a call is not done where a client refuses a message
+-- the status of an error of a client
 abbrev pub client_status : ScramErrorKind → Status
 client_status client.OutOfMemory = OutOfMemory
 client_status why = statuses.Client why
 
--- why a call is not done where a server refuses a message
+-- the status of an error of a server
 abbrev pub server_status : ServerScramErrorKind → Status
 server_status server.OutOfMemory = OutOfMemory
 server_status why = statuses.Server why
+
+-- the status of why no keys and no record are made of a password
+abbrev pub record_status : RecordError → Status
+record_status records.NormalizeError = statuses.NotPrintable
+record_status records.ZeroIterations = statuses.ZeroIterations
+record_status records.OutOfMemory = OutOfMemory
 
 -- the number of an answer
 abbrev pub answer_number : {A : Type 0} → Result A Status → ℕ
@@ -139,7 +147,7 @@ abbrev pub AnswersText : ℕ → (Result (Unit {0}) WriteError → Type 0) → T
 AnswersText number Answer = (answer : Result (Unit {0}) WriteError) × (number ≡ text_answer_number answer)
     × Answer answer
 
--- a call is out of memory only where this holds: then no refusal was expected before it asked for memory
+-- a call is out of memory only where this holds: no error was due before it requested memory
 abbrev pub AsksWhere : {A : Type 0} → Type 0 → Result A Status → Type 0
 AsksWhere Asks answer = IfErr answer (λ status. status ≡ OutOfMemory → Asks)
 
@@ -148,34 +156,34 @@ AsksText Asks answer = IfErr answer (λ why. why ≡ Other OutOfMemory → Asks)
 
 -- ---- what a call writes
 
--- a struct: where the call is done, one that it may make; otherwise the struct stays, and the refusal is the one that
--- is expected, or want of memory, where the call comes to ask for some
+-- a struct: where the call succeeds, one that it may make; otherwise the struct stays, and the error is the one that is
+-- due, or out of memory, where the call requests memory
 abbrev pub Makes : {S : Type 0} → Type 0 → (Result S Status → Type 0) → S → S → Result (Unit {0}) Status → Type 0
 Makes Allocates Due before after (Ok done) = Due (Ok after)
 Makes Allocates Due before after (Err status) = (status ≡ OutOfMemory → Allocates)
     × (status ≢ OutOfMemory → Due (Err status)) × (after ≡ before)
 
--- what was made is stored: the struct is it, or it stays and the refusal is its
+-- what was made is stored, or the struct stays and its error is returned
 abbrev pub Stores : {S : Type 0} → Result S Status → S → S → Result (Unit {0}) Status → Type 0
 Stores (Ok made) before after answer = (answer ≡ Ok tt) × (after ≡ made)
 Stores (Err status) before after answer = (answer ≡ Err status) × (after ≡ before)
 
--- the bytes at the head of the room, which is as it was behind them
+-- the bytes at the beginning of the room, which stays as it was after them
 abbrev pub with_written : List ℕ → List ℕ → List ℕ
 with_written bytes room = bytes ++ drop (length bytes) room
 
--- a room of a caller's, and the length that stands beside it
+-- a buffer of the caller, and the length beside it
 pub record Room : Type 0 where
   pub bytes : List ℕ
   pub len : ℕ
 
--- a text of this length has no room, which the length tells
+-- a text of this length does not fit, and the length says so
 abbrev pub Lacks : Room → Room → List ℕ → Type 0
 Lacks before after text = (length before.bytes < length text) × (after.len ≡ length text)
 
--- a text: where the call is done, one that it may say, at the head of the room, with its length; otherwise the room
--- stays, and the refusal is the one that is expected, or want of memory, or `RoomTooSmall` with the length of a text that it
--- may say, and that has no room
+-- a text: where the call succeeds, one that it may return, at the beginning of the room, with its length; otherwise the
+-- room stays, and the error is the one that is due, or out of memory, or `RoomTooSmall` with the length of a text that it
+-- may return and that does not fit
 abbrev pub Fills : (Result (List ℕ) Status → Type 0) → Room → Room → Result (Unit {0}) WriteError → Type 0
 Fills Due before after (Ok done) = (text : List ℕ) × Due (Ok text) × (length text ≤ length before.bytes)
     × (after.bytes ≡ with_written text before.bytes) × (after.len ≡ length text)
@@ -184,8 +192,8 @@ Fills Due before after (Err RoomTooSmall) = (after.bytes ≡ before.bytes)
 Fills Due before after (Err (Other status)) = (after.bytes ≡ before.bytes) × (after.len ≡ before.len)
     × (status ≢ OutOfMemory → Due (Err status))
 
--- a text that was made, whose bytes `items` gives, is written: it stands at the head of the room, or has none there; or
--- there is no text, and the refusal is its
+-- a text that was made, whose bytes `items` gives, is written to the beginning of the room, or does not fit; or there is no
+-- text, and its error is returned
 abbrev pub WritesText : {T : Type 0} → (T → List ℕ) → Result T Status → Room → Room → Result (Unit {0}) WriteError → Type 0
 WritesText items (Ok text) before after (Ok done) = (length (items text) ≤ length before.bytes)
     × (after.bytes ≡ with_written (items text) before.bytes) × (after.len ≡ length (items text))
@@ -196,8 +204,8 @@ WritesText items (Err status) before after (Err RoomTooSmall) = ⊥
 WritesText items (Err status) before after (Err (Other why)) = (why ≡ status) × (after.bytes ≡ before.bytes)
     × (after.len ≡ before.len)
 
--- a text that has room wherever there are so many bytes: where there are fewer, `RoomTooSmall` is answered with this
--- number before anything else, and the room stays
+-- a text that fits into every room of this many bytes: where there are fewer, `RoomTooSmall` is returned with this number
+-- before anything is done, and the room stays
 abbrev pub FillsWithin : ℕ → (Result (List ℕ) Status → Type 0) → Room → Room → Result (Unit {0}) WriteError → Type 0
 FillsWithin suffices Due before after (Ok done) = (text : List ℕ) × Due (Ok text) × (suffices ≤ length before.bytes)
     × (after.bytes ≡ with_written text before.bytes) × (after.len ≡ length text)

@@ -1,5 +1,5 @@
--- Steps over the bodies of frames, of a client and of a server that stand in structs of C between their calls (AMQP 1.0,
--- part 5, section 5.3.2).
+-- Steps over frame bodies, of a client and of a server that are kept in structs of C between their calls (AMQP 1.0, part
+-- 5, section 5.3.2).
 use Rattle.std.specs.Prelude.{◌≡◌, ◌<◌, ◌≤◌, ◌⊎◌, ℕ, Option, Some, None, List, [], length, Result, Ok, Err}
 use Rattle.fe2o3_sasl_wire.specs.declared.amqp_types.SaslCode.{SaslCode}
 use Rattle.fe2o3_sasl_wire.specs.declared.amqp_types.SaslCode.TheVariants as outcomes
@@ -20,22 +20,23 @@ use Rattle.sasl_c.specs.declared.status.Status.{Status}
 use Rattle.sasl_c.specs.declared.status.Status.TheVariants as statuses
 use Rattle.sasl_c.specs.Connection.{closed_status, frame_status, profile_status}
 use Rattle.sasl_c.specs.SaslClient.{ProfileIsReached, HasNoHostname, IsHostname, IsNoProfile, IsProfile, WritesProfile}
-use Rattle.sasl_c.specs.SaslServer.{BodyNames, BodyNamesNoUser, ServerIsReached as ConfigReached, IsNoConfig, ShowsState, State, state_machine, state_names, state_struct}
+use Rattle.fe2o3_sasl_core.specs.PasswordServer.{password_machine, password_names}
+use Rattle.sasl_c.specs.SaslServer.{BodyNames, BodyNamesNoUser, ServerIsReached as ConfigReached, IsNoConfig, ShowsState, State, state_struct}
 use Rattle.sasl_c.specs.Status.{status_number}
 
--- how a login stands behind an outcome of this code (part 5, section 5.3.3.6)
+-- the progress of a login after an outcome of this code (part 5, section 5.3.3.6)
 abbrev pub behind_code : SaslCode → Progress
 behind_code outcomes.Ok = Authenticated
 behind_code code = HasFailed (closed.Refused code)
 
--- the number of how a login stands: 0 while it goes on, 1 once the client is logged in, and else the status of why it
--- was refused
+-- the number of the progress of a login: 0 while it goes on, 1 once the client is logged in, and otherwise the status of
+-- why it was rejected
 abbrev pub progress_number : Progress → ℕ
 progress_number InProgress = 0
 progress_number Authenticated = 1
 progress_number (HasFailed why) = status_number (closed_status why)
 
--- a body is sent that a frame of 512 bytes has room for, behind the four of its size (part 5, section 5.3.1)
+-- a body is sent that fits into a frame of 512 bytes, after the four of its size (part 5, section 5.3.1)
 abbrev pub IsSent : List ℕ → List ℕ → Type 0
 IsSent body sent = (sent ≡ body) × (length body ≤ 508)
 
@@ -45,27 +46,27 @@ IsUnsent body status = (508 < length body) × (status ≡ statuses.ReplyTooLarge
 
 -- ---- a client
 
--- what it tells with what it says: an init and a response are sent, and an outcome is told by how the login stands
+-- what a reply sends: an init and a response are sent, and an outcome shows in the progress of the login
 abbrev pub ClientTells : ClientSays → List ℕ → Progress → Type 0
 ClientTells (Started body) sent stands = IsSent body sent × (stands ≡ InProgress)
 ClientTells (Answered body) sent stands = IsSent body sent × (stands ≡ InProgress)
 ClientTells (Reported code more) sent stands = (sent ≡ []) × (stands ≡ behind_code code)
 ClientTells (Refused fault) sent stands = ⊥
 
--- or why it tells nothing
+-- or why it sends nothing
 abbrev pub ClientHides : ClientSays → Status → Type 0
 ClientHides (Started body) status = IsUnsent body status
 ClientHides (Answered body) status = IsUnsent body status
 ClientHides (Reported code more) status = ⊥
 ClientHides (Refused fault) status = status ≡ profile_status fault
 
--- a profile makes a step over a body, after which it is, for each login that comes to it, the one of the struct
+-- a profile makes a step over a body, after which it is, for each login that reaches it, the one of the struct
 abbrev pub ProfileStepped : Option (List ℕ) → Profile → Given → ClientStruct → Progress → List ℕ → Type 0
 ProfileStepped hostname profile event after stands sent = (next : Profile) × (says : ClientSays)
     × ProfileSteps hostname profile event says next × ClientTells says sent stands
     × ((login : Login) → ProfileIsReached login next → IsProfile login after next) × WritesProfile after next
 
--- or none: it refuses the body, or no login comes to the one behind it
+-- or none: it rejects the body, or no login reaches the one after it
 abbrev pub ProfileNotStepped : Option (List ℕ) → Profile → Given → Status → Type 0
 ProfileNotStepped hostname profile event status = (next : Profile) × (says : ClientSays)
     × ProfileSteps hostname profile event says next
@@ -78,37 +79,37 @@ ClientStepped login event before after progress sent = (hostname : Option (List 
     × ProfileSteps hostname profile event says next × ClientTells says sent stands
     × (progress ≡ progress_number stands) × IsProfile login after next × WritesProfile after next
 
--- or none: the hostname cannot be sent, the login has no profile, or it refuses the body
+-- or none: the hostname cannot be sent, the login has no profile, or it rejects the body
 unfoldable pub ClientNotStepped : Login → Given → ClientStruct → Status → Type 0
 ClientNotStepped login event before status = ((status ≡ statuses.NotUtf8) × HasNoHostname login)
     ⊎ (¬ HasNoHostname login × (IsNoProfile login status
     ⊎ ((hostname : Option (List ℕ)) × (profile next : Profile) × (says : ClientSays) × IsHostname login hostname
     × IsProfile login before profile × ProfileSteps hostname profile event says next × ClientHides says status)))
 
--- what a call makes of a body
+-- the result of a body for a call
 abbrev pub ClientSteps : Login → Given → ClientStruct → ClientStruct → ℕ → Result (List ℕ) Status → Type 0
 ClientSteps login event before after progress (Ok sent) = ClientStepped login event before after progress sent
 ClientSteps login event before after progress (Err status) = ClientNotStepped login event before status
 
 -- ---- a server
 
--- the struct is that of this server of a configuration, whose login stands so
+-- the struct is that of this server of a configuration, with this progress of its login
 abbrev pub ConfigServes : Config → ServerStruct → Progress → State → Type 0
 ConfigServes config scram stands server = ConfigReached config stands server × ShowsState scram stands server
 
 -- the body with which a server offers its mechanisms (part 5, section 5.3.3.1), or why there is none
 abbrev pub ConfigOffers : Config → Result (List ℕ) Status → Type 0
-ConfigOffers config (Ok body) = (server : State) × ConfigReached config InProgress server × (offer_body (state_names server) ≡ Some body)
+ConfigOffers config (Ok body) = (server : State) × ConfigReached config InProgress server × (offer_body (password_names server) ≡ Some body)
 ConfigOffers config (Err status) = IsNoConfig config status ⊎ ((status ≡ statuses.FrameTooLarge)
-    × ((server : State) × ConfigReached config InProgress server × (offer_body (state_names server) ≡ None)))
+    × ((server : State) × ConfigReached config InProgress server × (offer_body (password_names server) ≡ None)))
 
--- what it tells with what it says: a challenge and an outcome are sent
+-- what a reply sends: a challenge and an outcome are sent
 abbrev pub ServerTells : ServerSays → List ℕ → Progress → Type 0
 ServerTells (Challenged body) sent stands = IsSent body sent × (stands ≡ InProgress)
 ServerTells (Concluded code body) sent stands = IsSent body sent × (stands ≡ behind_code code)
 ServerTells (Failed fault) sent stands = ⊥
 
--- or why it tells nothing
+-- or why it sends nothing
 abbrev pub ServerHides : ServerSays → Status → Type 0
 ServerHides (Challenged body) status = IsUnsent body status
 ServerHides (Concluded code body) status = IsUnsent body status
@@ -122,7 +123,7 @@ IsStepped {A} state machine shows written server event after stands sent = (next
     × AcceptorSteps machine server event says (state next) × ServerTells says sent stands × shows after stands next
     × (after ≡ written stands next)
 
--- or none: it refuses the body, or no struct shows it
+-- or none: it rejects the body, or no struct shows it
 abbrev pub NotStepped : {A S : Type 0} → (A → S) → (S → List ℕ → SaslFrame → SaslFrame → S → Type 0)
     → (ServerStruct → Progress → A → Type 0) → S → Given → Status → Type 0
 NotStepped {A} state machine shows server event status = (next : A) × (says : ServerSays)
@@ -134,21 +135,21 @@ NotStepped {A} state machine shows server event status = (next : A) × (says : S
 unfoldable pub ServerStepped : Config → Given → ServerStruct → ServerStruct → ℕ → List ℕ → Type 0
 ServerStepped config event before after progress sent = (server : State) × (stands : Progress)
     × ConfigServes config before InProgress server
-    × IsStepped (λ (next : State). next) state_machine (ConfigServes config) state_struct server event after stands sent
+    × IsStepped (λ (next : State). next) password_machine (ConfigServes config) state_struct server event after stands sent
     × (progress ≡ progress_number stands)
 
 -- or none: the configuration has no acceptor, or it makes none
 unfoldable pub ServerNotStepped : Config → Given → ServerStruct → Status → Type 0
 ServerNotStepped config event before status = IsNoConfig config status
     ⊎ ((server : State) × ConfigServes config before InProgress server
-    × NotStepped (λ (next : State). next) state_machine (ConfigServes config) server event status)
+    × NotStepped (λ (next : State). next) password_machine (ConfigServes config) server event status)
 
--- what a call makes of a body
+-- the result of a body for a call
 abbrev pub ServerSteps : Config → Given → ServerStruct → ServerStruct → ℕ → Result (List ℕ) Status → Type 0
 ServerSteps config event before after progress (Ok sent) = ServerStepped config event before after progress sent
 ServerSteps config event before after progress (Err status) = ServerNotStepped config event before status
 
--- the user whom a body names, as an init or as a response
+-- the user name that a body claims, as an init or as a response
 abbrev pub StepNames : ServerStruct → List ℕ → Result (List ℕ) Status → Type 0
 StepNames scram body (Ok name) = BodyNames scram turns.Init body name ⊎ BodyNames scram turns.Response body name
 StepNames scram body (Err status) = (status ≡ statuses.NamesNoUser) × BodyNamesNoUser scram turns.Init body

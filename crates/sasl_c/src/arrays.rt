@@ -1,4 +1,4 @@
-//! Bytes in arrays of C, and in the room that a caller lends.
+//! Bytes in arrays of C, and in buffers of the caller.
 
 ghost use Rattle.std.specs.Prelude.{◌≡◌, ◌<◌, ◌≤◌, length, take, IfOk, IfErr, MatchOption};
 ghost use Rattle.fe2o3_scram.specs.Hmac.{zero_filled};
@@ -8,7 +8,7 @@ ghost use Rattle.sasl_c.specs.declared.status.WriteError.TheVariants.{RoomTooSma
 use crate::status::{Status, WriteError};
 use std::convert::AsSlice;
 
-/// The bytes at the head of an array, and zeros behind them; `None` where they are more.
+/// Returns an array that begins with these bytes and ends with zeros; `None` if they do not fit.
 pub fn padded<const N: usize>(bytes: &[u8]) -> Option<[u8; N]>
     ensures { MatchOption result (N < length bytes.now) (λ array. array ≡ zero_filled N bytes.now) }
 {
@@ -29,7 +29,7 @@ pub fn fill<const N: usize>(array: &mut [u8; N], bytes: &[u8])
     array[..bytes.len()].copy_from_slice(bytes);
 }
 
-/// The bytes of an array before a length, and zeros after them.
+/// Returns the first bytes of an array, `len` of them, and zeros after them.
 pub fn cleared<const N: usize>(array: &[u8; N], len: u32) -> [u8; N]
     requires { len ≤ N }
     ensures { result ≡ zero_filled N (take len array.now) }
@@ -39,7 +39,7 @@ pub fn cleared<const N: usize>(array: &[u8; N], len: u32) -> [u8; N]
     kept
 }
 
-/// So many bytes of the head of an array, or `None` where it has fewer.
+/// Returns the first `len` bytes of an array, or `None` if it has fewer.
 pub fn head(array: &[u8], len: u32) -> Option<&[u8]>
     ensures { MatchOption result (length array.now < len)
         (λ bytes. (bytes.now ≡ take len array.now) × (len ≤ length array.now)) }
@@ -47,8 +47,8 @@ pub fn head(array: &[u8], len: u32) -> Option<&[u8]>
     array.get(..len as usize)
 }
 
-/// WritesText the bytes at the head of the room, and how many they are. Where there is too little room,
-/// `RoomTooSmall`, the length alone is written.
+/// Writes the bytes to the beginning of `out`, and their number to `out_len`. If `out` is too small, writes only the
+/// number, and returns `RoomTooSmall`.
 pub fn put(bytes: &[u8], out: &mut [u8], out_len: &mut usize) -> Result<(), WriteError>
     ensures len { out_len.new ≡ length bytes.now }
     ensures ok { IfOk result (λ _. (length bytes.now ≤ length out.old) × (out.new ≡ with_written bytes.now out.old)) }
@@ -63,7 +63,7 @@ pub fn put(bytes: &[u8], out: &mut [u8], out_len: &mut usize) -> Result<(), Writ
     Ok(())
 }
 
-/// WritesText a text at the head of `out`, and its length, or returns why there is none.
+/// Writes a text to the beginning of `out`, and its length to `out_len`, or returns why there is none.
 pub fn write<T: AsSlice<u8> + Drop>(
     text: Result<T, Status>,
     out: &mut [u8],
@@ -78,7 +78,7 @@ pub fn write<T: AsSlice<u8> + Drop>(
     }
 }
 
-/// WritesText a struct, or returns why there is none.
+/// Writes a struct, or returns why there is none.
 pub fn store<T: Drop>(made: Result<T, Status>, into: &mut T) -> Result<(), Status>
     ensures { Stores made into.old into.new result }
 {

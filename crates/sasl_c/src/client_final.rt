@@ -13,16 +13,18 @@ ghost use Rattle.sasl_c.specs.declared.status.Status.TheVariants.{OutOfMemory as
 ghost use Rattle.sasl_c.specs.declared.status.WriteError.TheVariants.{RoomTooSmall};
 
 use crate::arrays::put;
-use crate::client::{Login, ScramClient};
-use crate::status::{Status, WriteError, text, text_number};
+use crate::client::ScramClient;
+use crate::login::Login;
+use crate::passwords::password_in;
+use crate::status::{Status, WriteError, text_number};
 use base64::engine::general_purpose::STANDARD;
-use fe2o3_scram::{ClientAnswer, ClientSecret, Meter, Password, ScramErrorKind, ScramVersion};
+use fe2o3_scram::{ClientAnswer, ClientSecret, Meter, ScramErrorKind, ScramVersion};
 use std::alloc::Global;
 
-/// How many bytes more than a server-first message its answer has at most.
+/// The maximum number of bytes that an answer has more than its server-first message.
 const ANSWER_MORE: usize = 128;
 
-/// The text of a nonce: its 44 symbols of base64.
+/// Returns the text of a nonce: its 44 symbols of base64.
 fn nonce_text<'a>(nonce: &[u8; 32], room: &'a mut [u8; 44]) -> &'a str
     ensures { result.now ≡ base64_text nonce.now }
 {
@@ -34,7 +36,7 @@ fn nonce_text<'a>(nonce: &[u8; 32], room: &'a mut [u8; 44]) -> &'a str
     }
 }
 
-/// The answer of a client that has sent its client-first message, by this secret.
+/// Returns the answer of a client that has sent its client-first message, by this secret.
 #[tactic(auto, using(crate::proofs::ClientLemmas::answers))]
 fn answered_by(
     alloc: Global,
@@ -70,54 +72,7 @@ fn answered_by(
     }
 }
 
-/// The answer of a client that has sent its client-first message, by the secret of its login, whose number is above 2,
-/// as that of a prepared password is.
-#[tactic(auto, using(crate::proofs::ClientLemmas::secrets))]
-fn answered_of_prepared(
-    alloc: Global,
-    login: &Login<'_>,
-    version: ScramVersion,
-    client: &ScramClient,
-    server_first: &str,
-    meter: &mut Meter,
-) -> Result<ClientAnswer, Status>
-    requires secret { 2 < login.now.secret }
-    requires room { meter.old ≤ 2 ^ 63 }
-    ensures ok { IfOk result (λ answer. IsVersion login.now.version version → client.now.state ≡ 1
-        → IsAnswer login.now client.now server_first.now (answer_values answer)) }
-    ensures err { IfErr result (λ status. status ≢ StatusOutOfMemory → NoneHolds (name_tests login.now)
-        → IsVersion login.now.version version → client.now.state ≡ 1
-        → NotAnswered login.now client.now server_first.now status) }
-{
-    match login.secret {
-        3 => {
-            let password = match text(login.password) {
-                Ok(password) => password,
-                Err(status) => return Err(status),
-            };
-            let secret = ClientSecret::Password(Password::Prepared(password));
-            answered_by(alloc, login, version, secret, client, server_first, meter)
-        }
-        4 => {
-            let password = match text(login.password) {
-                Ok(password) => password,
-                Err(status) => return Err(status),
-            };
-            let keys = match login.keys(alloc) {
-                Ok(keys) => keys,
-                Err(status) => return Err(status),
-            };
-            let secret = ClientSecret::PasswordAndKeys {
-                password: Password::Prepared(password),
-                keys: &keys,
-            };
-            answered_by(alloc, login, version, secret, client, server_first, meter)
-        }
-        _ => Err(Status::NoSuchSecret),
-    }
-}
-
-/// The answer of a client that has sent its client-first message, by the secret of its login.
+/// Returns the answer of a client that has sent its client-first message, by the secret of its login.
 #[tactic(auto, using(crate::proofs::ClientLemmas::secrets))]
 fn answered_of(
     alloc: Global,
@@ -136,11 +91,11 @@ fn answered_of(
 {
     match login.secret {
         0 => {
-            let password = match text(login.password) {
+            let password = match password_in(login.form, login.password) {
                 Ok(password) => password,
                 Err(status) => return Err(status),
             };
-            let secret = ClientSecret::Password(Password::Typed(password));
+            let secret = ClientSecret::Password(password);
             answered_by(alloc, login, version, secret, client, server_first, meter)
         }
         1 => {
@@ -152,7 +107,7 @@ fn answered_of(
             answered_by(alloc, login, version, secret, client, server_first, meter)
         }
         2 => {
-            let password = match text(login.password) {
+            let password = match password_in(login.form, login.password) {
                 Ok(password) => password,
                 Err(status) => return Err(status),
             };
@@ -161,16 +116,16 @@ fn answered_of(
                 Err(status) => return Err(status),
             };
             let secret = ClientSecret::PasswordAndKeys {
-                password: Password::Typed(password),
+                password,
                 keys: &keys,
             };
             answered_by(alloc, login, version, secret, client, server_first, meter)
         }
-        _ => answered_of_prepared(alloc, login, version, client, server_first, meter),
+        _ => Err(Status::NoSuchSecret),
     }
 }
 
-/// Why a client that has not sent its client-first message last does not answer.
+/// Returns why a client whose last message is not its client-first message does not answer.
 #[tactic(auto, using(crate::proofs::ClientLemmas::not_dues))]
 fn not_due(login: &Login<'_>, client: &ScramClient) -> Status
     ensures why { client.now.state ≢ 1 → (text : List ℕ)
@@ -183,7 +138,7 @@ fn not_due(login: &Login<'_>, client: &ScramClient) -> Status
     }
 }
 
-/// The answer to a server-first message.
+/// Returns the answer to a server-first message.
 #[tactic(auto, using(crate::proofs::ClientLemmas::answers))]
 fn answered(
     alloc: Global,

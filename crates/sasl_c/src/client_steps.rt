@@ -1,4 +1,4 @@
-//! A client's steps over the bodies of frames, for whoever reads and writes the frames.
+//! A client's steps over frame bodies, for programs that read and write the frames themselves.
 
 ghost use Rattle.std.specs.Prelude.{◌≡◌, ◌≢◌, ◌≤◌, ◌^◌, length, option_map, string_bytes, IfOk, IfErr, OnErr, MatchResult};
 ghost use Rattle.fe2o3_sasl_wire.specs.FrameView.{shown};
@@ -21,7 +21,7 @@ use fe2o3_sasl_negotiation::Progress;
 use fe2o3_scram::Meter;
 use std::alloc::Global;
 
-/// The body that a reply sends, and how the login stands behind it.
+/// Returns the body that a reply sends, and how far the login is after it.
 fn told(alloc: Global, reply: ClientReply) -> Result<(Vec<u8>, Progress), Status>
     ensures told { MatchResult result (λ told. ClientTells (client_reply reply) told.0.items told.1)
         (λ status. ClientHides (client_reply reply) status) }
@@ -33,7 +33,7 @@ fn told(alloc: Global, reply: ClientReply) -> Result<(Vec<u8>, Progress), Status
     }
 }
 
-/// The hostname, if there is one.
+/// Returns the hostname, if there is one.
 fn shown_name(hostname: &Option<String>) -> Option<&str>
     ensures { shown result ≡ option_map string_bytes hostname.now }
 {
@@ -43,20 +43,20 @@ fn shown_name(hostname: &Option<String>) -> Option<&str>
     }
 }
 
-/// What a call makes of a body.
+/// The result of a frame body.
 #[derive(Drop)]
 struct Made {
-    /// The body that is to be sent, if it is not empty.
+    /// The body to send, if it is not empty.
     sent: Vec<u8>,
 
-    /// How the login stands then.
+    /// How far the login is then.
     progress: Progress,
 
     /// The struct then.
     next: ScramClient,
 }
 
-/// The step of a profile over the body of a frame, and the struct of its client then.
+/// Makes the step of a profile over a frame body, and returns the struct of its client after it.
 fn stepped(
     alloc: Global,
     profile: &mut SaslProfile,
@@ -89,7 +89,7 @@ fn stepped(
     })
 }
 
-/// What a client makes of a body.
+/// Returns the result of a frame body for a client.
 fn answered(
     alloc: Global,
     login: &SaslLogin<'_>,
@@ -120,7 +120,7 @@ fn answered(
     made
 }
 
-/// Takes the body of a frame, and writes the body that is to be sent.
+/// Takes a frame body, and writes the body to send.
 fn step(
     alloc: Global,
     login: &SaslLogin<'_>,
@@ -156,7 +156,7 @@ fn step(
 /// needs 508 bytes, which is tested before anything is hashed. `nonce` is 32 fresh random bytes.
 ///
 /// `progress` is FE2O3_IN_PROGRESS while the login goes on, FE2O3_AUTHENTICATED once it is complete, and from
-/// FE2O3_REFUSED_AUTH to FE2O3_REFUSED_SYS_TEMP if the outcome refuses it. Pass no body after that.
+/// FE2O3_REFUSED_AUTH to FE2O3_REFUSED_SYS_TEMP if the outcome rejects it. Pass no body after that.
 ///
 /// This call is for programs that read frames themselves, reject those above 512 bytes, and limit their number. A
 /// login takes three bodies of the server for SCRAM, and two for the other mechanisms. A server that may send more can

@@ -1,4 +1,4 @@
-//! A side of a connection, which stands in a struct between its calls (AMQP 1.0, part 5, section 5.3.2).
+//! A side of a connection as a struct between calls (AMQP 1.0, part 5, section 5.3.2).
 
 ghost use Rattle.std.specs.Prelude.{◌≡◌, ◌≢◌, ◌<◌, length, IfOk, IfErr, IfSome, MatchOption, None};
 ghost use Rattle.fe2o3_sasl_wire.specs.FrameView.{shown};
@@ -94,7 +94,7 @@ fn of_code(code: SaslCode) -> Status
     }
 }
 
-/// Why a profile refuses what the server sent, as a status.
+/// Returns why a profile rejects what the server sent, as a status.
 pub fn of_profile(fault: ProfileError) -> Status
     ensures { result ≡ profile_status fault }
 {

@@ -1,4 +1,4 @@
-//! Frames of SASL, read where they stand (AMQP 1.0, part 5, section 5.3.3).
+//! SASL frames, read in place (AMQP 1.0, part 5, section 5.3.3).
 
 ghost use Rattle.std.specs.Prelude.{◌≡◌, [], None};
 ghost use Rattle.fe2o3_sasl_wire.specs.FrameView.{shown, viewed_frame};
@@ -41,7 +41,7 @@ pub struct SaslFrameView<'a> {
     pub hostname: &'a [u8],
 }
 
-/// The number of a code.
+/// Returns the number of a code.
 fn number_of(code: SaslCode) -> u32
     ensures { result ≡ code_number code }
 {
@@ -54,7 +54,7 @@ fn number_of(code: SaslCode) -> u32
     }
 }
 
-/// Whether there are bytes, and them.
+/// Returns 1 and the bytes, or 0 and no bytes if there are none.
 fn given<'a>(bytes: Option<&'a [u8]>) -> (u32, &'a [u8])
     ensures { GivenBytes result.0 result.1.now (shown bytes.entry) }
 {
@@ -65,7 +65,7 @@ fn given<'a>(bytes: Option<&'a [u8]>) -> (u32, &'a [u8])
 }
 
 impl<'a> SaslFrameView<'a> {
-    /// A struct with this message alone.
+    /// Returns a struct with only this message.
     fn with_message(kind: u32, code: u32, message: Option<&'a [u8]>) -> SaslFrameView<'a>
         ensures { ShowsFields result kind code 0 [] (shown message.entry) None }
     {
@@ -83,7 +83,7 @@ impl<'a> SaslFrameView<'a> {
         }
     }
 
-    /// The struct of a frame.
+    /// Returns the struct of a frame.
     fn of(frame: &FrameView<'a>) -> SaslFrameView<'a>
         ensures { ShowsFrame result (viewed_frame frame.now) }
     {
@@ -116,7 +116,7 @@ impl<'a> SaslFrameView<'a> {
     }
 }
 
-/// Reads the body of a frame.
+/// Parses a frame body.
 fn view_body<'a>(body: &'a [u8], view: &mut SaslFrameView<'a>) -> Result<(), Status>
     ensures { Views body.now view.old view.new result }
 {
@@ -138,7 +138,7 @@ pub extern "C" fn fe2o3_sasl_view_frame<'a>(body: &'a [u8], view: &mut SaslFrame
     number(view_body(body, view))
 }
 
-/// Whether a server offers a mechanism.
+/// Tests whether a server offers a mechanism.
 fn offers(body: &[u8], mechanism: &[u8]) -> Result<(), Status>
     ensures { OffersName body.now mechanism.now result }
 {

@@ -1,19 +1,17 @@
 //! What a client keeps in place of its password, as a struct.
 
 ghost use Rattle.std.specs.Prelude.{◌≡◌, ◌≢◌, ◌↔◌, IsTrue, MatchOption, IfOk, IfErr, Some};
-ghost use Rattle.fe2o3_scram.specs.Passwords.{Prepared, Typed};
 ghost use Rattle.fe2o3_scram.specs.Readings.{Gives, NoneHolds};
 ghost use Rattle.sasl_c.specs.Keys.{KeysHaveRoom, MakesKeysStruct, ShowsKeys, ShowsNoKeys, ShowsSomeKeys, WritesKeys, keys_struct};
-ghost use Rattle.sasl_c.specs.Passwords.{in_form};
 ghost use Rattle.sasl_c.specs.Records.{struct_making_tests};
 ghost use Rattle.sasl_c.specs.Status.{Answers, Makes};
 ghost use Rattle.sasl_c.specs.declared.keys.ScramKeys.{ScramKeys as Struct};
 ghost use Rattle.sasl_c.specs.declared.status.Status.TheVariants.{OutOfMemory as StatusOutOfMemory};
 
 use crate::arrays::{fill, head, padded, store};
-use crate::passwords::PasswordForm;
-use crate::status::{Status, digest_len, number, number_of, text, version_of};
-use fe2o3_scram::{CachedKeys, Meter, Password};
+use crate::passwords::password_in;
+use crate::status::{Status, digest_len, number, number_of, version_of};
+use fe2o3_scram::{CachedKeys, Meter};
 use std::alloc::Global;
 
 /// The keys that a client can cache in place of its password. They are secret: they suffice to log in.
@@ -40,7 +38,7 @@ pub struct ScramKeys {
 }
 
 impl ScramKeys {
-    /// The struct of keys, or `None` where it cannot hold them.
+    /// Returns the struct of keys, or `None` if they do not fit.
     pub fn of(keys: &CachedKeys) -> Option<ScramKeys>
         ensures { MatchOption result (¬ KeysHaveRoom keys.now) (λ shown. KeysHaveRoom keys.now × (shown ≡ keys_struct keys.now)) }
     {
@@ -59,8 +57,8 @@ impl ScramKeys {
         })
     }
 
-    /// Makes it the struct of keys, or of no keys if it cannot hold them. It is written in place, since a login by keys
-    /// makes few instructions besides.
+    /// Turns the struct into that of these keys, or of no keys if they do not fit. The fields are written in place,
+    /// since a copy would be a measurable part of a login by keys.
     pub fn hold(&mut self, keys: &CachedKeys)
         ensures { WritesKeys self.new (Some keys.now) }
     {
@@ -83,7 +81,7 @@ impl ScramKeys {
         fill(&mut self.server_key, keys.server_key());
     }
 
-    /// A copy of the struct.
+    /// Returns a copy of the struct.
     pub fn copied(&self) -> ScramKeys
         ensures { result ≡ self.now }
     {
@@ -97,7 +95,7 @@ impl ScramKeys {
         }
     }
 
-    /// Returns whether the struct shows keys.
+    /// Returns whether the struct holds keys.
     #[tactic(auto, using(crate::proofs::LoginLemmas::key_tests))]
     pub fn shows(&self) -> bool
         ensures { IsTrue result ↔ ShowsSomeKeys self.now }
@@ -108,8 +106,8 @@ impl ScramKeys {
         }
     }
 
-    /// The keys that the struct shows. `NoSuchVersion`, `TooLong` where `salt_len` is above 128, and else
-    /// `OutOfMemory`.
+    /// Returns the keys that the struct holds. The errors are `NoSuchVersion`, `TooLong` for a `salt_len` above 128,
+    /// and `OutOfMemory`.
     pub fn read(&self, alloc: Global) -> Result<CachedKeys, Status>
         ensures ok { IfOk result (λ keys. ShowsKeys self.now keys) }
         ensures err { IfErr result (λ status. status ≢ StatusOutOfMemory → ShowsNoKeys self.now status) }
@@ -131,79 +129,49 @@ impl ScramKeys {
     }
 }
 
-/// The struct of a password's keys.
-#[tactic(auto, using(crate::proofs::RoomLemmas::keys_have_room))]
+/// Derives the keys of a password, as a struct.
+#[tactic(auto, using(crate::proofs::RecordLemmas::makes))]
 fn compute_keys(
     alloc: Global,
     version: u32,
-    form: PasswordForm,
+    form: u32,
     password: &[u8],
     salt: &[u8],
     iterations: u32,
 ) -> Result<ScramKeys, Status>
-    ensures { Gives StatusOutOfMemory (NoneHolds (struct_making_tests version (in_form form password.now) salt.now iterations))
-        (λ (keys : Struct). keys) result (MakesKeysStruct version (in_form form password.now) salt.now iterations) }
+    ensures { Gives StatusOutOfMemory (NoneHolds (struct_making_tests version form password.now salt.now iterations))
+        (λ (keys : Struct). keys) result (MakesKeysStruct version form password.now salt.now iterations) }
 {
     let version = version_of(version).ok_or(Status::NoSuchVersion)?;
-    let password = text(password)?;
+    let password = password_in(form, password)?;
     if salt.len() > 128 {
         return Err(Status::TooLong);
     }
-    if form.refuses(password) {
-        return Err(Status::NotPrintable);
-    }
-    if iterations == 0 {
-        return Err(Status::ZeroIterations);
-    }
     let mut meter = Meter::new();
-    // (what it refuses besides is told by now)
-    let password = Password::Prepared(password);
-    let made = CachedKeys::from_password(alloc, version, password, salt, iterations, &mut meter);
-    let Ok(keys) = made else {
-        return Err(Status::OutOfMemory);
-    };
-    match ScramKeys::of(&keys) {
-        Some(made) => Ok(made),
-        None => Err(Status::TooLong),
+    match CachedKeys::from_password(alloc, version, password, salt, iterations, &mut meter) {
+        Ok(keys) => match ScramKeys::of(&keys) {
+            Some(made) => Ok(made),
+            None => Err(Status::TooLong),
+        },
+        Err(why) => Err(Status::from(why)),
     }
 }
 
-/// Derives the keys of a typed password, for a server that uses this salt and iteration count. The password has to be
-/// printable ASCII.
+/// Derives the keys of a password, for a server that uses this salt and iteration count. `form` is one of enum
+/// fe2o3_password_form.
 #[unsafe(no_mangle)]
 pub extern "C" fn fe2o3_scram_keys_make(
     alloc: Global,
     version: u32,
+    form: u32,
     password: &[u8],
     salt: &[u8],
     iterations: u32,
     keys: &mut ScramKeys,
 ) -> u32
-    ensures { Answers result (Makes (NoneHolds (struct_making_tests version (Typed password.now) salt.now iterations))
-        (MakesKeysStruct version (Typed password.now) salt.now iterations) keys.old keys.new) }
+    ensures { Answers result (Makes (NoneHolds (struct_making_tests version form password.now salt.now iterations))
+        (MakesKeysStruct version form password.now salt.now iterations) keys.old keys.new) }
 {
-    let form = PasswordForm::Typed;
-    number(store(
-        compute_keys(alloc, version, form, password, salt, iterations),
-        keys,
-    ))
-}
-
-/// Derives the keys of a prepared password (`fe2o3_saslprep`), for a server that uses this salt and iteration count.
-/// The text is used without change.
-#[unsafe(no_mangle)]
-pub extern "C" fn fe2o3_scram_keys_make_prepared(
-    alloc: Global,
-    version: u32,
-    password: &[u8],
-    salt: &[u8],
-    iterations: u32,
-    keys: &mut ScramKeys,
-) -> u32
-    ensures { Answers result (Makes (NoneHolds (struct_making_tests version (Prepared password.now) salt.now iterations))
-        (MakesKeysStruct version (Prepared password.now) salt.now iterations) keys.old keys.new) }
-{
-    let form = PasswordForm::Prepared;
     number(store(
         compute_keys(alloc, version, form, password, salt, iterations),
         keys,

@@ -1,4 +1,4 @@
-//! The text of users and their records, a line for each (RFC 5802, section 5.1; RFC 5803, section 2).
+//! The text of a store: a line for each user and record (RFC 5802, section 5.1; RFC 5803, section 2).
 
 ghost use Rattle.std.specs.Prelude.{◌≡◌, ◌≢◌, Ok, Err, IfOk, IfErr};
 ghost use Rattle.std.specs.Str.{IsUtf8};
@@ -14,7 +14,7 @@ use fe2o3_scram::{
 };
 use std::alloc::Global;
 
-/// Why a line is not read, as a status.
+/// Returns why a line cannot be parsed, as a status.
 fn of_line(kind: ReadLinesErrorKind) -> Status
     ensures { result ≡ line_status kind }
 {
@@ -29,7 +29,7 @@ fn of_line(kind: ReadLinesErrorKind) -> Status
     }
 }
 
-/// The struct of the record of this version that a user has.
+/// Returns the record of this version that a user has, as a struct.
 fn chosen(
     users: &MultiRecordStore,
     username: &str,
@@ -47,7 +47,7 @@ fn chosen(
     }
 }
 
-/// Why nothing is found, and at which line, counted from 1; 0 where each line is read.
+/// Why no record is found, and the number of the bad line, counted from 1; 0 if every line can be parsed.
 #[derive(Clone, Copy)]
 struct NotFound {
     why: Status,
@@ -62,7 +62,7 @@ impl From<Status> for NotFound {
     }
 }
 
-/// The struct of the record that a user has in a text.
+/// Finds the record that a user has in a text, as a struct.
 #[tactic(auto, using(crate::proofs::LineLemmas::finds))]
 fn found(
     alloc: Global,
@@ -99,7 +99,7 @@ fn found(
     }
 }
 
-/// Tells the line, unless there was no memory to find it.
+/// Writes the number of the line, unless an allocation failed.
 fn tell(none: NotFound, line: &mut usize)
     ensures memory { none.why ≡ StatusOutOfMemory → line.new ≡ line.old }
     ensures told { none.why ≢ StatusOutOfMemory → line.new ≡ none.line }
@@ -109,7 +109,7 @@ fn tell(none: NotFound, line: &mut usize)
     }
 }
 
-/// Finds the record that a user has in a text.
+/// Finds the record that a user has in a text, and writes it.
 fn find(
     alloc: Global,
     lines: &[u8],
@@ -154,7 +154,7 @@ pub extern "C" fn fe2o3_scram_lines_find(
     number(find(alloc, lines, username, version, line, kept))
 }
 
-/// The line of a user.
+/// Returns the line of a user and a record.
 fn compute_line(alloc: Global, username: &[u8], kept: &ScramRecord) -> Result<Vec<u8>, Status>
     ensures ok { IfOk result (λ text. SpellsLine username.now kept.now (Ok text.items)) }
     ensures err { IfErr result (λ status. status ≢ StatusOutOfMemory

@@ -1,41 +1,37 @@
-//! How a password is handed in (RFC 5802, section 2.2).
+//! A password as C passes it: its bytes, and the number of its form (RFC 5802, section 2.2).
 
-ghost use Rattle.std.specs.Prelude.{◌↔◌, IsTrue};
-ghost use Rattle.fe2o3_scram.specs.Credentials.{MeetsRecord, kept};
-ghost use Rattle.fe2o3_scram.specs.Passwords.{IsNormal};
-ghost use Rattle.sasl_c.specs.Passwords.{in_form};
+ghost use Rattle.std.specs.Prelude.{◌≡◌, ◌≢◌, IfErr, MatchResult};
+ghost use Rattle.fe2o3_scram.specs.Passwords.{password_of};
+ghost use Rattle.fe2o3_scram.specs.Readings.{IsFirst, NoneHolds};
+ghost use Rattle.sasl_c.specs.Passwords.{IsPassword, password_tests};
+ghost use Rattle.sasl_c.specs.Status.{record_status};
+ghost use Rattle.sasl_c.specs.declared.status.Status.TheVariants.{OutOfMemory as StatusOutOfMemory};
 
-use fe2o3_scram::{Meter, Password, ScramVersion, StoredPassword, saslprep};
+use crate::status::{Status, text};
+use fe2o3_scram::{Password, RecordError};
 
-/// How a password is handed in.
-#[derive(Clone, Copy)]
-pub enum PasswordForm {
-    /// As it is typed, which has to be printable ASCII.
-    Typed,
-
-    /// As its caller has prepared it, which is taken as it stands.
-    Prepared,
+/// Returns the password of these bytes, in a form of enum fe2o3_password_form. `NoSuchChoice` for another form, and
+/// `NotUtf8`.
+pub fn password_in(form: u32, bytes: &[u8]) -> Result<Password<'_>, Status>
+    ensures tested { MatchResult result (λ password. IsPassword form bytes.now (password_of password)
+        × NoneHolds (password_tests form bytes.now)) (λ status. IsFirst (password_tests form bytes.now) status) }
+    ensures memory { IfErr result (λ status. status ≢ StatusOutOfMemory) }
+{
+    match form {
+        0 => Ok(Password::Typed(text(bytes)?)),
+        1 => Ok(Password::Prepared(text(bytes)?)),
+        _ => Err(Status::NoSuchChoice),
+    }
 }
 
-impl PasswordForm {
-    /// Whether no keys are made of the password.
-    pub fn refuses(self, password: &str) -> bool
-        ensures { IsTrue result ↔ ¬ IsNormal (in_form self password.now) }
-    {
-        match self {
-            PasswordForm::Typed => saslprep(password).is_err(),
-            PasswordForm::Prepared => false,
-        }
-    }
+impl From<RecordError> for Status {
+    ghost from_gives = { λ why status. status ≡ record_status why };
 
-    /// Whether the password is that of which this was kept.
-    pub fn meets(self, version: ScramVersion, stored: &StoredPassword<'_>, password: &str) -> bool
-        ensures { IsTrue result ↔ MeetsRecord version (in_form self password.now) (kept stored.now) }
-    {
-        let password = match self {
-            PasswordForm::Typed => Password::Typed(password),
-            PasswordForm::Prepared => Password::Prepared(password),
-        };
-        stored.verify_password(version, password, &mut Meter::new())
+    fn from(why: RecordError) -> Self {
+        match why {
+            RecordError::NormalizeError => Status::NotPrintable,
+            RecordError::ZeroIterations => Status::ZeroIterations,
+            RecordError::OutOfMemory => Status::OutOfMemory,
+        }
     }
 }

@@ -1,4 +1,4 @@
-//! What texts are prepared to (RFC 4013), as passwords past ASCII are.
+//! SASLprep (RFC 4013), for non-ASCII passwords.
 
 ghost use Rattle.std.specs.Prelude.{◌≡◌, ◌≢◌, Ok, Err, IfOk, IfErr, MatchOption};
 ghost use Rattle.std.specs.Cow.{cow_str_bytes};
@@ -26,7 +26,7 @@ impl From<SaslprepError> for Status {
     }
 }
 
-/// The choice of a number.
+/// Returns the choice of a number.
 fn choice_of(number: u32) -> Option<Unassigned>
     ensures { MatchOption result ((choice : Choice) → choice_number choice ≢ number)
         (λ choice. choice_number choice ≡ number) }
@@ -38,7 +38,7 @@ fn choice_of(number: u32) -> Option<Unassigned>
     }
 }
 
-/// What the bytes are prepared to.
+/// Returns the text that the bytes are prepared to.
 #[tactic(auto, using(crate::proofs::SaslprepLemmas::prepares_to))]
 fn prepared(alloc: Global, bytes: &[u8], unassigned: u32) -> Result<CowStr<'_>, Status>
     ensures ok { IfOk result (λ out. PreparesTo unassigned bytes.now (Ok (cow_str_bytes out))) }
@@ -55,25 +55,6 @@ fn prepared(alloc: Global, bytes: &[u8], unassigned: u32) -> Result<CowStr<'_>, 
         Ok(out) => Ok(out),
         Err(why) => Err(Status::from(why)),
     }
-}
-
-/// Writes what the bytes are prepared to.
-fn prepare(
-    alloc: Global,
-    bytes: &[u8],
-    unassigned: u32,
-    out: &mut [u8],
-    out_len: &mut usize,
-) -> Result<(), WriteError>
-    ensures text { Fills (PreparesTo unassigned bytes.now) (record { bytes = out.old; len = out_len.old })
-        (record { bytes = out.new; len = out_len.new }) result }
-    ensures memory { AsksText (PrepareAsks unassigned bytes.now) result }
-{
-    let text = match prepared(alloc, bytes, unassigned) {
-        Ok(text) => text,
-        Err(status) => return Err(WriteError::Other(status)),
-    };
-    put(text.as_bytes(), out, out_len)
 }
 
 /// Writes the text that SASLprep (RFC 4013) prepares `text` to. Printable ASCII is prepared to itself; other ASCII is
@@ -93,5 +74,8 @@ pub extern "C" fn fe2o3_saslprep(
     ensures { AnswersText result (λ answer. Fills (PreparesTo unassigned text.now) (record { bytes = out.old; len = out_len.old })
         (record { bytes = out.new; len = out_len.new }) answer × AsksText (PrepareAsks unassigned text.now) answer) }
 {
-    text_number(prepare(alloc, text, unassigned, out, out_len))
+    match prepared(alloc, text, unassigned) {
+        Ok(text) => text_number(put(text.as_bytes(), out, out_len)),
+        Err(status) => text_number(Err(WriteError::Other(status))),
+    }
 }

@@ -5,19 +5,17 @@ ghost use Rattle.std.specs.String.{string_bytes};
 ghost use Rattle.fe2o3_scram.specs.Readings.{Gives, NoneHolds};
 ghost use Rattle.fe2o3_scram.specs.Credentials.{kept, versioned};
 ghost use Rattle.fe2o3_scram.specs.RecordText.{ReachesValues};
-ghost use Rattle.fe2o3_scram.specs.Passwords.{Prepared, Typed};
-ghost use Rattle.sasl_c.specs.Passwords.{in_form};
 ghost use Rattle.sasl_c.specs.Status.{Answers, AnswersText, AsksText, AsksWhere, Fills, Makes};
 ghost use Rattle.sasl_c.specs.Records.{RecordHasRoom, ShowsSomeRecord, ShowsRecord, record_struct, struct_making_tests, MakesRecordStruct, MakesUp, mock_tests, ParsesStruct, SpellsStruct, VerifiesPassword};
 ghost use Rattle.sasl_c.specs.declared.records.ScramRecord.{ScramRecord as Struct};
 ghost use Rattle.sasl_c.specs.declared.status.Status.TheVariants.{OutOfMemory as StatusOutOfMemory};
 
 use crate::arrays::{head, padded, store, write};
-use crate::passwords::PasswordForm;
+use crate::passwords::password_in;
 use crate::status::{
     Status, WriteError, digest_len, number, number_of, text, text_number, version_of,
 };
-use fe2o3_scram::{Meter, Password, RecordTextError, ScramVersion, StoredPassword};
+use fe2o3_scram::{Meter, RecordTextError, ScramVersion, StoredPassword};
 use std::alloc::Global;
 
 /// What a server stores of a password: a SCRAM record (RFC 5802, section 3).
@@ -44,7 +42,7 @@ pub struct ScramRecord {
 }
 
 impl ScramRecord {
-    /// The struct of a record, or `None` where it cannot hold it.
+    /// Returns the struct of a record, or `None` if the record does not fit.
     pub fn of(kept: &fe2o3_scram::ScramRecord) -> Option<ScramRecord>
         ensures { MatchOption result (¬ RecordHasRoom kept.now) (λ shown. RecordHasRoom kept.now × (shown ≡ record_struct kept.now)) }
     {
@@ -63,8 +61,8 @@ impl ScramRecord {
         })
     }
 
-    /// The record that the struct shows, where it stands, with its version. `NoSuchVersion`, and `TooLong` where
-    /// `salt_len` is above 128.
+    /// Borrows the record that the struct holds, with its version. The errors are `NoSuchVersion`, and `TooLong` for a
+    /// `salt_len` above 128.
     pub fn lent(&self) -> Result<(ScramVersion, StoredPassword<'_>), Status>
         ensures ok { IfOk result (λ shown. ShowsRecord self.now (versioned shown.0 (kept shown.1))) }
         ensures err { IfErr result (λ status. SpellsStruct self.now (Err status)) }
@@ -82,8 +80,8 @@ impl ScramRecord {
         Ok((version, stored))
     }
 
-    /// The record that the struct shows. `NoSuchVersion`, `TooLong` where `salt_len` is above 128, and else
-    /// `OutOfMemory`.
+    /// Returns the record that the struct holds. The errors are `NoSuchVersion`, `TooLong` for a `salt_len` above 128,
+    /// and `OutOfMemory`.
     pub fn read(&self, alloc: Global) -> Result<fe2o3_scram::ScramRecord, Status>
         ensures ok { IfOk result (λ shown. ShowsRecord self.now shown) }
         ensures err { IfErr result (λ status. status ≢ StatusOutOfMemory → SpellsStruct self.now (Err status)) }
@@ -100,86 +98,59 @@ impl ScramRecord {
     }
 }
 
-/// The struct of a password's record.
-#[tactic(auto, using(crate::proofs::RoomLemmas::record_has_room))]
+/// Computes the record of a password, as a struct.
+#[tactic(auto, using(crate::proofs::RecordLemmas::makes))]
 fn compute_record(
     alloc: Global,
     version: u32,
-    form: PasswordForm,
+    form: u32,
     password: &[u8],
     salt: &[u8],
     iterations: u32,
 ) -> Result<ScramRecord, Status>
-    ensures { Gives StatusOutOfMemory (NoneHolds (struct_making_tests version (in_form form password.now) salt.now iterations))
-        (λ (kept : Struct). kept) result (MakesRecordStruct version (in_form form password.now) salt.now iterations) }
+    ensures { Gives StatusOutOfMemory (NoneHolds (struct_making_tests version form password.now salt.now iterations))
+        (λ (kept : Struct). kept) result (MakesRecordStruct version form password.now salt.now iterations) }
 {
     let version = version_of(version).ok_or(Status::NoSuchVersion)?;
-    let password = text(password)?;
+    let password = password_in(form, password)?;
     if salt.len() > 128 {
         return Err(Status::TooLong);
     }
-    if form.refuses(password) {
-        return Err(Status::NotPrintable);
-    }
-    if iterations == 0 {
-        return Err(Status::ZeroIterations);
-    }
-    // (what it refuses besides is told by now)
-    let (password, mut meter) = (Password::Prepared(password), Meter::new());
+    let mut meter = Meter::new();
     let made = fe2o3_scram::ScramRecord::from_password(
         alloc, version, password, salt, iterations, &mut meter,
     );
-    let Ok(kept) = made else {
-        return Err(Status::OutOfMemory);
-    };
-    match ScramRecord::of(&kept) {
-        Some(made) => Ok(made),
-        None => Err(Status::TooLong),
+    match made {
+        Ok(kept) => match ScramRecord::of(&kept) {
+            Some(made) => Ok(made),
+            None => Err(Status::TooLong),
+        },
+        Err(why) => Err(Status::from(why)),
     }
 }
 
-/// Computes the record of a typed password. The password has to be printable ASCII.
+/// Computes the record of a password. `form` is one of enum fe2o3_password_form. A client logs in with exactly the text
+/// of which the record was made.
 #[unsafe(no_mangle)]
 pub extern "C" fn fe2o3_scram_record_make(
     alloc: Global,
     version: u32,
+    form: u32,
     password: &[u8],
     salt: &[u8],
     iterations: u32,
     kept: &mut ScramRecord,
 ) -> u32
-    ensures { Answers result (Makes (NoneHolds (struct_making_tests version (Typed password.now) salt.now iterations))
-        (MakesRecordStruct version (Typed password.now) salt.now iterations) kept.old kept.new) }
+    ensures { Answers result (Makes (NoneHolds (struct_making_tests version form password.now salt.now iterations))
+        (MakesRecordStruct version form password.now salt.now iterations) kept.old kept.new) }
 {
-    let form = PasswordForm::Typed;
     number(store(
         compute_record(alloc, version, form, password, salt, iterations),
         kept,
     ))
 }
 
-/// Computes the record of a prepared password (`fe2o3_saslprep`): any text, used without change. A client logs in with
-/// exactly that text.
-#[unsafe(no_mangle)]
-pub extern "C" fn fe2o3_scram_record_make_prepared(
-    alloc: Global,
-    version: u32,
-    password: &[u8],
-    salt: &[u8],
-    iterations: u32,
-    kept: &mut ScramRecord,
-) -> u32
-    ensures { Answers result (Makes (NoneHolds (struct_making_tests version (Prepared password.now) salt.now iterations))
-        (MakesRecordStruct version (Prepared password.now) salt.now iterations) kept.old kept.new) }
-{
-    let form = PasswordForm::Prepared;
-    number(store(
-        compute_record(alloc, version, form, password, salt, iterations),
-        kept,
-    ))
-}
-
-/// The struct of the record that a text spells.
+/// Parses the text of a record, into a struct.
 fn compute_parsed(alloc: Global, bytes: &[u8]) -> Result<ScramRecord, Status>
     ensures { Gives StatusOutOfMemory (ReachesValues bytes.now) (λ (kept : Struct). kept) result
         (ParsesStruct bytes.now) }
@@ -207,7 +178,7 @@ pub extern "C" fn fe2o3_scram_record_parse(
     number(store(compute_parsed(alloc, text), kept))
 }
 
-/// The text of the record that a struct holds.
+/// Returns the text of the record that a struct holds.
 fn compute_text(alloc: Global, kept: &ScramRecord) -> Result<String, Status>
     ensures ok { IfOk result (λ text. SpellsStruct kept.now (Ok (string_bytes text))) }
     ensures err { IfErr result (λ status. status ≢ StatusOutOfMemory → SpellsStruct kept.now (Err status)) }
@@ -232,7 +203,7 @@ pub extern "C" fn fe2o3_scram_record_text(
     text_number(write(compute_text(alloc, kept), out, out_len))
 }
 
-/// The struct of the record that is made up for a name.
+/// Computes the mock record of a name, as a struct.
 #[tactic(auto, using(crate::proofs::RoomLemmas::mock_has_room))]
 fn compute_mock(
     alloc: Global,
@@ -292,35 +263,28 @@ pub extern "C" fn fe2o3_scram_record_mock(
     ))
 }
 
-/// Whether a password is that of the record, which takes no memory.
-fn verify(kept: &ScramRecord, form: PasswordForm, password: &[u8]) -> Result<(), Status>
-    ensures { VerifiesPassword kept.now (in_form form password.now) result }
+/// Compares a password with a record, without memory.
+fn verify(kept: &ScramRecord, form: u32, password: &[u8]) -> Result<(), Status>
+    ensures { VerifiesPassword kept.now form password.now result }
 {
     let (version, stored) = kept.lent()?;
-    let Ok(password) = text(password) else {
-        return Err(Status::NotUtf8);
+    let password = match password_in(form, password) {
+        Ok(password) => password,
+        Err(status) => return Err(status),
     };
-    if form.meets(version, &stored, password) {
+    if stored.verify_password(version, password, &mut Meter::new()) {
         Ok(())
     } else {
         Err(Status::OtherPassword)
     }
 }
 
-/// Compares a typed password, for instance one received by PLAIN, with a record: FE2O3_OK if it is the record's,
-/// FE2O3_OTHER_PASSWORD if not. It hashes as often as the record's iteration count says, so pass only records of your
-/// own.
+/// Compares a password, for instance one received by PLAIN, with a record: FE2O3_OK if it is the record's,
+/// FE2O3_OTHER_PASSWORD if not. `form` is one of enum fe2o3_password_form. The call hashes as often as the record's
+/// iteration count says, so pass only your own records.
 #[unsafe(no_mangle)]
-pub extern "C" fn fe2o3_scram_record_verify(kept: &ScramRecord, password: &[u8]) -> u32
-    ensures { Answers result (VerifiesPassword kept.now (Typed password.now)) }
+pub extern "C" fn fe2o3_scram_record_verify(kept: &ScramRecord, form: u32, password: &[u8]) -> u32
+    ensures { Answers result (VerifiesPassword kept.now form password.now) }
 {
-    number(verify(kept, PasswordForm::Typed, password))
-}
-
-/// Compares a prepared password with a record, like `fe2o3_scram_record_verify`. The text is used without change.
-#[unsafe(no_mangle)]
-pub extern "C" fn fe2o3_scram_record_verify_prepared(kept: &ScramRecord, password: &[u8]) -> u32
-    ensures { Answers result (VerifiesPassword kept.now (Prepared password.now)) }
-{
-    number(verify(kept, PasswordForm::Prepared, password))
+    number(verify(kept, form, password))
 }

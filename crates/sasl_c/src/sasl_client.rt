@@ -1,4 +1,4 @@
-//! The client's side of a connection, which stands in a struct between its calls.
+//! The client's side of a connection as a struct between calls.
 
 ghost use Rattle.std.specs.Prelude.{◌≡◌, ◌≢◌, ◌≤◌, ◌^◌, List, ℕ, Ok, Err, length, option_map, string_bytes, IfOk, IfErr, IfSome, OnErr, MatchOption};
 ghost use Rattle.fe2o3_sasl_core.specs.Profiles.{PlainProfile};
@@ -14,8 +14,9 @@ ghost use Rattle.sasl_c.specs.declared.status.Status.TheVariants.{NotUtf8, OutOf
 ghost use Rattle.sasl_c.specs.declared.status.WriteError.TheVariants.{RoomTooSmall};
 
 use crate::arrays::put;
-use crate::client::{Login, ScramClient};
+use crate::client::ScramClient;
 use crate::connection::Connection;
+use crate::login::Login;
 use crate::status::{Status, WriteError, text, text_number};
 use bytes::BytesMut;
 use fe2o3_sasl_core::SaslProfile;
@@ -50,7 +51,7 @@ pub struct SaslClient {
 }
 
 impl SaslLogin<'_> {
-    /// The hostname, if there is one.
+    /// Returns the hostname, if there is one.
     pub fn hostname(&self, alloc: Global) -> Result<Option<String>, Status>
         ensures ok { IfOk result (λ hostname. IsHostname self.now (option_map string_bytes hostname)) }
         ensures utf8 { IfOk result (λ _. ¬ HasNoHostname self.now) }
@@ -63,7 +64,7 @@ impl SaslLogin<'_> {
         Ok(Some(text(self.hostname)?.to_string(alloc)?))
     }
 
-    /// PLAIN of the login. `NotUtf8`, and else `OutOfMemory`.
+    /// Returns PLAIN of the login. The errors are `NotUtf8` and `OutOfMemory`.
     fn plain(&self, alloc: Global) -> Result<SaslProfile, Status>
         ensures ok { IfOk result (λ profile.
             profile_of profile ≡ PlainProfile self.now.login.username.now self.now.login.password.now) }
@@ -74,7 +75,7 @@ impl SaslLogin<'_> {
         Ok(SaslProfile::plain(username, password))
     }
 
-    /// The profile, whose client of SCRAM is that of the struct.
+    /// Returns the profile. That of SCRAM has the client of the struct.
     #[tactic(auto, using(crate::proofs::SaslClientLemmas::no_profiles))]
     pub fn profile(&self, alloc: Global, scram: &ScramClient) -> Result<SaslProfile, Status>
         ensures ok { IfOk result (λ profile. IsProfile self.now scram.now (profile_of profile)) }
@@ -93,7 +94,7 @@ impl SaslLogin<'_> {
     }
 }
 
-/// The struct of a profile's client of SCRAM, and a fresh one of another profile.
+/// Returns the struct of a profile's SCRAM client, or a fresh one for another profile.
 pub fn scram_of(profile: &SaslProfile) -> Option<ScramClient>
     ensures state { (login : LoginStruct) → ProfileIsReached login (profile_of profile.now)
         → MatchOption result ⊥ (λ scram. IsProfile login scram (profile_of profile.now)) }
@@ -106,7 +107,7 @@ pub fn scram_of(profile: &SaslProfile) -> Option<ScramClient>
 }
 
 impl SaslClient {
-    /// The structs of a side.
+    /// Returns the structs of a side.
     fn of(side: &ClientNegotiation) -> Option<SaslClient>
         ensures state { (login : LoginStruct) → ProfileIsReached login (client_side side.now).state
             → (client_side side.now).limit ≡ 512 → length (client_side side.now).held ≤ 512
@@ -123,7 +124,7 @@ impl SaslClient {
         Some(SaslClient { connection, scram })
     }
 
-    /// The side that the structs are.
+    /// Restores the side from the structs.
     #[tactic(auto, using(crate::proofs::SaslClientLemmas::taken_up))]
     fn read(&self, alloc: Global, login: &SaslLogin<'_>) -> Result<ClientNegotiation, Status>
         ensures ok { IfOk result (λ side. IsHostname login.now (hostname_in side)
@@ -156,21 +157,21 @@ pub extern "C" fn fe2o3_sasl_client_open(out: &mut [u8], out_len: &mut usize) ->
     text_number(put(&<[u8; 8]>::from(ProtocolHeader::sasl()), out, out_len))
 }
 
-/// What a call makes of bytes.
+/// The result of received bytes.
 #[derive(Drop)]
 struct Made {
-    /// How many it takes.
+    /// How many bytes were used.
     taken: usize,
 
-    /// What is to be sent.
+    /// The bytes to send.
     sent: BytesMut,
 
     /// The structs then.
     next: SaslClient,
 }
 
-/// What a side makes of bytes, and the structs that it is then. That it has none is answered by `InvalidSnapshot`, and happens to
-/// no side that structs are.
+/// Returns the result of received bytes for a side, and its structs after them. `InvalidSnapshot` says that it has none,
+/// which does not happen to a side that was restored from structs.
 fn taken(
     alloc: Global,
     side: &mut ClientNegotiation,
@@ -198,7 +199,7 @@ fn taken(
     })
 }
 
-/// What a client makes of bytes.
+/// Returns the result of received bytes for a client.
 fn received(
     alloc: Global,
     login: &SaslLogin<'_>,
@@ -223,10 +224,10 @@ fn received(
     made
 }
 
-/// The most bytes that a client sends at once.
+/// The maximum number of bytes that a client sends at once.
 const FRAME_MOST: usize = 512;
 
-/// Takes bytes, and writes what is to be sent.
+/// Takes received bytes, and writes the bytes to send.
 fn receive(
     alloc: Global,
     login: &SaslLogin<'_>,

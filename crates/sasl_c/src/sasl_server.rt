@@ -1,41 +1,44 @@
 //! The server's side of a connection, which stands in a struct between its calls.
 
-ghost use Rattle.std.specs.Prelude.{false, ◌≡◌, ◌≢◌, ◌<◌, ◌≤◌, ◌⊎◌, ◌+◌, ◌^◌, ℕ, List, None, Ok, length, map, option_map, string_bytes, IfOk, IfErr, IfSome, OnErr, MatchOption, MatchResult};
+ghost use Rattle.std.specs.Prelude.{[], ◌≡◌, ◌≢◌, ◌<◌, ◌≤◌, ◌⊎◌, ◌+◌, ◌^◌, ℕ, List, Option, length, option_map, IfOk, IfErr, IfSome, OnErr, OnOk, MatchOption, MatchResult};
 ghost use Rattle.std.specs.Str.{IsUtf8};
-ghost use Rattle.fe2o3_scram.specs.ScramServer.{challenge_kept, provider_in, state_in, cbind_flag_y_in, mock_in};
-ghost use Rattle.fe2o3_sasl_core.specs.ExternalServer.{external_of};
+ghost use Rattle.fe2o3_scram.specs.Credentials.{kept};
+ghost use Rattle.fe2o3_scram.specs.Mixed.{MultiRecords};
+ghost use Rattle.fe2o3_scram.specs.Readings.{NoneHolds};
+ghost use Rattle.fe2o3_scram.specs.ServerFirst.{ServerChallenge};
+ghost use Rattle.fe2o3_scram.specs.ScramServer.{challenge_kept};
+ghost use Rattle.fe2o3_scram.specs.declared.hmac.ScramVersion.{ScramVersion as ScramVersions};
+ghost use Rattle.fe2o3_sasl_core.specs.PasswordServer.{challenge_with, password_names, password_server, password_state};
+ghost use Rattle.fe2o3_sasl_core.specs.declared.password_server.BuildError.TheVariants.{NoMechanism as BuildNoMechanism, SaltTooLong as BuildSaltTooLong};
 ghost use Rattle.fe2o3_sasl_negotiation.specs.declared.progress.Progress.{Progress as ProgressOf};
 ghost use Rattle.fe2o3_sasl_negotiation.specs.declared.progress.Progress.TheVariants.{InProgress};
 ghost use Rattle.fe2o3_sasl_negotiation.specs.ServerNegotiation.{ServerReceives};
 ghost use Rattle.fe2o3_sasl_negotiation.specs.Snapshot.{IsServerKept, side_of};
 ghost use Rattle.fe2o3_sasl_negotiation.specs.Sides.{ServerConnectionSide, server_side};
-ghost use Rattle.sasl_c.specs.SaslServer.{ServerIsReached, HasNoServerWords, HasNone, HasRecords, IsAll, IsNoConfig, NotReceived, Received, ReceivesAsServer, ShowsBy, ShowsProgress, ShowsState, ShowsExchange, NoRecordIsUnmet, all_in, all_of, allowed_of, external_mechanism, external_name, config_tests, name_where, one_where, progress_struct, value_state, state_struct, struct_by, sum_of};
+ghost use Rattle.sasl_c.specs.SaslServer.{AddsRecord, HasNoServerWords, HasNone, IsNoConfig, NoRecordIsUnmet, NotReceived, Received, ReceivesAsServer, ServerIsReached, ShowRecords, ShowsBy, ShowsOpen, ShowsProgress, ShowsState, config_tests, exchange_of, one_where, progress_struct, record_for, settings_for, state_struct, struct_by, sum_of, version_of_first};
 ghost use Rattle.sasl_c.specs.declared.sasl_server.Choice.{Choice as Choices};
 ghost use Rattle.sasl_c.specs.declared.server.ScramServer.{ScramServer as ScramStruct};
-ghost use Rattle.fe2o3_scram.specs.Readings.{NoneHolds};
 ghost use Rattle.sasl_c.specs.Connection.{side_tests};
 ghost use Rattle.sasl_c.specs.Status.{AnswersText, AsksText, AsksWhere, FillsWithin};
-ghost use Rattle.sasl_c.specs.declared.status.Status.TheVariants.{OutOfMemory as StatusOutOfMemory, InvalidSnapshot as StatusInvalidSnapshot, NotUtf8 as StatusNotUtf8, TooLong as StatusTooLong};
+ghost use Rattle.sasl_c.specs.declared.status.Status.TheVariants.{OutOfMemory as StatusOutOfMemory, InvalidSnapshot as StatusInvalidSnapshot, TooLong as StatusTooLong};
 ghost use Rattle.sasl_c.specs.declared.status.WriteError.TheVariants.{RoomTooSmall};
 
 use crate::arrays::put;
 use crate::connection::Connection;
-use crate::others::Others;
 use crate::records::ScramRecord;
-use crate::server::{ScramServer, server_over};
-use crate::status::{Status, WriteError, text, text_number, version_of};
+use crate::server::ScramServer;
+use crate::status::{Status, WriteError, number_of, text, text_number};
 use bytes::BytesMut;
 use fe2o3_sasl_core::{
-    AnyMechanism, AuthenticatedUser, ExternalServer, OfferError, RestrictMechanisms, Selected,
+    AuthenticatedUser, BuildError, PasswordServer, PasswordServerBuilder, ScramHashes,
 };
 use fe2o3_sasl_negotiation::{Progress, RestoreError, ServerNegotiation, Snapshot};
 use fe2o3_scram::{
-    Meter, OpenChallenge, RecordStore, ScramAuthenticator, ScramCredentialProvider, ScramVersion,
-    StoredPassword,
+    Meter, MultiRecordStore, OpenChallenge, ScramCredentialProvider, ScramVersion, StoredPassword,
 };
 use std::alloc::Global;
 
-/// What a server offers, and the record of one user. You lend the struct to each call.
+/// What a server offers, and the records of one user. You lend the struct to each call.
 #[repr(C)]
 #[derive(Drop)]
 pub struct SaslServerConfig<'a> {
@@ -43,17 +46,16 @@ pub struct SaslServerConfig<'a> {
     /// over TLS only.
     pub mechanisms: u32,
 
-    /// The hash of SCRAM and of the record: one of enum fe2o3_scram_version.
-    pub version: u32,
-
     /// The iteration count with which PLAIN hashes the password of an unknown user.
     pub iterations: u32,
 
-    /// The name of the user whose record this is, without escapes.
+    /// The name of the user whose records these are, without escapes.
     pub username: &'a [u8],
 
-    /// The record of the user. If it holds no record of `version`, no user is known.
-    pub record: &'a ScramRecord,
+    /// The records of the user, of any hashes. SCRAM with a hash uses the first record of that hash; if there is none,
+    /// it does not know the user. PLAIN tests the password against the first record that can be read, so put mock
+    /// records last; if there is none, it hashes the password with SHA-256 and rejects the login.
+    pub records: &'a [ScramRecord],
 
     /// The name of the client that the transport has authenticated, for instance by a certificate. EXTERNAL accepts
     /// it. If empty, EXTERNAL is not offered, and an init for it fails with FE2O3_REFUSED_AUTH.
@@ -72,24 +74,17 @@ pub struct SaslServer {
     pub scram: ScramServer,
 }
 
-/// SCRAM over the configuration's user.
-pub type Scram = ScramAuthenticator<RecordStore>;
-
-/// All four mechanisms.
-pub type All = AnyMechanism<Scram, Others>;
-
-/// Those that are offered.
-pub type Acceptor = RestrictMechanisms<All>;
-
 /// Which mechanisms are offered.
 #[derive(Clone, Copy)]
 struct Choice {
-    scram: bool,
+    sha_512: bool,
+    sha_256: bool,
+    sha_1: bool,
     plain: bool,
     anonymous: bool,
     external: bool,
 
-    /// Whether SCRAM takes a client that could bind a channel.
+    /// Whether SCRAM accepts the GS2 flag `y`.
     cbind_flag_y: bool,
 }
 
@@ -112,16 +107,20 @@ impl Choice {
     fn of(sum: u32) -> Option<Choice>
         ensures { MatchOption result ((choice : Choices) → sum_of choice ≢ sum) (λ choice. sum_of choice ≡ sum) }
     {
-        if sum > 31 {
+        if sum > 127 {
             return None;
         }
-        let (cbind_flag_y, rest) = split(sum, 16);
-        let (external, rest) = split(rest, 8);
-        let (anonymous, rest) = split(rest, 4);
-        let (plain, rest) = split(rest, 2);
-        let (scram, _) = split(rest, 1);
+        let (cbind_flag_y, rest) = split(sum, 64);
+        let (external, rest) = split(rest, 32);
+        let (anonymous, rest) = split(rest, 16);
+        let (plain, rest) = split(rest, 8);
+        let (sha_1, rest) = split(rest, 4);
+        let (sha_256, rest) = split(rest, 2);
+        let (sha_512, _) = split(rest, 1);
         Some(Choice {
-            scram,
+            sha_512,
+            sha_256,
+            sha_1,
             plain,
             anonymous,
             external,
@@ -129,86 +128,36 @@ impl Choice {
         })
     }
 
-    /// The names that may be offered.
-    fn names(self, version: ScramVersion, peer: &[u8]) -> [&'static str; 4]
-        ensures { map (λ name. name.now) result ≡ allowed_of version self peer.now }
+    /// The hashes of SCRAM.
+    fn hashes(self) -> ScramHashes
+        ensures { result ≡ record { sha_512 = self.sha_512; sha_256 = self.sha_256; sha_1 = self.sha_1 } }
     {
-        [
-            name_where(self.scram, version.mechanism()),
-            name_where(self.plain, "PLAIN"),
-            name_where(self.anonymous, "ANONYMOUS"),
-            name_where(self.external, external_mechanism(peer)),
-        ]
+        ScramHashes {
+            sha_512: self.sha_512,
+            sha_256: self.sha_256,
+            sha_1: self.sha_1,
+        }
     }
 }
 
-/// EXTERNAL where the transport has authenticated this name, and the empty mechanism where the name is empty.
-fn external_mechanism(peer: &[u8]) -> &'static str
-    ensures { result.now ≡ external_mechanism peer.now }
-{
-    if peer.is_empty() { "" } else { "EXTERNAL" }
-}
-
-/// The name of the acceptor of EXTERNAL. Where there is no peer the acceptor is not offered.
-fn external_name(peer: &str) -> &str
-    ensures { result.now ≡ external_name peer.now }
-{
-    if peer.is_empty() { "nobody" } else { peer }
-}
-
-/// The name where it is so, and else the empty one.
-fn name_where(offered: bool, name: &'static str) -> &'static str
-    ensures { result.now ≡ name_where offered name.now }
-{
-    if offered { name } else { "" }
-}
-
-/// All four mechanisms over a store, of which the last init went to this one.
-fn joined(
-    scram: Scram,
-    store: RecordStore,
-    iterations: u32,
-    external: ExternalServer,
-    asked: Option<Selected>,
-) -> All
-    ensures { (peer : List ℕ) → external_of external ≡ record { user = external_name peer; accepted = false }
-        → provider_in scram ≡ store → mock_in scram ≡ None → all_in result
-        ≡ all_of (cbind_flag_y_in scram) store iterations peer (state_in scram) asked }
-{
-    AnyMechanism::with_selected(scram, Others::new(store, iterations, external), asked)
-}
-
-/// The server of SCRAM that a struct is, over a store, and what was asked last. `OutOfMemory` is the only refusal.
+/// The record of a user for a hash, or one without keys if there is none.
 #[tactic(auto, using(crate::proofs::SaslServerLemmas::never_met))]
-fn exchange(
-    alloc: Global,
-    accept_cbind_flag_y: bool,
-    store: &RecordStore,
-    scram: &ScramServer,
-) -> Result<(Scram, Option<Selected>), Status>
-    ensures provider { IfOk result (λ made. provider_in made.0 ≡ store.now) }
-    ensures cbind_flag_y { IfOk result (λ made. cbind_flag_y_in made.0 ≡ accept_cbind_flag_y) }
-    ensures mock { IfOk result (λ made. mock_in made.0 ≡ None) }
-    ensures state { IfOk result (λ made. ShowsExchange store.now.records scram.now (state_in made.0) made.1) }
+fn record_for<'a>(
+    store: &'a MultiRecordStore,
+    version: ScramVersion,
+    username: &str,
+) -> StoredPassword<'a>
+    ensures record { kept result ≡ record_for store.now version username.now }
     ensures unmet { NoRecordIsUnmet }
-    ensures err { IfErr result (λ status. status ≡ StatusOutOfMemory) }
 {
-    let fresh = server_over(store.clone()?, accept_cbind_flag_y);
-    let Some(challenge) = scram.challenge() else {
-        return Ok((fresh, None));
-    };
-    let stored = match store.get_stored_password(challenge.username) {
+    match store.for_version(version).get_stored_password(username) {
         Some(stored) => stored,
         None => NO_RECORD,
-    };
-    Ok((
-        fresh.restore_challenge(alloc, &challenge, &stored)?,
-        Some(Selected::First),
-    ))
+    }
 }
 
-/// A record without keys, which no proof meets (clause `unmet` of `exchange`). It is passed where the configuration has
-/// no record of the challenge's user: the open challenge has to survive a call that completes no frame.
+/// A record without keys, which no proof meets (clause `unmet` of `record_for`). It is passed where the configuration
+/// has no record of the challenge's user: the open challenge has to survive a call that completes no frame.
 const NO_RECORD: StoredPassword<'static> = StoredPassword {
     salt: &[],
     iterations: 0,
@@ -216,102 +165,125 @@ const NO_RECORD: StoredPassword<'static> = StoredPassword {
     server_key: &[],
 };
 
+/// Adds the record of a struct for a user, if it shows one. `OutOfMemory` is the only error.
+fn add_record(
+    alloc: Global,
+    store: &mut MultiRecordStore,
+    username: &str,
+    shown: &ScramRecord,
+) -> Result<(), Status>
+    ensures ok { OnOk result (AddsRecord username.now shown.now store.old store.new) }
+    ensures err { IfErr result (λ status. status ≡ StatusOutOfMemory) }
+{
+    let kept = match shown.read(alloc) {
+        Ok(kept) => kept,
+        Err(Status::OutOfMemory) => return Err(Status::OutOfMemory),
+        Err(_) => return Ok(()),
+    };
+    match store.add(username.to_string(alloc)?, kept) {
+        Ok(()) => Ok(()),
+        Err(_) => Err(Status::OutOfMemory),
+    }
+}
+
 impl SaslServerConfig<'_> {
-    /// The store of the configuration's one user, or of nobody. `NotUtf8`, and else `OutOfMemory`.
-    #[tactic(auto, using(crate::proofs::SaslServerLemmas::store))]
-    fn store(&self, alloc: Global, version: ScramVersion) -> Result<RecordStore, Status>
-        ensures version { IfOk result (λ store. store.version ≡ version) }
-        ensures records { IfOk result (λ store. HasRecords self.now version store.records) }
-        ensures utf8 { IfOk result (λ _. IsUtf8 self.now.username.now) }
-        ensures err { IfErr result (λ status. status ≢ StatusOutOfMemory
-            → (status ≡ StatusNotUtf8) × ¬ IsUtf8 self.now.username.now) }
+    /// The records of the configuration's user. `OutOfMemory` is the only error.
+    fn store(&self, alloc: Global, username: &str) -> Result<MultiRecordStore, Status>
+        ensures ok { IfOk result (λ store. ShowRecords username.now self.now.records.now store) }
+        ensures err { IfErr result (λ status. status ≡ StatusOutOfMemory) }
     {
-        let username = text(self.username)?.to_string(alloc)?;
-        let mut store = RecordStore::new(alloc, version);
-        let kept = match self.record.read(alloc) {
-            Ok(kept) => kept,
-            Err(Status::OutOfMemory) => return Err(Status::OutOfMemory),
-            Err(_) => return Ok(store),
-        };
-        if *kept.scram_version() != version {
-            return Ok(store);
+        let mut store = MultiRecordStore::new(alloc);
+        for kept in self.records {
+            add_record(alloc, &mut store, username, kept)?;
         }
-        match store.add(username, kept) {
-            Ok(()) => Ok(store),
-            Err(_) => Err(Status::OutOfMemory),
-        }
+        Ok(store)
     }
 
-    /// The acceptor of EXTERNAL for the configuration's peer. `NotUtf8`, and otherwise `OutOfMemory`.
-    fn external(&self, alloc: Global) -> Result<ExternalServer, Status>
-        ensures ok { IfOk result (λ external.
-            external_of external ≡ record { user = external_name self.now.external_authcid.now; accepted = false }) }
-        ensures utf8 { IfOk result (λ _. IsUtf8 self.now.external_authcid.now) }
-        ensures err { IfErr result (λ status. status ≢ StatusOutOfMemory
-            → (status ≡ StatusNotUtf8) × ¬ IsUtf8 self.now.external_authcid.now) }
+    /// The hash of the first record that can be read, or SHA-256 if there is none.
+    #[tactic(auto, using(crate::proofs::SaslServerLemmas::first))]
+    fn first_version(&self) -> ScramVersion
+        ensures { (user : List ℕ) (records : MultiRecords) → ShowRecords user self.now.records.now records
+            → result ≡ version_of_first records }
     {
-        let name = external_name(text(self.external_authcid)?).to_string(alloc)?;
-        match ExternalServer::new(name) {
-            Ok(external) => Ok(external),
-            Err(_) => unreachable!(),
+        for kept in self.records {
+            if let Ok((version, _)) = kept.lent() {
+                return version;
+            }
         }
+        ScramVersion::Sha256
     }
 
-    /// All four mechanisms, in the exchange that the struct of SCRAM shows.
-    fn all(
+    /// The library's server of these settings, with the open challenge that the struct of SCRAM shows.
+    fn server(
         &self,
         alloc: Global,
+        choice: Choice,
+        store: &MultiRecordStore,
         version: ScramVersion,
-        accept_cbind_flag_y: bool,
+        external: &str,
         scram: &ScramServer,
-    ) -> Result<All, Status>
-        ensures ok { IfOk result (λ all. IsAll self.now version accept_cbind_flag_y scram.now (all_in all)) }
-        ensures utf8 { IfOk result (λ _. IsUtf8 self.now.username.now × IsUtf8 self.now.external_authcid.now) }
-        ensures err { IfErr result (λ status. status ≢ StatusOutOfMemory → HasNoServerWords self.now status) }
+    ) -> Result<PasswordServer, BuildError>
+        requires version { version ≡ version_of_first store.now }
+        requires external { external.now ≡ self.now.external_authcid.now }
+        ensures ok { IfOk result (λ server. (shown : Option (ScramVersions × ServerChallenge)) × ShowsOpen scram.now shown
+            × (password_state server ≡ password_server (settings_for self.now choice store.now
+            (option_map (exchange_of store.now) shown)))) }
+        ensures none { IfErr result (λ error. error ≡ BuildNoMechanism → (shown : Option (ScramVersions × ServerChallenge))
+            × (password_names (password_server (settings_for self.now choice store.now
+            (option_map (exchange_of store.now) shown))) ≡ [])) }
+        ensures salts { IfErr result (λ error. error ≢ BuildSaltTooLong) }
     {
-        let store = self.store(alloc, version)?;
-        let external = self.external(alloc)?;
-        let (machine, asked) = exchange(alloc, accept_cbind_flag_y, &store, scram)?;
-        Ok(joined(machine, store, self.iterations, external, asked))
+        let builder = PasswordServerBuilder::new(store)
+            .hashes(choice.hashes())
+            .accept_cbind_flag_y(choice.cbind_flag_y)
+            .plain_under_tls(choice.plain)
+            .plain_records(version, self.iterations)
+            .anonymous(choice.anonymous)
+            .external(if choice.external { external } else { "" });
+        let Some((hash, challenge)) = scram.exchange() else {
+            return builder.build(alloc);
+        };
+        let stored = record_for(store, hash, challenge.username);
+        builder
+            .open_challenge(hash, &challenge, &stored)
+            .build(alloc)
     }
 
     /// Tests that the words of the configuration are texts.
-    fn words(&self) -> Result<(), Status>
-        ensures { MatchResult result (λ _. IsUtf8 self.now.username.now × IsUtf8 self.now.external_authcid.now)
+    fn words(&self) -> Result<(&str, &str), Status>
+        ensures { MatchResult result (λ words. (words.0.now ≡ self.now.username.now)
+            × (words.1.now ≡ self.now.external_authcid.now) × IsUtf8 self.now.username.now × IsUtf8 self.now.external_authcid.now)
             (λ status. HasNoServerWords self.now status) }
     {
-        text(self.username)?;
-        text(self.external_authcid)?;
-        Ok(())
+        Ok((text(self.username)?, text(self.external_authcid)?))
     }
 
-    /// The acceptor, in the exchange that the struct of SCRAM shows.
+    /// The library's server, with the open challenge that the struct of SCRAM shows.
     #[tactic(auto, using(crate::proofs::SaslServerLemmas::acceptor))]
-    pub fn acceptor(&self, alloc: Global, scram: &ScramServer) -> Result<Acceptor, Status>
-        ensures ok { IfOk result (λ acceptor. ServerIsReached self.now InProgress (value_state acceptor)
-            × ShowsState scram.now InProgress (value_state acceptor)) }
+    pub fn acceptor(&self, alloc: Global, scram: &ScramServer) -> Result<PasswordServer, Status>
+        ensures ok { IfOk result (λ acceptor. ServerIsReached self.now InProgress (password_state acceptor)
+            × ShowsState scram.now InProgress (password_state acceptor)) }
         ensures tests { IfOk result (λ _. NoneHolds (config_tests self.now)) }
         ensures err { IfErr result (λ status. status ≢ StatusOutOfMemory → IsNoConfig self.now status) }
         ensures memory { AsksWhere (NoneHolds (config_tests self.now)) result }
     {
-        let Some(version) = version_of(self.version) else {
-            return Err(Status::NoSuchVersion);
-        };
         let Some(choice) = Choice::of(self.mechanisms) else {
             return Err(Status::NoSuchMechanism);
         };
-        // The words are tested before memory is asked for.
-        if let Err(status) = self.words() {
-            return Err(status);
-        }
-        let all = match self.all(alloc, version, choice.cbind_flag_y, scram) {
-            Ok(all) => all,
+        let (username, external) = match self.words() {
+            Ok(words) => words,
             Err(status) => return Err(status),
         };
-        match RestrictMechanisms::new(alloc, all, &choice.names(version, self.external_authcid)) {
-            Ok(acceptor) => Ok(acceptor),
-            Err(OfferError::NoMechanismLeft) => Err(Status::NoSuchMechanism),
-            Err(OfferError::OutOfMemory) => Err(Status::OutOfMemory),
+        let store = match self.store(alloc, username) {
+            Ok(store) => store,
+            Err(status) => return Err(status),
+        };
+        let version = self.first_version();
+        match self.server(alloc, choice, &store, version, external, scram) {
+            Ok(server) => Ok(server),
+            Err(BuildError::NoMechanism) => Err(Status::NoSuchMechanism),
+            Err(BuildError::SaltTooLong) => unreachable!(),
+            Err(BuildError::OutOfMemory) => Err(Status::OutOfMemory),
         }
     }
 }
@@ -364,20 +336,20 @@ fn restore<A: AuthenticatedUser + Drop>(
 #[tactic(auto, using(crate::proofs::SaslServerLemmas::shown))]
 fn shown(
     progress: Progress,
-    challenge: Option<OpenChallenge<'_>>,
+    exchange: Option<(ScramVersion, OpenChallenge<'_>)>,
     user: Option<&str>,
 ) -> Option<ScramServer>
     ensures shows { MatchOption result
-        ((scram : ScramStruct) → ¬ ShowsProgress scram progress (option_map challenge_kept challenge.entry)
+        ((scram : ScramStruct) → ¬ ShowsProgress scram progress (option_map challenge_with exchange.entry)
         (option_map (λ user. user.now) user.entry)) (λ scram. ShowsProgress scram progress
-        (option_map challenge_kept challenge.entry)
+        (option_map challenge_with exchange.entry)
         (option_map (λ user. user.now) user.entry)) }
     ensures writes { IfSome result (λ scram. scram ≡ progress_struct progress
-        (option_map challenge_kept challenge.entry) (option_map (λ user. user.now) user.entry)) }
+        (option_map challenge_with exchange.entry) (option_map (λ user. user.now) user.entry)) }
 {
     match progress {
-        Progress::InProgress => match challenge {
-            Some(challenge) => ScramServer::of(&challenge),
+        Progress::InProgress => match exchange {
+            Some((version, challenge)) => ScramServer::of(number_of(version), &challenge),
             None => Some(ScramServer::fresh()),
         },
         Progress::Authenticated => match user {
@@ -401,17 +373,13 @@ pub trait Shows: AuthenticatedUser {
         ensures writes { IfSome result (λ scram. scram ≡ written_for progress self.now) };
 }
 
-impl Shows for Acceptor {
-    ghost shows = { λ scram progress acceptor. ShowsState scram progress (value_state acceptor) };
+impl Shows for PasswordServer {
+    ghost shows = { λ scram progress server. ShowsState scram progress (password_state server) };
 
-    ghost written_for = { λ progress acceptor. state_struct progress (value_state acceptor) };
+    ghost written_for = { λ progress server. state_struct progress (password_state server) };
 
     fn shown(&self, progress: Progress) -> Option<ScramServer> {
-        shown(
-            progress,
-            self.acceptor().first().open_challenge(),
-            self.authenticated_user(),
-        )
+        shown(progress, self.open_challenge(), self.authenticated_user())
     }
 }
 

@@ -4,19 +4,20 @@ ghost use Rattle.std.specs.Prelude.{false, true, ◌≡◌, ◌≢◌, ◌<◌, 
 ghost use Rattle.fe2o3_scram.specs.ClientFirst.{HasEscapes};
 ghost use Rattle.fe2o3_scram.specs.Credentials.{Record};
 ghost use Rattle.fe2o3_scram.specs.ServerFirst.{ServerChallenge};
+ghost use Rattle.fe2o3_scram.specs.declared.hmac.ScramVersion.{ScramVersion as ScramVersions};
 ghost use Rattle.fe2o3_scram.specs.ScramServer.{Initial, ServerFirstSent, challenge_kept, provider_in, state_in, cbind_flag_y_in, mock_in};
 ghost use Rattle.fe2o3_scram.specs.declared.scram_messages.channel_binding_flag.ChannelBindingFlag.{ChannelBindingFlag as HeaderOf};
-ghost use Rattle.sasl_c.specs.Server.{MakesChallenge, Challenges, ConcludesLogin, Concludes, FinalAsks, WritesChallenge, IsAuthenticated, ChallengeHasRoom, IsOpen, ClaimedUser, NotChallenged, OpensExchange, MemoryCosts, ReadsFirst, TellsUser, fresh_server_struct, authenticated_struct, open_number, open_struct, user_struct};
+ghost use Rattle.sasl_c.specs.Server.{MakesChallenge, Challenges, ConcludesLogin, Concludes, FinalAsks, WritesChallenge, IsAuthenticated, ChallengeHasRoom, IsOpen, IsOpenBy, ClaimedUser, NotChallenged, OpensExchange, MemoryCosts, ReadsFirst, TellsUser, fresh_server_struct, authenticated_struct, open_number, open_struct, user_struct};
 ghost use Rattle.sasl_c.specs.Status.{Answers, AnswersText, AsksText, AsksWhere, Fills, FillsWithin};
 ghost use Rattle.sasl_c.specs.declared.status.Status.TheVariants.{OutOfMemory as StatusOutOfMemory};
 ghost use Rattle.sasl_c.specs.declared.status.WriteError.TheVariants.{RoomTooSmall};
 
 use crate::arrays::{cleared, fill, head, padded, put, write};
 use crate::records::ScramRecord;
-use crate::status::{Status, WriteError, text_number};
+use crate::status::{Status, WriteError, text_number, version_of};
 use fe2o3_scram::{
     ChannelBindingFlag, ClientFirst, Meter, OpenChallenge, ScramAuthenticator,
-    ScramCredentialProvider, ServerScramErrorKind, UserRecord,
+    ScramCredentialProvider, ScramVersion, ServerScramErrorKind, UserRecord,
 };
 use std::alloc::Global;
 
@@ -29,6 +30,9 @@ use std::alloc::Global;
 pub struct ScramServer {
     /// How far the exchange is: one of enum fe2o3_scram_server_state.
     pub state: u32,
+
+    /// The hash of the open challenge: one of enum fe2o3_scram_version.
+    pub version: u32,
 
     /// The number of bytes of `user` in use.
     pub user_len: u32,
@@ -60,13 +64,14 @@ pub struct ScramServer {
 type Machine = ScramAuthenticator<UserRecord>;
 
 impl ScramServer {
-    /// The struct of a server that has nobody's challenge open, and has logged nobody in.
+    /// Returns the struct of a server without an open challenge and without an authenticated user.
     pub fn fresh() -> ScramServer
         ensures state { result.state ≡ 0 }
         ensures writes { result ≡ fresh_server_struct }
     {
         ScramServer {
             state: 0,
+            version: 0,
             user_len: 0,
             bare_len: 0,
             nonce_len: 0,
@@ -78,12 +83,13 @@ impl ScramServer {
         }
     }
 
-    /// The struct of a server that has logged in the user whose name is so many bytes of this array.
+    /// Returns the struct of a server whose authenticated user is the first `user_len` bytes of this array.
     fn with_user(user: [u8; 256], user_len: u32) -> ScramServer
         ensures { result ≡ user_struct user_len user }
     {
         ScramServer {
             state: 2,
+            version: 0,
             user_len,
             bare_len: 0,
             nonce_len: 0,
@@ -95,7 +101,7 @@ impl ScramServer {
         }
     }
 
-    /// The struct of a server that has logged this user in, or `None` where the name has no room.
+    /// Returns the struct of a server that has authenticated this user, or `None` if the name does not fit.
     pub fn logged_in(user: &str) -> Option<ScramServer>
         ensures user { MatchOption result (256 < length user.now) (λ server. IsAuthenticated server user.now) }
         ensures writes { IfSome result (λ server. server ≡ authenticated_struct user.now) }
@@ -104,7 +110,7 @@ impl ScramServer {
         Some(ScramServer::with_user(name, user.len() as u32))
     }
 
-    /// Makes it the struct of a server that has logged the user of the challenge in, which keeps the name and nothing else
+    /// Turns the struct into that of a server that has authenticated the user of the challenge, which keeps only the name
     /// of the exchange.
     fn log_in(&mut self)
         requires { self.old.user_len ≤ 256 }
@@ -113,27 +119,30 @@ impl ScramServer {
         *self = ScramServer::with_user(cleared(&self.user, self.user_len), self.user_len);
     }
 
-    /// The struct of a server whose challenge is open, or `None` if a text of it does not fit.
-    pub fn of(challenge: &OpenChallenge<'_>) -> Option<ScramServer>
+    /// Returns the struct of a server with this open challenge, by the hash of this number, or `None` if a text of the
+    /// challenge does not fit.
+    pub fn of(version: u32, challenge: &OpenChallenge<'_>) -> Option<ScramServer>
         ensures open { MatchOption result (¬ ChallengeHasRoom (challenge_kept challenge.now))
-            (λ server. ChallengeHasRoom (challenge_kept challenge.now) × IsOpen server (challenge_kept challenge.now)) }
-        ensures writes { IfSome result (λ server. server ≡ open_struct (challenge_kept challenge.now)) }
+            (λ server. ChallengeHasRoom (challenge_kept challenge.now) × (server.version ≡ version)
+            × IsOpen server (challenge_kept challenge.now)) }
+        ensures writes { IfSome result (λ server. server ≡ open_struct version (challenge_kept challenge.now)) }
     {
         if !fits(challenge) {
             return None;
         }
         let mut server = ScramServer::fresh();
-        server.open(challenge);
+        server.open(version, challenge);
         Some(server)
     }
 
-    /// Makes it the struct of a server whose challenge is open.
-    fn open(&mut self, challenge: &OpenChallenge<'_>)
+    /// Turns the struct into that of a server with this open challenge, by the hash of this number.
+    fn open(&mut self, version: u32, challenge: &OpenChallenge<'_>)
         requires { ChallengeHasRoom (challenge_kept challenge.now) }
         ensures open { IsOpen self.new (challenge_kept challenge.now) }
-        ensures writes { self.new ≡ open_struct (challenge_kept challenge.now) }
+        ensures writes { self.new ≡ open_struct version (challenge_kept challenge.now) }
     {
         self.state = open_number(challenge.header);
+        self.version = version;
         self.user_len = challenge.username.len() as u32;
         self.bare_len = challenge.client_first_message_bare.len() as u32;
         self.nonce_len = challenge.client_server_nonce.len() as u32;
@@ -155,7 +164,7 @@ fn fits(challenge: &OpenChallenge<'_>) -> bool
         && challenge.server_first_message.len() <= 1024
 }
 
-/// The number of a struct that shows a challenge to a client with this GS2 header.
+/// Returns the state of a struct with an open challenge to a client with this GS2 header.
 fn open_number(header: ChannelBindingFlag) -> u32
     ensures { result ≡ open_number header }
 {
@@ -165,7 +174,7 @@ fn open_number(header: ChannelBindingFlag) -> u32
     }
 }
 
-/// The GS2 header of the challenge that a struct with this number shows, if it shows one.
+/// Returns the GS2 header of the challenge that is open in this state, if one is.
 fn open_header(state: u32) -> Option<ChannelBindingFlag>
     ensures { MatchOption result ((header : HeaderOf) → open_number header ≢ state)
         (λ header. state ≡ open_number header) }
@@ -177,8 +186,8 @@ fn open_header(state: u32) -> Option<ChannelBindingFlag>
     }
 }
 
-/// A server over these credentials, which takes a client that could bind a channel where `accept_cbind_flag_y`
-/// says so.
+/// Returns a server over these credentials, which accepts the GS2 channel-binding flag `y` if `accept_cbind_flag_y`
+/// is true.
 pub fn server_over<C: ScramCredentialProvider>(
     credentials: C,
     accept_cbind_flag_y: bool,
@@ -192,7 +201,17 @@ pub fn server_over<C: ScramCredentialProvider>(
 }
 
 impl ScramServer {
-    /// The challenge that is open, where the struct shows one.
+    /// Returns the open challenge with its hash, if the struct holds both.
+    pub fn exchange(&self) -> Option<(ScramVersion, OpenChallenge<'_>)>
+        ensures { MatchOption result ((version : ScramVersions) (challenge : ServerChallenge) → ¬ IsOpenBy self.now version challenge)
+            (λ shown. IsOpenBy self.now shown.0 (challenge_kept shown.1)) }
+    {
+        let version = version_of(self.version)?;
+        let challenge = self.challenge()?;
+        Some((version, challenge))
+    }
+
+    /// Returns the open challenge, if the struct holds one.
     pub fn challenge(&self) -> Option<OpenChallenge<'_>>
         ensures { MatchOption result ((challenge : ServerChallenge) → ¬ IsOpen self.now challenge)
             (λ challenge. IsOpen self.now (challenge_kept challenge)) }
@@ -215,7 +234,7 @@ impl ScramServer {
     }
 }
 
-/// A server with an open challenge to a client-first message.
+/// Returns a server with an open challenge to a client-first message.
 fn challenged(
     alloc: Global,
     accept_cbind_flag_y: bool,
@@ -252,25 +271,26 @@ fn challenged(
     }
 }
 
-/// Writes the message of a challenge, and the struct that shows the challenge.
+/// Writes the message of a challenge, and the struct that holds the challenge.
 fn open_into(
+    version: u32,
     challenge: &OpenChallenge<'_>,
     server: &mut ScramServer,
     out: &mut [u8],
     out_len: &mut usize,
 ) -> Result<(), WriteError>
-    ensures { WritesChallenge (challenge_kept challenge.now) server.old server.new
+    ensures { WritesChallenge version (challenge_kept challenge.now) server.old server.new
         (record { bytes = out.old; len = out_len.old }) (record { bytes = out.new; len = out_len.new }) result }
 {
     if !fits(challenge) {
         return Err(WriteError::Other(Status::TooLong));
     }
     put(challenge.server_first_message, out, out_len)?;
-    server.open(challenge);
+    server.open(version, challenge);
     Ok(())
 }
 
-/// Writes the server-first message, and the struct of the server whose challenge is open.
+/// Writes the server-first message, and the struct of the server with its open challenge.
 fn first_into(
     alloc: Global,
     accept_cbind_flag_y: bool,
@@ -294,7 +314,7 @@ fn first_into(
         drop(machine);
         return Err(WriteError::Other(Status::TooLong));
     };
-    let written = open_into(&challenge, server, out, out_len);
+    let written = open_into(kept.version, &challenge, server, out, out_len);
     drop(machine);
     written
 }
@@ -352,24 +372,6 @@ pub extern "C" fn fe2o3_scram_server_first_with_cbind_flag_y(
     text_number(first_into(alloc, true, kept, server, nonce, client_first, out, out_len))
 }
 
-/// Writes the name of the user.
-fn user(
-    alloc: Global,
-    client_first: &[u8],
-    out: &mut [u8],
-    out_len: &mut usize,
-) -> Result<(), WriteError>
-    ensures text { Fills (ClaimedUser client_first.now) (record { bytes = out.old; len = out_len.old })
-        (record { bytes = out.new; len = out_len.new }) result }
-    ensures memory { AsksText (HasEscapes true client_first.now) result }
-{
-    let first = match ClientFirst::parse_with_cbind_flag_y(alloc, client_first, true) {
-        Ok(first) => first,
-        Err(why) => return Err(WriteError::Other(Status::from(why))),
-    };
-    put(first.username.as_bytes(), out, out_len)
-}
-
 /// Writes the user name that a client-first message claims, without escapes. Nobody is authenticated yet: use it only
 /// to look up the record.
 #[unsafe(no_mangle)]
@@ -382,10 +384,15 @@ pub extern "C" fn fe2o3_scram_server_claimed_user(
     ensures { AnswersText result (λ answer. Fills (ClaimedUser client_first.now) (record { bytes = out.old; len = out_len.old })
         (record { bytes = out.new; len = out_len.new }) answer × AsksText (HasEscapes true client_first.now) answer) }
 {
-    text_number(user(alloc, client_first, out, out_len))
+    text_number(
+        match ClientFirst::parse_with_cbind_flag_y(alloc, client_first, true) {
+            Ok(first) => put(first.username.as_bytes(), out, out_len),
+            Err(why) => Err(WriteError::Other(Status::from(why))),
+        },
+    )
 }
 
-/// The server-final message.
+/// Returns the server-final message.
 fn concluded(
     alloc: Global,
     kept: &ScramRecord,
@@ -425,7 +432,7 @@ fn concluded(
     }
 }
 
-/// The most bytes of a server-final message.
+/// The maximum number of bytes of a server-final message.
 const FINAL_MOST: usize = 90;
 
 /// Writes the server-final message.
@@ -479,7 +486,7 @@ pub extern "C" fn fe2o3_scram_server_final(
     text_number(conclude(alloc, kept, server, client_final, &mut meter, out, out_len))
 }
 
-/// The name of the authenticated user.
+/// Returns the name of the authenticated user.
 fn authenticated_user(server: &ScramServer) -> Result<&[u8], Status>
     ensures ok { IfOk result (λ user. TellsUser server.now (Ok user.now)) }
     ensures err { IfErr result (λ status. status ≢ StatusOutOfMemory → TellsUser server.now (Err status)) }

@@ -1,4 +1,4 @@
-//! A server's steps over the bodies of frames, for whoever reads and writes the frames.
+//! A server's steps over frame bodies, for programs that read and write the frames themselves.
 
 ghost use Rattle.std.specs.Prelude.{◌≡◌, ◌≢◌, ◌≤◌, ◌^◌, ◌⊎◌, Some, None, length, Ok, Err, IfOk, IfErr, OnErr, MatchResult};
 ghost use Rattle.fe2o3_sasl_core.specs.Events.{ServerSays};
@@ -26,7 +26,7 @@ use fe2o3_sasl_wire::{Error, Frame, FrameCodec};
 use fe2o3_scram::Meter;
 use std::alloc::Global;
 
-/// The body with which an acceptor offers its mechanisms.
+/// Returns the body with which an acceptor offers its mechanisms.
 fn offer_of<A: SaslAcceptor + Drop>(alloc: Global, acceptor: A) -> Result<BytesMut, Status>
     ensures ok { IfOk result (λ body. offer_body (A.names (A.state acceptor)) ≡ Some body.items) }
     ensures err { IfErr result (λ status. status ≢ StatusOutOfMemory
@@ -41,7 +41,7 @@ fn offer_of<A: SaslAcceptor + Drop>(alloc: Global, acceptor: A) -> Result<BytesM
     }
 }
 
-/// The body with which a configuration offers its mechanisms.
+/// Returns the body with which a configuration offers its mechanisms.
 fn compute_offer(alloc: Global, config: &SaslServerConfig<'_>) -> Result<BytesMut, Status>
     ensures ok { IfOk result (λ body. ConfigOffers config.now (Ok body.items)) }
     ensures err { IfErr result (λ status. status ≢ StatusOutOfMemory → ConfigOffers config.now (Err status)) }
@@ -71,7 +71,7 @@ pub extern "C" fn fe2o3_sasl_server_offer(
     text_number(write(compute_offer(alloc, config), out, out_len))
 }
 
-/// The body that a reply sends, and how the login stands behind it.
+/// Returns the body that a reply sends, and how far the login is after it.
 fn told(reply: ServerReply) -> Result<(Vec<u8>, Progress), Status>
     ensures told { MatchResult result (λ told. ServerTells (server_reply reply) told.0.items told.1)
         (λ status. ServerHides (server_reply reply) status) }
@@ -82,20 +82,20 @@ fn told(reply: ServerReply) -> Result<(Vec<u8>, Progress), Status>
     }
 }
 
-/// What a call makes of a body.
+/// The result of a frame body.
 #[derive(Drop)]
 struct Made {
-    /// The body that is to be sent.
+    /// The body to send.
     sent: Vec<u8>,
 
-    /// How the login stands then.
+    /// How far the login is then.
     progress: Progress,
 
     /// The struct then.
     next: ScramServer,
 }
 
-/// The step of an acceptor over the body of a frame, and the struct that shows it then.
+/// Makes the step of an acceptor over a frame body, and returns the struct that shows it after it.
 fn stepped<A: Shows + Drop>(
     alloc: Global,
     acceptor: A,
@@ -129,7 +129,7 @@ fn stepped<A: Shows + Drop>(
     })
 }
 
-/// What a server makes of a body.
+/// Returns the result of a frame body for a server.
 fn answered(
     alloc: Global,
     config: &SaslServerConfig<'_>,
@@ -156,7 +156,7 @@ fn answered(
     }
 }
 
-/// Takes the body of a frame, and writes the body that is to be sent.
+/// Takes a frame body, and writes the body to send.
 fn step(
     alloc: Global,
     config: &SaslServerConfig<'_>,
@@ -193,13 +193,13 @@ fn step(
 ///
 /// Before the call, look up the record of the user that the body claims (`fe2o3_sasl_server_step_claimed_user`).
 /// `progress` is FE2O3_IN_PROGRESS while the login goes on, FE2O3_AUTHENTICATED once it is complete, and from
-/// FE2O3_REFUSED_AUTH to FE2O3_REFUSED_SYS_TEMP if the outcome refuses it. Send that outcome too, and pass no body
+/// FE2O3_REFUSED_AUTH to FE2O3_REFUSED_SYS_TEMP if the outcome rejects it. Send that outcome too, and pass no body
 /// after it. After a login by any mechanism the struct holds the authenticated user
 /// (`fe2o3_scram_server_authenticated_user`). ANONYMOUS has none.
 ///
 /// This call is for programs that read frames themselves, reject those above 512 bytes, and limit their number. A
 /// login takes an init, and for SCRAM one response. A client that may send more can try passwords again and again. A
-/// response without a challenge is answered by an outcome that refuses. A frame that no client sends returns
+/// response without a challenge is answered by an outcome that is not OK. A frame that no client sends returns
 /// FE2O3_NO_SASL_FRAME. If a name or a message does not fit into the struct, the call returns FE2O3_TOO_LONG, and you
 /// have to close the connection.
 #[unsafe(no_mangle)]
@@ -225,7 +225,7 @@ pub extern "C" fn fe2o3_sasl_server_step(
     ))
 }
 
-/// The name of the user whom a body names.
+/// Returns the user name that a frame body claims.
 fn compute_claimed_user(alloc: Global, server: &ScramServer, body: &[u8]) -> Result<Vec<u8>, Status>
     ensures names { MatchResult result (λ name. StepNames server.now body.now (Ok name.items))
         (λ status. status ≢ StatusOutOfMemory → StepNames server.now body.now (Err status)) }

@@ -1,4 +1,4 @@
-//! Whom the bytes of a connection, or the body of a frame, name to a server before it takes them.
+//! The user name that the bytes of a connection, or a frame body, claim before a server takes them.
 
 ghost use Rattle.std.specs.Prelude.{true, ◌≡◌, ◌≢◌, ℕ, List, Ok, IfOk, IfErr, OnErr, MatchOption};
 ghost use Rattle.sasl_c.specs.SaslServer.{AwaitsFrame, BodyAsks, BodyNames, BodyNamesNoUser, FrameAsks, FrameNames, InitAsks, InitNames, Named, Names, NotNamed, ResponseAsks, ResponseNames};
@@ -19,8 +19,8 @@ use fe2o3_sasl_wire::{FrameView, view_frame};
 use fe2o3_scram::{ClientFirst, ScramVersion, ServerScramErrorKind};
 use std::alloc::Global;
 
-/// The user whom a client-first message names, behind either GS2 header, or `None` where it is none. `OutOfMemory` is
-/// the only refusal.
+/// Returns the user name that a client-first message claims, after either GS2 header, or `None` if it cannot be parsed.
+/// `OutOfMemory` is the only error.
 #[tactic(auto, using(crate::proofs::ServerUserLemmas::scram_user))]
 fn scram_user(alloc: Global, text: &[u8]) -> Result<Option<Vec<u8>>, Status>
     ensures ok { IfOk result (λ user. MatchOption user
@@ -36,7 +36,7 @@ fn scram_user(alloc: Global, text: &[u8]) -> Result<Option<Vec<u8>>, Status>
     }
 }
 
-/// The user whom an init names, or `None` where it names nobody. `OutOfMemory` is the only refusal.
+/// Returns the user name that an init claims, or `None` if it claims none. `OutOfMemory` is the only error.
 #[tactic(auto, using(crate::proofs::ServerUserLemmas::init_user))]
 fn init_user(alloc: Global, mechanism: &str, text: &[u8]) -> Result<Option<Vec<u8>>, Status>
     ensures ok { IfOk result (λ user. MatchOption user
@@ -57,7 +57,7 @@ fn init_user(alloc: Global, mechanism: &str, text: &[u8]) -> Result<Option<Vec<u
     }
 }
 
-/// The same of the initial response of an init, if it has one.
+/// Returns the user name that the initial response of an init claims, if it has one that does.
 fn response_user(
     alloc: Global,
     mechanism: &str,
@@ -75,7 +75,7 @@ fn response_user(
     }
 }
 
-/// The user of the open challenge, or `None` where none is open. `OutOfMemory` is the only refusal.
+/// Returns the user name of the open challenge, or `None` if none is open. `OutOfMemory` is the only error.
 fn open_user(alloc: Global, scram: &ScramServer) -> Result<Option<Vec<u8>>, Status>
     ensures ok { IfOk result (λ user. MatchOption user ((challenge : ServerChallenge) → ¬ IsOpen scram.now challenge)
         (λ user. (challenge : ServerChallenge) × IsOpen scram.now challenge × (user.items ≡ challenge.user))) }
@@ -88,7 +88,7 @@ fn open_user(alloc: Global, scram: &ScramServer) -> Result<Option<Vec<u8>>, Stat
     }
 }
 
-/// The user whom a frame in turn names, or `None` where it names nobody. `OutOfMemory` is the only refusal.
+/// Returns the user name that the expected frame claims, or `None` if it claims none. `OutOfMemory` is the only error.
 fn frame_user(
     alloc: Global,
     scram: &ScramServer,
@@ -115,7 +115,8 @@ fn frame_user(
     }
 }
 
-/// The user whom a body in turn names, or `None` where it names nobody. `OutOfMemory` is the only refusal.
+/// Returns the user name that an expected frame body claims, or `None` if it claims none. `OutOfMemory` is the only
+/// error.
 #[tactic(auto, using(crate::proofs::ServerUserLemmas::body_user))]
 pub fn body_user(
     alloc: Global,
@@ -134,7 +135,7 @@ pub fn body_user(
     }
 }
 
-/// The name of the user whom the frame names that these bytes complete.
+/// Returns the user name that the frame claims which these bytes complete.
 #[tactic(auto, using(crate::proofs::ServerUserLemmas::named))]
 fn compute_claimed_user(alloc: Global, server: &SaslServer, bytes: &[u8]) -> Result<Vec<u8>, Status>
     ensures ok { IfOk result (λ name. Named server.now bytes.now name.items) }

@@ -1,4 +1,4 @@
-//! What a call answers.
+//! The status that a call returns.
 
 ghost use Rattle.std.specs.Prelude.{◌≡◌, ◌≢◌, ◌≤◌, MatchOption, MatchResult};
 ghost use Rattle.fe2o3_scram.specs.Hmac.{digest_len};
@@ -11,7 +11,7 @@ ghost use Rattle.fe2o3_scram.specs.declared.hmac.ScramVersion.{ScramVersion};
 use fe2o3_scram::{RecordTextError, ScramErrorKind, ScramVersion, ServerScramErrorKind};
 use std::alloc::AllocError;
 
-/// Why a call is not done.
+/// Why a call fails.
 #[derive(Clone, Copy)]
 pub enum Status {
     /// An allocation failed. Nothing has changed, and you can repeat the call.
@@ -23,7 +23,7 @@ pub enum Status {
     /// The version is none of enum fe2o3_scram_version.
     NoSuchVersion,
 
-    /// A text is longer than the array for it.
+    /// A text is longer than the array that holds it.
     TooLong,
 
     /// The typed password is not printable ASCII.
@@ -38,32 +38,32 @@ pub enum Status {
     /// The struct holds no keys.
     NoKeys,
 
-    /// The keys, or the record of a line, are of another version.
+    /// The keys, or the record on a line, are of another version.
     OtherVersion,
 
     /// The password is not that of the record.
     OtherPassword,
 
-    /// The mechanism is none of enum fe2o3_mechanism; or a server offers nothing, or a sum with another value than
-    /// those of enum fe2o3_offer.
+    /// The mechanism is none of enum fe2o3_mechanism, or the offer of a server is empty or not a sum of values of enum
+    /// fe2o3_offer.
     NoSuchMechanism,
 
     /// The connection has ended: its `progress` is not FE2O3_IN_PROGRESS.
     Ended,
 
-    /// The struct of the connection is not one that a call writes.
+    /// The struct of the connection has a value that no call writes.
     InvalidSnapshot,
 
-    /// The bytes complete no frame that claims a user name.
+    /// The bytes do not complete a frame that claims a user name.
     NamesNoUser,
 
-    /// A client refuses what a server sent.
+    /// A client rejects a message of the server.
     Client(ScramErrorKind),
 
-    /// A server refuses what a client sent.
+    /// A server rejects a message of the client.
     Server(ServerScramErrorKind),
 
-    /// The text is no record.
+    /// The text cannot be parsed as a record.
     NoRecord(RecordTextError),
 
     /// The last line does not end with a line feed.
@@ -72,22 +72,22 @@ pub enum Status {
     /// The line has no space.
     SpaceMissing,
 
-    /// The text before the last space of the line is not an escaped name.
+    /// The text before the last space of the line is not an escaped user name.
     InvalidName,
 
-    /// No line has a record of this version for this name.
+    /// No line has a record of this version for this user.
     NoSuchUser,
 
-    /// The name contains a line feed, or the iteration count is 0.
+    /// The user name contains a line feed, or the iteration count is 0.
     NotWritable,
 
-    /// The other side's protocol header is not that of SASL.
+    /// The peer sent another protocol header than that of SASL.
     ProtocolHeaderMismatch,
 
-    /// The size of the frame is below 8 or above 512.
+    /// The frame has fewer than 8 or more than 512 bytes.
     FrameSize,
 
-    /// The frame is not the expected one.
+    /// The peer sent another frame than the expected one.
     UnexpectedFrame,
 
     /// The reply does not fit into a frame of 512 bytes.
@@ -96,28 +96,28 @@ pub enum Status {
     /// The frame cannot be parsed.
     MalformedFrame,
 
-    /// The type or the data offset of the frame is not that of a SASL frame.
+    /// The frame has another type or data offset than a SASL frame.
     NoSaslFrame,
 
-    /// A size inside the frame needs more than 32 bits.
+    /// A size inside the frame exceeds 32 bits.
     FrameTooLarge,
 
-    /// The client does not answer such a frame, or the server does not offer the mechanism.
+    /// The client cannot answer this frame, or the server does not offer this mechanism.
     NotImplemented,
 
-    /// The login was refused: its credentials are wrong.
+    /// The server rejected the login: the credentials are wrong.
     RefusedAuth,
 
-    /// The login was refused because of a system error.
+    /// The server rejected the login because of a system error.
     RefusedSys,
 
-    /// The login was refused because of a permanent system error.
+    /// The server rejected the login because of a permanent system error.
     RefusedSysPerm,
 
-    /// The login was refused because of a temporary system error.
+    /// The server rejected the login because of a temporary system error.
     RefusedSysTemp,
 
-    /// The number is none of enum fe2o3_unassigned.
+    /// The argument `unassigned` is none of enum fe2o3_unassigned, or a form none of enum fe2o3_password_form.
     NoSuchChoice,
 
     /// The prepared text contains a character that RFC 4013, section 2.3, prohibits.
@@ -127,11 +127,11 @@ pub enum Status {
     /// right-to-left one (RFC 3454, section 6).
     MixedDirections,
 
-    /// The text, or what it is prepared to, contains a code point that Unicode 3.2 does not assign.
+    /// The text, or the prepared text, contains a code point that Unicode 3.2 does not assign.
     UnassignedCodePoint,
 }
 
-/// Why a call that writes a text is not done.
+/// Why a call that writes a text fails.
 #[derive(Clone, Copy)]
 pub enum WriteError {
     /// `out` is too small. Nothing has changed, and `out_len` says how many bytes suffice.
@@ -180,7 +180,7 @@ impl From<ServerScramErrorKind> for Status {
 }
 
 impl Status {
-    /// The number that a call answers.
+    /// Returns the number that a call returns for this status.
     pub fn number(self) -> u32
         ensures { result ≡ status_number self }
     {
@@ -227,7 +227,7 @@ impl Status {
     }
 }
 
-/// The number of why a client refuses what a server sent.
+/// Returns the number of an error of a client.
 fn client_number(why: ScramErrorKind) -> u32
     ensures { result ≡ client_number why }
 {
@@ -253,7 +253,7 @@ fn client_number(why: ScramErrorKind) -> u32
     }
 }
 
-/// The number of why a server refuses what a client sent.
+/// Returns the number of an error of a server.
 fn server_number(why: ServerScramErrorKind) -> u32
     ensures { result ≡ server_number why }
 {
@@ -276,7 +276,7 @@ fn server_number(why: ServerScramErrorKind) -> u32
     }
 }
 
-/// The number of why a text is no record.
+/// Returns the number of an error of a record's text.
 fn record_text_number(why: RecordTextError) -> u32
     ensures { result ≡ record_text_number why }
 {
@@ -290,7 +290,7 @@ fn record_text_number(why: RecordTextError) -> u32
     }
 }
 
-/// The number of an answer: 0 where the call is done.
+/// Returns the number of an answer: 0 if the call succeeded.
 pub fn number(answer: Result<(), Status>) -> u32
     ensures { result ≡ answer_number answer }
 {
@@ -300,7 +300,7 @@ pub fn number(answer: Result<(), Status>) -> u32
     }
 }
 
-/// The number of an answer of a call that writes a text: 0 where the call is done.
+/// Returns the number of an answer of a call that writes a text: 0 if the call succeeded.
 pub fn text_number(answer: Result<(), WriteError>) -> u32
     ensures { result ≡ text_answer_number answer }
 {
@@ -311,7 +311,7 @@ pub fn text_number(answer: Result<(), WriteError>) -> u32
     }
 }
 
-/// The version of a number.
+/// Returns the version of a number.
 pub fn version_of(number: u32) -> Option<ScramVersion>
     ensures { MatchOption result ((version : ScramVersion) → version_number version ≢ number)
         (λ version. version_number version ≡ number) }
@@ -324,7 +324,7 @@ pub fn version_of(number: u32) -> Option<ScramVersion>
     }
 }
 
-/// The number of a version.
+/// Returns the number of a version.
 pub fn number_of(version: ScramVersion) -> u32
     ensures { result ≡ version_number version }
 {
@@ -335,7 +335,7 @@ pub fn number_of(version: ScramVersion) -> u32
     }
 }
 
-/// The length of a digest of the version, in bytes.
+/// Returns the length of a digest of the version, in bytes.
 pub fn digest_len(version: ScramVersion) -> usize
     ensures len { result ≡ digest_len version }
     ensures short { result ≤ 64 }
@@ -347,7 +347,7 @@ pub fn digest_len(version: ScramVersion) -> usize
     }
 }
 
-/// The text that the bytes spell.
+/// Returns the bytes as a text.
 pub fn text(bytes: &[u8]) -> Result<&str, Status>
     ensures { MatchResult result (λ text. (text.now ≡ bytes.now) × IsUtf8 bytes.now)
         (λ status. (status ≡ StatusNotUtf8) × ¬ IsUtf8 bytes.now) }

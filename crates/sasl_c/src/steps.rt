@@ -1,4 +1,4 @@
-//! What the steps of a client and of a server over the bodies of frames have in common.
+//! What the steps of a client and of a server over frame bodies have in common.
 
 ghost use Rattle.std.specs.Prelude.{◌≡◌, ◌<◌, ◌≤◌, length, IfOk, IfErr, MatchResult};
 ghost use Rattle.sasl_c.specs.Steps.{IsSent, IsUnsent, behind_code, progress_number};
@@ -9,10 +9,10 @@ use crate::status::{Status, WriteError};
 use fe2o3_sasl_negotiation::{CloseReason, Progress};
 use fe2o3_sasl_wire::SaslCode;
 
-/// The most bytes of a body that is sent.
+/// The maximum number of bytes of a body that is sent.
 const BODY_MOST: usize = 508;
 
-/// Looks for room for a body that is sent. Where there is too little, the length says what suffices.
+/// Tests whether a body fits into `out`. If not, writes to `out_len` how many bytes suffice.
 pub fn has_room(out: &[u8], out_len: &mut usize) -> Result<(), WriteError>
     ensures ok { IfOk result (λ _. (508 ≤ length out.now) × (out_len.new ≡ out_len.old)) }
     ensures err { IfErr result (λ status. (status ≡ RoomTooSmall) × (length out.now < 508) × (out_len.new ≡ 508)) }
@@ -24,7 +24,7 @@ pub fn has_room(out: &[u8], out_len: &mut usize) -> Result<(), WriteError>
     Ok(())
 }
 
-/// The body, where it can be sent.
+/// Returns the body if it fits into a frame of 512 bytes.
 pub fn sendable(body: Vec<u8>) -> Result<Vec<u8>, Status>
     ensures { MatchResult result (λ sent. IsSent body.items sent.items) (λ status. IsUnsent body.items status) }
 {
@@ -34,7 +34,7 @@ pub fn sendable(body: Vec<u8>) -> Result<Vec<u8>, Status>
     Ok(body)
 }
 
-/// How a login stands behind an outcome.
+/// Returns how far a login is after an outcome.
 pub fn behind(code: SaslCode) -> Progress
     ensures { result ≡ behind_code code }
 {
@@ -44,7 +44,7 @@ pub fn behind(code: SaslCode) -> Progress
     }
 }
 
-/// The number of how a login stands.
+/// Returns the number of how far a login is.
 pub fn number_of(progress: Progress) -> u32
     ensures { result ≡ progress_number progress }
 {

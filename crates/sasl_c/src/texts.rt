@@ -1,12 +1,13 @@
-//! The texts of statuses, and what tells whether the declarations of a caller fit.
+//! The texts of statuses, and the version and the sizes by which a caller tests its header.
 
 ghost use Rattle.std.specs.Prelude.{◌≡◌};
 ghost use Rattle.sasl_c.specs.Texts.{size_in, status_text, struct_sizes};
 
-use crate::client::{Login, ScramClient};
+use crate::client::ScramClient;
 use crate::connection::Connection;
 use crate::frames::SaslFrameView;
 use crate::keys::ScramKeys;
+use crate::login::Login;
 use crate::records::ScramRecord;
 use crate::sasl_client::{SaslClient, SaslLogin};
 use crate::sasl_server::{SaslServer, SaslServerConfig};
@@ -21,7 +22,7 @@ pub struct Text<'a> {
     pub bytes: &'a [u8],
 }
 
-/// The text of a status.
+/// Returns the text of a status.
 fn text_of(status: u32) -> &'static [u8]
     ensures { result.now ≡ status_text status }
 {
@@ -40,8 +41,8 @@ fn text_of(status: u32) -> &'static [u8]
         11 => b"The password is not that of the record\0",
         12 => b"No such mechanism\0",
         13 => b"The connection has ended\0",
-        14 => b"No connection is kept so\0",
-        15 => b"No user is named\0",
+        14 => b"The struct of the connection is invalid\0",
+        15 => b"No user name is claimed\0",
         20 => b"Client: Invalid UTF-8\0",
         21 => b"Client: InsufficientParts\0",
         22 => b"Client: Extensions are not supported\0",
@@ -54,7 +55,7 @@ fn text_of(status: u32) -> &'static [u8]
         29 => b"Client: Iteration count too small\0",
         30 => b"Client: Iteration count too large\0",
         31 => b"Client: Error normalizing password\0",
-        32 => b"Client: The keys are of another salt or iteration count\0",
+        32 => b"Client: The cached keys are for another salt or iteration count\0",
         33 => b"Client: Invalid length\0",
         34 => b"Client: LHS and RHS of XOR have different length\0",
         35 => b"Client: Illegal SCRAM client state\0",
@@ -73,7 +74,7 @@ fn text_of(status: u32) -> &'static [u8]
         51 => b"Server: Client final message doesn't have a proof\0",
         52 => b"Server: Authentication failed\0",
         53 => b"Server: Illegal SCRAM client state\0",
-        60 => b"Record: Parts missing or left over\0",
+        60 => b"Record: The record does not have five fields\0",
         61 => b"Record: Unknown SCRAM mechanism\0",
         62 => b"Record: Cannot parse iteration count\0",
         63 => b"Record: Invalid base64\0",
@@ -82,19 +83,19 @@ fn text_of(status: u32) -> &'static [u8]
         66 => b"Line: Space missing\0",
         67 => b"Line: Cannot parse username\0",
         68 => b"Lines: No such user\0",
-        69 => b"Line: User not writable\0",
+        69 => b"Line: The line cannot be written\0",
         70 => b"Connection: The header is not that of SASL\0",
-        71 => b"Connection: A frame of this size is refused\0",
-        72 => b"Connection: The frame is out of turn\0",
-        73 => b"Connection: The answer is too large\0",
+        71 => b"Connection: The frame size is out of range\0",
+        72 => b"Connection: Unexpected frame\0",
+        73 => b"Connection: The reply does not fit in a frame\0",
         74 => b"Connection: Decode Error\0",
         75 => b"Connection: No SASL frame\0",
         76 => b"Connection: Too large\0",
         77 => b"Connection: Not implemented\0",
-        81 => b"Connection: The login is refused\0",
-        82 => b"Connection: The login is refused by a system error\0",
-        83 => b"Connection: The login is refused by a system error that stays\0",
-        84 => b"Connection: The login is refused by a system error that may pass\0",
+        81 => b"Connection: The login was rejected\0",
+        82 => b"Connection: The login was rejected: system error\0",
+        83 => b"Connection: The login was rejected: permanent system error\0",
+        84 => b"Connection: The login was rejected: temporary system error\0",
         85 => b"No such choice\0",
         86 => b"The text holds a prohibited character\0",
         87 => b"The text mixes directions\0",
@@ -103,23 +104,16 @@ fn text_of(status: u32) -> &'static [u8]
     }
 }
 
-/// Lends the text of a status.
-fn lend(status: u32, text: &mut Text<'static>)
-    ensures { text.new.bytes.now ≡ status_text status }
-{
-    text.bytes = text_of(status);
-}
-
 /// Writes the text of a status to `text`. It ends with a zero byte and stays valid for as long as the library is
 /// loaded.
 #[unsafe(no_mangle)]
 pub extern "C" fn fe2o3_status_text(status: u32, text: &mut Text<'static>)
     ensures { text.new.bytes.now ≡ status_text status }
 {
-    lend(status, text);
+    text.bytes = text_of(status);
 }
 
-/// How many bytes a struct has.
+/// Returns how many bytes a struct has.
 fn size(which: u32) -> usize
     ensures { result ≡ size_in struct_sizes which }
 {

@@ -1,7 +1,7 @@
 //! What the two programs share: base64, users' lines, and how a login is told.
 
-use fe2o3_sasl_proved::StoredPassword;
 use fe2o3_sasl_proved::{generate_nonce, ScramAuthenticator, ScramCredentialProvider, ScramRecord, ScramVersion};
+use fe2o3_sasl_proved::{PasswordServer, StoredPassword, UserRecords};
 use std::io::BufRead;
 use std::sync::Arc;
 
@@ -71,9 +71,20 @@ impl Users {
         Ok(Users { version, records })
     }
 
+    /// A server of connections over these users, which answers unknown users as known ones.
+    pub fn server(self) -> PasswordServer<Arc<Users>> {
+        PasswordServer::new(Arc::new(self)).mock_unknown_users(generate_nonce(), 16, 4096)
+    }
+
     /// A server over these users, which hides whom it does not know.
     pub fn authenticator(self) -> ScramAuthenticator<Arc<Users>> {
         ScramAuthenticator::new(Arc::new(self)).mock_unknown_users(generate_nonce(), 16, 4096)
+    }
+}
+
+impl UserRecords for Users {
+    fn records(&self, username: &str) -> Vec<ScramRecord> {
+        self.records.iter().filter(|(name, _)| name == username).map(|(_, record)| record.clone()).collect()
     }
 }
 

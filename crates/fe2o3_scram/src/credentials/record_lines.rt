@@ -67,7 +67,7 @@ pub struct ReadLinesError {
 pub enum WriteLinesError {
     /// A user's line would not be read again: the name has a line feed, the count is 0, or a key is not as long as a
     /// digest.
-    #[error("User not writable")]
+    #[error("The line cannot be written")]
     UserNotWritable,
 
     /// An allocation failed.

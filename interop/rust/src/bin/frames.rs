@@ -8,9 +8,7 @@
 //!
 //! The client takes the password from standard input. The server offers the mechanism alone.
 
-use fe2o3_sasl_proved::{
-    ClientNegotiation, Offers, Progress, SaslProfile, ScramClient, ScramVersion, ServerNegotiation,
-};
+use fe2o3_sasl_proved::{ClientNegotiation, Progress, SaslProfile, ScramClient, ScramVersion, ServerNegotiation};
 use interop::{password, told, version_of, Failure, Users};
 use std::io::{Read, Write};
 use std::net::{TcpListener, TcpStream};
@@ -25,15 +23,6 @@ fn profile(mechanism: &str, user: &str) -> Result<SaslProfile, Failure> {
             .with_iteration_limit(1_000_000)
             .into(),
     })
-}
-
-fn offers(mechanism: &str) -> Offers {
-    Offers {
-        scram: version_of(mechanism).is_some(),
-        plain: mechanism == "PLAIN",
-        anonymous: mechanism == "ANONYMOUS",
-        external: mechanism == "EXTERNAL",
-    }
 }
 
 /// What came of the connection, and an error where the other side ends it first.
@@ -70,7 +59,14 @@ fn run_client(words: &[&str]) -> Result<i32, Failure> {
 }
 
 fn serve(mut channel: TcpStream, users: Users, mechanism: &str) -> Result<String, Failure> {
-    let mut side = ServerNegotiation::new(users.authenticator(), offers(mechanism)).with_external_authcid("user");
+    let hashes: Vec<_> = version_of(mechanism).into_iter().collect();
+    let server = users
+        .server()
+        .hashes(&hashes)
+        .plain_under_tls(mechanism == "PLAIN")
+        .anonymous(mechanism == "ANONYMOUS")
+        .external(if mechanism == "EXTERNAL" { "user" } else { "" });
+    let mut side = ServerNegotiation::new(server);
     let mut room = [0; 4096];
     while side.progress() == Progress::InProgress {
         let len = came(&mut channel, &mut room)?;

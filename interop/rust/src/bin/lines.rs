@@ -1,6 +1,6 @@
 //! The program of `../lines.c`, by the crate for Rust: the same words, the same lines.
 
-use fe2o3_sasl_proved::{saslprep, ScramClient, ScramRecord, ScramVersion, Unassigned};
+use fe2o3_sasl_proved::{saslprep, Password, ScramClient, ScramRecord, ScramVersion, Unassigned};
 use interop::{from_base64, password, to_base64, told, version_of, Failure, Users};
 use std::io::{BufRead, BufReader, Write};
 use std::net::{TcpListener, TcpStream};
@@ -47,7 +47,10 @@ fn log_in(port: u16, client: &mut ScramClient) -> Result<(), Failure> {
 fn client_of(user: &str, version: ScramVersion, prepared: bool) -> Result<ScramClient, Failure> {
     let password = password()?;
     Ok(match prepared {
-        true => ScramClient::with_prepared_password(user, saslprep(&password, Unassigned::Allowed)?, version),
+        true => {
+            let password = saslprep(&password, Unassigned::Allowed)?;
+            ScramClient::with_password(user, Password::Prepared(&password), version)
+        }
         false => ScramClient::new(user, password, version),
     })
 }
@@ -110,7 +113,7 @@ fn record_of(version: ScramVersion, salt: &str, count: &str, prepared: bool) -> 
     let salt = from_base64(salt).ok_or("no base64")?;
     if prepared {
         let password = saslprep(&password, Unassigned::Refused)?;
-        return Ok(ScramRecord::from_prepared_password(version, &password, &salt, count)?);
+        return Ok(ScramRecord::from_password(version, Password::Prepared(&password), &salt, count)?);
     }
     Ok(ScramRecord::from_password(version, &password, &salt, count)?)
 }
@@ -126,9 +129,8 @@ fn run_record(words: &[&str], options: &[&str]) -> Result<i32, Failure> {
 
 fn is_of(record: &ScramRecord, password: &str, prepared: bool) -> bool {
     match prepared {
-        true => {
-            saslprep(password, Unassigned::Allowed).is_ok_and(|prepared| record.verify_prepared_password(&prepared))
-        }
+        true => saslprep(password, Unassigned::Allowed)
+            .is_ok_and(|prepared| record.verify_password(Password::Prepared(&prepared))),
         false => record.verify_password(password),
     }
 }

@@ -6,7 +6,7 @@ pub returns-clause-text : goal.returns-clause-text
 returns-clause-text c =
     let held = c.in-Ok.ensures.ok in
     opens_text c.args.accept_cbind_flag_y c.args.kept.now c.args.nonce.now c.args.client_first.now held.0
-    (challenge_kept c.in-Some.challenge) _ _ _ _ c.open_into-written.result held.3
+    (challenge_kept c.in-Some.challenge) _ _ _ _ _ c.open_into-written.result held.3
     (one_challenge (state_in c.in-Ok.machine) held.0 (challenge_kept c.in-Some.challenge) held.1 held.2 c.in-Some.ensures)
     c.open_into-written.ensures
 
@@ -19,4 +19,4 @@ returns-clause-moved c =
     c.open_into-written.ensures
 
 pub returns-clause-memory : goal.returns-clause-memory
-returns-clause-memory c = opens_asks _ _ _ _ _ _ _ c.open_into-written.ensures
+returns-clause-memory c = opens_asks _ _ _ _ _ _ _ _ c.open_into-written.ensures

@@ -1,40 +1,48 @@
-//! The mechanisms of a server beside SCRAM, as one acceptor whose parts do not show (AMQP 1.0, part 5, section 5.3.2).
+//! PLAIN, ANONYMOUS and EXTERNAL as one acceptor, whose parts no proof about a server of more mechanisms names.
 
-ghost use Rattle.std.specs.Prelude.{◌≡◌, List, ℕ, false};
+ghost use Rattle.std.specs.Prelude.{◌≡◌, None};
+ghost use Rattle.std.proofs.Common.{ap};
 ghost use Rattle.fe2o3_sasl_core.specs.ExternalServer.{external_of};
+ghost use Rattle.fe2o3_sasl_core.specs.PlainServer.{plain_state};
+ghost use Rattle.fe2o3_sasl_core.specs.PasswordServer.{OtherStates, others_allocates, others_hmacs, others_machine, others_names, others_state, others_user};
 ghost use Rattle.fe2o3_sasl_core.specs.SaslAcceptor.{AnonymousAcceptor};
-ghost use Rattle.sasl_c.specs.SaslServer.{Others as OtherStates, other_machine, other_names, other_state, external_name, other_user, others_of};
 
-use fe2o3_sasl_core::{
-    AnyMechanism, AuthenticatedUser, ExternalServer, HasMechanism, OutOfMemory, PlainServer,
-    SaslAcceptor, SaslAnonymousMechanism, SaslServerFrame,
+use crate::OutOfMemory;
+use crate::any_mechanism::{AnyMechanism, HasMechanism};
+use crate::external_server::ExternalServer;
+use crate::plain_server::PlainServer;
+use crate::sasl_acceptor::{
+    AuthenticatedUser, SaslAcceptor, SaslAnonymousMechanism, SaslServerFrame,
 };
 use fe2o3_sasl_wire::{Array, SaslInit, SaslResponse, Symbol};
-use fe2o3_scram::{Meter, RecordStore};
+use fe2o3_scram::credentials::RecordStore;
+use fe2o3_scram::hmac::Meter;
 use std::alloc::{AllocError, Global};
 
-/// PLAIN over a store, ANONYMOUS and EXTERNAL.
+/// PLAIN, then ANONYMOUS and EXTERNAL.
 type Joined = AnyMechanism<
     PlainServer<RecordStore>,
     AnyMechanism<SaslAnonymousMechanism, ExternalServer>,
 >;
 
-/// PLAIN, ANONYMOUS and EXTERNAL. What is proved of the server of all four mechanisms names this type once, in place of
-/// each of its parts again and again.
+/// PLAIN over a store, ANONYMOUS and EXTERNAL.
 #[derive(Drop)]
 pub struct Others {
     joined: Joined,
 }
 
 impl Others {
-    /// All three, which nobody has asked.
-    pub fn new(store: RecordStore, iterations: u32, external: ExternalServer) -> Self
-        ensures { (peer : List ℕ) → external_of external ≡ record { user = external_name peer; accepted = false }
-            → other_state result ≡ others_of store iterations peer }
+    /// Returns an acceptor of all three, before any init.
+    pub fn new(plain: PlainServer<RecordStore>, external: ExternalServer) -> Self
+        ensures { others_state result ≡ record {
+          first = plain_state (λ store. store) plain;
+          second = record { first = AnonymousAcceptor; second = external_of external; selected = None };
+          selected = None;
+        } }
     {
         let last = AnyMechanism::new(SaslAnonymousMechanism::new(), external);
         Self {
-            joined: AnyMechanism::new(PlainServer::new(store, iterations), last),
+            joined: AnyMechanism::new(plain, last),
         }
     }
 }
@@ -52,21 +60,18 @@ impl Clone for Others {
 impl SaslAcceptor for Others {
     ghost State = { OtherStates };
 
-    ghost state = { other_state };
+    ghost state = { others_state };
 
-    ghost names = { other_names };
+    ghost names = { others_names };
 
-    ghost machine = { other_machine };
+    ghost machine = { others_machine };
 
-    ghost allocates = { ⟦<Joined as SaslAcceptor>⟧.allocates };
+    ghost allocates = { others_allocates };
 
-    ghost hmacs = { ⟦<Joined as SaslAcceptor>⟧.hmacs };
+    ghost hmacs = { others_hmacs };
 
-    ghost clone_keeps = { λ others copy same i. record {
-      first = record { provider = same.0.0 i; count = same.0.1 i; user = same.0.2 i };
-      second = record { first = AnonymousAcceptor; second = same.1.1 i; selected = same.1.2 i };
-      selected = same.2 i;
-    } };
+    ghost clone_keeps = { λ others copy same i.
+        ⟦<Joined as SaslAcceptor>⟧.clone_keeps others.joined copy.joined same i };
 
     fn mechanisms(&self, alloc: Global) -> Result<Array<Symbol>, OutOfMemory> {
         self.joined.mechanisms(alloc)
@@ -110,9 +115,9 @@ impl SaslAcceptor for Others {
 }
 
 impl AuthenticatedUser for Others {
-    ghost named = { λ others. other_user (other_state others) };
+    ghost named = { λ others. others_user (others_state others) };
 
-    ghost named_by_state = { λ others copy same i. other_user (same i) };
+    ghost named_by_state = { λ others other same. ap others_user same };
 
     fn authenticated_user(&self) -> Option<&str> {
         self.joined.authenticated_user()

@@ -1,5 +1,5 @@
 use Rattle.sasl_c.proofs.LoginLemmas.{no_secret}
-use Rattle.sasl_c.proofs.client.Login.client.Goals as goal
+use Rattle.sasl_c.proofs.login.Login.client.Goals as goal
 
 pub returns-in-Err-by_secret-clause-err : goal.returns-in-Err-by_secret-clause-err
 returns-in-Err-by_secret-clause-err c = λ other. no_secret c.args.self.now c.in-Ok.version c.in-Err-by_secret.status

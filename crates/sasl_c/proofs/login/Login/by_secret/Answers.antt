@@ -1,6 +1,6 @@
 use Rattle.std.proofs.Common.{rules}
 use Rattle.sasl_c.proofs.LoginLemmas.{neither_keys, no_keys}
-use Rattle.sasl_c.proofs.client.Login.by_secret.Goals as goal
+use Rattle.sasl_c.proofs.login.Login.by_secret.Goals as goal
 
 pub returns-in-Err-clause-err : goal.returns-in-Err-clause-err
 returns-in-Err-clause-err c = λ other.

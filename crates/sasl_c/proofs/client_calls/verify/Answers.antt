@@ -1,5 +1,5 @@
 use Rattle.sasl_c.proofs.ClientLemmas.{no_verification, not_waiting, server_verified, unverified}
-use Rattle.sasl_c.proofs.client.verify.Goals as goal
+use Rattle.sasl_c.proofs.client_calls.verify.Goals as goal
 
 pub returns-in-Err-validate_server_final-clause-verifies : goal.returns-in-Err-validate_server_final-clause-verifies
 returns-in-Err-validate_server_final-clause-verifies c =

@@ -1,0 +1,252 @@
+//! What a client logs in with, as a struct, and the client of it that has sent nothing.
+
+ghost use Rattle.std.specs.Prelude.{◌≡◌, ◌≢◌, IfOk, IfErr, OnErr, MatchOption, MatchResult};
+ghost use Rattle.std.specs.Str.{IsUtf8};
+ghost use Rattle.std.specs.String.{string_bytes};
+ghost use Rattle.fe2o3_scram.specs.ClientSecret.{IsOfVersion, secret_of};
+ghost use Rattle.fe2o3_scram.specs.ScramClient.{ClientInitial};
+ghost use Rattle.fe2o3_scram.specs.Readings.{IsFirst, NoneHolds, Reads};
+ghost use Rattle.sasl_c.specs.Records.{IsVersion};
+ghost use Rattle.sasl_c.specs.Client.{HasSecret, HoldsNone, IsClientOf, IsTestedLogin, IsNoLogin, IsNoSecret, IsSecretOf, keys_tests, name_tests};
+ghost use Rattle.sasl_c.specs.Keys.{ShowsKeys, ShowsSomeKeys};
+ghost use Rattle.sasl_c.specs.Status.{AsksWhere};
+ghost use Rattle.sasl_c.specs.declared.status.Status.TheVariants.{OutOfMemory as StatusOutOfMemory, NotUtf8 as StatusNotUtf8};
+
+use crate::keys::ScramKeys;
+use crate::passwords::password_in;
+use crate::status::{Status, text, version_of};
+use fe2o3_scram::{
+    CachedKeys, ClientSecret, IterationLimits, ScramClient as Machine, ScramVersion,
+};
+use std::alloc::Global;
+
+/// A user and a secret. You lend the struct to each call of an exchange, always with the same values.
+#[repr(C)]
+#[derive(Drop)]
+pub struct Login<'a> {
+    /// The hash of the mechanism: one of enum fe2o3_scram_version.
+    pub version: u32,
+
+    /// What the client logs in with: one of enum fe2o3_secret.
+    pub secret: u32,
+
+    /// The form of the password: one of enum fe2o3_password_form.
+    pub form: u32,
+
+    /// The minimum iteration count that the client accepts. RFC 7677 requires at least 4096.
+    pub min_iterations: u32,
+
+    /// The maximum iteration count that the client accepts.
+    pub max_iterations: u32,
+
+    /// The user name, without escapes.
+    pub username: &'a [u8],
+
+    /// The password.
+    pub password: &'a [u8],
+
+    /// The keys of an earlier login, or a struct of zeros.
+    pub keys: &'a ScramKeys,
+}
+
+/// Returns the keys that a struct holds, if it holds some. `OutOfMemory` is the only error.
+#[tactic(auto, using(crate::proofs::LoginLemmas::none_shown))]
+pub fn shown(alloc: Global, keys: &ScramKeys) -> Result<Option<CachedKeys>, Status>
+    ensures ok { IfOk result (λ shown. MatchOption shown (HoldsNone keys.now) (λ shown. ShowsKeys keys.now shown)) }
+    ensures err { IfErr result (λ status. status ≡ StatusOutOfMemory) }
+    ensures memory { OnErr result (ShowsSomeKeys keys.now) }
+{
+    if !keys.shows() {
+        return Ok(None);
+    }
+    match keys.read(alloc) {
+        Ok(keys) => Ok(Some(keys)),
+        Err(Status::OutOfMemory) => Err(Status::OutOfMemory),
+        Err(_) => Ok(None),
+    }
+}
+
+/// Returns a client by this secret, whose keys, if it has any, are of this version. `OutOfMemory` is the only error.
+fn client_by(
+    alloc: Global,
+    username: String,
+    secret: ClientSecret<'_>,
+    version: ScramVersion,
+) -> Result<Machine, Status>
+    requires { IsOfVersion version (secret_of secret) }
+    ensures ok { IfOk result (λ side. (side.secret ≡ secret_of secret.entry) × (side.user ≡ string_bytes username)
+        × (side.version ≡ version) × (side.state ≡ ClientInitial)) }
+    ensures err { IfErr result (λ status. status ≡ StatusOutOfMemory) }
+{
+    match Machine::with_secret(alloc, username, secret, version) {
+        Ok(client) => Ok(client),
+        Err(_) => Err(Status::OutOfMemory),
+    }
+}
+
+impl Login<'_> {
+    /// Returns the password as a text.
+    pub fn password(&self, alloc: Global) -> Result<String, Status>
+        ensures ok { IfOk result (λ password. string_bytes password ≡ self.now.password.now) }
+        ensures utf8 { IfOk result (λ _. IsUtf8 self.now.password.now) }
+        ensures err { IfErr result (λ status. status ≢ StatusOutOfMemory
+            → (status ≡ StatusNotUtf8) × ¬ IsUtf8 self.now.password.now) }
+    {
+        Ok(text(self.password)?.to_string(alloc)?)
+    }
+
+    /// Returns the iteration counts that the client accepts.
+    pub fn limits(&self) -> IterationLimits
+        ensures { result ≡ record { min_iterations = self.now.min_iterations; max_iterations = self.now.max_iterations } }
+    {
+        IterationLimits {
+            min_iterations: self.min_iterations,
+            max_iterations: self.max_iterations,
+        }
+    }
+
+    /// Returns the version, after a test of the version and of the user's name.
+    pub fn named_version(&self) -> Result<ScramVersion, Status>
+        ensures { Reads (name_tests self.now) (λ version. IsVersion self.now.version version) result }
+    {
+        let version = version_of(self.version).ok_or(Status::NoSuchVersion)?;
+        text(self.username)?;
+        Ok(version)
+    }
+
+    /// Tests the keys, without memory.
+    #[tactic(auto, using(crate::proofs::LoginLemmas::keys_there))]
+    fn has_keys(&self) -> Result<(), Status>
+        ensures tested { MatchResult result (λ _. NoneHolds (keys_tests self.now) × ShowsSomeKeys self.now.keys.now)
+            (λ status. IsFirst (keys_tests self.now) status) }
+        ensures status { IfErr result (λ status. status ≢ StatusOutOfMemory) }
+    {
+        if !self.keys.shows() {
+            return Err(Status::NoKeys);
+        }
+        if self.keys.version != self.version {
+            return Err(Status::OtherVersion);
+        }
+        Ok(())
+    }
+
+    /// Tests the secret, without memory.
+    #[tactic(auto, using(crate::proofs::LoginLemmas::secret_tests))]
+    fn has_secret(&self) -> Result<(), Status>
+        ensures tested { MatchResult result (λ _. HasSecret self.now) (λ status. IsNoSecret self.now status) }
+        ensures status { IfErr result (λ status. status ≢ StatusOutOfMemory) }
+    {
+        match self.secret {
+            0 => match password_in(self.form, self.password) {
+                Ok(_) => Ok(()),
+                Err(status) => Err(status),
+            },
+            1 => match self.has_keys() {
+                Ok(()) => Ok(()),
+                Err(status) => Err(status),
+            },
+            2 => {
+                if let Err(status) = password_in(self.form, self.password) {
+                    return Err(status);
+                }
+                match self.has_keys() {
+                    Ok(()) => Ok(()),
+                    Err(status) => Err(status),
+                }
+            }
+            _ => Err(Status::NoSuchSecret),
+        }
+    }
+
+    /// Tests the version, the user's name and the secret, in this order, without memory. Returns the version.
+    #[tactic(auto, using(crate::proofs::LoginLemmas::login_tests))]
+    pub fn tested(&self) -> Result<ScramVersion, Status>
+        ensures ok { IfOk result (λ version. IsVersion self.now.version version × IsTestedLogin self.now) }
+        ensures err { IfErr result (λ status. IsNoLogin self.now status) }
+        ensures status { IfErr result (λ status. status ≢ StatusOutOfMemory) }
+    {
+        let version = match self.named_version() {
+            Ok(version) => version,
+            Err(status) => return Err(status),
+        };
+        match self.has_secret() {
+            Ok(()) => Ok(version),
+            Err(status) => Err(status),
+        }
+    }
+
+    /// Returns the keys, which are of the login's version.
+    pub fn keys(&self, alloc: Global) -> Result<CachedKeys, Status>
+        ensures ok { IfOk result (λ keys. ShowsKeys self.now.keys.now keys × IsVersion self.now.version keys.version) }
+        ensures err { IfErr result (λ status. status ≢ StatusOutOfMemory
+            → IsFirst (keys_tests self.now) status) }
+    {
+        let Some(keys) = shown(alloc, self.keys)? else {
+            return Err(Status::NoKeys);
+        };
+        if self.keys.version != self.version {
+            return Err(Status::OtherVersion);
+        }
+        Ok(keys)
+    }
+
+    /// Returns a client of this user and version, by the secret of the login.
+    #[tactic(auto, using(crate::proofs::LoginLemmas::no_secrets))]
+    fn by_secret(
+        &self,
+        alloc: Global,
+        username: String,
+        version: ScramVersion,
+    ) -> Result<Machine, Status>
+        requires version { IsVersion self.now.version version }
+        ensures ok { IfOk result (λ side. IsSecretOf self.now side.secret × (side.user ≡ string_bytes username)
+            × (side.state ≡ ClientInitial)) }
+        ensures version { IfOk result (λ side. IsVersion self.now.version side.version) }
+        ensures err { IfErr result (λ status. status ≢ StatusOutOfMemory → IsNoSecret self.now status) }
+    {
+        match self.secret {
+            0 => {
+                let secret = ClientSecret::Password(password_in(self.form, self.password)?);
+                client_by(alloc, username, secret, version)
+            }
+            1 => match self.keys(alloc) {
+                Ok(keys) => client_by(alloc, username, ClientSecret::Keys(&keys), version),
+                Err(status) => Err(status),
+            },
+            2 => {
+                let password = password_in(self.form, self.password)?;
+                let keys = self.keys(alloc)?;
+                let secret = ClientSecret::PasswordAndKeys {
+                    password,
+                    keys: &keys,
+                };
+                client_by(alloc, username, secret, version)
+            }
+            _ => Err(Status::NoSuchSecret),
+        }
+    }
+
+    /// Returns a client that has sent nothing.
+    #[tactic(auto, using(crate::proofs::LoginLemmas::login_tests))]
+    pub fn client(&self, alloc: Global) -> Result<Machine, Status>
+        ensures ok { IfOk result (λ side. IsClientOf self.now side × (side.state ≡ ClientInitial)) }
+        ensures login { IfOk result (λ _. IsTestedLogin self.now) }
+        ensures err { IfErr result (λ status. status ≢ StatusOutOfMemory → IsNoLogin self.now status) }
+        ensures memory { AsksWhere (IsTestedLogin self.now) result }
+    {
+        // The login is tested before memory is asked for.
+        let version = match self.tested() {
+            Ok(version) => version,
+            Err(status) => return Err(status),
+        };
+        let username = text(self.username)?.to_string(alloc)?;
+        match self.by_secret(alloc, username, version) {
+            Ok(client) => Ok(
+                client
+                    .with_min_iterations(self.min_iterations)
+                    .with_iteration_limit(self.max_iterations),
+            ),
+            Err(status) => Err(status),
+        }
+    }
+}
