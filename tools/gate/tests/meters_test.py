@@ -213,7 +213,7 @@ class Meters(unittest.TestCase):
                 " &mut Meter::new());\n    "
         self.refused(["compute_keys: Meter::new x2", "compute_keys: CachedKeys::from_password x2"], C_KEYS,
                      first("let mut meter = Meter::new();", again))
-        verified = "number(verify(kept, PasswordForm::Typed, password))"
+        verified = "number(verify(kept, form, password))"
         self.refused(["fe2o3_scram_record_verify: verify x2"], C_RECORDS,
                      first(verified, f"let _ = {verified};\n    "))
 
