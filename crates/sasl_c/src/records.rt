@@ -222,7 +222,13 @@ fn compute_mock(
         return Err(Status::TooLong);
     }
     let made = fe2o3_scram::ScramRecord::mock(
-        alloc, version, secret, username, salt_len, iterations,
+        alloc,
+        version,
+        secret,
+        username,
+        salt_len,
+        iterations,
+        &mut Meter::new(),
     );
     let Ok(kept) = made else {
         return Err(Status::OutOfMemory);

@@ -2,7 +2,7 @@
 
 use crate::logins::{Login, client, exchange};
 use fe2o3_scram::credentials::{ScramRecord, UserRecord};
-use fe2o3_scram::hmac::ScramVersion;
+use fe2o3_scram::hmac::{Meter, ScramVersion};
 use fe2o3_scram::scram_messages::{ClientFirst, ServerScramErrorKind};
 use fe2o3_scram::scram_server::ScramAuthenticator;
 use std::alloc::Global;
@@ -47,7 +47,10 @@ fn look_up(name: &str) -> Option<&'static str> {
 fn record_for(alloc: Global, name: &str) -> Option<ScramRecord> {
     match look_up(name) {
         Some(text) => ScramRecord::parse(alloc, text).ok(),
-        None => ScramRecord::mock(alloc, VERSION, SECRET, name, 16, 4096).ok(),
+        None => {
+            let meter = &mut Meter::new();
+            ScramRecord::mock(alloc, VERSION, SECRET, name, 16, 4096, meter).ok()
+        }
     }
 }
 

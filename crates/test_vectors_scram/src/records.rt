@@ -90,7 +90,7 @@ pub fn made_up(row: &mut Row<'_>) {
     let (alloc, version, secret, name) = (row.alloc, row.version(), row.bytes(), row.text());
     let (len, count) = (row.number() as usize, row.number());
     let mut meter = Meter::new();
-    let made = ScramRecord::mock_metered(alloc, version, &secret, &name, len, count, &mut meter);
+    let made = ScramRecord::mock(alloc, version, &secret, &name, len, count, &mut meter);
     let text = made.and_then(|record| record.to_text(alloc));
     let text = row.made(text, String::new(alloc));
     row.say(text);

@@ -55,7 +55,7 @@ class Meters(unittest.TestCase):
 
     def test_words_in_comments_strings_and_ghost_code(self):
         words = '// Meter::new() h_i(\n        /* h_i( */ let _text = "Meter::new() h_i(";\n        '
-        law = first("    /// A client that has sent nothing, and accepts", "    ghost law = { h_i( x ) };\n\n")
+        law = first("    /// Returns a client that has sent nothing, and accepts", "    ghost law = { h_i( x ) };\n\n")
         self.assertEqual(self.faults(CLIENT, first(PLAIN_OF_CLIENT, words), law), [])
 
     def test_a_line_that_no_longer_has_its_use(self):
@@ -213,7 +213,7 @@ class Meters(unittest.TestCase):
                 " &mut Meter::new());\n    "
         self.refused(["compute_keys: Meter::new x2", "compute_keys: CachedKeys::from_password x2"], C_KEYS,
                      first("let mut meter = Meter::new();", again))
-        verified = "number(verify(kept, PasswordForm::Typed, password))"
+        verified = "number(verify(kept, form, password))"
         self.refused(["fe2o3_scram_record_verify: verify x2"], C_RECORDS,
                      first(verified, f"let _ = {verified};\n    "))
 

@@ -43,35 +43,9 @@ impl ScramRecord {
     /// of the secret can tell mock salts from stored ones. Salt length and count are those of the server's other
     /// records.
     ///
-    /// The only error is `OutOfMemory`.
+    /// The meter, of at most 2^63, counts three HMAC values, also if the call runs out of memory. The only error is
+    /// `OutOfMemory`.
     pub fn mock(
-        alloc: Global,
-        scram_version: ScramVersion,
-        secret: &[u8],
-        username: &str,
-        salt_len: usize,
-        iterations: u32,
-    ) -> Result<Self, OutOfMemory>
-        ensures { IfOk result (λ made. made ≡ versioned scram_version (mock_record (record {
-          version = scram_version;
-          secret = secret.now;
-          salt_len = salt_len;
-          count = iterations;
-        }) username.now)) }
-    {
-        ScramRecord::mock_metered(
-            alloc,
-            scram_version,
-            secret,
-            username,
-            salt_len,
-            iterations,
-            &mut Meter::new(),
-        )
-    }
-
-    /// Like `mock`; the meter, of at most 2^63, counts three HMAC values, also if the call runs out of memory.
-    pub fn mock_metered(
         alloc: Global,
         scram_version: ScramVersion,
         secret: &[u8],
