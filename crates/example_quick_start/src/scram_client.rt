@@ -4,8 +4,7 @@ use anyhow::Result;
 use fe2o3_scram::{ScramClient, ScramVersion};
 use std::alloc::Global;
 
-/// The way to the server, which tells a client's first message from its second, as the frames of
-/// SASL do.
+/// The way to the server. It distinguishes a client's first message from its second, like the frames of SASL.
 pub trait Connection {
     /// Sends the first message, and brings the challenge.
     fn start(&mut self, client_first: &[u8]) -> Result<Vec<u8>>;

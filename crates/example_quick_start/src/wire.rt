@@ -1,4 +1,4 @@
-//! What stands around frame bodies on a connection: protocol headers, and the size of each frame.
+//! What surrounds frame bodies on a connection: protocol headers, and the size of each frame.
 
 ghost use Rattle.std.specs.Prelude.{◌≡◌, ◌+◌, ◌++◌, length, OnOk};
 ghost use Rattle.std.specs.Int.{w32, to_be_bytes};
@@ -51,7 +51,7 @@ pub fn receive(alloc: Global, input: &mut BytesMut) -> Result<Option<Vec<u8>>> {
     Ok(Some(body))
 }
 
-/// The names that a server's first body offers, where they stand in the body.
+/// Returns the names that a server's first body offers, as a view of the body.
 pub fn offered(body: &[u8]) -> Result<SymbolsView<'_>> {
     match view_frame(body)? {
         (FrameView::Mechanisms(names), _) => Ok(names),

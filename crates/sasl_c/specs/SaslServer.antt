@@ -1,4 +1,4 @@
--- The server's side of a connection that stands in structs of C between its calls (AMQP 1.0, part 5, section 5.3.2).
+-- The server's side of a connection that is kept in structs of C between its calls (AMQP 1.0, part 5, section 5.3.2).
 use Rattle.std.specs.Prelude.{◌≡◌, ◌≢◌, ◌<◌, ◌⊎◌, ◌+◌, ℕ, Bool, true, false, Option, Some, None, List, [], ◌∷◌, ◌++◌, codes, length, option_map, Result, Ok, Err}
 use Rattle.std.specs.Str.{IsUtf8}
 use Rattle.fe2o3_sasl_wire.specs.declared.sasl_frames.error.Error.{Error}
@@ -149,7 +149,7 @@ IsOf config shown server = (choice : Choice) × (records : MultiRecords) × (sta
     × (server ≡ password_server_in (settings_for config choice records None) states
     (option_map (λ (exchange : ScramVersion × ServerChallenge). First) shown) selected weaker)
 
--- the servers that a configuration comes to while more bytes are wanted: before the init, and with an open challenge
+-- the servers that a configuration can reach while more bytes are expected: before the init, and with an open challenge
 abbrev pub ServerIsReached : Config → Progress → State → Type 0
 ServerIsReached config InProgress server = (shown : Option (ScramVersion × ServerChallenge)) × IsOf config shown server
 ServerIsReached config Authenticated server = Unit {0}
@@ -165,8 +165,7 @@ abbrev pub ShowsUser : ScramStruct → Option (List ℕ) → Type 0
 ShowsUser scram None = scram.state ≡ 0
 ShowsUser scram (Some user) = IsAuthenticated scram user
 
--- the struct of SCRAM shows how far a login is that stands so: the challenge that is open, who has logged in, or
--- nothing
+-- the struct of SCRAM holds what a login of this progress needs: the open challenge, the authenticated user, or nothing
 -- once it is closed
 abbrev pub ShowsProgress : ScramStruct → Progress → Option (ScramVersion × ServerChallenge) → Option (List ℕ) → Type 0
 ShowsProgress scram InProgress opened user = ShowsOpen scram opened
@@ -181,7 +180,7 @@ progress_struct Authenticated opened None = fresh_server_struct
 progress_struct Authenticated opened (Some user) = authenticated_struct user
 progress_struct (Failed why) opened user = fresh_server_struct
 
--- so it shows a server
+-- the struct of SCRAM holds what a server of this progress needs
 abbrev pub ShowsState : ScramStruct → Progress → State → Type 0
 ShowsState scram progress server = ShowsProgress scram progress (password_open server) (password_user server)
 
@@ -284,7 +283,7 @@ InitNames mechanism text name =
     ⊎ ((mechanism ≡ codes "PLAIN") × ((parts : PlainParts) × SpellsPlain parts text × IsTaken parts
     × (name ≡ parts.user)))
 
--- so does the response of an init; where there is none, nobody is named
+-- the initial response of an init names this user; without one it names no user
 abbrev pub ResponseNames : List ℕ → Option (List ℕ) → List ℕ → Type 0
 ResponseNames mechanism (Some text) name = InitNames mechanism text name
 ResponseNames mechanism None name = ⊥
@@ -311,7 +310,7 @@ abbrev pub InitAsks : List ℕ → List ℕ → Type 0
 InitAsks mechanism text = ((version : ScramVersion) × (mechanism ≡ mechanism_name version) × HasEscapes true text)
     ⊎ ((name : List ℕ) × InitNames mechanism text name)
 
--- so it is for the response of an init, if there is one
+-- memory is asked for to look for the user of an initial response, if there is one
 abbrev pub ResponseAsks : List ℕ → Option (List ℕ) → Type 0
 ResponseAsks mechanism (Some text) = InitAsks mechanism text
 ResponseAsks mechanism None = ⊥
@@ -350,7 +349,7 @@ NotNamed server bytes status = IsFirst (side_tests server.connection) status
     ⊎ ((turn : FrameKind) × (body : List ℕ) × Completes side bytes turn body
     × BodyNamesNoUser server.scram turn body))))))
 
--- what a call tells
+-- what a call returns
 abbrev pub Names : Struct → List ℕ → Result (List ℕ) Status → Type 0
 Names server bytes (Ok name) = Named server bytes name
 Names server bytes (Err status) = NotNamed server bytes status

@@ -1,4 +1,4 @@
-//! The server's side of a connection, which stands in a struct between its calls.
+//! The server's side of a connection, as a struct between its calls.
 
 ghost use Rattle.std.specs.Prelude.{[], ◌≡◌, ◌≢◌, ◌<◌, ◌≤◌, ◌⊎◌, ◌+◌, ◌^◌, ℕ, List, Option, length, option_map, IfOk, IfErr, IfSome, OnErr, OnOk, MatchOption, MatchResult};
 ghost use Rattle.std.specs.Str.{IsUtf8};
@@ -332,7 +332,7 @@ fn restore<A: AuthenticatedUser + Drop>(
     })
 }
 
-/// The struct of SCRAM that shows how far a login is that stands so, or `None` where a text has no room in it.
+/// Returns the struct of SCRAM for a login of this progress, or `None` if a text does not fit.
 #[tactic(auto, using(crate::proofs::SaslServerLemmas::shown))]
 fn shown(
     progress: Progress,
@@ -366,7 +366,7 @@ pub trait Shows: AuthenticatedUser {
 
     ghost written_for: { ProgressOf → Self → ScramStruct };
 
-    /// The struct that shows it where the login stands so, or `None` where a text has no room in it.
+    /// Returns the struct for a login of this progress, or `None` if a text does not fit.
     fn shown(&self, progress: Progress) -> Option<ScramServer>
         ensures shows { MatchOption result ((scram : ScramStruct) → ¬ shows scram progress self.now)
             (λ scram. shows scram progress self.now) }
