@@ -1,22 +1,54 @@
 //! A client and a server over the bytes of a connection, whatever carries them.
 
 use crate::client::new_client;
-use crate::server::{self, Server};
 use anyhow::Result;
 use bytes::BytesMut;
 use fe2o3_sasl_negotiation::{
-    ClientNegotiation, ConnectionSide, Endpoint, Meter, Progress, Role, ServerNegotiation,
+    ClientNegotiation, ConnectionSide, DEFAULT_SCRAM_ITERATIONS, Endpoint, Meter, MultiRecordStore,
+    Password, PasswordServer, PasswordServerBuilder, Progress, Role, ScramRecord, ScramVersion,
+    ServerNegotiation,
 };
 use std::alloc::Global;
 use std::random::RandomSource;
 
-/// The server's side of a connection, with the salt and the secret of `server::new_server`.
+/// The server's side of a connection, which offers SCRAM-SHA-512, SCRAM-SHA-256 and, under TLS only, PLAIN. The secret
+/// is random bytes, one for all connections.
 pub fn new_server(
     alloc: Global,
-    salt: [u8; 32],
-    secret: [u8; 32],
-) -> Result<ServerNegotiation<Server>> {
-    Ok(ServerNegotiation::new(alloc, server::new_server(alloc, salt, secret)?))
+    users: &MultiRecordStore,
+    secret: &[u8; 32],
+    is_tls: bool,
+) -> Result<ServerNegotiation<PasswordServer>> {
+    let server = PasswordServerBuilder::new(users)
+        .mock_unknown_users(secret, 32, DEFAULT_SCRAM_ITERATIONS)
+        .plain_under_tls(is_tls)
+        .build(alloc)?;
+    Ok(ServerNegotiation::new(alloc, server))
+}
+
+/// The records of `user`, one for each hash. A salt is random bytes, fresh for each record.
+pub fn new_users(alloc: Global, salts: [[u8; 32]; 2]) -> Result<MultiRecordStore> {
+    let mut users = MultiRecordStore::new(alloc);
+    add_user(alloc, &mut users, ScramVersion::Sha512, &salts[0])?;
+    add_user(alloc, &mut users, ScramVersion::Sha256, &salts[1])?;
+    Ok(users)
+}
+
+/// Adds a record of `user` for one hash.
+fn add_user(
+    alloc: Global,
+    users: &mut MultiRecordStore,
+    version: ScramVersion,
+    salt: &[u8; 32],
+) -> Result<()> {
+    let password = Password::Typed("pencil");
+    let iterations = DEFAULT_SCRAM_ITERATIONS;
+    let mut meter = Meter::new();
+    let record = ScramRecord::from_password(
+        alloc, version, password, salt, iterations, &mut meter,
+    )?;
+    users.add("user".to_string(alloc)?, record)?;
+    Ok(())
 }
 
 /// Passes received bytes to a side, a server or a client, and appends what is to be sent. Returns how many bytes it took:
@@ -45,7 +77,7 @@ pub fn pass<T: RandomSource, E: Endpoint<R>, R: Role>(
 pub fn meet<R: RandomSource>(
     rt: &R,
     alloc: Global,
-    server: &mut ServerNegotiation<Server>,
+    server: &mut ServerNegotiation<PasswordServer>,
 ) -> Result<()> {
     let mut to_server = BytesMut::new(alloc);
     let mut to_client = BytesMut::new(alloc);

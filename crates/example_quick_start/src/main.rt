@@ -1,6 +1,5 @@
-//! Logins with SCRAM-SHA-256, each of a client and a server in one program: over the bytes of a
-//! connection, over frame bodies, with what stands around them, and over SCRAM's texts; by whole lists of
-//! bodies, and from a store of the caller's own.
+//! Logins with SCRAM-SHA-256, each of a client and a server in one program: over the bytes of a connection, over frame
+//! bodies, and over the messages of SCRAM; by whole lists of bodies, and from a store of your own.
 #![tactic(auto)]
 
 mod client;
@@ -116,9 +115,10 @@ fn print_names<W: Write>(body: &[u8], output: &mut W) -> Result<()> {
     Ok(())
 }
 
-/// A login over the bytes of a connection, whose salt, secret and nonces are random.
+/// A login over the bytes of a connection, whose salts, secret and nonces are random.
 fn over_connection<R: RandomSource, W: Write>(rt: &R, alloc: Global, output: &mut W) -> Result<()> {
-    let server = connection::new_server(alloc, fresh(rt)?, fresh(rt)?)?;
+    let users = connection::new_users(alloc, [fresh(rt)?, fresh(rt)?])?;
+    let server = connection::new_server(alloc, &users, &fresh(rt)?, false)?;
     let mut server = Box::new(alloc, server)?;
     connection::meet(rt, alloc, &mut server)?;
     let user = server.authenticated_user().context("no user")?;
