@@ -53,6 +53,7 @@ pub use fe2o3_sasl_core::password_server;
 pub use fe2o3_sasl_core::password_server::BuildError;
 pub use fe2o3_sasl_core::password_server::PasswordServer;
 pub use fe2o3_sasl_core::password_server::PasswordServerBuilder;
+pub use fe2o3_sasl_core::password_server::ScramHashes;
 pub use fe2o3_sasl_core::plain_server;
 pub use fe2o3_sasl_core::plain_server::MAX_PASSWORD_LEN;
 pub use fe2o3_sasl_core::plain_server::PlainServer;

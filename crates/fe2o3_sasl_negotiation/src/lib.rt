@@ -52,6 +52,7 @@ pub use fe2o3_sasl_core::SaslScramSha1;
 pub use fe2o3_sasl_core::SaslScramSha256;
 pub use fe2o3_sasl_core::SaslScramSha512;
 pub use fe2o3_sasl_core::SaslServerFrame;
+pub use fe2o3_sasl_core::ScramHashes;
 pub use fe2o3_sasl_core::Selected;
 pub use fe2o3_sasl_core::ServerReply;
 pub use fe2o3_sasl_core::UrlError;
