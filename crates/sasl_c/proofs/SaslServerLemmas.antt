@@ -100,6 +100,18 @@ shows_none kept statuses.MixedDirections shown wrong is = absurd wrong
 shows_none kept statuses.ProhibitedCharacter shown wrong is = absurd wrong
 shows_none kept statuses.NoSuchChoice shown wrong is = absurd wrong
 
+-- a number is that of one version
+one_number : (version other : ScramVersion) → version_number version ≡ version_number other → version ≡ other
+one_number versions.Sha1 versions.Sha1 same = refl
+one_number versions.Sha1 versions.Sha256 same = absurd (omega (arith, same))
+one_number versions.Sha1 versions.Sha512 same = absurd (omega (arith, same))
+one_number versions.Sha256 versions.Sha1 same = absurd (omega (arith, same))
+one_number versions.Sha256 versions.Sha256 same = refl
+one_number versions.Sha256 versions.Sha512 same = absurd (omega (arith, same))
+one_number versions.Sha512 versions.Sha1 same = absurd (omega (arith, same))
+one_number versions.Sha512 versions.Sha256 same = absurd (omega (arith, same))
+one_number versions.Sha512 versions.Sha512 same = refl
+
 pub no_record : (kept : Kept) (status : Status) (shown : VersionedRecord) → SpellsStruct kept (Err status)
     → ¬ ShowsRecord kept shown
 no_record kept status shown wrong is = shows_none kept status shown wrong is
@@ -140,6 +152,10 @@ pub so_far_all : (user : List ℕ) (kepts : List Kept) (records : MultiRecords) 
     → ShowRecords user kepts records
 so_far_all user kepts records shows =
     carried (ShowRecords user kepts) (records ++ []) records (append-nil records) (shows [] refl)
+
+pub ruleset first = (no_record, skips, first_shown)
+
+pub ruleset store = (so_far_none, so_far_more, so_far_all)
 
 -- ---- a record without keys
 

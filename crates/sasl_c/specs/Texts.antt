@@ -105,7 +105,7 @@ abbrev pub client_size : ℕ
 client_size = 2 * word + 32 + 64 + keys_size
 
 abbrev pub server_size : ℕ
-server_size = 5 * word + 256 + 1024 + 512 + 1024
+server_size = 6 * word + 256 + 1024 + 512 + 1024
 
 abbrev pub connection_size : ℕ
 connection_size = 4 * word + 512
@@ -120,7 +120,7 @@ abbrev pub view_size : ℕ
 view_size = 4 * word + 8 + 8 + slice + slice + slice
 
 abbrev pub config_size : ℕ
-config_size = (3 * word + 4) + slice + 8 + slice
+config_size = 2 * word + slice + slice + slice
 
 -- the sizes by the numbers of `fe2o3_size`, and 0 of every other number
 abbrev pub struct_sizes : List (ℕ × ℕ)

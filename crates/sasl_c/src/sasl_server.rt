@@ -188,6 +188,7 @@ fn add_record(
 
 impl SaslServerConfig<'_> {
     /// The records of the configuration's user. `OutOfMemory` is the only error.
+    #[tactic(auto, using(crate::proofs::SaslServerLemmas::store))]
     fn store(&self, alloc: Global, username: &str) -> Result<MultiRecordStore, Status>
         ensures ok { IfOk result (λ store. ShowRecords username.now self.now.records.now store) }
         ensures err { IfErr result (λ status. status ≡ StatusOutOfMemory) }
@@ -244,9 +245,13 @@ impl SaslServerConfig<'_> {
             return builder.build(alloc);
         };
         let stored = record_for(store, hash, challenge.username);
-        builder
+        match builder
             .open_challenge(hash, &challenge, &stored)
             .build(alloc)
+        {
+            Ok(server) => Ok(server),
+            Err(error) => Err(error),
+        }
     }
 
     /// Tests that the words of the configuration are texts.

@@ -1,31 +1,18 @@
-use Rattle.std.proofs.Common.{map, refl}
-use Rattle.sasl_c.specs.SaslServer.{all_in, value_state}
-use Rattle.sasl_c.proofs.SaslServerLemmas.{made, no_choice, no_offer, no_words}
+use Rattle.sasl_c.specs.SaslServer.{ShowRecords}
+use Rattle.fe2o3_sasl_core.specs.PasswordServer.{password_state}
+use Rattle.sasl_c.proofs.SaslServerLemmas.{made, no_offer}
+use Rattle.sasl_c.proofs.StatusLemmas.{carried}
 use Rattle.sasl_c.proofs.sasl_server.SaslServerConfig.acceptor.Goals as goal
 
-pub returns-in-Err-clause-err : goal.returns-in-Err-clause-err
-returns-in-Err-clause-err c = λ _.
-    no_words c.args.self.now c.in-Some.version c.in-Some-of.choice c.in-Err.status c.in-Some.ensures
-    c.in-Some-of.ensures c.in-Err.ensures
+pub returns-in-Ok-server-clause-ok : goal.returns-in-Ok-server-clause-ok
+returns-in-Ok-server-clause-ok c = let ok = c.in-Ok-server.ensures.ok in
+    made c.args.self.now c.in-Some.choice c.in-Ok-store.store c.args.scram.now ok.0 (password_state c.in-Ok-server.server)
+    c.in-Some.ensures
+    (carried (λ user. ShowRecords user c.args.self.now.records.now c.in-Ok-store.store) c.in-Ok.words.0.now _
+    c.in-Ok.ensures.0 c.in-Ok-store.ensures.ok) ok.1 ok.2
 
-pub returns-in-Err-all-clause-err : goal.returns-in-Err-all-clause-err
-returns-in-Err-all-clause-err c = λ other.
-    no_words c.args.self.now c.in-Some.version c.in-Some-of.choice c.in-Err-all.status c.in-Some.ensures
-    c.in-Some-of.ensures (c.in-Err-all.ensures.err other)
-
-pub returns-in-Ok-new-clause-ok : goal.returns-in-Ok-new-clause-ok
-returns-in-Ok-new-clause-ok c =
-    made c.args.self.now c.in-Some.version c.in-Some-of.choice c.args.scram.now (all_in c.in-Ok.all)
-    (map (λ name. name.now) c.names.result) (value_state c.in-Ok-new.acceptor) c.in-Some.ensures c.in-Some-of.ensures
-    c.names.ensures c.in-Ok-new.ensures.ok c.in-Ok.ensures.ok
-
-pub returns-in-Err-NoMechanismLeft-clause-err : goal.returns-in-Err-NoMechanismLeft-clause-err
-returns-in-Err-NoMechanismLeft-clause-err c = λ _.
-    no_offer c.args.self.now c.in-Some.version c.in-Some-of.choice c.args.scram.now (all_in c.in-Ok.all)
-    (map (λ name. name.now) c.names.result) _ c.in-Some.ensures c.in-Some-of.ensures c.names.ensures refl
-    c.in-Ok.ensures.ok c.in-Ok.ensures.utf8.0 c.in-Ok.ensures.utf8.1
-    (c.in-Err-NoMechanismLeft.ensures.err c.in-Err-NoMechanismLeft.field-0-is)
-
-pub returns-in_default-of-clause-err : goal.returns-in_default-of-clause-err
-returns-in_default-of-clause-err c = λ _.
-    no_choice c.args.self.now c.in-Some.version c.in-Some.ensures c.in_default-of.ensures
+pub returns-in-Err-NoMechanism-clause-err : goal.returns-in-Err-NoMechanism-clause-err
+returns-in-Err-NoMechanism-clause-err c = λ _. let none = c.in-Err-NoMechanism.ensures.none c.in-Err-NoMechanism.field-0-is in
+    no_offer c.args.self.now c.in-Some.choice c.in-Ok-store.store none.0 c.in-Some.ensures
+    (carried (λ user. ShowRecords user c.args.self.now.records.now c.in-Ok-store.store) c.in-Ok.words.0.now _
+    c.in-Ok.ensures.0 c.in-Ok-store.ensures.ok) c.in-Ok.ensures.2 c.in-Ok.ensures.3 none.1
