@@ -1361,21 +1361,21 @@ class Examples(Case):
     def test_a_login(self) -> None:
         record = Record.make(SHA_256, "pencil")
         with ThreadPoolExecutor() as pool:
-            served = pool.submit(serve, self.server, {"user": record}.get)
+            served = pool.submit(serve, self.server, of({"user": record}), False)
             self.assertEqual(log_in(self.client), b"")
             self.assertEqual(served.result(), ("user", b""))
 
     def test_a_wrong_password(self) -> None:
         record = Record.make(SHA_256, "crayon")
         with ThreadPoolExecutor() as pool:
-            served = pool.submit(serve, self.server, {"user": record}.get)
+            served = pool.submit(serve, self.server, of({"user": record}), False)
             self.refused(Status.REFUSED_AUTH, log_in, self.client)
             self.refused(Status.REFUSED_AUTH, served.result)
 
     def test_few_iterations(self) -> None:
         record = Record.make(SHA_256, "pencil", iterations=4095)
         with ThreadPoolExecutor() as pool:
-            served = pool.submit(serve, self.server, {"user": record}.get)
+            served = pool.submit(serve, self.server, of({"user": record}), False)
             self.refused(Status.CLIENT_ITERATION_COUNT_TOO_SMALL, log_in, self.client)
             self.client.close()
             self.assertRaises(ConnectionError, served.result)
@@ -1386,7 +1386,7 @@ class Examples(Case):
 
     def test_a_client_that_closes(self) -> None:
         self.client.shutdown(socket.SHUT_WR)
-        self.assertRaises(ConnectionError, serve, self.server, {}.get)
+        self.assertRaises(ConnectionError, serve, self.server, of({}), False)
 
 
 class Declarations(Case):
