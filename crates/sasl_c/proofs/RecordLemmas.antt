@@ -1,7 +1,6 @@
 -- Why no record and no keys are made of a password.
 use Rattle.std.proofs.Common.{arith, refl, sym, inl, inr, ap, ◌∙◌, ◌≡◌, ◌≢◌, ◌≤◌, ◌∷◌, [], ℕ, List, length}
 use Rattle.std.specs.Prelude.{Ok, Err}
-use Rattle.std.specs.Str.{IsUtf8}
 use Rattle.fe2o3_scram.specs.declared.hmac.ScramVersion.{ScramVersion}
 use Rattle.fe2o3_scram.specs.declared.keys.RecordError.{RecordError}
 use Rattle.fe2o3_scram.specs.declared.keys.RecordError.TheVariants as records
