@@ -1,6 +1,6 @@
 -- A server of SCRAM, PLAIN, ANONYMOUS and EXTERNAL over one list of records, of which some mechanisms are offered (AMQP
 -- 1.0, part 5, section 5.3.3.1).
-use Rattle.std.specs.Prelude.{◌≡◌, ◌<◌, ℕ, Bool, true, false, if◌then◌else◌, Option, Some, None, MatchOption, List, [], ◌∷◌, codes, option_map}
+use Rattle.std.specs.Prelude.{◌≡◌, ◌<◌, ℕ, Bool, true, false, Option, Some, None, MatchOption, List, [], ◌∷◌, codes, option_map}
 use Rattle.fe2o3_sasl_wire.specs.SaslFrames.{SaslFrame}
 use Rattle.fe2o3_scram.specs.declared.hmac.ScramVersion.{ScramVersion}
 use Rattle.fe2o3_scram.specs.declared.hmac.ScramVersion.TheVariants.{Sha1, Sha256, Sha512}
