@@ -60,7 +60,7 @@ WAITS = re.compile(r"it (calls|passes the block|waits for|rests on|has)\b")
 # The last line of a check that was asked for some functions.
 ASKED = re.compile(r"only=(\d+) proved=(\d+)$")
 
-HEAD = re.compile(r"^( *)(?:pub(?:\([a-z]+\))? )?(?:const )?(?:unsafe )?fn (\w+)", re.M)
+HEAD = re.compile(r'^( *)(?:pub(?:\([a-z]+\))? )?(?:const )?(?:unsafe )?(?:extern "C" )?fn (\w+)', re.M)
 TYPE = re.compile(r"^(?:pub(?:\([a-z]+\))? )?(?:struct|enum) (\w+)", re.M)
 # The head of an impl whose functions have a path that the text determines: the trait, its one argument, and the type.
 TOLD_IMPL = re.compile(r"^impl(?:<[^{]*?>)? (?:([\w:]+)(?:<(\w+)>)? for )?(\w+)(?:<[^{]*>)?\s*(?:where[^{]*)?\{$", re.M)
@@ -169,7 +169,7 @@ def law_of(path, text, at, law):
     """The law of that name of the type in whose impl this place is."""
     heads = [it for it in IMPL_HEAD.finditer(text) if it.start() <= at]
     if not heads:
-        raise BadEdit(f"`law:` beside a text of {path} that stands in no impl")
+        raise BadEdit(f"`law:` beside a text of {path} that is in no impl")
     for impl in IMPL_HEAD.finditer(text):
         end = re.compile(r"^\}$", re.M).search(text, impl.end())
         found = re.compile(rf"^    ghost {re.escape(law)} = \{{(?:[^\n]*\}};$|.*?^    \}};$)", re.M | re.S)
@@ -225,7 +225,7 @@ def places_of(body):
             # (between functions it may only add one)
             body.is_inside = False
     if not found:
-        raise BadEdit("it stands in no function")
+        raise BadEdit("it is in no function")
     return found
 
 
