@@ -19,11 +19,11 @@ class Progress(unittest.TestCase):
         for command, place, line, wanted in (
             ("gate", CRATE, " rattle check --crate-name a src/lib.rt ", "proving a"),
             ("gate", CRATE, " rattle check --crate-name a --test tests/a.rt ", "proving the tests of a"),
-            ("gate", "/tmp/copy", " rattle check --crate-checked --crate-name a ", "building a"),
-            ("gate", "/tmp/rt-run-1", " program ", progress.RUNNING),
-            ("bodies", "/tmp/copy", " rattle check --crate-name a ", "trying the wrong bodies of a"),
-            ("refused", "/tmp/copy", " rattle check --crate-name a ", "trying what the borrow checker has to reject, in a"),
-            ("other", "/tmp/copy", " rattle check --crate-name a ", None),
+            ("gate", "/copy", " rattle check --crate-checked --crate-name a ", "building a"),
+            ("gate", "/rt-run-1", " program ", progress.RUNNING),
+            ("bodies", "/copy", " rattle check --crate-name a ", "trying the wrong bodies of a"),
+            ("refused", "/copy", " rattle check --crate-name a ", "trying what the borrow checker has to reject, in a"),
+            ("other", "/copy", " rattle check --crate-name a ", None),
         ):
             self.assertEqual(progress.stage(command, place, line), wanted)
 
