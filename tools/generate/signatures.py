@@ -370,7 +370,7 @@ def main():
             print(f"signatures: crates/{crate}/SIGNATURES.md is stale: tools/generate/signatures.py write")
             stale += 1
     if check and not stale:
-        print(f"signatures: {len(LIBRARIES)} pages stand as the sources write them")
+        print(f"signatures: {len(LIBRARIES)} pages are as the sources write them")
     sys.exit(1 if stale else 0)
 
 

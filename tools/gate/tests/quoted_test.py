@@ -41,15 +41,15 @@ class Quoted(unittest.TestCase):
 
     def test_a_line_that_differs(self):
         self.assertEqual(self.fault("```rust\n// crates/a.rt\none();\n2();\n```\n"),
-                         "README.md:4: does not stand in crates/a.rt so: 2();")
+                         "README.md:4: is not in crates/a.rt: 2();")
 
     def test_lines_in_another_order(self):
         self.assertEqual(self.fault("```rust\n// crates/a.rt\ntwo();\n// ..\none();\n```\n"),
-                         "README.md:5: does not stand in crates/a.rt so: one();")
+                         "README.md:5: is not in crates/a.rt: one();")
 
     def test_a_line_that_is_left_out_silently(self):
         self.assertEqual(self.fault("```rust\n// crates/a.rt\nfn first() {\ntwo();\n```\n"),
-                         "README.md:4: does not stand in crates/a.rt so: two();")
+                         "README.md:4: is not in crates/a.rt: two();")
 
     def test_no_file(self):
         self.assertEqual(self.fault("\n```rust\n// crates/b.rt\none();\n```\n"), "README.md:3: there is no file crates/b.rt")
