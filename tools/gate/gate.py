@@ -63,10 +63,10 @@ def counted(name, status, last):
     """What a part counted, passed and failed. One that was killed or reports no count has failed."""
     found = COUNT.fullmatch(last.strip())
     if not found:
-        print(f"gate: {name} told no count, and ended with status {status}")
+        print(f"gate: {name} reported no count, and ended with status {status}")
         return 0, 1
     passed, failed = int(found[1]), int(found[2])
-    print(f"gate: {name}: {passed} well, {failed} not")
+    print(f"gate: {name}: {passed} passed, {failed} failed")
     if status != 0 and failed == 0:
         print(f"gate: {name} ended with status {status}")
         failed = 1
