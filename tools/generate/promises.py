@@ -40,7 +40,7 @@ USE = re.compile(r"ghost use Rattle\.(\w+)\.specs\.(?!declared)(?:\w+\.)*\{(.*)\
 INTRODUCTION = """# Promises
 
 Each public call with its contract: what it does, its clauses, the definitions that they cite, and the wrong bodies that
-the check rejects in it. `python3 tools/generate/promises.py write` writes this page from the sources.
+the check rejects in it. `tools/generate/promises.py write` writes this page from the sources.
 
 - A clause is an `ensures` of the call, in the file of the bold row above it. It is shown by its name and, in parentheses,
   by definitions that it cites, which are in `specs/` of the crates. [THEOREMS.md](THEOREMS.md) explains the main ones.
@@ -289,7 +289,7 @@ def main():
     else:
         wrong += unknown_names()
         if not PAGE.exists() or PAGE.read_text(encoding="utf-8") != text:
-            wrong.append("docs/PROMISES.md is stale: python3 tools/generate/promises.py write")
+            wrong.append("docs/PROMISES.md is stale: tools/generate/promises.py write")
     wrong += [f"{len(line)} characters: {line[:80]} .." for line in text.splitlines() if len(line) > WIDTH]
     for line in wrong:
         print(f"promises: {line}", file=sys.stderr)
