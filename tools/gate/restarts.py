@@ -109,18 +109,18 @@ class Restarts(unittest.TestCase):
         self.assertEqual(salts, {mock_salt(self.folder, "SCRAM-SHA-256", UNKNOWN, 16)})
         self.assertEqual(len(list(self.folder.iterdir())), 2)
 
-    def test_secrets_that_are_refused(self):
+    def test_rejected_secrets(self):
         secret = self.folder / "records.txt.secret"
-        for content, mode, why in ((b"7" * 31, 0o600, b"exactly 32 bytes"), (b"7" * 32, 0o640, b"others than its owner"),
+        for content, mode, why in ((b"7" * 31, 0o600, b"exactly 32 bytes"), (b"7" * 32, 0o640, b"access to its group or to others"),
                                    (None, 0o700, b"not a regular file")):
             secret.mkdir() if content is None else secret.write_bytes(content)
             secret.chmod(mode)
             for command, status in (([BROKER, "records.txt"], 1), ([SCRAM, "server", "SCRAM-SHA-256", "records.txt"], 4)):
                 process = start(command, self.folder)
-                printed, told = process.communicate(b"", timeout=SECONDS)
+                printed, said = process.communicate(b"", timeout=SECONDS)
                 self.assertEqual((printed, process.returncode), (b"", status))
-                self.assertIn(why, told)
-                self.assertIn(b".secret", told)
+                self.assertIn(why, said)
+                self.assertIn(b".secret", said)
             secret.rmdir() if content is None else secret.unlink()
 
     def test_a_server_of_lines_that_starts_again(self):
