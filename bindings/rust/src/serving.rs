@@ -88,7 +88,7 @@ impl<R: UserRecords + Clone> PasswordServer<R> {
         Self { records, mock: None, mechanisms, external_authcid: String::new() }
     }
 
-    /// Offers or does not offer what this value of the library stands for.
+    /// Adds this value of enum fe2o3_offer to the offer, or removes it.
     fn with(mut self, offer: u32, is_offered: bool) -> Self {
         self.mechanisms = if is_offered { self.mechanisms | offer } else { self.mechanisms & !offer };
         self
