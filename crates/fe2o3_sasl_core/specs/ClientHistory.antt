@@ -1,6 +1,6 @@
 -- What a SCRAM client answers to a list of frame bodies (RFC 5802, section 5; AMQP 1.0, part 5, section 5.3.2). Nothing
 -- here is a state: what is expected and what is open are positions in the list.
-use Rattle.std.specs.Prelude.{◌≡◌, ◌⊎◌, ℕ, Bool, true, false, Option, Some, None, List, length, slice_get, Result, Ok, Err}
+use Rattle.std.specs.Prelude.{◌≡◌, ◌⊎◌, ℕ, Bool, true, false, Option, Some, None, List, [], length, slice_get, Result, Ok, Err}
 use Rattle.std.specs.List.{Contains}
 use Rattle.std.specs.Str.{IsUtf8}
 use Rattle.fe2o3_sasl_wire.specs.declared.amqp_types.SaslCode.TheVariants as outcomes
@@ -39,6 +39,10 @@ says_start login event =
     (canonical (frames.Init (mechanism_name login.version)
     (Some (client_first login.user (base64_text event.nonce))) login.hostname))
 
+-- the reply to a signature that came in a challenge: an empty response (RFC 4422, section 5)
+abbrev pub says_verified : ClientSays
+says_verified = carried (Refused (Frame faults.TooLarge)) (λ body. Answered body) (canonical (frames.Response []))
+
 -- the reply of an answer: a response with the client-final message
 abbrev pub says_answer : Login → Answering → ClientSays
 says_answer login answer = carried (Refused (Frame faults.TooLarge)) (λ body. Answered body)
@@ -54,32 +58,49 @@ ReadsChallenge login Due text (Err kind) =
     ⊎ ((IsUtf8 text × ((nonce : List ℕ) → ¬ Due nonce) × (kind ≡ IllegalClientState))
     ⊎ (IsUtf8 text × ((nonce : List ℕ) × Due nonce × ReadsServerFirst nonce login.secret login.limits text (Err kind))))
 
--- the data of an outcome Ok is read in this order: there is data, an answer is open, and then every test of a
--- server-final message
-abbrev pub ReadsOutcome : Login → (Answering → Type 0) → Option (List ℕ) → Result (Unit {0}) ScramErrorKind → Type 0
-ReadsOutcome login IsOpen None (Ok verified) = ⊥
-ReadsOutcome login IsOpen None (Err kind) = kind ≡ ServerSignatureMismatch
-ReadsOutcome login IsOpen (Some text) (Ok verified) = (answer : Answering) × IsOpen answer
+-- the signature of this answer may come in a challenge (RFC 4422, section 5): the answer is open, and the login accepts
+-- the signature there
+abbrev pub MaySign : Login → (Answering → Type 0) → Answering → Type 0
+MaySign login IsOpen answer = (login.signature_by_challenge ≡ true) × IsOpen answer
+
+-- a challenge is read as the server-final message of an open answer: by every test of a server-final message
+abbrev pub ReadsSigning : Login → (Answering → Type 0) → List ℕ → Result (Unit {0}) ScramErrorKind → Type 0
+ReadsSigning login IsOpen text result = (answer : Answering) × MaySign login IsOpen answer
+    × ReadsServerFinal (answer_at login answer).signature text result
+
+-- an outcome Ok without data is accepted if the signature of an answer has come in a challenge. The data is read in this
+-- order: an answer is open, and then every test of a server-final message
+abbrev pub ReadsOutcome : Login → (Answering → Type 0) → (Answering → Type 0) → Option (List ℕ)
+    → Result (Unit {0}) ScramErrorKind → Type 0
+ReadsOutcome login IsOpen IsVerified None (Ok verified) = (answer : Answering) × IsVerified answer
+ReadsOutcome login IsOpen IsVerified None (Err kind) =
+    ((answer : Answering) → ¬ IsVerified answer) × (kind ≡ ServerSignatureMismatch)
+ReadsOutcome login IsOpen IsVerified (Some text) (Ok verified) = (answer : Answering) × IsOpen answer
     × ReadsServerFinal (answer_at login answer).signature text (Ok verified)
-ReadsOutcome login IsOpen (Some text) (Err kind) =
+ReadsOutcome login IsOpen IsVerified (Some text) (Err kind) =
     (((answer : Answering) → ¬ IsOpen answer) × (kind ≡ IllegalClientState))
     ⊎ ((answer : Answering) × IsOpen answer × ReadsServerFinal (answer_at login answer).signature text (Err kind))
 
--- the reply to a body that spells this, where a challenge is expected for these nonces and these answers are open
-abbrev pub ClientAnswers : Login → (List ℕ → Type 0) → (Answering → Type 0) → Given → Result SaslFrame Error
-    → ClientSays → Type 0
-ClientAnswers login Due IsOpen event (Err fault) says = says ≡ Refused (Frame fault)
-ClientAnswers login Due IsOpen event (Ok (frames.Mechanisms names)) says =
+-- the reply to a body that spells this, where a challenge is expected for these nonces, these answers are open, and the
+-- signature of these has come in a challenge
+abbrev pub ClientAnswers : Login → (List ℕ → Type 0) → (Answering → Type 0) → (Answering → Type 0) → Given
+    → Result SaslFrame Error → ClientSays → Type 0
+ClientAnswers login Due IsOpen IsVerified event (Err fault) says = says ≡ Refused (Frame fault)
+ClientAnswers login Due IsOpen IsVerified event (Ok (frames.Mechanisms names)) says =
     (Contains names (mechanism_name login.version) × (says ≡ says_start login event))
     ⊎ (¬ Contains names (mechanism_name login.version) × (says ≡ Refused NotImplemented))
-ClientAnswers login Due IsOpen event (Ok (frames.Challenge text)) says =
-    ((answer : Answering) × ReadsChallenge login Due text (Ok answer) × (says ≡ says_answer login answer))
-    ⊎ ((kind : ScramErrorKind) × ReadsChallenge login Due text (Err kind) × (says ≡ Refused (scram_fault kind)))
-ClientAnswers login Due IsOpen event (Ok (frames.Outcome outcomes.Ok more)) says =
-    (ReadsOutcome login IsOpen more (Ok tt) × (says ≡ Reported outcomes.Ok more))
-    ⊎ ((kind : ScramErrorKind) × ReadsOutcome login IsOpen more (Err kind) × (says ≡ Refused (scram_fault kind)))
-ClientAnswers login Due IsOpen event (Ok (frames.Outcome code more)) says = says ≡ Reported code more
-ClientAnswers login Due IsOpen event (Ok frame) says = says ≡ Refused NotImplemented
+ClientAnswers login Due IsOpen IsVerified event (Ok (frames.Challenge text)) says =
+    (ReadsSigning login IsOpen text (Ok tt) × (says ≡ says_verified))
+    ⊎ ((kind : ScramErrorKind) × ReadsSigning login IsOpen text (Err kind) × (says ≡ Refused (scram_fault kind)))
+    ⊎ (((answer : Answering) → ¬ MaySign login IsOpen answer)
+    × (((answer : Answering) × ReadsChallenge login Due text (Ok answer) × (says ≡ says_answer login answer))
+    ⊎ ((kind : ScramErrorKind) × ReadsChallenge login Due text (Err kind) × (says ≡ Refused (scram_fault kind)))))
+ClientAnswers login Due IsOpen IsVerified event (Ok (frames.Outcome outcomes.Ok more)) says =
+    (ReadsOutcome login IsOpen IsVerified more (Ok tt) × (says ≡ Reported outcomes.Ok more))
+    ⊎ ((kind : ScramErrorKind) × ReadsOutcome login IsOpen IsVerified more (Err kind)
+    × (says ≡ Refused (scram_fault kind)))
+ClientAnswers login Due IsOpen IsVerified event (Ok (frames.Outcome code more)) says = says ≡ Reported code more
+ClientAnswers login Due IsOpen IsVerified event (Ok frame) says = says ≡ Refused NotImplemented
 
 -- the replies at which the client may run out of memory: those to a mechanisms list with the name, to a challenge in
 -- UTF-8, and to an outcome with data, which in one of code Ok are UTF-8
@@ -126,6 +147,19 @@ abbrev pub OpenAnswer : Login → List Given → List ClientSays → ℕ → Ans
 OpenAnswer login events replies k answer = OpenBy is_answer ends_answer
     (AnswersAt login events replies) replies k answer
 
+-- the challenge at k has the signature of this answer, which is open there, and the login accepts it in a challenge
+abbrev pub SignsAt : Login → List Given → List ClientSays → ℕ → Answering → Type 0
+SignsAt login events replies k answer =
+    (event : Given) × (text : List ℕ) × (slice_get events k ≡ Some event)
+    × SpellsBody event.body (Ok (frames.Challenge text)) × MaySign login (OpenAnswer login events replies k) answer
+    × ReadsServerFinal (answer_at login answer).signature text (Ok tt)
+
+-- the answer whose signature came in a challenge before k, which the client answered last, if neither a start nor a
+-- reported Ok is between
+abbrev pub VerifiedAnswer : Login → List Given → List ClientSays → ℕ → Answering → Type 0
+VerifiedAnswer login events replies k answer = OpenBy is_answer ends_answer
+    (SignsAt login events replies) replies k answer
+
 -- a reply for each event: that of the table, or running out of memory where that may happen
 pub record ClientHistory (login : Login) (events : List Given) (replies : List ClientSays) : Type 0 where
   pub count : length replies ≡ length events
@@ -133,4 +167,5 @@ pub record ClientHistory (login : Login) (events : List Given) (replies : List C
       → slice_get replies k ≡ Some says
       → (spelled : Result SaslFrame Error) × SpellsBody event.body spelled
       × ((ClientAllocates login spelled × (says ≡ Refused OutOfMemory))
-      ⊎ ClientAnswers login (IsDue events replies k) (OpenAnswer login events replies k) event spelled says)
+      ⊎ ClientAnswers login (IsDue events replies k) (OpenAnswer login events replies k)
+      (VerifiedAnswer login events replies k) event spelled says)

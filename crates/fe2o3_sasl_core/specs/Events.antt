@@ -1,6 +1,6 @@
 -- What the two sides receive and answer, as plain data (AMQP 1.0, part 5, section 5.3), and what the code always holds
 -- of it.
-use Rattle.std.specs.Prelude.{◌≡◌, ℕ, ◌<◌, ◌^◌, List, length, slice_get, Option, Some}
+use Rattle.std.specs.Prelude.{◌≡◌, ℕ, Bool, ◌<◌, ◌^◌, List, length, slice_get, Option, Some}
 use Rattle.std.specs.Str.{IsUtf8}
 use Rattle.fe2o3_sasl_wire.specs.SaslFrames.{IsBytes}
 use Rattle.fe2o3_sasl_wire.specs.declared.amqp_types.SaslCode.{SaslCode}
@@ -20,13 +20,15 @@ pub record Given : Type 0 where
   pub body : List ℕ
   pub nonce : List ℕ
 
--- what a client logs in with: user name, secret and version, the iteration counts that it accepts, and the hostname
--- that its init carries, if any (AMQP 1.0, part 5, section 5.3.3.2)
+-- what a client logs in with: user name, secret and version, the iteration counts that it accepts, whether it accepts the
+-- server's signature in a challenge too (RFC 4422, section 5), and the hostname that its init carries, if any (AMQP 1.0,
+-- part 5, section 5.3.3.2)
 pub record Login : Type 0 where
   pub user : List ℕ
   pub secret : Secret
   pub version : ScramVersion
   pub limits : IterationLimits
+  pub signature_by_challenge : Bool
   pub hostname : Option (List ℕ)
 
 -- a reply of a server: the body of a challenge, the code and the body of an outcome, or an error

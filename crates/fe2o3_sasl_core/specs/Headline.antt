@@ -1,17 +1,17 @@
 -- The headline theorem, over every list of frame bodies: what every history has. Every run of `scram_server_run` and of
 -- `scram_client_run` has it by contract. `headline` in `laws` of `fe2o3_sasl` states it of the definitions.
-use Rattle.std.specs.Prelude.{◌≡◌, ◌≢◌, ℕ, ◌<◌, Option, Some, List, slice_get, Ok}
+use Rattle.std.specs.Prelude.{◌≡◌, ◌≢◌, ℕ, ◌<◌, Option, Some, None, List, slice_get, Ok}
 use Rattle.fe2o3_sasl_wire.specs.declared.amqp_types.SaslCode.TheVariants as outcomes
 use Rattle.fe2o3_sasl_wire.specs.declared.sasl_frames.error.Error.TheVariants as faults
 use Rattle.fe2o3_sasl_wire.specs.SaslFrames as frames
-use Rattle.fe2o3_sasl_core.specs.ClientHistory.{Answering, answer_at, OpenAnswer}
+use Rattle.fe2o3_sasl_core.specs.ClientHistory.{Answering, answer_at, OpenAnswer, VerifiedAnswer}
 use Rattle.fe2o3_scram.specs.Credentials.{Provider}
 use Rattle.fe2o3_sasl_core.specs.Events.{Given, Login, IsRecord, ServerSays, Concluded, Failed, ClientSays, Reported, Refused}
 use Rattle.fe2o3_sasl_core.specs.Positions.{IsLastOpen}
 use Rattle.fe2o3_scram.specs.ServerFinal.{ReadsServerFinal}
 use Rattle.fe2o3_sasl_core.specs.Bodies.{SpellsBody}
 use Rattle.fe2o3_sasl_core.specs.ServerHistory.{Accepted, AcceptsAt, ServerHistory, is_challenge, is_ok, says_ok}
-use Rattle.fe2o3_sasl_core.specs.TwoSides.{Sides, Takes, Agree, MessagesCollide, client_message, server_message, keys_at}
+use Rattle.fe2o3_sasl_core.specs.TwoSides.{Sides, ReportedAnswer, Takes, Agree, MessagesCollide, client_message, server_message, keys_at}
 use Rattle.fe2o3_sasl_core.specs.declared.sasl_profile.error.ProfileError.TheVariants.{OutOfMemory}
 
 -- what a server answers Ok to, exactly
@@ -27,26 +27,29 @@ pub record AnswersOkExactly (provider : Provider) (events : List Given) (replies
   pub wherever : (n : ℕ) (accepted : Accepted) (says : ServerSays) → AcceptsAt provider events replies n accepted
       → slice_get replies n ≡ Some says → says ≢ Failed faults.OutOfMemory → says ≡ says_ok provider accepted
 
--- the event at m is an outcome Ok with this data, which is the signature that the open answer waits for
-abbrev pub SignedAt : Login → List Given → List ClientSays → ℕ → List ℕ → Type 0
-SignedAt login events replies m text = (event : Given) × (answer : Answering) × (slice_get events m ≡ Some event)
+-- the event at m is an outcome Ok with this data, which is the signature that the open answer waits for; or without data,
+-- and that signature came in the challenge that the client answered last
+abbrev pub SignedAt : Login → List Given → List ClientSays → ℕ → Option (List ℕ) → Type 0
+SignedAt login events replies m (Some text) = (event : Given) × (answer : Answering) × (slice_get events m ≡ Some event)
     × SpellsBody event.body (Ok (frames.Outcome outcomes.Ok (Some text)))
     × OpenAnswer login events replies m answer × ReadsServerFinal (answer_at login answer).signature text (Ok tt)
+SignedAt login events replies m None = (event : Given) × (answer : Answering) × (slice_get events m ≡ Some event)
+    × SpellsBody event.body (Ok (frames.Outcome outcomes.Ok None)) × VerifiedAnswer login events replies m answer
 
 -- what a client reports Ok on, exactly
 pub record ReportsOkExactly (login : Login) (events : List Given) (replies : List ClientSays) : Type 0 where
-  -- Ok is reported only on the signature of the open answered challenge
+  -- Ok is reported only on the signature of the open answered challenge, however it came
   pub only : (m : ℕ) (more : Option (List ℕ)) → slice_get replies m ≡ Some (Reported outcomes.Ok more)
-      → (text : List ℕ) × (more ≡ Some text) × SignedAt login events replies m text
+      → SignedAt login events replies m more
   -- every such signature is reported, except if memory runs out
-  pub wherever : (m : ℕ) (text : List ℕ) (says : ClientSays) → SignedAt login events replies m text
-      → slice_get replies m ≡ Some says → says ≢ Refused OutOfMemory → says ≡ Reported outcomes.Ok (Some text)
+  pub wherever : (m : ℕ) (more : Option (List ℕ)) (says : ClientSays) → SignedAt login events replies m more
+      → slice_get replies m ≡ Some says → says ≢ Refused OutOfMemory → says ≡ Reported outcomes.Ok more
 
 -- of a verifier that the client took at m: both sides agree if their AuthMessages are equal, and otherwise these share
 -- one HMAC value under the two sides' own server keys
 pub record VerifierAgrees (sides : Sides) (m : ℕ) (accepted : Accepted) : Type 0 where
   pub answer : Answering
-  pub opened : OpenAnswer sides.login sides.client_events sides.client_replies m answer
+  pub opened : ReportedAnswer sides.login sides.client_events sides.client_replies m answer
   pub agrees : client_message sides.login answer ≡ server_message accepted
       → Agree sides.login sides.provider answer accepted
   pub collides : client_message sides.login answer ≢ server_message accepted → MessagesCollide sides answer accepted

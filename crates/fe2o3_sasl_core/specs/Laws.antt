@@ -5,7 +5,7 @@ use Rattle.fe2o3_sasl_wire.specs.declared.amqp_types.SaslCode.TheVariants as out
 use Rattle.fe2o3_sasl_wire.specs.declared.sasl_frames.error.Error.TheVariants as faults
 use Rattle.fe2o3_sasl_wire.specs.SaslFrames.{IsBytes, SaslFrame}
 use Rattle.fe2o3_sasl_wire.specs.SaslFrames as frames
-use Rattle.fe2o3_sasl_core.specs.ClientHistory.{Answering, AnswersAt, OpenAnswer, ClientAllocates, ClientHistory, is_start, is_answer, ends_answer}
+use Rattle.fe2o3_sasl_core.specs.ClientHistory.{Answering, AnswersAt, ClientAllocates, ClientHistory, is_start, is_answer, ends_answer}
 use Rattle.fe2o3_scram.specs.ClientKeys.{ClientKeys}
 use Rattle.fe2o3_scram.specs.ClientSecret.{Password, Keys}
 use Rattle.fe2o3_scram.specs.Laws.{AreKeysOf}
@@ -19,7 +19,7 @@ use Rattle.fe2o3_sasl_core.specs.Positions.{test_at, IsLastOpen}
 use Rattle.fe2o3_sasl_core.specs.Bodies.{SpellsBody, says_frame}
 use Rattle.fe2o3_sasl_core.specs.ServerHistory.{Challenging, Accepted, AcceptsAt, LoggedIn, Open, ServerHistory, is_challenge, is_ok, full_nonce}
 use Rattle.fe2o3_scram.specs.ScramServer as server_states
-use Rattle.fe2o3_sasl_core.specs.TwoSides.{Sides, Histories, Takes, Shows, Agree, HasParts, IsPlainInit, client_message, server_message}
+use Rattle.fe2o3_sasl_core.specs.TwoSides.{Sides, Histories, ReportedAnswer, Takes, Shows, Agree, HasParts, IsPlainInit, client_message, server_message}
 use Rattle.fe2o3_sasl_core.specs.Headline.{VerifierAgrees}
 use Rattle.fe2o3_sasl_core.specs.UnalteredRuns.{ClientLogsIn, ServerLogsIn}
 use Rattle.fe2o3_sasl_core.specs.Verdicts.{Parameters, Verdict, Agreed, JudgesVerifier, JudgesProof, Finding, Audits, AuditsEvents}
@@ -137,7 +137,7 @@ PositionsAreUsedOnce = CloseApart is_challenge is_ok × CloseApart is_answer end
 -- the client took the server's verifier, or showed the proof that the server accepted
 abbrev pub AreMatched : Sides → Answering → Accepted → Type 0
 AreMatched sides answer accepted =
-    ((m n : ℕ) × Takes sides m n accepted × OpenAnswer sides.login sides.client_events sides.client_replies m answer)
+    ((m n : ℕ) × Takes sides m n accepted × ReportedAnswer sides.login sides.client_events sides.client_replies m answer)
     ⊎ ((k n : ℕ) × Shows sides k n answer accepted)
 
 -- two matched histories, over a secret and a record that the code holds, with equal AuthMessages
@@ -213,10 +213,17 @@ abbrev pub FromTwoChallenges : Sides → ℕ → ℕ → Type 0
 FromTwoChallenges sides n o = (i j : ℕ) × IsLastOpen is_challenge is_ok sides.server_replies n i
     × IsLastOpen is_challenge is_ok sides.server_replies o j × RepeatsNonce sides.server_events i j
 
+-- k is the position of the client-final message whose signature an outcome with this data at m shows: the last response,
+-- or without data the one before the response to the signature
+abbrev pub AnswerPosition : List ClientSays → ℕ → Option (List ℕ) → ℕ → Type 0
+AnswerPosition replies m (Some data) k = IsLastOpen is_answer ends_answer replies m k
+AnswerPosition replies m None k = (j : ℕ) × IsLastOpen is_answer ends_answer replies m j
+    × IsLastOpen is_answer ends_answer replies j k
+
 -- the client took at m, for its answer at k, what the server accepted at n, and the AuthMessages are equal
 abbrev pub TakesAgreed : Sides → ℕ → ℕ → ℕ → Accepted → Type 0
-TakesAgreed sides m k n accepted = (answer : Answering) × Takes sides m n accepted
-    × IsLastOpen is_answer ends_answer sides.client_replies m k
+TakesAgreed sides m k n accepted = (answer : Answering) × (takes : Takes sides m n accepted)
+    × AnswerPosition sides.client_replies m takes.more k
     × AnswersAt sides.login sides.client_events sides.client_replies k answer
     × (client_message sides.login answer ≡ server_message accepted)
 

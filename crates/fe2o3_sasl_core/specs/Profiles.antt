@@ -1,17 +1,17 @@
 -- What a client's profile answers to one frame (AMQP 1.0, part 5, section 5.3.2).
-use Rattle.std.specs.Prelude.{◌≡◌, ◌⊎◌, ℕ, Bool, true, false, Option, Some, None, List, ◌∷◌, ◌++◌, codes, Result, Ok, Err}
+use Rattle.std.specs.Prelude.{◌≡◌, ◌⊎◌, ℕ, Bool, true, false, Option, Some, None, List, [], ◌∷◌, ◌++◌, codes, Result, Ok, Err}
 use Rattle.std.specs.List.{Contains}
 use Rattle.std.specs.Str.{IsUtf8}
 use Rattle.fe2o3_sasl_wire.specs.declared.amqp_types.SaslCode.TheVariants as outcomes
 use Rattle.fe2o3_sasl_wire.specs.SaslFrames as frames
 use Rattle.fe2o3_sasl_wire.specs.SaslFrames.{SaslFrame}
 use Rattle.fe2o3_scram.specs.declared.scram_messages.error.ScramErrorKind.{ScramErrorKind}
-use Rattle.fe2o3_scram.specs.declared.scram_messages.error.ScramErrorKind.TheVariants.{Utf8Error, ServerSignatureMismatch}
+use Rattle.fe2o3_scram.specs.declared.scram_messages.error.ScramErrorKind.TheVariants.{Utf8Error}
 use Rattle.fe2o3_scram.specs.Texts.{base64_text}
 use Rattle.fe2o3_scram.specs.ClientFirst.{client_first}
 use Rattle.fe2o3_scram.specs.ClientKeys.{ClientKeys}
 use Rattle.fe2o3_scram.specs.ScramClient as client_states
-use Rattle.fe2o3_scram.specs.ScramClient.{ClientSide, ClientState, started, AnswersIn, VerifiesIn, ReachesSaltIn, ReachesVerifierIn, with_state}
+use Rattle.fe2o3_scram.specs.ScramClient.{ClientSide, ClientState, started, AnswersIn, ChecksSignatureIn, ConcludesIn, VerifiesIn, ReachesSaltIn, ReachesVerifierIn, expects_signature, with_state}
 use Rattle.fe2o3_scram.specs.Hmac.{mechanism_name}
 use Rattle.fe2o3_sasl_core.specs.Events.{Login, scram_fault}
 use Rattle.fe2o3_sasl_core.specs.declared.sasl_profile.error.ProfileError.{ProfileError}
@@ -52,6 +52,18 @@ abbrev pub client_frame : {A : Type 0} → (A → SaslFrame) → Result A ScramE
 client_frame frame (Ok answer) = Ok (frame answer)
 client_frame frame (Err kind) = Err (scram_fault kind)
 
+-- what a SCRAM client replies to a challenge in UTF-8, by whether it expects the server's signature there (RFC 4422,
+-- section 5): it answers a server-first message by its client-final message, and a server-final message by an empty
+-- response
+abbrev pub ChallengeReplies : Bool → ClientSide → List ℕ → Result SaslFrame ProfileError → Profile → Type 0
+ChallengeReplies false client text reply next =
+    (answer : Result (List ℕ) ScramErrorKind) × (after : ClientSide) × AnswersIn client.state client text answer after
+    × (reply ≡ client_frame (λ message. frames.Response message) answer) × (next ≡ ScramProfile after)
+ChallengeReplies true client text reply next =
+    (answer : Result (Unit {0}) ScramErrorKind) × (after : ClientSide)
+    × ChecksSignatureIn client.state client text answer after
+    × (reply ≡ client_frame (λ verified. frames.Response []) answer) × (next ≡ ScramProfile after)
+
 -- the machine of a profile: from the profile, a hostname, a nonce and a frame to a reply and the profile after it
 abbrev pub profile_machine : Profile → Option (List ℕ) → List ℕ → SaslFrame → Result SaslFrame ProfileError → Profile
     → Type 0
@@ -62,11 +74,10 @@ profile_machine profile hostname nonce (frames.Mechanisms names) reply next =
     ⊎ (¬ Contains names (profile_name profile) × (reply ≡ Err NotImplemented) × (next ≡ profile))
 profile_machine (ScramProfile client) hostname nonce (frames.Challenge text) reply next =
     (¬ IsUtf8 text × (reply ≡ Err (Scram Utf8Error)) × (next ≡ ScramProfile client))
-    ⊎ (IsUtf8 text × ((answer : Result (List ℕ) ScramErrorKind) × (after : ClientSide)
-    × AnswersIn client.state client text answer after
-    × (reply ≡ client_frame (λ message. frames.Response message) answer) × (next ≡ ScramProfile after)))
+    ⊎ (IsUtf8 text × ChallengeReplies (expects_signature client) client text reply next)
 profile_machine (ScramProfile client) hostname nonce (frames.Outcome outcomes.Ok None) reply next =
-    (reply ≡ Err (Scram ServerSignatureMismatch)) × (next ≡ ScramProfile client)
+    (answer : Result (Unit {0}) ScramErrorKind) × (after : ClientSide) × ConcludesIn client.state client answer after
+    × (reply ≡ client_frame (λ verified. frames.Outcome outcomes.Ok None) answer) × (next ≡ ScramProfile after)
 profile_machine (ScramProfile client) hostname nonce (frames.Outcome outcomes.Ok (Some text)) reply next =
     (answer : Result (Unit {0}) ScramErrorKind) × (after : ClientSide)
     × VerifiesIn client.state client text answer after
@@ -76,11 +87,18 @@ profile_machine profile hostname nonce (frames.Outcome code more) reply next =
     (reply ≡ Ok (frames.Outcome code more)) × (next ≡ profile)
 profile_machine profile hostname nonce frame reply next = (reply ≡ Err NotImplemented) × (next ≡ profile)
 
+-- where a SCRAM client allocates for its answer to a challenge in UTF-8: if it reaches the salt, or the signature that it
+-- expects there
+abbrev pub ChallengeAllocates : Bool → ClientSide → List ℕ → Type 0
+ChallengeAllocates false client text = ReachesSaltIn client.state text
+ChallengeAllocates true client text = ReachesVerifierIn client.state text
+
 -- where a profile allocates before it has its answer to a frame: for an init; for the response to a challenge in UTF-8
--- if it reaches the salt; and for the signature of an outcome Ok
+-- as above; and for the signature of an outcome Ok
 abbrev pub FrameAllocates : Profile → SaslFrame → Type 0
 FrameAllocates profile (frames.Mechanisms names) = Contains names (profile_name profile)
-FrameAllocates (ScramProfile client) (frames.Challenge text) = IsUtf8 text × ReachesSaltIn client.state text
+FrameAllocates (ScramProfile client) (frames.Challenge text) =
+    IsUtf8 text × ChallengeAllocates (expects_signature client) client text
 FrameAllocates (ScramProfile client) (frames.Outcome outcomes.Ok (Some text)) = ReachesVerifierIn client.state text
 FrameAllocates profile frame = ⊥
 
@@ -97,15 +115,20 @@ IsAnswered state = (signature : List ℕ) × (keys : Option ClientKeys)
 -- they are UTF-8 and expected
 abbrev pub ViewAllocates : Profile → SaslFrame → Type 0
 ViewAllocates profile (frames.Mechanisms names) = Contains names (profile_name profile)
-ViewAllocates (ScramProfile client) (frames.Challenge text) = IsUtf8 text × ReachesSaltIn client.state text
+ViewAllocates (ScramProfile client) (frames.Challenge text) =
+    IsUtf8 text × ChallengeAllocates (expects_signature client) client text
 ViewAllocates (ScramProfile client) (frames.Outcome outcomes.Ok (Some text)) = IsUtf8 text × IsAnswered client.state
 ViewAllocates profile (frames.Outcome code (Some text)) = Unit {0}
 ViewAllocates profile frame = ⊥
 
+-- a challenge is expected by a client that has sent its first message, or takes the signature there
+abbrev pub IsChallengeDue : ClientSide → Type 0
+IsChallengeDue client = IsStarted client.state ⊎ (expects_signature client ≡ true)
+
 -- where a step of a profile allocates: a profile that expects a challenge in UTF-8 is copied
 abbrev pub StepAllocates : Profile → SaslFrame → Type 0
 StepAllocates profile (frames.Mechanisms names) = Contains names (profile_name profile)
-StepAllocates (ScramProfile client) (frames.Challenge text) = IsUtf8 text × IsStarted client.state
+StepAllocates (ScramProfile client) (frames.Challenge text) = IsUtf8 text × IsChallengeDue client
 StepAllocates (ScramProfile client) (frames.Outcome outcomes.Ok (Some text)) = IsUtf8 text × IsAnswered client.state
 StepAllocates profile (frames.Outcome code (Some text)) = Unit {0}
 StepAllocates profile frame = ⊥
@@ -117,6 +140,7 @@ scram_profile login = ScramProfile (record {
   secret = login.secret;
   version = login.version;
   limits = login.limits;
+  signature_by_challenge = login.signature_by_challenge;
   state = client_states.ClientInitial;
 })
 

@@ -1,5 +1,5 @@
 -- What an acceptor and a profile do with a list of frame bodies (AMQP 1.0, part 5, section 5.3.2).
-use Rattle.std.specs.Prelude.{◌≡◌, ◌⊎◌, ℕ, Option, None, option_map, List, [], ◌∷◌, length, Result, Ok, Err}
+use Rattle.std.specs.Prelude.{◌≡◌, ◌⊎◌, ℕ, false, Option, None, option_map, List, [], ◌∷◌, length, Result, Ok, Err}
 use Rattle.fe2o3_sasl_wire.specs.declared.sasl_frames.error.Error.{Error}
 use Rattle.fe2o3_sasl_wire.specs.declared.sasl_frames.error.Error.TheVariants as faults
 use Rattle.fe2o3_sasl_wire.specs.AmqpTypes.{binary_bytes}
@@ -129,8 +129,15 @@ abbrev pub client_answer : Result ClientReply ProfileError → ClientSays
 client_answer (Ok reply) = client_reply reply
 client_answer (Err fault) = Refused fault
 
--- the login of these words, with the password as typed, without a hostname
+-- the login of these words, with the password as typed, without a hostname; the signature has to come in the outcome
 abbrev pub login_of : ScramVersion → List ℕ → List ℕ → ℕ → Login
 login_of version user password limit =
     let secret = Password (Typed password) in
-    record { user = user; secret = secret; version = version; limits = up_to limit; hostname = None }
+    record {
+      user = user;
+      secret = secret;
+      version = version;
+      limits = up_to limit;
+      signature_by_challenge = false;
+      hostname = None;
+    }

@@ -1,10 +1,13 @@
 -- What a client and a server have in common, by their two lists (RFC 5802, section 3, for keys, proofs and signatures).
-use Rattle.std.specs.Prelude.{◌≡◌, ◌≢◌, ◌⊎◌, ℕ, Some, List, length, slice_get}
+use Rattle.std.specs.Prelude.{◌≡◌, ◌≢◌, ◌⊎◌, ℕ, Option, Some, None, List, length, slice_get, Ok}
 use Rattle.fe2o3_sasl_wire.specs.declared.amqp_types.SaslCode.TheVariants as outcomes
+use Rattle.fe2o3_sasl_wire.specs.SaslFrames as frames
+use Rattle.fe2o3_sasl_core.specs.Bodies.{SpellsBody}
+use Rattle.fe2o3_sasl_core.specs.Positions.{OpenBy}
 use Rattle.fe2o3_scram.specs.ClientFinal.{keys_for, without_proof}
 use Rattle.fe2o3_scram.specs.declared.scram_messages.channel_binding_flag.ChannelBindingFlag.TheVariants.{NotSupported}
 use Rattle.fe2o3_scram.specs.ClientFirst.{client_first_bare}
-use Rattle.fe2o3_sasl_core.specs.ClientHistory.{Answering, AnswersAt, ClientHistory}
+use Rattle.fe2o3_sasl_core.specs.ClientHistory.{Answering, AnswersAt, ClientHistory, OpenAnswer, VerifiedAnswer, is_answer, ends_answer}
 use Rattle.fe2o3_scram.specs.Credentials.{Provider}
 use Rattle.fe2o3_sasl_core.specs.Events.{Given, Login, ServerSays, Concluded, ClientSays, Answered, Reported}
 use Rattle.fe2o3_scram.specs.Extensions.{NoneMisplaced}
@@ -65,12 +68,36 @@ pub record OkAt (sides : Sides) (n : ℕ) (accepted : Accepted) : Type 0 where
   pub says : slice_get sides.server_replies n ≡ Some (Concluded outcomes.Ok body)
   pub accepts : AcceptsAt sides.provider sides.server_events sides.server_replies n accepted
 
+-- the event at k is a challenge with this text
+abbrev pub ChallengeAt : List Given → ℕ → List ℕ → Type 0
+ChallengeAt events k text =
+    (event : Given) × (slice_get events k ≡ Some event) × SpellsBody event.body (Ok (frames.Challenge text))
+
+-- the text of the server-final message that the client has at m: this data of an outcome, or without data the challenge
+-- that it answered last
+abbrev pub VerifierText : List Given → List ClientSays → ℕ → Option (List ℕ) → List ℕ → Type 0
+VerifierText events replies m (Some data) text = text ≡ data
+VerifierText events replies m None text = OpenBy is_answer ends_answer (ChallengeAt events) replies m text
+
 -- the client reported Ok at m on the verifier that the server gave at n
 pub record Takes (sides : Sides) (m n : ℕ) (accepted : Accepted) : Type 0 where
+  pub more : Option (List ℕ)
   pub text : List ℕ
-  pub reported : slice_get sides.client_replies m ≡ Some (Reported outcomes.Ok (Some text))
+  pub reported : slice_get sides.client_replies m ≡ Some (Reported outcomes.Ok more)
+  pub verifier : VerifierText sides.client_events sides.client_replies m more text
   pub ok : OkAt sides n accepted
   pub one : Part text 0 (final_message sides.provider accepted)
+
+-- the answer on whose signature an outcome Ok with this data is reported at m: the open one, or without data the one
+-- whose signature came in the challenge that was answered last
+abbrev pub SignedAnswer : Login → List Given → List ClientSays → ℕ → Option (List ℕ) → Answering → Type 0
+SignedAnswer login events replies m (Some data) answer = OpenAnswer login events replies m answer
+SignedAnswer login events replies m None answer = VerifiedAnswer login events replies m answer
+
+-- the answer on whose signature the client reported Ok at m
+abbrev pub ReportedAnswer : Login → List Given → List ClientSays → ℕ → Answering → Type 0
+ReportedAnswer login events replies m answer = (more : Option (List ℕ))
+    × (slice_get replies m ≡ Some (Reported outcomes.Ok more)) × SignedAnswer login events replies m more answer
 
 -- the server accepted at n the proof that the client's answer at k showed
 pub record Shows (sides : Sides) (k n : ℕ) (answer : Answering) (accepted : Accepted) : Type 0 where

@@ -2,7 +2,7 @@
 -- section 3.
 use Rattle.std.specs.Prelude.{◌≡◌, ◌≢◌, ◌⊎◌, ℕ, ◌<◌, Option, Some, None, List, [], ◌∷◌, ◌++◌, map}
 use Rattle.std.specs.List.{AllByRecursion, Contains}
-use Rattle.fe2o3_sasl_core.specs.ClientHistory.{Answering, OpenAnswer}
+use Rattle.fe2o3_sasl_core.specs.ClientHistory.{Answering}
 use Rattle.fe2o3_sasl_core.specs.Events.{Given, Login, ClientSays, ServerSays}
 use Rattle.fe2o3_scram.specs.Credentials.{Provider}
 use Rattle.fe2o3_scram.specs.declared.hmac.ScramVersion.{ScramVersion}
@@ -10,7 +10,7 @@ use Rattle.fe2o3_scram.specs.ClientFinal.{recovered_key}
 use Rattle.fe2o3_scram.specs.Hmac.{digest}
 use Rattle.fe2o3_sasl_core.specs.Complete.{ServerComplete, ClientComplete}
 use Rattle.fe2o3_sasl_core.specs.ServerHistory.{Accepted, full_nonce, server_at}
-use Rattle.fe2o3_sasl_core.specs.TwoSides.{Sides, sides_of, Histories, Takes, Shows, Agree, IsPlainInit, MessagesCollide, client_message, server_message, keys_at}
+use Rattle.fe2o3_sasl_core.specs.TwoSides.{Sides, sides_of, Histories, ReportedAnswer, Takes, Shows, Agree, IsPlainInit, MessagesCollide, client_message, server_message, keys_at}
 
 -- the nonce of both sides, the salt and the iteration count
 pub record Parameters : Type 0 where
@@ -120,7 +120,7 @@ abbrev pub IsVerifierFinding : Sides → Finding → Type 0
 IsVerifierFinding sides finding =
     (finding.kind ≡ OfVerifier) × ((answer : Answering) × (accepted : Accepted)
     × Takes sides finding.client finding.server accepted
-    × OpenAnswer sides.login sides.client_events sides.client_replies finding.client answer
+    × ReportedAnswer sides.login sides.client_events sides.client_replies finding.client answer
     × JudgesVerifier sides answer accepted finding.verdict)
 
 -- a proof that the client showed, with its verdict

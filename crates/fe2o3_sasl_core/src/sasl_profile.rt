@@ -8,7 +8,7 @@ ghost use Rattle.fe2o3_sasl_wire.specs.FrameView.{shown, viewed_frame};
 ghost use Rattle.fe2o3_sasl_wire.specs.Owned.{owned_frame};
 ghost use Rattle.fe2o3_sasl_wire.specs.SaslFrames.{Init, Challenge, Outcome};
 ghost use Rattle.fe2o3_scram.specs.ClientKeys.{ClientKeys};
-ghost use Rattle.fe2o3_scram.specs.ScramClient.{ClientInitial, ClientFirstSent, ClientFinalSent, answer_keys, login_keys};
+ghost use Rattle.fe2o3_scram.specs.ScramClient.{ClientInitial, ClientFirstSent, ClientFinalSent, SignatureVerified, answer_keys, login_keys};
 ghost use Rattle.fe2o3_scram.specs.Texts.{base64_text};
 ghost use Rattle.fe2o3_sasl_core.specs.Costs.{ProfileCosts};
 ghost use Rattle.fe2o3_sasl_core.specs.Profiles.{ScramProfile, PlainProfile, scram_profile, profile_name, is_scram, profile_state, in_state, initial_response, after_init, FrameAllocates, ViewAllocates, StepAllocates, ProfileAnswers};
@@ -141,8 +141,8 @@ impl SaslProfile {
         }
     }
 
-    /// Returns the keys of the SCRAM login, once its server is verified, and `None` before that and for another
-    /// profile. The next login by them takes two HMAC values, as long as the server keeps its salt and iteration count
+    /// Returns the keys of the SCRAM login, once it has ended with a verified server, and `None` before that and for
+    /// another profile. The next login by them takes two HMAC values, as long as the server keeps its salt and iteration count
     /// (RFC 5802, section 3).
     pub fn keys(&self) -> Option<&CachedKeys>
         ensures { MatchOption result (login_keys (profile_state (profile_of self.now)) ≡ None)
@@ -173,8 +173,8 @@ impl SaslProfile {
         self.scram_client()?.server_signature()
     }
 
-    /// Returns the keys of the answer for which a SCRAM client waits for a signature. Use them only to save the client:
-    /// until the server is verified anybody may have named their salt, so do not keep them for another login.
+    /// Returns the keys of the answer of a SCRAM client, while it waits for a signature or for the outcome after it. Use
+    /// them only to save the client: until the server is verified anybody may have named their salt, so do not keep them for another login.
     pub fn answer_keys(&self) -> Option<&CachedKeys>
         ensures { MatchOption result (answer_keys (profile_state (profile_of self.now)) ≡ None)
             (λ keys. answer_keys (profile_state (profile_of self.now)) ≡ Some keys.now) }
@@ -209,6 +209,29 @@ impl SaslProfile {
                 let client = scram
                     .client
                     .restore_client_final_sent(server_signature, keys);
+                SaslProfile::ScramSha512(SaslScramSha512::of(client))
+            }
+            profile => profile,
+        }
+    }
+
+    /// Returns this profile in the state after a challenge with the server's signature, in which it waits for an outcome
+    /// without data. With the keys of its answer it returns them by `keys` after that outcome. A profile of another
+    /// mechanism is returned unchanged.
+    pub fn restore_signature_verified(self, keys: Option<CachedKeys>) -> Self
+        ensures { profile_of result ≡ in_state (profile_of self) (SignatureVerified keys) }
+    {
+        match self {
+            SaslProfile::ScramSha1(scram) => {
+                let client = scram.client.restore_signature_verified(keys);
+                SaslProfile::ScramSha1(SaslScramSha1::of(client))
+            }
+            SaslProfile::ScramSha256(scram) => {
+                let client = scram.client.restore_signature_verified(keys);
+                SaslProfile::ScramSha256(SaslScramSha256::of(client))
+            }
+            SaslProfile::ScramSha512(scram) => {
+                let client = scram.client.restore_signature_verified(keys);
                 SaslProfile::ScramSha512(SaslScramSha512::of(client))
             }
             profile => profile,

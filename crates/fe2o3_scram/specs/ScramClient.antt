@@ -1,11 +1,11 @@
 -- A SCRAM client from message to message (RFC 5802, section 5).
-use Rattle.std.specs.Prelude.{ℕ, Bool, true, false, List, Option, Some, None, ◌≡◌, Result, Ok, Err}
+use Rattle.std.specs.Prelude.{ℕ, Bool, true, false, ◌&&◌, List, Option, Some, None, ◌≡◌, Result, Ok, Err}
 use Rattle.fe2o3_scram.specs.declared.client_secret.IterationLimits.{IterationLimits}
 use Rattle.fe2o3_scram.specs.declared.hmac.ScramVersion.{ScramVersion}
 use Rattle.fe2o3_scram.specs.declared.scram_client.ScramClientState.{ScramClientState}
-use Rattle.fe2o3_scram.specs.declared.scram_client.ScramClientState.TheVariants.{Initial as CodeInitial, ClientFirstSent as CodeClientFirstSent, ClientFinalSent as CodeClientFinalSent, Complete as CodeComplete}
+use Rattle.fe2o3_scram.specs.declared.scram_client.ScramClientState.TheVariants.{Initial as CodeInitial, ClientFirstSent as CodeClientFirstSent, ClientFinalSent as CodeClientFinalSent, SignatureVerified as CodeSignatureVerified, Complete as CodeComplete}
 use Rattle.fe2o3_scram.specs.declared.scram_messages.error.ScramErrorKind.{ScramErrorKind}
-use Rattle.fe2o3_scram.specs.declared.scram_messages.error.ScramErrorKind.TheVariants.{IllegalClientState}
+use Rattle.fe2o3_scram.specs.declared.scram_messages.error.ScramErrorKind.TheVariants.{IllegalClientState, ServerSignatureMismatch}
 use Rattle.fe2o3_scram.specs.Texts.{base64_text}
 use Rattle.fe2o3_scram.specs.ClientFinal.{Answer}
 use Rattle.fe2o3_scram.specs.ClientKeys.{ClientKeys}
@@ -15,20 +15,23 @@ use Rattle.fe2o3_scram.specs.ClientFirst.{client_first_bare}
 use Rattle.fe2o3_scram.specs.ServerFirst.{Client, client_of, ReachesSalt, ReadsServerFirst}
 use Rattle.fe2o3_scram.specs.ServerFinal.{ReachesVerifier, ReadsServerFinal}
 
--- what a client has sent last, and what it waits for (RFC 5802, section 5); the keys are those of its answer, if it
--- still has them
+-- what a client has sent last, and what it waits for (RFC 5802, section 5): after a challenge with the server's signature
+-- it waits for an outcome without data (RFC 4422, section 5). The keys are those of its answer, if it still has them
 pub data ClientState : Type 0 where
   ClientInitial : ClientState
   ClientFirstSent : (nonce : List ℕ) → (bare : List ℕ) → ClientState
   ClientFinalSent : (signature : List ℕ) → (keys : Option ClientKeys) → ClientState
+  SignatureVerified : (keys : Option ClientKeys) → ClientState
   Complete : (keys : Option ClientKeys) → ClientState
 
--- a client (RFC 5802, section 5): its user and its secret, its version, the counts that it accepts, and its state
+-- a client (RFC 5802, section 5): its user and its secret, its version, the counts that it accepts, whether it accepts the
+-- server's signature in a challenge too (RFC 4422, section 5), and its state
 pub record ClientSide : Type 0 where
   pub user : List ℕ
   pub secret : Secret
   pub version : ScramVersion
   pub limits : IterationLimits
+  pub signature_by_challenge : Bool
   pub state : ClientState
 
 -- a client of the user by this secret, which has sent nothing and accepts every count
@@ -38,6 +41,7 @@ fresh_client user version secret = record {
   secret = secret;
   version = version;
   limits = up_to no_limit;
+  signature_by_challenge = false;
   state = ClientInitial;
 }
 
@@ -47,8 +51,8 @@ with_state side state = record {
   user = side.user;
   secret = side.secret;
   version = side.version;
-  limits =
-      side.limits;
+  limits = side.limits;
+  signature_by_challenge = side.signature_by_challenge;
   state = state;
 }
 
@@ -58,8 +62,19 @@ with_limits side limits = record {
   user = side.user;
   secret = side.secret;
   version = side.version;
-  limits =
-      limits;
+  limits = limits;
+  signature_by_challenge = side.signature_by_challenge;
+  state = side.state;
+}
+
+-- a client that accepts the signature in a challenge, or does not
+abbrev pub with_signature_by_challenge : ClientSide → Bool → ClientSide
+with_signature_by_challenge side accept = record {
+  user = side.user;
+  secret = side.secret;
+  version = side.version;
+  limits = side.limits;
+  signature_by_challenge = accept;
   state = side.state;
 }
 
@@ -106,6 +121,34 @@ VerifiesIn (ClientFinalSent signature keys) side text (Err fault) next =
 VerifiesIn state side text (Ok verified) next = ⊥
 VerifiesIn state side text (Err fault) next = (fault ≡ IllegalClientState) × (next ≡ side)
 
+-- whether a client in this state waits for the server's signature (RFC 5802, section 5)
+abbrev pub is_unsigned : ClientState → Bool
+is_unsigned (ClientFinalSent signature keys) = true
+is_unsigned state = false
+
+-- whether a client takes the next challenge as the server-final message (RFC 4422, section 5)
+abbrev pub expects_signature : ClientSide → Bool
+expects_signature side = side.signature_by_challenge && is_unsigned side.state
+
+-- the result of a server-final message in a challenge for a client in this state (RFC 4422, section 5), and the client
+-- after it: one that has answered tests it, and then waits for the outcome; any other rejects it unread, and an error
+-- changes nothing
+abbrev pub ChecksSignatureIn : ClientState → ClientSide → List ℕ → Result (Unit {0}) ScramErrorKind → ClientSide → Type 0
+ChecksSignatureIn (ClientFinalSent signature keys) side text (Ok verified) next =
+    ReadsServerFinal signature text (Ok verified) × (next ≡ with_state side (SignatureVerified keys))
+ChecksSignatureIn (ClientFinalSent signature keys) side text (Err fault) next =
+    ReadsServerFinal signature text (Err fault) × (next ≡ side)
+ChecksSignatureIn state side text (Ok verified) next = ⊥
+ChecksSignatureIn state side text (Err fault) next = (fault ≡ IllegalClientState) × (next ≡ side)
+
+-- the result of an outcome without data for a client in this state (RFC 4422, section 5), and the client after it: one
+-- whose server was verified by a challenge has logged in; for any other the signature is missing
+abbrev pub ConcludesIn : ClientState → ClientSide → Result (Unit {0}) ScramErrorKind → ClientSide → Type 0
+ConcludesIn (SignatureVerified keys) side (Ok verified) next = next ≡ with_state side (Complete keys)
+ConcludesIn (SignatureVerified keys) side (Err fault) next = ⊥
+ConcludesIn state side (Ok verified) next = ⊥
+ConcludesIn state side (Err fault) next = (fault ≡ ServerSignatureMismatch) × (next ≡ side)
+
 -- a client in this state allocates to verify a server-final message (RFC 5802, section 5): one that has answered does
 -- if it reaches the signature, any other never
 abbrev pub ReachesVerifierIn : ClientState → List ℕ → Type 0
@@ -117,19 +160,21 @@ abbrev pub client_state_of : ScramClientState → Option ClientKeys → ClientSt
 client_state_of CodeInitial keys = ClientInitial
 client_state_of (CodeClientFirstSent nonce bare) keys = ClientFirstSent (base64_text nonce) bare.items
 client_state_of (CodeClientFinalSent signature) keys = ClientFinalSent signature.items keys
+client_state_of CodeSignatureVerified keys = SignatureVerified keys
 client_state_of CodeComplete keys = Complete keys
 
--- whether the server was verified, which ends an exchange (RFC 5802, section 5)
+-- whether the server was verified, and the exchange has ended (RFC 5802, section 5)
 abbrev pub is_complete : ClientState → Bool
 is_complete (Complete keys) = true
 is_complete state = false
 
--- the keys of a login whose server was verified (RFC 5802, section 5), and of no other
+-- the keys of an exchange that has ended with a verified server (RFC 5802, section 5), and of no other
 abbrev pub login_keys : ClientState → Option ClientKeys
 login_keys (Complete keys) = keys
 login_keys state = None
 
--- the keys of an answer whose server is not verified yet, and of no other
+-- the keys of an answer whose exchange has not ended yet, and of no other
 abbrev pub answer_keys : ClientState → Option ClientKeys
 answer_keys (ClientFinalSent signature keys) = keys
+answer_keys (SignatureVerified keys) = keys
 answer_keys state = None

@@ -7,7 +7,7 @@ ghost use Rattle.fe2o3_scram.specs.ClientFirst.{client_first};
 ghost use Rattle.fe2o3_scram.specs.ClientKeys.{ClientKeys};
 ghost use Rattle.fe2o3_scram.specs.ClientSecret.{Password as ByPassword, IsOfVersion, kept_secret, secret_of};
 ghost use Rattle.fe2o3_scram.specs.Passwords.{Typed};
-ghost use Rattle.fe2o3_scram.specs.ScramClient.{ClientFirstSent, ClientFinalSent, AnswersIn, AnswerCostsIn, VerifiesIn, ReachesSaltIn, ReachesVerifierIn, fresh_client, started, client_state_of, answer_keys, is_complete, login_keys, with_state, with_limits};
+ghost use Rattle.fe2o3_scram.specs.ScramClient.{ClientFirstSent, ClientFinalSent, SignatureVerified, AnswersIn, AnswerCostsIn, ChecksSignatureIn, ConcludesIn, VerifiesIn, ReachesSaltIn, ReachesVerifierIn, expects_signature, fresh_client, started, client_state_of, answer_keys, is_complete, login_keys, with_signature_by_challenge, with_state, with_limits};
 ghost use Rattle.fe2o3_scram.specs.Readings.{Gives};
 
 use crate::OutOfMemory;
@@ -35,6 +35,7 @@ enum ScramClientState {
     ClientFinalSent {
         server_signature: Vec<u8>,
     },
+    SignatureVerified,
     Complete,
 }
 
@@ -57,6 +58,7 @@ impl ScramClientState {
                     server_signature: server_signature.clone()?,
                 }
             }
+            ScramClientState::SignatureVerified => ScramClientState::SignatureVerified,
             ScramClientState::Complete => ScramClientState::Complete,
         })
     }
@@ -71,6 +73,7 @@ pub struct ScramClient {
     secret: KeptSecret,
     scram: ScramVersion,
     limits: IterationLimits,
+    signature_by_challenge: bool,
     state: ScramClientState,
 
     /// The keys of the client-final message that was sent last, if the client still has them.
@@ -89,8 +92,8 @@ impl Model for ScramClient {
       secret = kept_secret client.secret;
       version = client.scram;
       limits = client.limits;
-      state =
-          client_state_of client.state client.keys;
+      signature_by_challenge = client.signature_by_challenge;
+      state = client_state_of client.state client.keys;
     } };
 }
 
@@ -146,6 +149,7 @@ impl ScramClient {
             secret,
             scram,
             limits: IterationLimits::none(),
+            signature_by_challenge: false,
             state: ScramClientState::Initial,
             keys: None,
         }
@@ -185,6 +189,24 @@ impl ScramClient {
             secret: self.secret,
             scram: self.scram,
             limits,
+            signature_by_challenge: self.signature_by_challenge,
+            state: self.state,
+            keys: self.keys,
+        }
+    }
+
+    /// Returns this client, but with `accept` it accepts the server's signature in a challenge too: the server may send
+    /// its server-final message as a challenge, to which the client sends an empty response, and then an outcome
+    /// without data (RFC 4422, section 5). Without it the signature has to come in the outcome.
+    pub fn signature_by_challenge(self, accept: bool) -> Self
+        ensures { result ≡ with_signature_by_challenge self accept }
+    {
+        Self {
+            username: self.username,
+            secret: self.secret,
+            scram: self.scram,
+            limits: self.limits,
+            signature_by_challenge: accept,
             state: self.state,
             keys: self.keys,
         }
@@ -309,8 +331,56 @@ impl ScramClient {
         }
     }
 
-    /// Returns the keys that the client answered by, once the server is verified, and `None` before that. The next
-    /// login by them takes two HMAC values, as long as the server keeps its salt and iteration count (RFC 5802, section
+    /// Returns whether the client takes the next challenge as the server-final message: it accepts the signature in a
+    /// challenge, and has sent its client-final message last.
+    pub fn expects_signature(&self) -> bool
+        ensures { result ≡ expects_signature self.now }
+    {
+        self.signature_by_challenge && self.server_signature().is_some()
+    }
+
+    /// Verifies a server-final message that came in a challenge (RFC 4422, section 5). Answer it by an empty response,
+    /// and pass the outcome to `conclude_without_data`.
+    ///
+    /// The errors are those of `validate_server_final`, in its order.
+    pub fn validate_signature_challenge(
+        &mut self,
+        alloc: Global,
+        server_final: &[u8],
+    ) -> Result<(), ScramErrorKind>
+        ensures answer { Gives ScramErrorKind.OutOfMemory (ReachesVerifierIn self.old.state server_final.now)
+            (λ verified. verified) result
+            (λ answer. ChecksSignatureIn self.old.state self.old server_final.now answer self.new) }
+        ensures err { OnErr result (self.new ≡ self.old) }
+    {
+        match &self.state {
+            ScramClientState::ClientFinalSent { server_signature } => {
+                self.scram
+                    .validate_server_final(alloc, server_final, server_signature)?;
+                self.state = ScramClientState::SignatureVerified;
+                Ok(())
+            }
+            _ => Err(ScramErrorKind::IllegalClientState),
+        }
+    }
+
+    /// Ends the exchange at an outcome without data, if the signature came in a challenge (RFC 4422, section 5). The
+    /// only error is `ServerSignatureMismatch`: no challenge with the signature was verified before.
+    pub fn conclude_without_data(&mut self) -> Result<(), ScramErrorKind>
+        ensures answer { ConcludesIn self.old.state self.old result self.new }
+        ensures err { OnErr result (self.new ≡ self.old) }
+    {
+        match &self.state {
+            ScramClientState::SignatureVerified => {
+                self.state = ScramClientState::Complete;
+                Ok(())
+            }
+            _ => Err(ScramErrorKind::ServerSignatureMismatch),
+        }
+    }
+
+    /// Returns the keys that the client answered by, once the exchange has ended with a verified server, and `None`
+    /// before that. The next login by them takes two HMAC values, as long as the server keeps its salt and iteration count (RFC 5802, section
     /// 3).
     pub fn keys(&self) -> Option<&CachedKeys>
         ensures { MatchOption result (login_keys self.now.state ≡ None)
@@ -322,7 +392,7 @@ impl ScramClient {
         }
     }
 
-    /// Returns whether the server was verified, which ends the exchange.
+    /// Returns whether the exchange has ended with a verified server.
     pub fn is_complete(&self) -> bool
         ensures { result ≡ is_complete self.now.state }
     {
@@ -360,14 +430,16 @@ impl ScramClient {
         }
     }
 
-    /// Returns the keys of the answer for which the client waits for a signature. Use them only to save the client:
-    /// until the server is verified anybody may have named their salt, so do not keep them for another login.
+    /// Returns the keys of the answer, while the client waits for a signature or for the outcome after it. Use them only
+    /// to save the client: until the server is verified anybody may have named their salt, so do not keep them for
+    /// another login.
     pub fn answer_keys(&self) -> Option<&CachedKeys>
         ensures { MatchOption result (answer_keys self.now.state ≡ None)
             (λ keys. answer_keys self.now.state ≡ Some keys.now) }
     {
         match &self.state {
             ScramClientState::ClientFinalSent { .. } => self.keys.as_ref(),
+            ScramClientState::SignatureVerified => self.keys.as_ref(),
             _ => None,
         }
     }
@@ -386,7 +458,24 @@ impl ScramClient {
             secret: self.secret,
             scram: self.scram,
             limits: self.limits,
+            signature_by_challenge: self.signature_by_challenge,
             state: ScramClientState::ClientFinalSent { server_signature },
+            keys,
+        }
+    }
+
+    /// Returns this client in the state after a challenge with the server's signature, in which it waits for an outcome
+    /// without data. With the keys of its answer it returns them by `keys` after that outcome.
+    pub fn restore_signature_verified(self, keys: Option<CachedKeys>) -> Self
+        ensures { result ≡ with_state self (SignatureVerified keys) }
+    {
+        Self {
+            username: self.username,
+            secret: self.secret,
+            scram: self.scram,
+            limits: self.limits,
+            signature_by_challenge: self.signature_by_challenge,
+            state: ScramClientState::SignatureVerified,
             keys,
         }
     }
@@ -412,6 +501,7 @@ impl Clone for ScramClient {
             secret: self.secret.clone()?,
             scram: self.scram,
             limits: self.limits,
+            signature_by_challenge: self.signature_by_challenge,
             state: self.state.copy()?,
             keys: self.keys.clone()?,
         })

@@ -4,7 +4,7 @@ ghost use Rattle.std.specs.Prelude.{◌≡◌, ◌↔◌, IfOk, MatchOption, Som
 ghost use Rattle.fe2o3_scram.specs.declared.hmac.ScramVersion.{ScramVersion};
 ghost use Rattle.fe2o3_scram.specs.declared.hmac.ScramVersion.TheVariants.{Sha1, Sha256, Sha512};
 ghost use Rattle.fe2o3_scram.specs.ClientSecret.{IsOfVersion, no_limit, secret_of};
-ghost use Rattle.fe2o3_scram.specs.ScramClient.{fresh_client, login_keys, with_limits};
+ghost use Rattle.fe2o3_scram.specs.ScramClient.{fresh_client, login_keys, with_limits, with_signature_by_challenge};
 ghost use Rattle.fe2o3_sasl_core.specs.Profiles.{ScramProfile, scram_profile};
 ghost use Rattle.fe2o3_sasl_core.specs.Runs.{login_of};
 ghost use Rattle.fe2o3_sasl_core.specs.SaslProfile.{profile_of, variant_version};
@@ -144,7 +144,16 @@ impl<V: OfVersion> SaslScram<V> {
         Self::of(self.client.with_min_iterations(min_iterations))
     }
 
-    /// Returns the keys of the login, once its server is verified, and `None` before that (RFC 5802, section 3).
+    /// Returns this client, but with `accept` it accepts the server's signature in a challenge too
+    /// ([`ScramClient::signature_by_challenge`]).
+    pub fn signature_by_challenge(self, accept: bool) -> Self
+        ensures { result ≡ with_signature_by_challenge self accept }
+    {
+        Self::of(self.client.signature_by_challenge(accept))
+    }
+
+    /// Returns the keys of the login, once it has ended with a verified server, and `None` before that (RFC 5802,
+    /// section 3).
     pub fn keys(&self) -> Option<&CachedKeys>
         ensures { MatchOption result (login_keys self.now.state ≡ None)
             (λ keys. login_keys self.now.state ≡ Some keys.now) }

@@ -1,10 +1,12 @@
 //! What a SCRAM client answers to frames (RFC 5802, section 5).
 
-ghost use Rattle.std.specs.Prelude.{◌≡◌, ◌≤◌, ◌^◌, Some, Option, ℕ, List, IfOk, OnOk, OnErr, MatchOption};
+ghost use Rattle.std.specs.Prelude.{◌≡◌, ◌≤◌, ◌^◌, true, Some, Option, ℕ, List, IfOk, OnOk, OnErr, MatchOption};
 ghost use Rattle.fe2o3_sasl_core.specs.declared.sasl_profile.error.ProfileError.TheVariants.{Scram};
 ghost use Rattle.fe2o3_sasl_wire.specs.AmqpTypes.{binary_bytes, response_frame, outcome_frame};
 ghost use Rattle.fe2o3_sasl_wire.specs.FrameView.{shown};
 ghost use Rattle.fe2o3_sasl_wire.specs.SaslFrames.{Challenge, Outcome};
+ghost use Rattle.std.specs.Str.{IsUtf8};
+ghost use Rattle.fe2o3_scram.specs.ScramClient.{expects_signature};
 ghost use Rattle.fe2o3_sasl_core.specs.Costs.{ProfileCosts};
 ghost use Rattle.fe2o3_sasl_core.specs.Profiles.{ScramProfile, FrameAllocates, StepAllocates, ProfileAnswers, initial_response, after_init};
 ghost use Rattle.fe2o3_sasl_core.specs.ProfileFaults.{answered};
@@ -45,10 +47,10 @@ pub(super) fn refusal_unread(client: &ScramClient, challenge: &[u8]) -> Option<P
     let Ok(_text) = str::from_utf8(challenge) else {
         return Some(ProfileError::Scram(ScramErrorKind::Utf8Error));
     };
-    match client.nonce() {
-        Some(_) => None,
-        None => Some(ProfileError::Scram(ScramErrorKind::IllegalClientState)),
+    if client.nonce().is_some() || client.expects_signature() {
+        return None;
     }
+    Some(ProfileError::Scram(ScramErrorKind::IllegalClientState))
 }
 
 /// Returns why an outcome is rejected before its data are read: SCRAM reads the data of code Ok, and they are not
@@ -77,7 +79,8 @@ pub(super) fn outcome_refusal_unread(
     }
 }
 
-/// Returns the answer to a challenge, which is tested for UTF-8 before the client's state and its own tests.
+/// Returns the answer to a challenge, which is tested for UTF-8 before the client's state and its own tests: the
+/// client-final message, or the empty response to a signature that the client expects there.
 pub(super) fn answer(
     client: &mut ScramClient,
     alloc: Global,
@@ -94,6 +97,9 @@ pub(super) fn answer(
     let Ok(server_first) = str::from_utf8(challenge) else {
         return Err(ProfileError::Scram(ScramErrorKind::Utf8Error));
     };
+    if client.expects_signature() {
+        return confirm(client, alloc, challenge);
+    }
     match client.compute_client_final_message_metered(alloc, server_first, meter) {
         Ok(client_final) => Ok(SaslResponse {
             response: Binary(client_final),
@@ -102,8 +108,29 @@ pub(super) fn answer(
     }
 }
 
-/// Verifies an outcome. One of code Ok is tested for data before the client's state and its own tests; others are not
-/// tested.
+/// Verifies the signature that came in a challenge, and returns the empty response to it (RFC 4422, section 5).
+fn confirm(
+    client: &mut ScramClient,
+    alloc: Global,
+    challenge: &[u8],
+) -> Result<SaslResponse, ProfileError>
+    requires expects { expects_signature client.old ≡ true }
+    requires utf8 { IsUtf8 challenge.now }
+    ensures answer { AnswersAlways (ScramProfile client.old) (Challenge challenge.now)
+        (answered response_frame result) (ScramProfile client.new) }
+    ensures version { client.new.version ≡ client.old.version }
+    ensures err { OnErr result (client.new ≡ client.old) }
+{
+    match client.validate_signature_challenge(alloc, challenge) {
+        Ok(()) => Ok(SaslResponse {
+            response: Binary(Vec::new(alloc)),
+        }),
+        Err(kind) => Err(ProfileError::from(kind)),
+    }
+}
+
+/// Verifies an outcome. The data of one of code Ok is the server-final message; without data the signature must have come
+/// in a challenge. Other codes are not tested.
 pub(super) fn verify(
     client: &mut ScramClient,
     alloc: Global,
@@ -118,8 +145,8 @@ pub(super) fn verify(
     if outcome.code != SaslCode::Ok {
         return Ok(());
     }
-    let Some(server_final) = &outcome.additional_data else {
-        return Err(ProfileError::Scram(ScramErrorKind::ServerSignatureMismatch));
-    };
-    Ok(client.validate_server_final(alloc, &server_final.0)?)
+    match &outcome.additional_data {
+        Some(server_final) => Ok(client.validate_server_final(alloc, &server_final.0)?),
+        None => Ok(client.conclude_without_data()?),
+    }
 }
