@@ -307,8 +307,9 @@ impl SaslProfile {
         self.on_frame_metered(alloc, frame, hostname, nonce, &mut Meter::new())
     }
 
-    /// Like `on_frame`; the meter, of at most 2^63, counts the HMAC values. SCRAM's answer to a challenge makes two by
-    /// keys, by the password four more than the iterations, and none for an error; other frames make none.
+    /// Like `on_frame`; the meter, of at most 2^63, counts the HMAC values. SCRAM's answer to a server-first message
+    /// makes two by keys, by the password four more than the iterations, and none for an error. A signature in a
+    /// challenge and other frames make none.
     pub fn on_frame_metered(
         &mut self,
         alloc: Global,

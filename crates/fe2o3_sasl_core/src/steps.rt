@@ -197,8 +197,9 @@ pub fn profile_step(
 }
 
 /// Like [`profile_step`], with a body and a nonce instead of an event. The meter, of at most 2^63, counts the HMAC
-/// values. SCRAM's answer to a challenge makes two by keys, by the password four more than the iterations, and at most
-/// that many if it is not sent. A rejected challenge, and any other body, make none.
+/// values. SCRAM's answer to a server-first message makes two by keys, by the password four more than the iterations,
+/// and at most that many if it is not sent. A rejected challenge, a signature in a challenge, and any other body, make
+/// none.
 pub fn profile_body_step(
     alloc: Global,
     profile: &mut SaslProfile,

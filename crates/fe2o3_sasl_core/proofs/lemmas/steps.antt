@@ -3,6 +3,7 @@ pub mod HexEventLemmas
 pub mod HexTextLemmas
 pub mod LongerRunLemmas
 pub mod ProfileReplyLemmas
+pub mod SignatureStepLemmas
 pub mod WrittenReplyLemmas
 pub mod WrittenStepLemmas
 pub mod CostLemmas

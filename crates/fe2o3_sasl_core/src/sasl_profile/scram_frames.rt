@@ -47,10 +47,13 @@ pub(super) fn refusal_unread(client: &ScramClient, challenge: &[u8]) -> Option<P
     let Ok(_text) = str::from_utf8(challenge) else {
         return Some(ProfileError::Scram(ScramErrorKind::Utf8Error));
     };
-    if client.nonce().is_some() || client.expects_signature() {
+    if client.expects_signature() {
         return None;
     }
-    Some(ProfileError::Scram(ScramErrorKind::IllegalClientState))
+    match client.nonce() {
+        Some(_) => None,
+        None => Some(ProfileError::Scram(ScramErrorKind::IllegalClientState)),
+    }
 }
 
 /// Returns why an outcome is rejected before its data are read: SCRAM reads the data of code Ok, and they are not

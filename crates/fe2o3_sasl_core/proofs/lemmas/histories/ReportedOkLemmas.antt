@@ -81,9 +81,9 @@ pub signature_of_ok : (login : Login) (events : List Given) (replies : List Clie
     → slice_get replies m ≡ Some (Reported outcomes.Ok more)
     → (answer : Answering) × (text : List ℕ) × SignedAnswer login events replies m more answer
     × VerifierText events replies m more text × HasBase64 text 0 (codes "v=") (answer_at login answer).signature
-signature_of_ok login events replies m (Some text) history at =
-    let reads = (reported_at login events replies m (Some text) history at).3 in
-    (reads.0, text, reads.1, refl, names_server_final (answer_at login reads.0).signature text tt reads.2)
+signature_of_ok login events replies m (Some given) history at =
+    let reads = (reported_at login events replies m (Some given) history at).3 in
+    (reads.0, given, reads.1, refl, names_server_final (answer_at login reads.0).signature given tt reads.2)
 signature_of_ok login events replies m None history at =
     let reads = (reported_at login events replies m None history at).3 in
     let signs = reads.1.2 in

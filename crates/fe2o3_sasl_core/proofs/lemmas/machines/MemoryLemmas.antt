@@ -1,5 +1,5 @@
 -- Where memory may run out.
-use Rattle.std.proofs.Common.{◌≡◌, ◌≢◌, ◌⊎◌, ℕ, Option, Some, None, Bool, true, false, cond, List, refl, sym, ◌∙◌, subst, arith, inl, inr, Result, Ok, Err}
+use Rattle.std.proofs.Common.{◌≡◌, ◌≢◌, ◌⊎◌, ℕ, Option, Some, None, Bool, true, false, cond, List, [], refl, sym, ◌∙◌, subst, arith, inl, inr, Result, Ok, Err}
 use Rattle.std.proofs.lemmas.Option.{slice_get_within}
 use Rattle.fe2o3_sasl_wire.specs.declared.amqp_types.SaslCode.{SaslCode}
 use Rattle.fe2o3_sasl_wire.specs.declared.amqp_types.SaslCode.TheVariants as outcomes
@@ -10,10 +10,11 @@ use Rattle.fe2o3_sasl_wire.specs.SaslFrames as frames
 use Rattle.fe2o3_scram.specs.Credentials.{Provider}
 use Rattle.fe2o3_scram.specs.declared.scram_messages.error.ScramErrorKind.{ScramErrorKind}
 use Rattle.fe2o3_scram.specs.declared.scram_messages.error.ScramErrorKind.TheVariants as kinds
-use Rattle.fe2o3_sasl_core.specs.ClientHistory.{Answering, ClientAllocates, ClientAnswers, IsDue, OpenAnswer}
+use Rattle.fe2o3_sasl_core.specs.ClientHistory.{Answering, ClientAllocates, ClientAnswers, IsDue, OpenAnswer, VerifiedAnswer}
 use Rattle.fe2o3_sasl_core.specs.Events.{Given, Login, Answered, Reported, Refused, Failed, scram_fault}
 use Rattle.fe2o3_sasl_core.specs.Laws.{WantsAtServer, ServersWantMemory, ClientsWantMemory, ProfilesWantMemory}
-use Rattle.fe2o3_sasl_core.specs.Profiles.{Profile, ScramProfile, client_frame, profile_machine, StepAllocates}
+use Rattle.fe2o3_scram.specs.ScramClient.{ClientSide, expects_signature}
+use Rattle.fe2o3_sasl_core.specs.Profiles.{Profile, ScramProfile, ChallengeReplies, client_frame, profile_machine, StepAllocates}
 use Rattle.fe2o3_sasl_core.specs.Runs.{Replies}
 use Rattle.fe2o3_sasl_core.specs.Bodies.{SpellsBody, carried}
 use Rattle.fe2o3_sasl_core.specs.ServerHistory.{Challenging, Open, ServerAllocates, ServerAnswers}
@@ -79,39 +80,49 @@ same_refusal fault other is = cc
 not_reported : (code : SaslCode) (more : Option (List ℕ)) → Refused OutOfMemory ≢ Reported code more
 not_reported code more is = absurd (cc)
 
-client_wants : (login : Login) (Due : List ℕ → Type 0) (IsOpen : Answering → Type 0) (event : Given)
+-- and neither is a response, sent or too large
+carried_otherwise : (body : Option (List ℕ))
+    → Refused OutOfMemory ≢ carried (Refused (Frame faults.TooLarge)) (λ body. Answered body) body
+carried_otherwise None is = absurd (cc)
+carried_otherwise (Some body) is = absurd (cc)
+
+client_wants : (login : Login) (Due : List ℕ → Type 0) (IsOpen IsVerified : Answering → Type 0) (event : Given)
     (spelled : Result SaslFrame Error) → SpellsBody event.body spelled
     → (ClientAllocates login spelled × (Refused OutOfMemory ≡ Refused OutOfMemory))
-    ⊎ ClientAnswers login Due IsOpen event spelled (Refused OutOfMemory)
+    ⊎ ClientAnswers login Due IsOpen IsVerified event spelled (Refused OutOfMemory)
     → (frame : SaslFrame) × SpellsBody event.body (Ok frame) × ClientAllocates login (Ok frame)
-client_wants login Due IsOpen event (Err fault) spells (inl wants) = absurd wants.0
-client_wants login Due IsOpen event (Ok frame) spells (inl wants) = (frame, spells, wants.0)
-client_wants login Due IsOpen event (Err fault) spells (inr is) = absurd (cc)
-client_wants login Due IsOpen event (Ok (frames.Mechanisms names)) spells (inr (inl named)) =
+client_wants login Due IsOpen IsVerified event (Err fault) spells (inl wants) = absurd wants.0
+client_wants login Due IsOpen IsVerified event (Ok frame) spells (inl wants) = (frame, spells, wants.0)
+client_wants login Due IsOpen IsVerified event (Err fault) spells (inr is) = absurd (cc)
+client_wants login Due IsOpen IsVerified event (Ok (frames.Mechanisms names)) spells (inr (inl named)) =
     (frames.Mechanisms names, spells, named.0)
-client_wants login Due IsOpen event (Ok (frames.Mechanisms names)) spells (inr (inr unnamed)) =
+client_wants login Due IsOpen IsVerified event (Ok (frames.Mechanisms names)) spells (inr (inr unnamed)) =
     let is = unnamed.1 in absurd (cc)
-client_wants login Due IsOpen event (Ok (frames.Challenge text)) spells (inr (inl answered)) =
+client_wants login Due IsOpen IsVerified event (Ok (frames.Challenge text)) spells (inr (inl verified)) =
+    absurd (carried_otherwise (canonical (frames.Response [])) verified.1)
+client_wants login Due IsOpen IsVerified event (Ok (frames.Challenge text)) spells (inr (inr (inl refused))) =
+    absurd (scram_tells refused.0 (same_refusal (scram_fault refused.0) OutOfMemory (sym refused.2)))
+client_wants login Due IsOpen IsVerified event (Ok (frames.Challenge text)) spells (inr (inr (inr (unsigned, inl answered)))) =
     (frames.Challenge text, spells, answered.1.0)
-client_wants login Due IsOpen event (Ok (frames.Challenge text)) spells (inr (inr refused)) =
+client_wants login Due IsOpen IsVerified event (Ok (frames.Challenge text)) spells (inr (inr (inr (unsigned, inr refused)))) =
     absurd (scram_tells refused.0 (same_refusal (scram_fault refused.0) OutOfMemory (sym refused.2)))
-client_wants login Due IsOpen event (Ok (frames.Outcome outcomes.Ok more)) spells (inr (inl verified)) =
+client_wants login Due IsOpen IsVerified event (Ok (frames.Outcome outcomes.Ok more)) spells (inr (inl verified)) =
     absurd (not_reported outcomes.Ok more verified.1)
-client_wants login Due IsOpen event (Ok (frames.Outcome outcomes.Ok more)) spells (inr (inr refused)) =
+client_wants login Due IsOpen IsVerified event (Ok (frames.Outcome outcomes.Ok more)) spells (inr (inr refused)) =
     absurd (scram_tells refused.0 (same_refusal (scram_fault refused.0) OutOfMemory (sym refused.2)))
-client_wants login Due IsOpen event (Ok (frames.Outcome outcomes.Auth more)) spells (inr is) = absurd (cc)
-client_wants login Due IsOpen event (Ok (frames.Outcome outcomes.Sys more)) spells (inr is) = absurd (cc)
-client_wants login Due IsOpen event (Ok (frames.Outcome outcomes.SysPerm more)) spells (inr is) = absurd (cc)
-client_wants login Due IsOpen event (Ok (frames.Outcome outcomes.SysTemp more)) spells (inr is) = absurd (cc)
-client_wants login Due IsOpen event (Ok (frames.Init mechanism response hostname)) spells (inr is) = absurd (cc)
-client_wants login Due IsOpen event (Ok (frames.Response text)) spells (inr is) = absurd (cc)
+client_wants login Due IsOpen IsVerified event (Ok (frames.Outcome outcomes.Auth more)) spells (inr is) = absurd (cc)
+client_wants login Due IsOpen IsVerified event (Ok (frames.Outcome outcomes.Sys more)) spells (inr is) = absurd (cc)
+client_wants login Due IsOpen IsVerified event (Ok (frames.Outcome outcomes.SysPerm more)) spells (inr is) = absurd (cc)
+client_wants login Due IsOpen IsVerified event (Ok (frames.Outcome outcomes.SysTemp more)) spells (inr is) = absurd (cc)
+client_wants login Due IsOpen IsVerified event (Ok (frames.Init mechanism response hostname)) spells (inr is) = absurd (cc)
+client_wants login Due IsOpen IsVerified event (Ok (frames.Response text)) spells (inr is) = absurd (cc)
 
 pub clients_want_memory : ClientsWantMemory
 clients_want_memory login events replies k history is =
     let event = some_at events k (omega (arith, history.count, slice_get_within replies k (Refused OutOfMemory) is)) in
     let row = history.each k event.0 (Refused OutOfMemory) event.1 is in
-    let wants = client_wants login (IsDue events replies k) (OpenAnswer login events replies k) event.0 row.0 row.1
-    row.2 in
+    let wants = client_wants login (IsDue events replies k) (OpenAnswer login events replies k)
+    (VerifiedAnswer login events replies k) event.0 row.0 row.1 row.2 in
     (event.0, wants.0, event.1, wants.1, wants.2)
 
 -- ---- any profile
@@ -127,12 +138,6 @@ reported_otherwise : (profile moved next : Profile) (reply : Result SaslFrame Pr
     → ¬ Replies profile moved reply (Refused OutOfMemory) next
 reported_otherwise profile moved next reply code more is said = not_reported code more (subst
     (λ (some : Result SaslFrame ProfileError). Replies profile moved some (Refused OutOfMemory) next) is said).0
-
--- nor is a response, sent or too large
-carried_otherwise : (body : Option (List ℕ))
-    → Refused OutOfMemory ≢ carried (Refused (Frame faults.TooLarge)) (λ body. Answered body) body
-carried_otherwise None is = absurd (cc)
-carried_otherwise (Some body) is = absurd (cc)
 
 not_unexpected : Refused OutOfMemory ≢ Refused NotImplemented
 not_unexpected is = absurd (cc)
@@ -150,13 +155,29 @@ answered_otherwise profile moved next reply (Ok message) is said = carried_other
 answered_otherwise profile moved next reply (Err kind) is said =
     refused_otherwise profile moved next reply (scram_fault kind) is (not_scram kind) said
 
-verified_otherwise : (profile moved next : Profile) (reply : Result SaslFrame ProfileError) (text : List ℕ)
-    (answer : Result (Unit {0}) ScramErrorKind)
-    → reply ≡ client_frame (λ verified. frames.Outcome outcomes.Ok (Some text)) answer
+confirmed_otherwise : (profile moved next : Profile) (reply : Result SaslFrame ProfileError)
+    (answer : Result (Unit {0}) ScramErrorKind) → reply ≡ client_frame (λ verified. frames.Response []) answer
     → ¬ Replies profile moved reply (Refused OutOfMemory) next
-verified_otherwise profile moved next reply text (Ok verified) is said =
-    reported_otherwise profile moved next reply outcomes.Ok (Some text) is said
-verified_otherwise profile moved next reply text (Err kind) is said =
+confirmed_otherwise profile moved next reply (Ok verified) is said = carried_otherwise (canonical (frames.Response []))
+    (subst (λ (some : Result SaslFrame ProfileError). Replies profile moved some (Refused OutOfMemory) next) is said).0
+confirmed_otherwise profile moved next reply (Err kind) is said =
+    refused_otherwise profile moved next reply (scram_fault kind) is (not_scram kind) said
+
+challenge_otherwise : (expects : Bool) (client : ClientSide) (moved next : Profile) (text : List ℕ)
+    (reply : Result SaslFrame ProfileError) → ChallengeReplies expects client text reply moved
+    → ¬ Replies (ScramProfile client) moved reply (Refused OutOfMemory) next
+challenge_otherwise false client moved next text reply is said =
+    answered_otherwise (ScramProfile client) moved next reply is.0 is.3 said
+challenge_otherwise true client moved next text reply is said =
+    confirmed_otherwise (ScramProfile client) moved next reply is.0 is.3 said
+
+verified_otherwise : (profile moved next : Profile) (reply : Result SaslFrame ProfileError) (more : Option (List ℕ))
+    (answer : Result (Unit {0}) ScramErrorKind)
+    → reply ≡ client_frame (λ verified. frames.Outcome outcomes.Ok more) answer
+    → ¬ Replies profile moved reply (Refused OutOfMemory) next
+verified_otherwise profile moved next reply more (Ok verified) is said =
+    reported_otherwise profile moved next reply outcomes.Ok more is said
+verified_otherwise profile moved next reply more (Err kind) is said =
     refused_otherwise profile moved next reply (scram_fault kind) is (not_scram kind) said
 
 -- the machine gives it in no case, or memory is asked for
@@ -170,12 +191,11 @@ machine_wants hostname (ScramProfile client) next nonce (frames.Challenge text) 
     absurd (refused_otherwise (ScramProfile client) moved next reply (Scram kinds.Utf8Error) other.1
     (not_scram kinds.Utf8Error) said)
 machine_wants hostname (ScramProfile client) next nonce (frames.Challenge text) reply moved (inr is) said =
-    absurd (answered_otherwise (ScramProfile client) moved next reply is.1.0 is.1.3 said)
+    absurd (challenge_otherwise (expects_signature client) client moved next text reply is.1 said)
 machine_wants hostname (ScramProfile client) next nonce (frames.Outcome outcomes.Ok None) reply moved is said =
-    absurd (refused_otherwise (ScramProfile client) moved next reply (Scram kinds.ServerSignatureMismatch) is.0
-    (not_scram kinds.ServerSignatureMismatch) said)
+    absurd (verified_otherwise (ScramProfile client) moved next reply None is.0 is.3 said)
 machine_wants hostname (ScramProfile client) next nonce (frames.Outcome outcomes.Ok (Some text)) reply moved is said =
-    absurd (verified_otherwise (ScramProfile client) moved next reply text is.0 is.3 said)
+    absurd (verified_otherwise (ScramProfile client) moved next reply (Some text) is.0 is.3 said)
 machine_wants hostname profile next nonce (frames.Outcome code more) reply moved is said =
     absurd (reported_otherwise profile moved next reply code more is.0 said)
 machine_wants hostname profile next nonce frame reply moved is said =

@@ -1,18 +1,19 @@
 -- Each machine has one reply to each frame.
-use Rattle.std.proofs.Common.{◌≡◌, ℕ, Option, Some, None, List, sym, ap, ◌∙◌, inl, inr, Result, Ok, Err}
+use Rattle.std.proofs.Common.{◌≡◌, ℕ, Bool, true, false, Option, Some, None, List, [], sym, ap, ◌∙◌, inl, inr, Result, Ok, Err}
 use Rattle.fe2o3_sasl_wire.specs.declared.amqp_types.SaslCode.TheVariants as outcomes
 use Rattle.fe2o3_sasl_wire.specs.SaslFrames as frames
 use Rattle.fe2o3_sasl_wire.specs.SaslFrames.{SaslFrame}
 use Rattle.std.proofs.lemmas.Option.{same_Some}
 use Rattle.fe2o3_scram.specs.declared.hmac.ScramVersion.{ScramVersion}
 use Rattle.fe2o3_scram.specs.declared.scram_messages.error.ScramErrorKind.{ScramErrorKind}
+use Rattle.fe2o3_scram.specs.declared.scram_messages.error.ScramErrorKind.TheVariants.{ServerSignatureMismatch}
 use Rattle.fe2o3_scram.specs.declared.scram_messages.error.ServerScramErrorKind.{ServerScramErrorKind}
 use Rattle.fe2o3_scram.specs.ClientFinal.{Server, ClientFinal, ReadsClientFinal, Answer, answer_of}
 use Rattle.fe2o3_scram.specs.ClientFirst.{ClientFirst, ReadsClientFirst}
 use Rattle.fe2o3_scram.specs.Credentials.{Record, Provider}
 use Rattle.fe2o3_scram.specs.ClientKeys.{ClientKeys}
 use Rattle.fe2o3_scram.specs.ScramClient as client_states
-use Rattle.fe2o3_scram.specs.ScramClient.{ClientState, ClientSide, AnswersIn, VerifiesIn, with_state, holding}
+use Rattle.fe2o3_scram.specs.ScramClient.{ClientState, ClientSide, AnswersIn, ChecksSignatureIn, ConcludesIn, VerifiesIn, expects_signature, with_state, holding}
 use Rattle.fe2o3_scram.specs.ScramServer as server_states
 use Rattle.fe2o3_scram.specs.ScramServer.{ServerState, ChallengesFrom, ConcludesFrom, server_against}
 use Rattle.fe2o3_scram.specs.ServerFinal.{ReadsServerFinal, server_final_of}
@@ -24,7 +25,7 @@ use Rattle.fe2o3_scram.proofs.lemmas.messages.ServerFinalLemmas.{one_server_fina
 use Rattle.fe2o3_scram.proofs.lemmas.messages.ServerFirstLemmas.{one_server_first}
 use Rattle.fe2o3_sasl_core.specs.MechanismLaws.{OneAcceptorReply, OneProfileReply}
 use Rattle.fe2o3_sasl_core.specs.SaslAcceptor.{Acceptor, ScramAcceptor, PlainAcceptor, AnonymousAcceptor, server_frame}
-use Rattle.fe2o3_sasl_core.specs.Profiles.{Profile, ScramProfile, client_frame}
+use Rattle.fe2o3_sasl_core.specs.Profiles.{Profile, ScramProfile, ChallengeReplies, client_frame}
 use Rattle.fe2o3_sasl_core.specs.declared.sasl_profile.error.ProfileError.{ProfileError}
 
 -- the result is made of a reading
@@ -208,20 +209,24 @@ one_answer (client_states.ClientFinalSent signature keys) side text (Err fault) 
     absurd too
 one_answer (client_states.ClientFinalSent signature keys) side text (Err fault) (Err kind) next last is too =
     λ i. (Err ((is.0 ∙ sym too.0) i), (is.1 ∙ sym too.1) i)
+one_answer (client_states.SignatureVerified keys) side text (Ok message) other next last is too = absurd is
+one_answer (client_states.SignatureVerified keys) side text (Err fault) (Ok message) next last is too = absurd too
+one_answer (client_states.SignatureVerified keys) side text (Err fault) (Err kind) next last is too =
+    λ i. (Err ((is.0 ∙ sym too.0) i), (is.1 ∙ sym too.1) i)
 one_answer (client_states.Complete keys) side text (Ok message) other next last is too = absurd is
 one_answer (client_states.Complete keys) side text (Err fault) (Ok message) next last is too = absurd too
 one_answer (client_states.Complete keys) side text (Err fault) (Err kind) next last is too =
     λ i. (Err ((is.0 ∙ sym too.0) i), (is.1 ∙ sym too.1) i)
 
--- the turn to a server-final message that was read
-abbrev verification_turn : ClientSide → Option ClientKeys → Result (Unit {0}) ScramErrorKind → ClientTurn (Unit {0})
-verification_turn side keys (Ok verified) = (Ok verified, with_state side (client_states.Complete keys))
-verification_turn side keys (Err fault) = (Err fault, side)
+-- the turn to a server-final message that was read: the client is in this state after it
+abbrev verification_turn : ClientSide → ClientState → Result (Unit {0}) ScramErrorKind → ClientTurn (Unit {0})
+verification_turn side state (Ok verified) = (Ok verified, with_state side state)
+verification_turn side state (Err fault) = (Err fault, side)
 
 verification_made : (signature : List ℕ) (keys : Option ClientKeys) (side : ClientSide) (text : List ℕ)
     (answer : Result (Unit {0}) ScramErrorKind) (next : ClientSide)
     → VerifiesIn (client_states.ClientFinalSent signature keys) side text answer next
-    → MadeOf (ReadsServerFinal signature text) (verification_turn side keys) (answer, next)
+    → MadeOf (ReadsServerFinal signature text) (verification_turn side (client_states.Complete keys)) (answer, next)
 verification_made signature keys side text (Ok verified) next is = (Ok verified, is.0, λ i. (Ok verified, is.1 i))
 verification_made signature keys side text (Err fault) next is = (Err fault, is.0, λ i. (Err fault, is.1 i))
 
@@ -229,7 +234,8 @@ one_verification : (state : ClientState) (side : ClientSide) (text : List ℕ) (
     (next last : ClientSide) → VerifiesIn state side text answer next → VerifiesIn state side text other last
     → ◌≡◌ {A = ClientTurn (Unit {0})} (answer, next) (other, last)
 one_verification (client_states.ClientFinalSent signature keys) side text answer other next last is too =
-    one_made (ReadsServerFinal signature text) (verification_turn side keys) (answer, next) (other, last)
+    one_made (ReadsServerFinal signature text) (verification_turn side (client_states.Complete keys)) (answer, next)
+    (other, last)
     (one_server_final signature text) (verification_made signature keys side text answer next is)
     (verification_made signature keys side text other last too)
 one_verification client_states.ClientInitial side text (Ok verified) other next last is too = absurd is
@@ -240,10 +246,49 @@ one_verification (client_states.ClientFirstSent nonce bare) side text (Ok verifi
 one_verification (client_states.ClientFirstSent nonce bare) side text (Err fault) (Ok verified) next last is too = absurd too
 one_verification (client_states.ClientFirstSent nonce bare) side text (Err fault) (Err kind) next last is too =
     λ i. (Err ((is.0 ∙ sym too.0) i), (is.1 ∙ sym too.1) i)
+one_verification (client_states.SignatureVerified keys) side text (Ok verified) other next last is too = absurd is
+one_verification (client_states.SignatureVerified keys) side text (Err fault) (Ok verified) next last is too = absurd too
+one_verification (client_states.SignatureVerified keys) side text (Err fault) (Err kind) next last is too =
+    λ i. (Err ((is.0 ∙ sym too.0) i), (is.1 ∙ sym too.1) i)
 one_verification (client_states.Complete keys) side text (Ok verified) other next last is too = absurd is
 one_verification (client_states.Complete keys) side text (Err fault) (Ok verified) next last is too = absurd too
 one_verification (client_states.Complete keys) side text (Err fault) (Err kind) next last is too =
     λ i. (Err ((is.0 ∙ sym too.0) i), (is.1 ∙ sym too.1) i)
+
+check_made : (signature : List ℕ) (keys : Option ClientKeys) (side : ClientSide) (text : List ℕ)
+    (answer : Result (Unit {0}) ScramErrorKind) (next : ClientSide)
+    → ChecksSignatureIn (client_states.ClientFinalSent signature keys) side text answer next
+    → MadeOf (ReadsServerFinal signature text) (verification_turn side (client_states.SignatureVerified keys))
+    (answer, next)
+check_made signature keys side text (Ok verified) next is = (Ok verified, is.0, λ i. (Ok verified, is.1 i))
+check_made signature keys side text (Err fault) next is = (Err fault, is.0, λ i. (Err fault, is.1 i))
+
+-- a signature in a challenge
+one_check : (state : ClientState) (side : ClientSide) (text : List ℕ) (answer other : Result (Unit {0}) ScramErrorKind)
+    (next last : ClientSide) → ChecksSignatureIn state side text answer next
+    → ChecksSignatureIn state side text other last
+    → ◌≡◌ {A = ClientTurn (Unit {0})} (answer, next) (other, last)
+one_check (client_states.ClientFinalSent signature keys) side text answer other next last is too =
+    one_made (ReadsServerFinal signature text) (verification_turn side (client_states.SignatureVerified keys))
+    (answer, next) (other, last)
+    (one_server_final signature text) (check_made signature keys side text answer next is)
+    (check_made signature keys side text other last too)
+one_check state side text (Ok verified) other next last is too = absurd is
+one_check state side text (Err fault) (Ok verified) next last is too = absurd too
+one_check state side text (Err fault) (Err kind) next last is too =
+    λ i. (Err ((is.0 ∙ sym too.0) i), (is.1 ∙ sym too.1) i)
+
+-- an outcome Ok without data: the turn is by the state only
+abbrev end_turn : ClientState → ClientSide → ClientTurn (Unit {0})
+end_turn (client_states.SignatureVerified keys) side = (Ok tt, with_state side (client_states.Complete keys))
+end_turn state side = (Err ServerSignatureMismatch, side)
+
+end_made : (state : ClientState) (side : ClientSide) (answer : Result (Unit {0}) ScramErrorKind) (next : ClientSide)
+    → ConcludesIn state side answer next → ◌≡◌ {A = ClientTurn (Unit {0})} (answer, next) (end_turn state side)
+end_made (client_states.SignatureVerified keys) side (Ok verified) next is = λ i. (Ok tt, is i)
+end_made (client_states.SignatureVerified keys) side (Err fault) next is = absurd is
+end_made state side (Ok verified) next is = absurd is
+end_made state side (Err fault) next is = λ i. (Err (is.0 i), is.1 i)
 
 -- ---- a profile
 
@@ -256,6 +301,17 @@ same_turn {A} frame turn again reply other next last same r n s l = (
   r ∙ (ap (λ (x : ClientTurn A). client_frame frame x.0) same ∙ sym s),
   n ∙ (ap (λ (x : ClientTurn A). ScramProfile x.1) same ∙ sym l),
 )
+
+-- a challenge in UTF-8
+one_challenge_reply : (expects : Bool) (client : ClientSide) (text : List ℕ) (reply other : Result SaslFrame ProfileError)
+    (next last : Profile) → ChallengeReplies expects client text reply next
+    → ChallengeReplies expects client text other last → (reply ≡ other) × (next ≡ last)
+one_challenge_reply false client text reply other next last is too =
+    same_turn (λ message. frames.Response message) (is.0, is.1) (too.0, too.1) reply other next last
+    (one_answer client.state client text is.0 too.0 is.1 too.1 is.2 too.2) is.3 is.4 too.3 too.4
+one_challenge_reply true client text reply other next last is too =
+    same_turn (λ verified. frames.Response []) (is.0, is.1) (too.0, too.1) reply other next last
+    (one_check client.state client text is.0 too.0 is.1 too.1 is.2 too.2) is.3 is.4 too.3 too.4
 
 pub one_profile_reply : OneProfileReply
 one_profile_reply profile hostname nonce (frames.Mechanisms names) reply other next last (inl is) (inl too) =
@@ -274,10 +330,11 @@ one_profile_reply (ScramProfile client) hostname nonce (frames.Challenge text) r
     (inr is) (inl too) = absurd (too.0 is.0)
 one_profile_reply (ScramProfile client) hostname nonce (frames.Challenge text) reply other next last
     (inr is) (inr too) =
-    same_turn (λ message. frames.Response message) (is.1.0, is.1.1) (too.1.0, too.1.1) reply other next last
-    (one_answer client.state client text is.1.0 too.1.0 is.1.1 too.1.1 is.1.2 too.1.2) is.1.3 is.1.4 too.1.3 too.1.4
+    one_challenge_reply (expects_signature client) client text reply other next last is.1 too.1
 one_profile_reply (ScramProfile client) hostname nonce (frames.Outcome outcomes.Ok None) reply other next last is too =
-    both_are _ _ reply other next last is too
+    same_turn (λ verified. frames.Outcome outcomes.Ok None) (is.0, is.1) (too.0, too.1) reply other next last
+    (end_made client.state client is.0 is.1 is.2 ∙ sym (end_made client.state client too.0 too.1 too.2)) is.3 is.4
+    too.3 too.4
 one_profile_reply (ScramProfile client) hostname nonce (frames.Outcome outcomes.Ok (Some text)) reply other
     next last is too =
     same_turn (λ verified. frames.Outcome outcomes.Ok (Some text)) (is.0, is.1) (too.0, too.1) reply other next last

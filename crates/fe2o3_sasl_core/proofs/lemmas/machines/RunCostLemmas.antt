@@ -1,5 +1,5 @@
 -- What runs cost: the sum over their bodies bounds it.
-use Rattle.std.proofs.Common.{◌≡◌, ℕ, ◌+◌, ◌≤◌, Option, Some, None, List, [], ◌∷◌, refl, sym, ap, ◌∙◌, subst, inl, inr, Result, Ok, Err, arith}
+use Rattle.std.proofs.Common.{◌≡◌, ℕ, Bool, true, false, ◌+◌, ◌≤◌, Option, Some, None, List, [], ◌∷◌, refl, sym, ap, ◌∙◌, subst, inl, inr, Result, Ok, Err, arith}
 use Rattle.std.specs.Prelude.{IsUtf8}
 use Rattle.fe2o3_sasl_wire.specs.declared.amqp_types.SaslCode.TheVariants as outcomes
 use Rattle.fe2o3_sasl_wire.specs.declared.sasl_frames.error.Error.{Error}
@@ -15,7 +15,7 @@ use Rattle.fe2o3_scram.specs.ClientFirst.{ClientFirst, ReadsClientFirst}
 use Rattle.fe2o3_scram.specs.Hmac.{mechanism_name}
 use Rattle.fe2o3_scram.specs.Credentials.{Provider}
 use Rattle.fe2o3_scram.specs.ScramClient as client_states
-use Rattle.fe2o3_scram.specs.ScramClient.{ClientSide, ClientState, AnswerCostsIn, AnswersIn, VerifiesIn, started}
+use Rattle.fe2o3_scram.specs.ScramClient.{ClientSide, ClientState, AnswerCostsIn, AnswersIn, ChecksSignatureIn, ConcludesIn, VerifiesIn, expects_signature, started}
 use Rattle.fe2o3_scram.specs.ScramServer as server_states
 use Rattle.fe2o3_scram.specs.ScramServer.{ServerState, FinalCostsFrom, server_against}
 use Rattle.fe2o3_scram.specs.ServerFinal.{FinalCosts}
@@ -26,7 +26,7 @@ use Rattle.fe2o3_sasl_core.specs.Bodies.{carried}
 use Rattle.fe2o3_sasl_core.specs.CostLaws.{MeteredAcceptorSteps, MeteredProfileSteps, server_most, client_most, SumsUp, ServerRunsCost, ClientRunsCost, reply_of}
 use Rattle.fe2o3_sasl_core.specs.Costs.{ReachesLookUp, acceptor_hmacs, AcceptorCostsOf, ProfileCostsOf}
 use Rattle.fe2o3_sasl_core.specs.Events.{Given, ClientSays}
-use Rattle.fe2o3_sasl_core.specs.Profiles.{Profile, ScramProfile, profile_machine}
+use Rattle.fe2o3_sasl_core.specs.Profiles.{Profile, ScramProfile, ChallengeReplies, profile_machine}
 use Rattle.fe2o3_sasl_core.specs.Runs.{Runs, ProfileGives, Replies}
 use Rattle.fe2o3_sasl_core.specs.SaslAcceptor.{Acceptor, ScramAcceptor}
 use Rattle.fe2o3_sasl_core.proofs.lemmas.frames.SpellingLemmas.{one_spelling}
@@ -129,6 +129,8 @@ in_state_costs client_states.ClientInitial client text result before after costs
     (omega (arith, costs), omega (arith, costs))
 in_state_costs (client_states.ClientFinalSent signature keys) client text result before after costs =
     (omega (arith, costs), omega (arith, costs))
+in_state_costs (client_states.SignatureVerified keys) client text result before after costs =
+    (omega (arith, costs), omega (arith, costs))
 in_state_costs (client_states.Complete keys) client text result before after costs =
     (omega (arith, costs), omega (arith, costs))
 
@@ -165,6 +167,9 @@ answered_keeps client_states.ClientInitial client text (Err fault) after is = ap
 answered_keeps (client_states.ClientFinalSent signature keys) client text (Ok message) after is = absurd is
 answered_keeps (client_states.ClientFinalSent signature keys) client text (Err fault) after is =
     ap (λ (side : ClientSide). side.limits) is.1
+answered_keeps (client_states.SignatureVerified keys) client text (Ok message) after is = absurd is
+answered_keeps (client_states.SignatureVerified keys) client text (Err fault) after is =
+    ap (λ (side : ClientSide). side.limits) is.1
 answered_keeps (client_states.Complete keys) client text (Ok message) after is = absurd is
 answered_keeps (client_states.Complete keys) client text (Err fault) after is =
     ap (λ (side : ClientSide). side.limits) is.1
@@ -181,9 +186,37 @@ verified_keeps client_states.ClientInitial client text (Err fault) after is = ap
 verified_keeps (client_states.ClientFirstSent nonce bare) client text (Ok verified) after is = absurd is
 verified_keeps (client_states.ClientFirstSent nonce bare) client text (Err fault) after is =
     ap (λ (side : ClientSide). side.limits) is.1
+verified_keeps (client_states.SignatureVerified keys) client text (Ok verified) after is = absurd is
+verified_keeps (client_states.SignatureVerified keys) client text (Err fault) after is =
+    ap (λ (side : ClientSide). side.limits) is.1
 verified_keeps (client_states.Complete keys) client text (Ok verified) after is = absurd is
 verified_keeps (client_states.Complete keys) client text (Err fault) after is =
     ap (λ (side : ClientSide). side.limits) is.1
+
+checked_keeps : (state : ClientState) (client : ClientSide) (text : List ℕ)
+    (answer : Result (Unit {0}) ScramErrorKind) (after : ClientSide) → ChecksSignatureIn state client text answer after
+    → after.limits ≡ client.limits
+checked_keeps (client_states.ClientFinalSent signature keys) client text (Ok verified) after is =
+    ap (λ (side : ClientSide). side.limits) is.1
+checked_keeps (client_states.ClientFinalSent signature keys) client text (Err fault) after is =
+    ap (λ (side : ClientSide). side.limits) is.1
+checked_keeps state client text (Ok verified) after is = absurd is
+checked_keeps state client text (Err fault) after is = ap (λ (side : ClientSide). side.limits) is.1
+
+concluded_keeps : (state : ClientState) (client : ClientSide) (answer : Result (Unit {0}) ScramErrorKind)
+    (after : ClientSide) → ConcludesIn state client answer after → after.limits ≡ client.limits
+concluded_keeps (client_states.SignatureVerified keys) client (Ok verified) after is =
+    ap (λ (side : ClientSide). side.limits) is
+concluded_keeps (client_states.SignatureVerified keys) client (Err fault) after is = absurd is
+concluded_keeps state client (Ok verified) after is = absurd is
+concluded_keeps state client (Err fault) after is = ap (λ (side : ClientSide). side.limits) is.1
+
+challenge_keeps : (expects : Bool) (client : ClientSide) (text : List ℕ) (reply : Result SaslFrame ProfileError)
+    (moved : Profile) → ChallengeReplies expects client text reply moved → Keeps client moved
+challenge_keeps false client text reply moved turn =
+    (turn.1, turn.4, answered_keeps client.state client text turn.0 turn.1 turn.2)
+challenge_keeps true client text reply moved turn =
+    (turn.1, turn.4, checked_keeps client.state client text turn.0 turn.1 turn.2)
 
 machine_keeps : (client : ClientSide) (hostname : Option (List ℕ)) (nonce : List ℕ) (frame : SaslFrame)
     (reply : Result SaslFrame ProfileError) (moved : Profile)
@@ -193,8 +226,9 @@ machine_keeps client hostname nonce (frames.Mechanisms names) reply moved (inl i
 machine_keeps client hostname nonce (frames.Mechanisms names) reply moved (inr is) = (client, is.2, refl)
 machine_keeps client hostname nonce (frames.Challenge text) reply moved (inl is) = (client, is.2, refl)
 machine_keeps client hostname nonce (frames.Challenge text) reply moved (inr is) =
-    let turn = is.1 in (turn.1, turn.4, answered_keeps client.state client text turn.0 turn.1 turn.2)
-machine_keeps client hostname nonce (frames.Outcome outcomes.Ok None) reply moved is = (client, is.1, refl)
+    challenge_keeps (expects_signature client) client text reply moved is.1
+machine_keeps client hostname nonce (frames.Outcome outcomes.Ok None) reply moved is =
+    (is.1, is.4, concluded_keeps client.state client is.0 is.1 is.2)
 machine_keeps client hostname nonce (frames.Outcome outcomes.Ok (Some text)) reply moved is =
     (is.1, is.4, verified_keeps client.state client text is.0 is.1 is.2)
 machine_keeps client hostname nonce (frames.Outcome code more) reply moved is = (client, is.1, refl)

@@ -1,6 +1,6 @@
 -- Each list of events whose bodies are bytes has a run of either machine in which memory does not run out, and so a
 -- history.
-use Rattle.std.proofs.Common.{◌≡◌, ◌≢◌, ℕ, zero, suc, ◌<◌, Option, Some, None, List, [], ◌∷◌, length, refl, sym, ◌∙◌, arith, inl, inr, Result, Ok, Err}
+use Rattle.std.proofs.Common.{◌≡◌, ◌≢◌, ℕ, Bool, true, false, zero, suc, ◌<◌, Option, Some, None, List, [], ◌∷◌, length, refl, sym, ◌∙◌, arith, inl, inr, Result, Ok, Err}
 use Rattle.std.specs.List.{Contains}
 use Rattle.std.specs.Prelude.{slice_get, slice_index_or, IsUtf8}
 use Rattle.std.proofs.lemmas.Option.{none-some, same_Some}
@@ -16,7 +16,7 @@ use Rattle.fe2o3_scram.specs.Credentials.{Record, Provider}
 use Rattle.fe2o3_scram.specs.declared.hmac.ScramVersion.{ScramVersion}
 use Rattle.fe2o3_scram.specs.Hmac.{mechanism_name}
 use Rattle.fe2o3_scram.specs.ScramClient as client_states
-use Rattle.fe2o3_scram.specs.ScramClient.{ClientSide, ClientState, AnswersIn, VerifiesIn, started, with_state, holding}
+use Rattle.fe2o3_scram.specs.ScramClient.{ClientSide, ClientState, AnswersIn, ChecksSignatureIn, ConcludesIn, VerifiesIn, expects_signature, started, with_state, holding}
 use Rattle.fe2o3_scram.specs.ScramServer.{ServerState, Initial, ServerFirstSent, ServerFinalSent, ChallengesFrom, ConcludesFrom, server_against}
 use Rattle.fe2o3_scram.specs.ServerFinal.{ReadsServerFinal, server_final_of}
 use Rattle.fe2o3_scram.specs.ServerFirst.{ServerFirst, ReadsServerFirst, challenge_of}
@@ -31,7 +31,7 @@ use Rattle.fe2o3_sasl_core.specs.Events.{Given, ServerSays, Failed, ClientSays, 
 use Rattle.fe2o3_sasl_core.specs.Laws.{BodiesAreBytes, SomeServerHistory, SomeClientHistory}
 use Rattle.fe2o3_sasl_core.specs.Runs.{Runs, AcceptorGives, AcceptorSteps, ProfileGives, ProfileSteps, Replies, SendsCanonical}
 use Rattle.fe2o3_sasl_core.specs.SaslAcceptor.{ScramAcceptor, acceptor_machine, ends_with, server_frame}
-use Rattle.fe2o3_sasl_core.specs.Profiles.{ScramProfile, profile_machine, client_frame, initial_response}
+use Rattle.fe2o3_sasl_core.specs.Profiles.{ScramProfile, ChallengeReplies, profile_machine, client_frame, initial_response}
 use Rattle.fe2o3_sasl_core.specs.Complete.{ServerComplete, ClientComplete}
 use Rattle.fe2o3_sasl_core.specs.Bodies.{SpellsBody, server_says}
 use Rattle.fe2o3_sasl_core.proofs.lemmas.machines.ClientMachineLemmas.{profile_runs_are_histories}
@@ -220,6 +220,7 @@ some_answer : (state : ClientState) (side : ClientSide) (text : List ℕ)
     → (answer : Result (List ℕ) ScramErrorKind) × (after : ClientSide) × AnswersIn state side text answer after
 some_answer client_states.ClientInitial side text = (Err IllegalClientState, side, (refl, refl))
 some_answer (client_states.ClientFinalSent signature keys) side text = (Err IllegalClientState, side, (refl, refl))
+some_answer (client_states.SignatureVerified keys) side text = (Err IllegalClientState, side, (refl, refl))
 some_answer (client_states.Complete keys) side text = (Err IllegalClientState, side, (refl, refl))
 some_answer (client_states.ClientFirstSent nonce bare) side text =
     let read = some_server_first (holding side nonce) text in go read.0 read.1
@@ -239,6 +240,7 @@ some_verification : (state : ClientState) (side : ClientSide) (text : List ℕ)
     → (answer : Result (Unit {0}) ScramErrorKind) × (after : ClientSide) × VerifiesIn state side text answer after
 some_verification client_states.ClientInitial side text = (Err IllegalClientState, side, (refl, refl))
 some_verification (client_states.ClientFirstSent nonce bare) side text = (Err IllegalClientState, side, (refl, refl))
+some_verification (client_states.SignatureVerified keys) side text = (Err IllegalClientState, side, (refl, refl))
 some_verification (client_states.Complete keys) side text = (Err IllegalClientState, side, (refl, refl))
 some_verification (client_states.ClientFinalSent signature keys) side text =
     let read = some_server_final signature text in go read.0 read.1
@@ -249,6 +251,25 @@ some_verification (client_states.ClientFinalSent signature keys) side text =
     go (Ok verified) reads = (Ok verified, with_state side (client_states.Complete keys), (reads, refl))
     go (Err kind) reads = (Err kind, side, (reads, refl))
 
+-- an answer to a signature in a challenge
+some_check : (state : ClientState) (side : ClientSide) (text : List ℕ)
+    → (answer : Result (Unit {0}) ScramErrorKind) × (after : ClientSide) × ChecksSignatureIn state side text answer after
+some_check (client_states.ClientFinalSent signature keys) side text =
+    let read = some_server_final signature text in go read.0 read.1
+  where
+    go : (read : Result (Unit {0}) ScramErrorKind) → ReadsServerFinal signature text read
+        → (answer : Result (Unit {0}) ScramErrorKind) × (after : ClientSide)
+        × ChecksSignatureIn (client_states.ClientFinalSent signature keys) side text answer after
+    go (Ok verified) reads = (Ok verified, with_state side (client_states.SignatureVerified keys), (reads, refl))
+    go (Err kind) reads = (Err kind, side, (reads, refl))
+some_check state side text = (Err IllegalClientState, side, (refl, refl))
+
+-- an answer to an outcome Ok without data
+some_end : (state : ClientState) (side : ClientSide)
+    → (answer : Result (Unit {0}) ScramErrorKind) × (after : ClientSide) × ConcludesIn state side answer after
+some_end (client_states.SignatureVerified keys) side = (Ok tt, with_state side (client_states.Complete keys), refl)
+some_end state side = (Err ServerSignatureMismatch, side, (refl, refl))
+
 -- it is not an error for running out of memory
 abbrev pub Told : Result SaslFrame ProfileError → Type 0
 Told (Ok frame) = Unit {0}
@@ -257,6 +278,23 @@ Told (Err fault) = fault ≢ OutOfMemory
 told_frame : {A : Type 0} (frame : A → SaslFrame) (answer : Result A ScramErrorKind) → Told (client_frame frame answer)
 told_frame frame (Ok answer) = tt
 told_frame frame (Err kind) = scram_tells kind
+
+-- what a client replies to a challenge in UTF-8
+some_reply : (expects : Bool) (side : ClientSide) (text : List ℕ)
+    → (reply : Result SaslFrame ProfileError) × (moved : ClientSide)
+    × ChallengeReplies expects side text reply (ScramProfile moved) × Told reply
+some_reply false side text = let answer = some_answer side.state side text in (
+  client_frame (λ message. frames.Response message) answer.0,
+  answer.1,
+  (answer.0, answer.1, answer.2, refl, refl),
+  told_frame (λ message. frames.Response message) answer.0,
+)
+some_reply true side text = let answer = some_check side.state side text in (
+  client_frame (λ verified. frames.Response []) answer.0,
+  answer.1,
+  (answer.0, answer.1, answer.2, refl, refl),
+  told_frame (λ verified. frames.Response []) answer.0,
+)
 
 -- what the machine of a SCRAM profile does
 abbrev pub Moves : Option (List ℕ) → ClientSide → List ℕ → SaslFrame → Type 0
@@ -279,15 +317,16 @@ some_move hostname side nonce (frames.Mechanisms names) = go (contains_or names 
 some_move hostname side nonce (frames.Challenge text) = go (utf8_or text)
   where
     go : Decided (IsUtf8 text) → Moves hostname side nonce (frames.Challenge text)
-    go (inl utf8) = let answer = some_answer side.state side text in (
-      client_frame (λ message. frames.Response message) answer.0,
-      answer.1,
-      inr (utf8, (answer.0, answer.1, answer.2, refl, refl)),
-      told_frame (λ message. frames.Response message) answer.0,
-    )
+    go (inl utf8) = let reply = some_reply (expects_signature side) side text in
+    (reply.0, reply.1, inr (utf8, reply.2), reply.3)
     go (inr other) = (Err (Scram Utf8Error), side, inl (other, refl, refl), λ is. cc)
 some_move hostname side nonce (frames.Outcome outcomes.Ok None) =
-    (Err (Scram ServerSignatureMismatch), side, (refl, refl), λ is. cc)
+    let answer = some_end side.state side in (
+      client_frame (λ verified. frames.Outcome outcomes.Ok None) answer.0,
+      answer.1,
+      (answer.0, answer.1, answer.2, refl, refl),
+      told_frame (λ verified. frames.Outcome outcomes.Ok None) answer.0,
+    )
 some_move hostname side nonce (frames.Outcome outcomes.Ok (Some text)) =
     let answer = some_verification side.state side text in (
       client_frame (λ verified. frames.Outcome outcomes.Ok (Some text)) answer.0,
@@ -371,6 +410,7 @@ some_client_history login events are =
       secret = login.secret;
       version = login.version;
       limits = login.limits;
+      signature_by_challenge = login.signature_by_challenge;
       state = client_states.ClientInitial;
     } in
     let run = some_profile_run login.hostname side events are in

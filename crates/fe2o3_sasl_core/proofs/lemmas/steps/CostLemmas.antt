@@ -1,12 +1,12 @@
 -- What answers and steps cost, from what a meter shows.
-use Rattle.std.proofs.Common.{◌≡◌, ℕ, List, refl, true, false, Result, Ok, Err, arith}
-use Rattle.std.specs.Prelude.{IsOk}
+use Rattle.std.proofs.Common.{◌≡◌, ℕ, Bool, List, refl, true, false, Result, Ok, Err, arith}
+use Rattle.std.specs.Prelude.{IsOk, ◌&&◌}
 use Rattle.std.specs.Str.{IsUtf8}
 use Rattle.fe2o3_sasl_wire.specs.declared.sasl_frames.error.Error.{Error}
 use Rattle.fe2o3_sasl_wire.specs.SaslFrames as frames
 use Rattle.fe2o3_sasl_wire.specs.SaslFrames.{SaslFrame, ReadsBody}
 use Rattle.fe2o3_scram.specs.ScramClient as client_states
-use Rattle.fe2o3_scram.specs.ScramClient.{ClientSide, ClientState, AnswerCostsIn}
+use Rattle.fe2o3_scram.specs.ScramClient.{ClientSide, ClientState, AnswerCostsIn, expects_signature, is_unsigned}
 use Rattle.fe2o3_scram.specs.ServerFirst.{Client}
 use Rattle.fe2o3_scram.specs.ServerFirstAnswers.{AnswerCosts}
 use Rattle.fe2o3_sasl_core.specs.Costs.{CostsAtMost, AcceptorStepCosts, ProfileCosts, ProfileStepCosts}
@@ -42,6 +42,7 @@ again_in (client_states.ClientFirstSent nonce bare) client text result other bef
     again _ text result other before after fewer costs
 again_in client_states.ClientInitial client text result other before after fewer costs = costs
 again_in (client_states.ClientFinalSent signature keys) client text result other before after fewer costs = costs
+again_in (client_states.SignatureVerified keys) client text result other before after fewer costs = costs
 again_in (client_states.Complete keys) client text result other before after fewer costs = costs
 
 -- an answer to a challenge in UTF-8
@@ -51,6 +52,21 @@ pub challenge_costs : {A F B G : Type 0} (client : ClientSide) (text : List ℕ)
     → ProfileCosts (frames.Challenge text) (ScramProfile client) other before after
 challenge_costs client text result other before after utf8 fewer costs =
     (λ not. absurd (not utf8), λ _. again_in client.state client text result other before after fewer costs)
+
+-- a signature in a challenge
+pub signature_costs : {A F : Type 0} (client : ClientSide) (text : List ℕ) (result : Result A F) (meter : ℕ)
+    → expects_signature client ≡ true → ProfileCosts (frames.Challenge text) (ScramProfile client) result meter meter
+signature_costs {A} {F} client text result meter expects =
+    (λ not. refl, λ utf8. go client.state (unsigned client.signature_by_challenge (is_unsigned client.state) expects))
+  where
+    unsigned : (accepts waits : Bool) → (accepts && waits) ≡ true → waits ≡ true
+    unsigned true waits is = is
+    unsigned false waits is = absurd (cc)
+
+    go : (state : ClientState) → is_unsigned state ≡ true
+        → AnswerCostsIn {A = A} {F = F} state client text result meter meter
+    go (client_states.ClientFirstSent nonce bare) is = absurd (cc)
+    go state is = refl
 
 -- the same of what rests on an answer
 pub costs_again : {A F B G : Type 0} (frame : SaslFrame) (profile : Profile) (result : Result A F)

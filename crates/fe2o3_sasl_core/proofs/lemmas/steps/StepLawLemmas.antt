@@ -1,6 +1,6 @@
 -- What an Ok of one step means, for a caller's own proof: `oks_log_in` of a server, `plain_oks_log_in` of PLAIN over
 -- records, `reported_oks_are_signed` of a client.
-use Rattle.std.proofs.Common.{◌≡◌, ◌≢◌, ℕ, Option, Some, None, List, refl, ap, ◌∙◌, subst, inl, inr, Result, Ok, Err}
+use Rattle.std.proofs.Common.{◌≡◌, ◌≢◌, ℕ, Bool, true, false, Option, Some, None, List, [], refl, sym, ap, ◌∙◌, subst, inl, inr, Result, Ok, Err}
 use Rattle.fe2o3_sasl_wire.specs.declared.amqp_types.SaslCode.{SaslCode}
 use Rattle.fe2o3_sasl_wire.specs.declared.amqp_types.SaslCode.TheVariants as outcomes
 use Rattle.fe2o3_sasl_wire.specs.declared.sasl_frames.error.Error.TheVariants as faults
@@ -9,17 +9,17 @@ use Rattle.fe2o3_sasl_wire.specs.SaslFrames as frames
 use Rattle.fe2o3_scram.specs.Credentials.{Provider}
 use Rattle.fe2o3_scram.specs.declared.scram_messages.error.ScramErrorKind.{ScramErrorKind}
 use Rattle.fe2o3_scram.specs.declared.scram_messages.error.ServerScramErrorKind.{ServerScramErrorKind}
-use Rattle.fe2o3_scram.specs.ScramClient.{ClientSide, VerifiesIn}
+use Rattle.fe2o3_scram.specs.ScramClient.{ClientSide, ClientState, SignatureVerified, ConcludesIn, VerifiesIn, expects_signature}
 use Rattle.fe2o3_scram.specs.ScramServer.{ServerState, ServerFinalSent, ConcludesFrom}
 use Rattle.fe2o3_scram.specs.Logins.{IsSigned}
 use Rattle.fe2o3_scram.proofs.lemmas.messages.LoginLemmas.{accepted_texts_log_in, verified_texts_are_signed}
 use Rattle.fe2o3_sasl_core.specs.Bodies.{SpellsBody, carried, server_says}
 use Rattle.fe2o3_sasl_core.specs.Events.{Given, ServerSays, Concluded, Failed, ClientSays, Reported, Refused}
 use Rattle.fe2o3_sasl_core.specs.PlainServer.{PlainLogsIn, PlainState, plain_machine}
-use Rattle.fe2o3_sasl_core.specs.Profiles.{Profile, ScramProfile, client_frame, profile_machine}
+use Rattle.fe2o3_sasl_core.specs.Profiles.{Profile, ScramProfile, ChallengeReplies, client_frame, profile_machine}
 use Rattle.fe2o3_sasl_core.specs.Runs.{Replies, SendsCanonical}
 use Rattle.fe2o3_sasl_core.specs.SaslAcceptor.{Acceptor, AnonymousAcceptor, ScramAcceptor, acceptor_machine, ends_with, server_frame}
-use Rattle.fe2o3_sasl_core.specs.StepLaws.{BodyLogsIn, OksLogIn, PlainOksLogIn, ReportedOksAreSigned}
+use Rattle.fe2o3_sasl_core.specs.StepLaws.{BodyLogsIn, OksLogIn, PlainOksLogIn, ReportedOksAreSigned, ShowsSignature}
 use Rattle.fe2o3_sasl_core.specs.declared.sasl_profile.error.ProfileError.{ProfileError}
 use Rattle.fe2o3_sasl_core.specs.declared.sasl_profile.error.ProfileError.TheVariants.{Frame}
 
@@ -210,6 +210,36 @@ verified_is_signed client after event text (Ok tt) reply moved next more from is
 verified_is_signed client after event text (Err kind) reply moved next more from is said =
     absurd (refusal_is_no_report (ScramProfile client) moved next reply _ more is said)
 
+-- a challenge is answered or rejected
+challenge_is_no_report : (expects : Bool) (client : ClientSide) (text : List ℕ) (reply : Result SaslFrame ProfileError)
+    (moved next : Profile) (more : Option (List ℕ)) → ChallengeReplies expects client text reply moved
+    → ¬ Reports (ScramProfile client) moved reply more next
+challenge_is_no_report false client text reply moved next more m said = answered m.0 m.3
+  where
+    answered : (answer : Result (List ℕ) ScramErrorKind)
+        → reply ≡ client_frame (λ message. frames.Response message) answer → ⊥
+    answered (Ok message) is = response_is_no_report (ScramProfile client) moved next reply message more is said
+    answered (Err kind) is = refusal_is_no_report (ScramProfile client) moved next reply _ more is said
+challenge_is_no_report true client text reply moved next more m said = confirmed m.0 m.3
+  where
+    confirmed : (answer : Result (Unit {0}) ScramErrorKind)
+        → reply ≡ client_frame (λ verified. frames.Response []) answer → ⊥
+    confirmed (Ok verified) is = response_is_no_report (ScramProfile client) moved next reply [] more is said
+    confirmed (Err kind) is = refusal_is_no_report (ScramProfile client) moved next reply _ more is said
+
+-- an outcome without data that is accepted
+ended_is_verified : (state : ClientState) (client after : ClientSide) (answer : Result (Unit {0}) ScramErrorKind)
+    (reply : Result SaslFrame ProfileError) (moved next : Profile) (more : Option (List ℕ))
+    → ConcludesIn state client answer after
+    → reply ≡ client_frame (λ verified. frames.Outcome outcomes.Ok None) answer
+    → Reports (ScramProfile client) moved reply more next → (more ≡ None) × ShowsSignature state None
+ended_is_verified (SignatureVerified keys) client after (Ok tt) reply moved next more from is said =
+    let same = (subst (λ (r : Result SaslFrame ProfileError). Reports (ScramProfile client) moved r more next) is
+    said).0 in (cc, (keys, refl))
+ended_is_verified state client after (Ok tt) reply moved next more from is said = absurd from
+ended_is_verified state client after (Err kind) reply moved next more from is said =
+    absurd (refusal_is_no_report (ScramProfile client) moved next reply _ more is said)
+
 pub reported_oks_are_signed : ReportedOksAreSigned
 reported_oks_are_signed hostname client event more next (Err fault, spells, gives) = let no = gives.0 in absurd (cc)
 reported_oks_are_signed hostname client event more next (Ok frame, spells, inl wants) =
@@ -220,25 +250,23 @@ reported_oks_are_signed hostname client event more next (Ok frame, spells, inr g
     go : (frame : SaslFrame) (reply : Result SaslFrame ProfileError) (moved : Profile)
         → SpellsBody event.body (Ok frame) → profile_machine (ScramProfile client) hostname event.nonce frame reply moved
         → Reports (ScramProfile client) moved reply more next
-        → (text : List ℕ) × (more ≡ Some text) × SpellsBody event.body (Ok (frames.Outcome outcomes.Ok (Some text)))
-        × IsSigned client.state text
+        → SpellsBody event.body (Ok (frames.Outcome outcomes.Ok more)) × ShowsSignature client.state more
     go (frames.Mechanisms names) reply moved spells (inl m) said =
         absurd (init_is_no_report (ScramProfile client) moved next reply _ _ _ more m.1 said)
     go (frames.Mechanisms names) reply moved spells (inr m) said =
         absurd (refusal_is_no_report (ScramProfile client) moved next reply _ more m.1 said)
     go (frames.Challenge text) reply moved spells (inl m) said =
         absurd (refusal_is_no_report (ScramProfile client) moved next reply _ more m.1 said)
-    go (frames.Challenge text) reply moved spells (inr m) said = absurd (answered m.1.0 m.1.3)
-      where
-        answered : (answer : Result (List ℕ) ScramErrorKind)
-            → reply ≡ client_frame (λ message. frames.Response message) answer → ⊥
-        answered (Ok message) is = response_is_no_report (ScramProfile client) moved next reply message more is said
-        answered (Err kind) is = refusal_is_no_report (ScramProfile client) moved next reply _ more is said
+    go (frames.Challenge text) reply moved spells (inr m) said =
+        absurd (challenge_is_no_report (expects_signature client) client text reply moved next more m.1 said)
     go (frames.Outcome outcomes.Ok None) reply moved spells m said =
-        absurd (refusal_is_no_report (ScramProfile client) moved next reply _ more m.0 said)
+        let ended = ended_is_verified client.state client m.1 m.0 reply moved next more m.2 m.3 said in
+        subst (λ (data : Option (List ℕ)). SpellsBody event.body (Ok (frames.Outcome outcomes.Ok data))
+        × ShowsSignature client.state data) (sym ended.0) (spells, ended.1)
     go (frames.Outcome outcomes.Ok (Some text)) reply moved spells m said =
         let signed = verified_is_signed client m.1 event text m.0 reply moved next more m.2 m.3 said in
-        (text, signed.0, spells, signed.1)
+        subst (λ (data : Option (List ℕ)). SpellsBody event.body (Ok (frames.Outcome outcomes.Ok data))
+        × ShowsSignature client.state data) (sym signed.0) (spells, signed.1)
     go (frames.Outcome outcomes.Auth shown) reply moved spells m said =
         absurd (other_code (ScramProfile client) moved next reply outcomes.Auth shown more m.0 (λ is. absurd (cc)) said)
     go (frames.Outcome outcomes.Sys shown) reply moved spells m said =

@@ -17,7 +17,7 @@ use Rattle.fe2o3_sasl_core.specs.Positions.{test_at}
 use Rattle.fe2o3_sasl_core.specs.Bodies.{SpellsBody}
 use Rattle.fe2o3_sasl_core.specs.ServerHistory.{Challenging, Accepted, FitsAsResponse, AcceptsAt, Open, ServerAnswers, ServerAllocates, ServerHistory, says_ok, is_ok}
 use Rattle.fe2o3_sasl_core.specs.TwoSides.{Sides, Histories, ReportedAnswer, Takes}
-use Rattle.fe2o3_sasl_core.proofs.lemmas.histories.OneClientHistoryLemmas.{one_open_answer, one_verified_answer, one_reading_of_outcome}
+use Rattle.fe2o3_sasl_core.proofs.lemmas.histories.OneClientHistoryLemmas.{one_open_answer, one_reading_of_outcome}
 use Rattle.fe2o3_sasl_core.proofs.lemmas.histories.ReportedOkLemmas.{reported_at}
 use Rattle.fe2o3_sasl_core.proofs.lemmas.two_sides.MeetingSidesLemmas.{agree, met_taken, taken_signature}
 use Rattle.fe2o3_sasl_core.proofs.lemmas.positions.PositionLemmas.{some_at}
@@ -135,8 +135,8 @@ wherever_signed login events replies m more says history is at memory =
         → says ≡ Reported outcomes.Ok more
     go reads (inl told) = told.1
     go reads (inr told) = let same = one_reading_of_outcome login (OpenAnswer login events replies m)
-        (VerifiedAnswer login events replies m) (one_open_answer login events replies m)
-        (one_verified_answer login events replies m) more (Ok tt) (Err told.0) reads told.1 in absurd (cc)
+        (VerifiedAnswer login events replies m) (one_open_answer login events replies m) more (Ok tt) (Err told.0)
+        reads told.1 in absurd (cc)
 
 pub reports_ok_exactly : EveryClient ReportsOkExactly
 reports_ok_exactly login events replies history = record {
