@@ -216,7 +216,7 @@ FromTwoChallenges sides n o = (i j : ℕ) × IsLastOpen is_challenge is_ok sides
 -- k is the position of the client-final message whose signature an outcome with this data at m shows: the last response,
 -- or without data the one before the response to the signature
 abbrev pub AnswerPosition : List ClientSays → ℕ → Option (List ℕ) → ℕ → Type 0
-AnswerPosition replies m (Some data) k = IsLastOpen is_answer ends_answer replies m k
+AnswerPosition replies m (Some text) k = IsLastOpen is_answer ends_answer replies m k
 AnswerPosition replies m None k = (j : ℕ) × IsLastOpen is_answer ends_answer replies m j
     × IsLastOpen is_answer ends_answer replies j k
 

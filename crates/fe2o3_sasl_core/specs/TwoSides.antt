@@ -76,7 +76,7 @@ ChallengeAt events k text =
 -- the text of the server-final message that the client has at m: this data of an outcome, or without data the challenge
 -- that it answered last
 abbrev pub VerifierText : List Given → List ClientSays → ℕ → Option (List ℕ) → List ℕ → Type 0
-VerifierText events replies m (Some data) text = text ≡ data
+VerifierText events replies m (Some given) text = text ≡ given
 VerifierText events replies m None text = OpenBy is_answer ends_answer (ChallengeAt events) replies m text
 
 -- the client reported Ok at m on the verifier that the server gave at n
@@ -91,7 +91,7 @@ pub record Takes (sides : Sides) (m n : ℕ) (accepted : Accepted) : Type 0 wher
 -- the answer on whose signature an outcome Ok with this data is reported at m: the open one, or without data the one
 -- whose signature came in the challenge that was answered last
 abbrev pub SignedAnswer : Login → List Given → List ClientSays → ℕ → Option (List ℕ) → Answering → Type 0
-SignedAnswer login events replies m (Some data) answer = OpenAnswer login events replies m answer
+SignedAnswer login events replies m (Some text) answer = OpenAnswer login events replies m answer
 SignedAnswer login events replies m None answer = VerifiedAnswer login events replies m answer
 
 -- the answer on whose signature the client reported Ok at m

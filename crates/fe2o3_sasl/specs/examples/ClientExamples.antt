@@ -1,5 +1,5 @@
 -- Worked examples of clients. Each is the client of the first examples, but with the keys of its password.
-use Rattle.std.specs.Prelude.{ℕ, Option, Some, None, List, [], ◌∷◌, replicate, codes}
+use Rattle.std.specs.Prelude.{ℕ, Option, Some, None, List, [], ◌∷◌, replicate, codes, false}
 use Rattle.fe2o3_sasl_wire.specs.declared.amqp_types.SaslCode.TheVariants as outcomes
 use Rattle.fe2o3_sasl_wire.specs.SaslFrames as frames
 use Rattle.fe2o3_scram.specs.declared.hmac.ScramVersion.TheVariants.{Sha256}
@@ -16,7 +16,14 @@ use Rattle.fe2o3_sasl_core.specs.declared.sasl_profile.error.ProfileError.TheVar
 -- the client of the first examples with this secret, these limits and this hostname
 abbrev pub changed : Secret → IterationLimits → Option (List ℕ) → Login
 changed secret limits hostname =
-    record { user = login.user; secret = secret; version = Sha256; limits = limits; hostname = hostname }
+    record {
+      user = login.user;
+      secret = secret;
+      version = Sha256;
+      limits = limits;
+      signature_by_challenge = false;
+      hostname = hostname;
+    }
 
 -- ---- what all of them get and say
 

@@ -51,6 +51,7 @@ login = record {
   secret = Password (Typed (codes "pencil"));
   version = Sha256;
   limits = up_to no_limit;
+  signature_by_challenge = false;
   hostname = None;
 }
 

@@ -6,10 +6,10 @@ use Rattle.fe2o3_scram.specs.Credentials.{Provider}
 use Rattle.fe2o3_scram.specs.Hmac.{digest}
 use Rattle.fe2o3_scram.specs.Texts.{Part}
 use Rattle.fe2o3_sasl_core.specs.Verdicts.{Parameters, AreParameters, recovered_at}
-use Rattle.fe2o3_sasl_core.specs.ClientHistory.{Answering, AnswersAt, OpenAnswer}
+use Rattle.fe2o3_sasl_core.specs.ClientHistory.{Answering, AnswersAt}
 use Rattle.fe2o3_sasl_core.specs.Events.{Given, Login, IsRecord, ServerSays, Concluded, ClientSays, Answered, Reported}
 use Rattle.fe2o3_sasl_core.specs.ServerHistory.{Accepted, AcceptsAt, final_message}
-use Rattle.fe2o3_sasl_core.specs.TwoSides.{client_message, server_message, keys_at, proof_at}
+use Rattle.fe2o3_sasl_core.specs.TwoSides.{VerifierText, SignedAnswer, client_message, server_message, keys_at, proof_at}
 
 -- the receipt of a position of the client: what it showed or took there, and the AuthMessage and the keys of its answer
 pub record ClientReceipt : Type 0 where
@@ -64,9 +64,10 @@ IsShownReceipt login events replies receipt =
 -- the receipt of a reported Ok, with the verifier that the client took
 abbrev pub IsTakenReceipt : Login → List Given → List ClientSays → ClientReceipt → Type 0
 IsTakenReceipt login events replies receipt =
-    (text : List ℕ) × (answer : Answering)
-    × (slice_get replies receipt.place ≡ Some (Reported outcomes.Ok (Some text)))
-    × OpenAnswer login events replies receipt.place answer × Part text 0 receipt.shown
+    (more : Option (List ℕ)) × (text : List ℕ) × (answer : Answering)
+    × (slice_get replies receipt.place ≡ Some (Reported outcomes.Ok more))
+    × SignedAnswer login events replies receipt.place more answer
+    × VerifierText events replies receipt.place more text × Part text 0 receipt.shown
     × OfAnswer login answer receipt
 
 -- the receipt of an Ok of the server

@@ -1,3 +1,4 @@
 pub mod EqualMessageLemmas
 pub mod HeadlineLemmas
 pub mod MeetingSidesLemmas
+pub mod ReportedAnswerLemmas

@@ -11,7 +11,7 @@ use Rattle.fe2o3_sasl_core.specs.ClientHistory.{Answering, AnswersAt, ClientHist
 use Rattle.fe2o3_sasl_core.specs.Complete.{ClientComplete, ServerComplete}
 use Rattle.fe2o3_sasl_core.specs.Events.{Given, Login, ServerSays, Concluded, ClientSays, Answered, Reported, IsSecret}
 use Rattle.fe2o3_sasl_core.specs.ServerHistory.{Accepted, AcceptsAt, ServerHistory, final_message}
-use Rattle.fe2o3_sasl_core.specs.TwoSides.{Sides, Histories, OkAt, Takes, Shows, proof_at}
+use Rattle.fe2o3_sasl_core.specs.TwoSides.{Sides, Histories, VerifierText, OkAt, Takes, Shows, proof_at}
 use Rattle.fe2o3_sasl.specs.private.Findings.{same, agreed_on, verifier_verdict, proof_verdict, is_taken, is_shown, verifier_finding, proof_finding, findings_of}
 use Rattle.fe2o3_sasl.specs.private.Receipts.{ClientReceipt, ServerReceipt, OfAnswer, OfAccepted, IsShownReceipt, IsTakenReceipt, IsOkReceipt, RespondsAt, ReportsAt, ConcludesAt, Member, Covers}
 use Rattle.fe2o3_scram.specs.Credentials.{Provider}
@@ -19,8 +19,9 @@ use Rattle.fe2o3_scram.specs.Texts.{Part}
 use Rattle.fe2o3_scram.proofs.lemmas.texts.PartsLemmas.{one_part}
 use Rattle.fe2o3_sasl.proofs.lemmas.audit.FoundLemmas.{each_found, found_pairs}
 use Rattle.fe2o3_sasl.proofs.lemmas.lists.MemberLemmas.{member_each}
-use Rattle.fe2o3_sasl_core.proofs.lemmas.histories.OneClientHistoryLemmas.{one_answers_at, one_open_answer}
+use Rattle.fe2o3_sasl_core.proofs.lemmas.histories.OneClientHistoryLemmas.{one_answers_at}
 use Rattle.fe2o3_sasl_core.proofs.lemmas.histories.OneServerHistoryLemmas.{one_accepted}
+use Rattle.fe2o3_sasl_core.proofs.lemmas.two_sides.ReportedAnswerLemmas.{one_more, one_reported_answer, one_verifier_text}
 use Rattle.fe2o3_sasl.proofs.lemmas.two_sides.VerdictLemmas.{one_value, taken_verifiers_are_judged, shown_proofs_are_judged}
 
 same_is : (left right : List ℕ) → same left right ≡ true → left ≡ right
@@ -125,11 +126,13 @@ module _ (sides : Sides) (histories : Histories sides) (held : IsSecret sides.lo
       → is_taken client server ≡ true → Takes sides client.place server.place o.1
   taken_of client server t o meets =
       record {
-        text = t.0;
-        reported = t.2;
+        more = t.0;
+        text = t.1;
+        reported = t.3;
+        verifier = t.5;
         ok = ok_at sides server o;
         one =
-            subst (λ (z : List ℕ). Part t.0 0 z) (same_is client.shown server.verifier meets ∙ o.4.verifier) t.4;
+            subst (λ (z : List ℕ). Part t.1 0 z) (same_is client.shown server.verifier meets ∙ o.4.verifier) t.6;
       }
 
   shown_of : (client : ClientReceipt) (server : ServerReceipt) (t : Shown sides client) (o : OfOk sides server)
@@ -149,10 +152,10 @@ module _ (sides : Sides) (histories : Histories sides) (held : IsSecret sides.lo
   taken_finding client server t o meets =
       let takes = taken_of client server t o meets in
       let judged = taken_verifiers_are_judged sides client.place server.place o.1 histories o.4.kept takes in
-      let one : t.1 ≡ judged.0.answer = one_open_answer sides.login sides.client_events sides.client_replies
-      client.place t.1 judged.0.answer t.3 judged.0.opened in
+      let one : t.2 ≡ judged.0.answer = one_reported_answer sides.login sides.client_events sides.client_replies
+      client.place t.2 judged.0.answer (t.0, t.3, t.4) judged.0.opened in
       let a : OfAnswer sides.login judged.0.answer client =
-      subst (λ (z : Answering). OfAnswer sides.login z client) one t.5 in (
+      subst (λ (z : Answering). OfAnswer sides.login z client) one t.7 in (
         refl,
         (
           judged.0.answer,
@@ -236,13 +239,19 @@ module _ (sides : Sides) (histories : Histories sides) (held : IsSecret sides.lo
           → (client : ClientReceipt) × (server : ServerReceipt) × Member client taken × Member server oks
           × (is_taken client server ≡ true) × (client.place ≡ m) × (server.place ≡ n)
       taken_pair m n accepted t =
-          let within = slice_get_within sides.client_replies m (Reported outcomes.Ok (Some t.text)) t.reported in
-          let found = takes.every m (omega (arith, within, histories.client.count)) (Some t.text, t.reported) in
+          let within = slice_get_within sides.client_replies m (Reported outcomes.Ok t.more) t.reported in
+          let found = takes.every m (omega (arith, within, histories.client.count)) (t.more, t.reported) in
           let is = member_each (Taken sides) taken found.0 takes.each found.1 in
-          let at : slice_get sides.client_replies m ≡ Some (Reported outcomes.Ok (Some is.0)) =
-          subst (λ (z : ℕ). slice_get sides.client_replies z ≡ Some (Reported outcomes.Ok (Some is.0))) found.2 is.2 in
-          let text : is.0 ≡ t.text = one_text is.0 t.text (sym at ∙ t.reported) in
-          let part = subst (λ (z : List ℕ). Part z 0 found.0.shown) text is.4 in
+          let at : slice_get sides.client_replies m ≡ Some (Reported outcomes.Ok is.0) =
+          subst (λ (z : ℕ). slice_get sides.client_replies z ≡ Some (Reported outcomes.Ok is.0)) found.2 is.3 in
+          let verifier : VerifierText sides.client_events sides.client_replies m is.0 is.1 =
+          subst (λ (z : ℕ). VerifierText sides.client_events sides.client_replies z is.0 is.1) found.2 is.5 in
+          let moved : VerifierText sides.client_events sides.client_replies m t.more is.1 =
+          subst (λ (z : Option (List ℕ)). VerifierText sides.client_events sides.client_replies m z is.1)
+          (one_more sides.client_replies m is.0 t.more at t.reported) verifier in
+          let text : is.1 ≡ t.text = one_verifier_text sides.client_events sides.client_replies m t.more is.1 t.text
+          moved t.verifier in
+          let part = subst (λ (z : List ℕ). Part z 0 found.0.shown) text is.6 in
           let server = ok_member oks n accepted concludes t.ok in (
             found.0,
             server.0,
@@ -254,10 +263,6 @@ module _ (sides : Sides) (histories : Histories sides) (held : IsSecret sides.lo
             found.2,
             server.2,
           )
-        where
-          one_text : (x y : List ℕ) → ◌≡◌ {A = Option ClientSays} (Some (Reported outcomes.Ok (Some x)))
-              (Some (Reported outcomes.Ok (Some y))) → x ≡ y
-          one_text x y e = cc
 
       shown_pair : (k n : ℕ) (answer : Answering) (accepted : Accepted) → Shows sides k n answer accepted
           → (client : ClientReceipt) × (server : ServerReceipt) × Member client shown × Member server oks

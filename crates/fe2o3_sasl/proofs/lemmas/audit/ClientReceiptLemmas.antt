@@ -10,7 +10,7 @@ use Rattle.fe2o3_sasl_wire.specs.SaslFrames as frames
 use Rattle.fe2o3_scram.specs.ClientFirst.{client_first}
 use Rattle.fe2o3_scram.specs.Hmac.{mechanism_name}
 use Rattle.fe2o3_scram.specs.Texts.{base64_text}
-use Rattle.fe2o3_sasl_core.specs.ClientHistory.{Answering, AnswersAt, OpenAnswer, IsDue, ClientHistory, ClientAnswers, ClientAllocates, is_start, is_answer, ends_answer}
+use Rattle.fe2o3_sasl_core.specs.ClientHistory.{Answering, AnswersAt, OpenAnswer, VerifiedAnswer, IsDue, ClientHistory, ClientAnswers, ClientAllocates, is_start, is_answer, ends_answer}
 use Rattle.fe2o3_sasl_core.specs.Events.{Given, Login, ClientSays, Started, Answered, Reported, Refused}
 use Rattle.fe2o3_sasl_core.specs.Positions.{test_at, IsLastOpen}
 use Rattle.fe2o3_sasl.specs.private.ClientReceipts.{ClientSoFar, ShownFor, TakenFor, ClientKeeps}
@@ -22,11 +22,12 @@ use Rattle.fe2o3_sasl_core.proofs.lemmas.positions.PositionLemmas.{some_at, open
 use Rattle.fe2o3_sasl_core.proofs.lemmas.two_sides.HeadlineLemmas.{reports_ok_exactly}
 use Rattle.fe2o3_sasl_core.specs.declared.sasl_profile.error.ProfileError.TheVariants.{Frame, OutOfMemory}
 
--- ---- a response answers a challenge that is expected
+-- ---- a response answers a challenge that is expected, where the signature may not come in a challenge
 
-module _ (login : Login) (Due : List ℕ → Type 0) (IsOpen : Answering → Type 0) where
+module _ (login : Login) (Due : List ℕ → Type 0) (IsOpen IsVerified : Answering → Type 0)
+    (unsigned : login.signature_by_challenge ≡ false) where
   due_of : (event : Given) (spelled : Result SaslFrame Error) (body : List ℕ)
-      → ClientAnswers login Due IsOpen event spelled (Answered body) → (nonce : List ℕ) × Due nonce
+      → ClientAnswers login Due IsOpen IsVerified event spelled (Answered body) → (nonce : List ℕ) × Due nonce
   due_of event (Err fault) body says = absurd (cc)
   due_of event (Ok (frames.Init mechanism response hostname)) body says = absurd (cc)
   due_of event (Ok (frames.Response text)) body says = absurd (cc)
@@ -36,8 +37,10 @@ module _ (login : Login) (Due : List ℕ → Type 0) (IsOpen : Answering → Typ
       (Some (client_first login.user (base64_text event.nonce))) login.hostname)) (Answered body) (λ is. cc)
       (λ body is. cc) (sym says.1))
   due_of event (Ok (frames.Mechanisms names)) body (inr says) = let is = says.1 in absurd (cc)
-  due_of event (Ok (frames.Challenge text)) body (inl says) = (says.0.nonce, says.1.2)
-  due_of event (Ok (frames.Challenge text)) body (inr says) = let is = says.2 in absurd (cc)
+  due_of event (Ok (frames.Challenge text)) body (inl says) = absurd (true≢false (sym says.0.1.0 ∙ unsigned))
+  due_of event (Ok (frames.Challenge text)) body (inr (inl says)) = let is = says.2 in absurd (cc)
+  due_of event (Ok (frames.Challenge text)) body (inr (inr (none, inl says))) = (says.0.nonce, says.1.2)
+  due_of event (Ok (frames.Challenge text)) body (inr (inr (none, inr says))) = let is = says.2 in absurd (cc)
   due_of event (Ok (frames.Outcome outcomes.Ok other)) body (inl says) = let is = says.1 in absurd (cc)
   due_of event (Ok (frames.Outcome outcomes.Ok other)) body (inr says) = let is = says.2 in absurd (cc)
   due_of event (Ok (frames.Outcome outcomes.Auth other)) body says = absurd (cc)
@@ -46,9 +49,9 @@ module _ (login : Login) (Due : List ℕ → Type 0) (IsOpen : Answering → Typ
   due_of event (Ok (frames.Outcome outcomes.SysTemp other)) body says = absurd (cc)
 
 answered_due : (login : Login) (events : List Given) (replies : List ClientSays) (k : ℕ) (body : List ℕ)
-    → ClientHistory login events replies → slice_get replies k ≡ Some (Answered body)
-    → (nonce : List ℕ) × IsDue events replies k nonce
-answered_due login events replies k body history at =
+    → ClientHistory login events replies → login.signature_by_challenge ≡ false
+    → slice_get replies k ≡ Some (Answered body) → (nonce : List ℕ) × IsDue events replies k nonce
+answered_due login events replies k body history unsigned at =
     let event = some_at events k (omega (
       arith,
       history.count,
@@ -57,9 +60,10 @@ answered_due login events replies k body history at =
     let row = history.each k event.0 (Answered body) event.1 at in
     ⊎_elim (λ (none : ClientAllocates login row.0 × (Answered body ≡ Refused OutOfMemory)). let is = none.1 in
     absurd (cc))
-    (λ (says : ClientAnswers login (IsDue events replies k) (OpenAnswer login events replies k) event.0 row.0
-    (Answered body)).
-    due_of login (IsDue events replies k) (OpenAnswer login events replies k) event.0 row.0 body says)
+    (λ (says : ClientAnswers login (IsDue events replies k) (OpenAnswer login events replies k)
+    (VerifiedAnswer login events replies k) event.0 row.0 (Answered body)).
+    due_of login (IsDue events replies k) (OpenAnswer login events replies k) (VerifiedAnswer login events replies k)
+    unsigned event.0 row.0 body says)
     row.2
 
 -- ---- lists of receipts with a last one
@@ -80,7 +84,7 @@ one_end (a ∷ xs) (b ∷ ys) x y e = one_end xs ys x y (cc)
 -- ---- position by position
 
 module _ (login : Login) (events : List Given) (replies : List ClientSays)
-    (history : ClientHistory login events replies) where
+    (history : ClientHistory login events replies) (unsigned : login.signature_by_challenge ≡ false) where
   abbrev SoFar : ℕ → ℕ → List ClientReceipt → List ClientReceipt → Type 0
   SoFar i start shown taken = ClientSoFar login events replies i start shown taken
 
@@ -153,7 +157,7 @@ module _ (login : Login) (events : List Given) (replies : List ClientSays)
 
       due : IsDue events replies i (base64_text init.nonce)
       due =
-          let d = answered_due login events replies i body history at in
+          let d = answered_due login events replies i body history unsigned at in
           let e : start ≡ d.1.0 = h.started d.1.0 d.1.1 in
           (d.1.0, d.1.1, (init, subst (λ (z : ℕ). slice_get events z ≡ Some init) e first, refl))
 
@@ -184,7 +188,7 @@ module _ (login : Login) (events : List Given) (replies : List ClientSays)
     where
       is : Taken receipt
       is =
-          let signed = ((reports_ok_exactly login events replies history).only i (Some text) at).2 in
+          let signed = (reports_ok_exactly login events replies history).only i (Some text) at in
           let opened = signed.4 in
           let found = h.answered opened.0 opened.1 in
           let same : found.1 ≡ last = one_end found.0 front found.1 last (sym found.2 ∙ ends) in
@@ -200,11 +204,13 @@ module _ (login : Login) (events : List Given) (replies : List ClientSays)
             stored_key = made.stored_key ∙ made_of.5.stored_key;
             server_key = made.server_key ∙ made_of.5.server_key;
           } in (
+            Some text,
             text,
             made_of.1,
             subst (λ (z : ℕ). slice_get replies z ≡ Some (Reported outcomes.Ok (Some text))) (sym made.place) at,
             subst (λ (z : ℕ). OpenAnswer login events replies z made_of.1) (sym made.place)
                 (opened.0, opened.1, answers),
+            refl,
             made.shown,
             of,
           )
@@ -237,7 +243,8 @@ module _ (login : Login) (events : List Given) (replies : List ClientSays)
         moved (suc i) next start shown shown' (taken ++ k.2.2 ∷ []) taken' k.0 k.1 k.2.5
         (report_here i start shown taken text k.2.0 k.2.1 k.2.2 at k.2.3 k.2.4 h)
     step (Reported outcomes.Ok None) at first here k h =
-        let is = ((reports_ok_exactly login events replies history).only i None at).1 in absurd (cc)
+        let signed = (reports_ok_exactly login events replies history).only i None at in
+        absurd (true≢false (sym signed.4.2.4.0 ∙ unsigned))
     step (Reported outcomes.Auth more) at first here k h =
         passed (Reported outcomes.Auth more) at refl refl (λ m e. cc) k h
     step (Reported outcomes.Sys more) at first here k h =

@@ -3,16 +3,17 @@ use Rattle.std.proofs.Common.{◌≡◌, ◌⊎◌, ℕ, zero, suc, ◌<◌, tru
 use Rattle.std.specs.Prelude.{slice_get}
 use Rattle.std.specs.List.{AllByRecursion, Contains}
 use Rattle.fe2o3_sasl_core.specs.Verdicts.{Parameters, Verdict, Agreed, AreAgreed, JudgesVerifier, JudgesProof, FindingKind, OfVerifier, OfProof, Finding, IsVerifierFinding, IsProofFinding, Audits}
-use Rattle.fe2o3_sasl_core.specs.ClientHistory.{Answering, OpenAnswer, is_start, is_answer, ends_answer}
+use Rattle.fe2o3_sasl_core.specs.ClientHistory.{Answering, is_start, is_answer, ends_answer}
 use Rattle.fe2o3_sasl_core.specs.Events.{IsRecord, ClientSays, Started, Answered, Reported, Refused}
-use Rattle.fe2o3_sasl_core.specs.Laws.{AgreedUsersAreNamed, Start, FromTwoStarts, FromTwoChallenges, TakesAgreed, ShowsAgreed, HoldsRecords, RepeatedClientFindings, RepeatedServerFindings}
+use Rattle.fe2o3_sasl_core.specs.Laws.{AgreedUsersAreNamed, AnswerPosition, Start, FromTwoStarts, FromTwoChallenges, TakesAgreed, ShowsAgreed, HoldsRecords, RepeatedClientFindings, RepeatedServerFindings}
 use Rattle.fe2o3_sasl_core.specs.Positions.{test_at, IsLastOpen}
 use Rattle.fe2o3_sasl_core.specs.ServerHistory.{Accepted, LoggedIn, is_challenge, is_ok}
-use Rattle.fe2o3_sasl_core.specs.TwoSides.{Sides, OkAt, IsPlainInit}
+use Rattle.fe2o3_sasl_core.specs.TwoSides.{Sides, SignedAnswer, OkAt, IsPlainInit}
 use Rattle.fe2o3_sasl_core.proofs.lemmas.positions.PositionLemmas.{opens_here}
 use Rattle.fe2o3_sasl_core.proofs.lemmas.lists.EachLemmas.{each_append, each_weaker}
 use Rattle.fe2o3_sasl.proofs.lemmas.histories.RepeatedNonceLemmas.{not_none, repeated_client_positions, repeated_server_positions}
 use Rattle.fe2o3_sasl_core.proofs.lemmas.two_sides.EqualMessageLemmas.{is_challenging, accepts_open}
+use Rattle.fe2o3_sasl_core.proofs.lemmas.two_sides.ReportedAnswerLemmas.{one_more, signed_position}
 
 -- ---- what is known of a finding
 
@@ -88,12 +89,18 @@ taken_finding : (sides : Sides) (finding : Finding) (user nonce : List ℕ) (par
 taken_finding sides finding user nonce parameters is agreed =
     let answer = is.1.0 in
     let accepted = is.1.1 in
-    let opened : OpenAnswer sides.login sides.client_events sides.client_replies finding.client answer = is.1.3 in
+    let takes = is.1.2 in
+    let reported = is.1.3 in
+    let signed = subst (λ (z : Option (List ℕ)). SignedAnswer sides.login sides.client_events sides.client_replies
+    finding.client z answer)
+    (one_more sides.client_replies finding.client reported.0 takes.more reported.1 takes.reported) reported.2 in
+    let position = signed_position sides.login sides.client_events sides.client_replies finding.client takes.more answer
+    signed in
     let values = verifier_agrees sides answer accepted finding.verdict user nonce parameters is.1.4 agreed in
     record {
-      place = opened.0;
+      place = position.0;
       accepted = accepted;
-      taken = (answer, is.1.2, opened.1, opened.2, values.0);
+      taken = (answer, takes, position.1, position.2, values.0);
       plain = is_plain sides answer accepted user nonce parameters values;
     }
 
@@ -173,6 +180,13 @@ later_start replies m k s answer start = record {
         (no_start (slice_get replies k) answer.opened)
     go i behind before (inr (inr more)) = no_new_start (slice_get replies i) (answer.kept i more before)
 
+-- what reports on it may be without data
+later_start_at : (replies : List ClientSays) (m k s : ℕ) (more : Option (List ℕ)) → AnswerPosition replies m more k
+    → Start replies k s → Start replies m s
+later_start_at replies m k s (Some text) answer start = later_start replies m k s answer start
+later_start_at replies m k s None answer start =
+    later_start replies m answer.0 s answer.1 (later_start replies answer.0 k s answer.2 start)
+
 -- ---- the laws
 
 verifier_not_proof : (kind other : FindingKind) → kind ≡ OfVerifier → other ≡ OfProof → kind ≡ other → ⊥
@@ -196,8 +210,10 @@ repeated_client_findings sides findings finding other given records both agreed 
         first.taken second.taken in (
           starts.0,
           starts.1,
-          later_start sides.client_replies finding.client first.place starts.0 first.taken.2 starts.2,
-          later_start sides.client_replies other.client second.place starts.1 second.taken.2 starts.3,
+          later_start_at sides.client_replies finding.client first.place starts.0 first.taken.1.more first.taken.2
+              starts.2,
+          later_start_at sides.client_replies other.client second.place starts.1 second.taken.1.more second.taken.2
+              starts.3,
           starts.4,
         )
     go (inr is) (inr too) =

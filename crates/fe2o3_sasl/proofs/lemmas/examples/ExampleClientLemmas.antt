@@ -1,5 +1,5 @@
 -- The worked examples of clients.
-use Rattle.std.proofs.Common.{◌≡◌, ℕ, suc, true, List, [], ◌∷◌, length, Err, Ok, refl, sym, ◌∙◌, ap, subst, arith, inl, inr}
+use Rattle.std.proofs.Common.{◌≡◌, ℕ, suc, true, true≢false, false, List, [], ◌∷◌, length, Err, Ok, refl, sym, ◌∙◌, ap, subst, arith, inl, inr}
 use Rattle.std.specs.Prelude.{Some, slice_get}
 use Rattle.fe2o3_sasl_wire.specs.declared.amqp_types.SaslCode.TheVariants as outcomes
 use Rattle.fe2o3_sasl_wire.specs.declared.sasl_frames.error.Error.TheVariants as faults
@@ -13,7 +13,7 @@ use Rattle.fe2o3_scram.specs.Texts.{joined}
 use Rattle.fe2o3_scram.specs.declared.scram_messages.error.ScramErrorKind.{ScramErrorKind}
 use Rattle.fe2o3_scram.specs.declared.scram_messages.error.ScramErrorKind.TheVariants.{StaleKeys as NamesStaleKeys}
 use Rattle.fe2o3_sasl_core.specs.Bodies.{SpellsBody, carried}
-use Rattle.fe2o3_sasl_core.specs.ClientHistory.{AnswersAt, IsDue, NonceAt, ReadsChallenge, answer_at, ends_answer, is_answer, is_start, says_answer}
+use Rattle.fe2o3_sasl_core.specs.ClientHistory.{Answering, AnswersAt, IsDue, MaySign, NonceAt, OpenAnswer, ReadsChallenge, answer_at, ends_answer, is_answer, is_start, says_answer}
 use Rattle.fe2o3_sasl_core.specs.Events.{Answered, ClientSays, Given, Login, Refused, Reported, scram_fault}
 use Rattle.fe2o3_sasl_core.specs.Positions.{test_at}
 use Rattle.fe2o3_sasl_core.specs.TwoSides.{client_message, proof_at}
@@ -38,21 +38,31 @@ challenge_spelled bytes long = spells_body (frames.Challenge (joined (salted byt
     (challenge_bodied (joined (salted bytes both))
     (omega (arith, short_joined (salted bytes both) (short_salted bytes both long short_both))))
 
+-- the signature may not come in a challenge
+none_may_sign : (some : Login) (IsOpen : Answering → Type 0) → some.signature_by_challenge ≡ false
+    → (answer : Answering) → ¬ MaySign some IsOpen answer
+none_may_sign some IsOpen unsigned answer may = absurd (true≢false (sym may.0 ∙ unsigned))
+
 -- an error for a challenge, where one is expected
 refuses : (some : Login) (events : List Given) (replies : List ClientSays) (k : ℕ) (bytes : List ℕ)
-    (kind : ScramErrorKind) → length bytes ≡ 32 → IsDue events replies k client_nonce
+    (kind : ScramErrorKind) → some.signature_by_challenge ≡ false → length bytes ≡ 32
+    → IsDue events replies k client_nonce
     → ReadsServerFirst client_nonce some.secret some.limits (joined (salted bytes both)) (Err kind)
     → SaysAt some events replies k (asks bytes) (Refused (scram_fault kind))
-refuses some events replies k bytes kind long due reads =
+refuses some events replies k bytes kind unsigned long due reads =
     let utf8 = utf8_joined (salted bytes both) (plain_salted bytes both plain_both) in (
       Ok (frames.Challenge (joined (salted bytes both))),
       challenge_spelled bytes long,
-      inr (inr (kind, inr (inr (utf8, (client_nonce, due, reads))), refl)),
+      inr (inr (inr (
+        none_may_sign some (OpenAnswer some events replies k) unsigned,
+        inr (kind, inr (inr (utf8, (client_nonce, due, reads))), refl),
+      ))),
     )
 
 -- ---- a client that answers as that of the first examples does
 
-module _ (some : Login) (one : answer_at some made ≡ answer_at login made)
+module _ (some : Login) (unsigned : some.signature_by_challenge ≡ false)
+    (one : answer_at some made ≡ answer_at login made)
     (reads : ReadsServerFirst client_nonce some.secret some.limits made.text (Ok made.first)) where
   -- its reading of the challenge, where that is due
   challenge_read : (events : List Given) (replies : List ClientSays) (k : ℕ) → IsDue events replies k client_nonce
@@ -77,7 +87,10 @@ module _ (some : Login) (one : answer_at some made ≡ answer_at login made)
   answered events replies k due = (
     Ok (frames.Challenge made.text),
     challenge_spelled salt refl,
-    inr (inl (made, challenge_read events replies k due, response_said)),
+    inr (inr (inr (
+      none_may_sign some (OpenAnswer some events replies k) unsigned,
+      inl (made, challenge_read events replies k due, response_said),
+    ))),
   )
 
   -- the outcome after it
@@ -119,8 +132,8 @@ keys_log_in =
     client_history with_keys events replies refl (
       keys_start events replies,
       (
-        answered with_keys refl keys_read events replies 1 due,
-        (reported with_keys refl keys_read events replies 1 refl refl due, tt),
+        answered with_keys refl refl keys_read events replies 1 due,
+        (reported with_keys refl refl keys_read events replies 1 refl refl due, tt),
       ),
     )
 
@@ -152,10 +165,10 @@ stale_keys_log_in_later =
     client_history with_keys events replies refl (
       keys_start events replies,
       (
-        refuses with_keys events replies 1 other_salt NamesStaleKeys refl (0, first, at) others_refused,
+        refuses with_keys events replies 1 other_salt NamesStaleKeys refl refl (0, first, at) others_refused,
         (
-          answered with_keys refl keys_read events replies 2 due,
-          (reported with_keys refl keys_read events replies 2 refl refl due, tt),
+          answered with_keys refl refl keys_read events replies 2 due,
+          (reported with_keys refl refl keys_read events replies 2 refl refl due, tt),
         ),
       ),
     )

@@ -1,6 +1,6 @@
 -- The login of the worked examples, whatever somebody on the way adds to it: both sides report Ok where what is added
 -- is plain and short and the AuthMessages are equal.
-use Rattle.std.proofs.Common.{◌≡◌, ◌<◌, ◌≤◌, ◌^◌, ℕ, zero, suc, Some, List, [], ◌∷◌, ◌++◌, length, Ok, refl, sym, ◌∙◌, ap, subst, arith, codes, inl, inr}
+use Rattle.std.proofs.Common.{◌≡◌, ◌<◌, ◌≤◌, ◌^◌, ℕ, zero, suc, true≢false, Some, List, [], ◌∷◌, ◌++◌, length, Ok, refl, sym, ◌∙◌, ap, subst, arith, codes, inl, inr}
 use Rattle.std.specs.Prelude.{slice_get}
 use Rattle.std.specs.List.{AllByRecursion}
 use Rattle.std.proofs.lemmas.Option.{none-some, same_Some}
@@ -13,7 +13,7 @@ use Rattle.fe2o3_scram.specs.ClientFinal.{client_final_of}
 use Rattle.fe2o3_scram.specs.Credentials.{Provider}
 use Rattle.fe2o3_scram.specs.Hmac.{hmac_of}
 use Rattle.fe2o3_scram.specs.Texts.{base64_text, joined, Part}
-use Rattle.fe2o3_sasl_core.specs.ClientHistory.{Answering, AnswersAt, IsDue, OpenAnswer, ReadsChallenge, ClientHistory, says_start, says_answer, is_start, is_answer, ends_answer}
+use Rattle.fe2o3_sasl_core.specs.ClientHistory.{Answering, AnswersAt, IsDue, OpenAnswer, MaySign, ReadsChallenge, ClientHistory, says_start, says_answer, is_start, is_answer, ends_answer}
 use Rattle.fe2o3_sasl_core.specs.Events.{Given, Login, ServerSays, Challenged, Concluded, Failed, ClientSays, Started, Answered, Refused}
 use Rattle.fe2o3_sasl_core.specs.Bodies.{SpellsBody, carried, says_frame}
 use Rattle.fe2o3_sasl_core.specs.ServerHistory.{Accepted, FitsAsInit, FitsAsResponse, Open, ServerHistory, is_challenge, is_ok, says_ok, server_at, first_message}
@@ -227,10 +227,12 @@ module _ (added : Added) (is : PassesUnseen added) where
   clients_history =
       let signed = signature_read text nonce (client_message login answer) refl in
       let final = spells_body (sends_ok answer) (tt, (tt, tt)) (ok_sent answer) in
+      let none : (other : Answering) → ¬ MaySign login (OpenAnswer login given said 1) other =
+      λ other may. absurd (true≢false (sym may.0)) in
       client_history login given said refl (
         starts given said,
         (
-          (Ok asked, asked_spelled, inr (inl (answer, challenge_read, answer_said))),
+          (Ok asked, asked_spelled, inr (inr (inr (none, inl (answer, challenge_read, answer_said))))),
           ((Ok (sends_ok answer), final, inr (inl ((answer, open_two, signed), refl))), tt),
         ),
       )
@@ -252,8 +254,10 @@ module _ (added : Added) (is : PassesUnseen added) where
       let has = names_server_final _ (verifier answer) tt
       (signature_read text nonce (client_message login answer) refl) in
       record {
+        more = Some (verifier answer);
         text = verifier answer;
         reported = refl;
+        verifier = refl;
         ok = ok_at;
         one = subst (λ (message : List ℕ). Part (verifier answer) 0
             (codes "v=" ++ base64_text (hmac_of Sha256 stored.server_key message))) is.message has.1;

@@ -1,5 +1,6 @@
 -- Worked examples of frames at which no memory is asked for.
-use Rattle.std.proofs.Common.{◌≡◌, ℕ, true≢false, Option, None, List, [], ◌∷◌, sym, ◌∙◌, subst, arith, inl, inr, Ok}
+use Rattle.std.proofs.Common.{◌≡◌, ℕ, Bool, true, false, true≢false, Option, None, List, [], ◌∷◌, sym, ◌∙◌, subst, arith, inl, inr, Ok}
+use Rattle.std.specs.Prelude.{◌&&◌}
 use Rattle.std.specs.List.{Contains}
 use Rattle.std.specs.Str.{IsUtf8, is_utf8, chars}
 use Rattle.std.proofs.lemmas.Str.{is_utf8-from_IsUtf8}
@@ -8,11 +9,11 @@ use Rattle.fe2o3_sasl_wire.specs.declared.amqp_types.SaslCode.TheVariants as out
 use Rattle.fe2o3_sasl_wire.specs.SaslFrames as frames
 use Rattle.fe2o3_sasl_wire.specs.SaslFrames.{SaslFrame}
 use Rattle.fe2o3_scram.specs.ScramClient as client_states
-use Rattle.fe2o3_scram.specs.ScramClient.{ClientState, ReachesSaltIn, ReachesVerifierIn}
+use Rattle.fe2o3_scram.specs.ScramClient.{ClientSide, ClientState, ReachesSaltIn, ReachesVerifierIn, expects_signature, is_unsigned}
 use Rattle.fe2o3_sasl_core.specs.ClientHistory.{ClientAllocates}
 use Rattle.fe2o3_sasl_core.specs.Events.{Login}
 use Rattle.fe2o3_sasl_core.specs.Laws.{WantsAtServer}
-use Rattle.fe2o3_sasl_core.specs.Profiles.{Profile, ScramProfile, PlainProfile, AnonymousProfile, ExternalProfile, FrameAllocates, ViewAllocates, StepAllocates, IsStarted, IsAnswered}
+use Rattle.fe2o3_sasl_core.specs.Profiles.{Profile, ScramProfile, PlainProfile, AnonymousProfile, ExternalProfile, FrameAllocates, ViewAllocates, StepAllocates, ChallengeAllocates, IsChallengeDue, IsStarted, IsAnswered}
 use Rattle.fe2o3_sasl.specs.examples.MemoryExamples.{AcceptorsAskForNone, AskForNone, OwnedAskForNone, ServersWantNone, ClientsWantNone}
 use Rattle.fe2o3_sasl.proofs.lemmas.machines.MechanismLemmas.{other_name}
 
@@ -23,11 +24,25 @@ no_text : ¬ IsUtf8 (0xff ∷ [])
 unfolding is_utf8 chars
 no_text is = absurd (true≢false (sym (is_utf8-from_IsUtf8 (0xff ∷ []) is)))
 
-not_due : (state : ClientState) (text : List ℕ) → state ≡ client_states.ClientInitial → ¬ ReachesSaltIn state text
-not_due state text is reaches = subst (λ (s : ClientState). ReachesSaltIn s text) is reaches
+not_due : (client : ClientSide) (text : List ℕ) → client.state ≡ client_states.ClientInitial
+    → ¬ ChallengeAllocates (expects_signature client) client text
+not_due client text is = go (expects_signature client)
+  where
+    go : (expects : Bool) → ¬ ChallengeAllocates expects client text
+    go false reaches = subst (λ (s : ClientState). ReachesSaltIn s text) is reaches
+    go true reaches = subst (λ (s : ClientState). ReachesVerifierIn s text) is reaches
 
 not_started : (state : ClientState) → state ≡ client_states.ClientInitial → ¬ IsStarted state
 not_started state is started = let same = sym is ∙ started.2 in absurd (cc)
+
+none_signs : (accept : Bool) → ¬ ((accept && false) ≡ true)
+none_signs true is = absurd (true≢false (sym is))
+none_signs false is = absurd (true≢false (sym is))
+
+not_expected : (client : ClientSide) → client.state ≡ client_states.ClientInitial → ¬ IsChallengeDue client
+not_expected client is (inl started) = not_started client.state is started
+not_expected client is (inr signs) = none_signs client.signature_by_challenge
+    (subst (λ (s : ClientState). (client.signature_by_challenge && is_unsigned s) ≡ true) is signs)
 
 not_answered : (state : ClientState) → state ≡ client_states.ClientInitial → ¬ IsAnswered state
 not_answered state is answered = let same = sym is ∙ answered.2 in absurd (cc)
@@ -61,7 +76,7 @@ owned_ask_for_none = (
   (
     λ profile asks. no_name _ asks,
     λ client asks. no_text asks.0,
-    λ client text is asks. not_due client.state text is asks.1,
+    λ client text is asks. not_due client text is asks.1,
     λ user password text asks. asks,
     no_data,
     λ client asks. no_signature client.state asks,
@@ -85,7 +100,7 @@ pub views_ask_for_none : AskForNone ViewAllocates
 views_ask_for_none = (
   λ profile asks. no_name _ asks,
   λ client asks. no_text asks.0,
-  λ client text is asks. not_due client.state text is asks.1,
+  λ client text is asks. not_due client text is asks.1,
   λ user password text asks. asks,
   no_data_in_view,
   λ client asks. no_text asks.0,
@@ -106,7 +121,7 @@ pub steps_ask_for_none : AskForNone StepAllocates
 steps_ask_for_none = (
   λ profile asks. no_name _ asks,
   λ client asks. no_text asks.0,
-  λ client text is asks. not_started client.state is asks.1,
+  λ client text is asks. not_expected client is asks.1,
   λ user password text asks. asks,
   no_data_in_step,
   λ client asks. no_text asks.0,

@@ -3,16 +3,17 @@ use Rattle.std.proofs.Common.{◌≡◌, ◌≢◌, ℕ, true, false, Option, So
 use Rattle.std.specs.Prelude.{slice_get}
 use Rattle.std.proofs.lemmas.List.{append_cancel_left}
 use Rattle.fe2o3_scram.specs.Texts.{base64_text}
-use Rattle.fe2o3_sasl_core.specs.ClientHistory.{Answering, AnswersAt, is_start, is_answer, ends_answer}
+use Rattle.fe2o3_sasl_core.specs.ClientHistory.{Answering, AnswersAt, is_start, is_answer}
 use Rattle.fe2o3_sasl_core.specs.Events.{Given, AreGiven, IsRecord, ClientSays}
-use Rattle.fe2o3_sasl_core.specs.Laws.{Start, RepeatsNonce, FromTwoStarts, FromTwoChallenges, RepeatedClientPositions, RepeatedServerPositions, closes_nothing}
+use Rattle.fe2o3_sasl_core.specs.Laws.{AnswerPosition, Start, RepeatsNonce, FromTwoStarts, FromTwoChallenges, RepeatedClientPositions, RepeatedServerPositions, closes_nothing}
 use Rattle.fe2o3_sasl_core.specs.Positions.{test_at, IsLastOpen}
 use Rattle.fe2o3_sasl_core.specs.ServerHistory.{Challenging, Accepted, AcceptsAt, is_challenge, is_ok, full_nonce}
 use Rattle.fe2o3_sasl_core.specs.TwoSides.{Sides, IsPlainInit, client_message, server_message}
 use Rattle.fe2o3_scram.proofs.lemmas.texts.Base64Lemmas.{one_spelled}
 use Rattle.fe2o3_sasl_core.proofs.lemmas.histories.OneClientHistoryLemmas.{one_answers_at}
-use Rattle.fe2o3_sasl_core.proofs.lemmas.positions.PositionLemmas.{one_open, close_apart}
+use Rattle.fe2o3_sasl_core.proofs.lemmas.positions.PositionLemmas.{close_apart}
 use Rattle.fe2o3_sasl_core.proofs.lemmas.two_sides.EqualMessageLemmas.{accepts_open, is_challenging, same_messages}
+use Rattle.fe2o3_sasl_core.proofs.lemmas.two_sides.ReportedAnswerLemmas.{one_more, one_position, one_report, position_answers}
 use Rattle.fe2o3_sasl_core.proofs.lemmas.histories.OneServerHistoryLemmas.{one_challenge}
 
 -- two positions whose events have one nonce text
@@ -90,10 +91,10 @@ repeated_client_positions sides n k l accepted other given kept too_kept = (
       let takes = taken.1 in
       let retakes = also.1 in
       let replies = sides.client_replies in
-      let answers : k ≢ l = λ equal. apart (close_apart is_answer ends_answer replies l m p
-      (subst (IsLastOpen is_answer ends_answer replies m) equal taken.2) also.2
-      (ap (test_at ends_answer) takes.reported) (ap (test_at ends_answer) retakes.reported)) in
-      two_starts sides k l taken.0 also.0 given answers taken.2.opened also.2.opened taken.3 also.3
+      let answers : k ≢ l = λ equal. apart (one_report replies m p l takes.more retakes.more takes.reported
+      retakes.reported (subst (AnswerPosition replies m takes.more) equal taken.2) also.2) in
+      two_starts sides k l taken.0 also.0 given answers (position_answers replies m k takes.more taken.2)
+      (position_answers replies p l retakes.more also.2) taken.3 also.3
       (one_nonce sides k l n taken.0 also.0 accepted other kept too_kept taken.3 also.3 takes.ok.accepts
       retakes.ok.accepts taken.4 also.4),
   λ apart shown also.
@@ -160,7 +161,10 @@ repeated_server_positions sides k n o accepted other given kept too_kept apart p
   λ m l taken also.
       let takes = taken.1 in
       let retakes = also.1 in
-      let place : l ≡ k = one_open is_answer ends_answer sides.client_replies m l k also.2 taken.2 in
+      let more = one_more sides.client_replies m retakes.more takes.more retakes.reported takes.reported in
+      let position : AnswerPosition sides.client_replies m takes.more l =
+      subst (λ (z : Option (List ℕ)). AnswerPosition sides.client_replies m z l) more also.2 in
+      let place : l ≡ k = one_position sides.client_replies m takes.more l k position taken.2 in
       let answers = subst (λ (z : ℕ). AnswersAt sides.login sides.client_events sides.client_replies z also.0) place
       also.3 in
       two_challenges sides n o accepted other given apart (ap (test_at is_ok) takes.ok.says)

@@ -1,7 +1,7 @@
 -- A run of a SCRAM profile with the keys of a password, in which they are always of the salt and the count that the
 -- server names, is a run of the profile with that password.
-use Rattle.std.proofs.Common.{◌≡◌, ◌≢◌, ℕ, suc, Option, Some, None, List, [], ◌∷◌, refl, ap, ◌∙◌, subst, inl, inr, Result, Ok, Err}
-use Rattle.std.specs.Prelude.{slice_get}
+use Rattle.std.proofs.Common.{◌≡◌, ◌≢◌, ℕ, suc, Bool, true, false, Option, Some, None, List, [], ◌∷◌, refl, ap, ◌∙◌, subst, inl, inr, Result, Ok, Err}
+use Rattle.std.specs.Prelude.{slice_get, ◌&&◌}
 use Rattle.fe2o3_sasl_wire.specs.declared.amqp_types.SaslCode.TheVariants as outcomes
 use Rattle.fe2o3_sasl_wire.specs.declared.sasl_frames.error.Error.{Error}
 use Rattle.fe2o3_sasl_wire.specs.SaslFrames.{canonical, SaslFrame}
@@ -15,23 +15,29 @@ use Rattle.fe2o3_scram.specs.ClientKeys.{ClientKeys}
 use Rattle.fe2o3_scram.specs.ClientSecret.{Secret, Password, Keys}
 use Rattle.fe2o3_scram.specs.Laws.{AreKeysOf}
 use Rattle.fe2o3_scram.specs.Passwords.{PasswordText, IsNormal, password_bytes}
-use Rattle.fe2o3_scram.specs.ScramClient.{ClientSide, ClientState, ClientInitial, ClientFirstSent, ClientFinalSent, Complete, AnswersIn, VerifiesIn, started}
+use Rattle.fe2o3_scram.specs.ScramClient.{ClientSide, ClientState, ClientInitial, ClientFirstSent, ClientFinalSent, SignatureVerified, Complete, AnswersIn, ChecksSignatureIn, ConcludesIn, VerifiesIn, is_unsigned, started}
 use Rattle.fe2o3_scram.proofs.lemmas.messages.KeptKeyLemmas.{keys_stand}
 use Rattle.fe2o3_sasl_core.specs.Events.{Given, Login, ClientSays, Refused}
 use Rattle.fe2o3_sasl_core.specs.Laws.{KeysFit, KeyedRunsAreRuns, KeyedRunsAreHistories}
-use Rattle.fe2o3_sasl_core.specs.Profiles.{Profile, ScramProfile, StepAllocates, client_frame, profile_machine}
+use Rattle.fe2o3_sasl_core.specs.Profiles.{Profile, ScramProfile, ChallengeReplies, StepAllocates, client_frame, profile_machine}
 use Rattle.fe2o3_sasl_core.specs.Runs.{ProfileGives, ProfileReplies, ProfileSteps, Replies, Runs, SendsCanonical}
 use Rattle.fe2o3_sasl_core.specs.Bodies.{SpellsBody}
 use Rattle.fe2o3_sasl_core.proofs.lemmas.machines.ClientMachineLemmas.{profile_runs_are_histories}
 use Rattle.fe2o3_sasl_core.specs.declared.sasl_profile.error.ProfileError.{ProfileError}
 use Rattle.fe2o3_sasl_core.specs.declared.sasl_profile.error.ProfileError.TheVariants.{StaleKeys}
 
-module _ (user : List ℕ) (limits : IterationLimits) (keys : ClientKeys) (password : PasswordText)
+module _ (user : List ℕ) (limits : IterationLimits) (accept : Bool) (keys : ClientKeys) (password : PasswordText)
     (normal : IsNormal password) (are : AreKeysOf keys (password_bytes password)) where
   -- the client with this secret, and the two profiles
   abbrev side : Secret → ClientState → ClientSide
-  side secret state =
-      record { user = user; secret = secret; version = keys.version; limits = limits; state = state }
+  side secret state = record {
+    user = user;
+    secret = secret;
+    version = keys.version;
+    limits = limits;
+    signature_by_challenge = accept;
+    state = state;
+  }
 
   abbrev keyed : ClientState → Profile
   keyed state = ScramProfile (side (Keys keys) state)
@@ -69,6 +75,8 @@ module _ (user : List ℕ) (limits : IterationLimits) (keys : ClientKeys) (passw
   answer_alike ClientInitial own text (Err fault) next fit is = (own, is.1, (is.0, refl))
   answer_alike (ClientFinalSent signature kept) own text (Ok message) next fit none = absurd none
   answer_alike (ClientFinalSent signature kept) own text (Err fault) next fit is = (own, is.1, (is.0, refl))
+  answer_alike (SignatureVerified kept) own text (Ok message) next fit none = absurd none
+  answer_alike (SignatureVerified kept) own text (Err fault) next fit is = (own, is.1, (is.0, refl))
   answer_alike (Complete kept) own text (Ok message) next fit none = absurd none
   answer_alike (Complete kept) own text (Err fault) next fit is = (own, is.1, (is.0, refl))
 
@@ -85,8 +93,66 @@ module _ (user : List ℕ) (limits : IterationLimits) (keys : ClientKeys) (passw
   verified_alike ClientInitial own text (Err fault) next is = (own, is.1, (is.0, refl))
   verified_alike (ClientFirstSent nonce bare) own text (Ok verified) next none = absurd none
   verified_alike (ClientFirstSent nonce bare) own text (Err fault) next is = (own, is.1, (is.0, refl))
+  verified_alike (SignatureVerified kept) own text (Ok verified) next none = absurd none
+  verified_alike (SignatureVerified kept) own text (Err fault) next is = (own, is.1, (is.0, refl))
   verified_alike (Complete kept) own text (Ok verified) next none = absurd none
   verified_alike (Complete kept) own text (Err fault) next is = (own, is.1, (is.0, refl))
+
+  abbrev ChecksAlike : ClientState → ClientState → List ℕ → Result (Unit {0}) ScramErrorKind → ClientSide → Type 0
+  ChecksAlike state own text answer next = (after : ClientState) × (next ≡ side (Keys keys) after)
+      × ChecksSignatureIn state (side (Password password) own) text answer (side (Password password) after)
+
+  checked_alike : (state own : ClientState) (text : List ℕ) (answer : Result (Unit {0}) ScramErrorKind)
+      (next : ClientSide) → ChecksSignatureIn state (side (Keys keys) own) text answer next
+      → ChecksAlike state own text answer next
+  checked_alike (ClientFinalSent signature kept) own text (Ok verified) next is =
+      (SignatureVerified kept, is.1, (is.0, refl))
+  checked_alike (ClientFinalSent signature kept) own text (Err fault) next is = (own, is.1, (is.0, refl))
+  checked_alike ClientInitial own text (Ok verified) next none = absurd none
+  checked_alike ClientInitial own text (Err fault) next is = (own, is.1, (is.0, refl))
+  checked_alike (ClientFirstSent nonce bare) own text (Ok verified) next none = absurd none
+  checked_alike (ClientFirstSent nonce bare) own text (Err fault) next is = (own, is.1, (is.0, refl))
+  checked_alike (SignatureVerified kept) own text (Ok verified) next none = absurd none
+  checked_alike (SignatureVerified kept) own text (Err fault) next is = (own, is.1, (is.0, refl))
+  checked_alike (Complete kept) own text (Ok verified) next none = absurd none
+  checked_alike (Complete kept) own text (Err fault) next is = (own, is.1, (is.0, refl))
+
+  abbrev ConcludesAlike : ClientState → ClientState → Result (Unit {0}) ScramErrorKind → ClientSide → Type 0
+  ConcludesAlike state own answer next = (after : ClientState) × (next ≡ side (Keys keys) after)
+      × ConcludesIn state (side (Password password) own) answer (side (Password password) after)
+
+  concluded_alike : (state own : ClientState) (answer : Result (Unit {0}) ScramErrorKind) (next : ClientSide)
+      → ConcludesIn state (side (Keys keys) own) answer next → ConcludesAlike state own answer next
+  concluded_alike (SignatureVerified kept) own (Ok verified) next is = (Complete kept, is, refl)
+  concluded_alike (SignatureVerified kept) own (Err fault) next none = absurd none
+  concluded_alike ClientInitial own (Ok verified) next none = absurd none
+  concluded_alike ClientInitial own (Err fault) next is = (own, is.1, (is.0, refl))
+  concluded_alike (ClientFirstSent nonce bare) own (Ok verified) next none = absurd none
+  concluded_alike (ClientFirstSent nonce bare) own (Err fault) next is = (own, is.1, (is.0, refl))
+  concluded_alike (ClientFinalSent signature kept) own (Ok verified) next none = absurd none
+  concluded_alike (ClientFinalSent signature kept) own (Err fault) next is = (own, is.1, (is.0, refl))
+  concluded_alike (Complete kept) own (Ok verified) next none = absurd none
+  concluded_alike (Complete kept) own (Err fault) next is = (own, is.1, (is.0, refl))
+
+  -- a challenge in UTF-8, which may be expected to be the signature
+  challenge_alike : (expects : Bool) (state : ClientState) (text : List ℕ) (reply : Result SaslFrame ProfileError)
+      (moved : Profile) → reply ≢ Err StaleKeys → ChallengeReplies expects (side (Keys keys) state) text reply moved
+      → EndsIn moved (λ after. ChallengeReplies expects (side (Password password) state) text reply (twin after))
+  challenge_alike false state text reply moved fit is =
+      let fits : is.0 ≢ Err kinds.StaleKeys = λ same. fit (is.3
+      ∙ ap (λ (answer : Result (List ℕ) ScramErrorKind). client_frame (λ message. frames.Response message) answer) same)
+      in
+      let turn = answer_alike state state text is.0 is.1 fits is.2 in (
+        turn.0,
+        is.4 ∙ ap (λ (s : ClientSide). ScramProfile s) turn.1,
+        (is.0, side (Password password) turn.0, turn.2, is.3, refl),
+      )
+  challenge_alike true state text reply moved fit is =
+      let turn = checked_alike state state text is.0 is.1 is.2 in (
+        turn.0,
+        is.4 ∙ ap (λ (s : ClientSide). ScramProfile s) turn.1,
+        (is.0, side (Password password) turn.0, turn.2, is.3, refl),
+      )
 
   machine_alike : (state : ClientState) (hostname : Option (List ℕ)) (nonce : List ℕ) (frame : SaslFrame)
       (reply : Result SaslFrame ProfileError) (moved : Profile) → reply ≢ Err StaleKeys
@@ -99,16 +165,14 @@ module _ (user : List ℕ) (limits : IterationLimits) (keys : ClientKeys) (passw
   machine_alike state hostname nonce (frames.Challenge text) reply moved fit (inl is) =
       (state, is.2, inl (is.0, is.1, refl))
   machine_alike state hostname nonce (frames.Challenge text) reply moved fit (inr is) =
-      let fits : is.1.0 ≢ Err kinds.StaleKeys = λ same. fit (is.1.3
-      ∙ ap (λ (answer : Result (List ℕ) ScramErrorKind). client_frame (λ message. frames.Response message) answer) same)
-      in
-      let turn = answer_alike state state text is.1.0 is.1.1 fits is.1.2 in (
-        turn.0,
-        is.1.4 ∙ ap (λ (s : ClientSide). ScramProfile s) turn.1,
-        inr (is.0, (is.1.0, side (Password password) turn.0, turn.2, is.1.3, refl)),
-      )
+      let turn = challenge_alike (accept && is_unsigned state) state text reply moved fit is.1 in
+      (turn.0, turn.1, inr (is.0, turn.2))
   machine_alike state hostname nonce (frames.Outcome outcomes.Ok None) reply moved fit is =
-      (state, is.1, (is.0, refl))
+      let turn = concluded_alike state state is.0 is.1 is.2 in (
+        turn.0,
+        is.4 ∙ ap (λ (s : ClientSide). ScramProfile s) turn.1,
+        (is.0, side (Password password) turn.0, turn.2, is.3, refl),
+      )
   machine_alike state hostname nonce (frames.Outcome outcomes.Ok (Some text)) reply moved fit is =
       let turn = verified_alike state state text is.0 is.1 is.2 in (
         turn.0,
@@ -204,6 +268,7 @@ profile_by login version secret = ScramProfile (record {
   secret = secret;
   version = version;
   limits = login.limits;
+  signature_by_challenge = login.signature_by_challenge;
   state = ClientInitial;
 })
 
@@ -213,8 +278,8 @@ keyed_runs_are_runs login keys password events replies last same normal are run 
     replies last → (after : Profile)
     × Runs (ProfileSteps login.hostname) (profile_by login version (Password password)) events replies after)
     same
-    (λ here. runs_alike login.user login.limits keys password normal are ClientInitial login.hostname events replies last
-    here fit) run
+    (λ here. runs_alike login.user login.limits login.signature_by_challenge keys password normal are ClientInitial
+    login.hostname events replies last here fit) run
 
 pub keyed_runs_are_histories : KeyedRunsAreHistories
 keyed_runs_are_histories login keys password events replies last same normal are run fit =

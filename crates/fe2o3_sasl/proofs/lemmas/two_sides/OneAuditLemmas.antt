@@ -1,13 +1,14 @@
 -- An audit has one answer.
 use Rattle.std.proofs.Common.{◌≡◌, ◌⊎◌, ⊎_elim, ℕ, zero, suc, List, [], ◌∷◌, ◌++◌, map, refl, sym, ap, ◌∙◌, subst, arith, inl, inr}
 use Rattle.std.specs.List.{AllByRecursion, Contains}
-use Rattle.fe2o3_sasl_core.specs.ClientHistory.{Answering, OpenAnswer, AnswersAt}
+use Rattle.fe2o3_sasl_core.specs.ClientHistory.{Answering, AnswersAt}
 use Rattle.fe2o3_sasl_core.specs.Events.{ClientSays, ServerSays}
 use Rattle.fe2o3_sasl_core.specs.Laws.{OneAuditEach}
 use Rattle.fe2o3_sasl_core.specs.ServerHistory.{Accepted, AcceptsAt}
-use Rattle.fe2o3_sasl_core.specs.TwoSides.{Sides, sides_of, Takes, Shows}
+use Rattle.fe2o3_sasl_core.specs.TwoSides.{Sides, sides_of, ReportedAnswer, Takes, Shows}
 use Rattle.fe2o3_sasl_core.specs.Verdicts.{Verdict, Finding, FindingKind, place_of, Before, Ascending, Lists, IsVerifierFinding, IsProofFinding, Audits, JudgesVerifier, JudgesProof}
-use Rattle.fe2o3_sasl_core.proofs.lemmas.histories.OneClientHistoryLemmas.{one_open_answer, one_answers_at, one_client_history}
+use Rattle.fe2o3_sasl_core.proofs.lemmas.histories.OneClientHistoryLemmas.{one_answers_at, one_client_history}
+use Rattle.fe2o3_sasl_core.proofs.lemmas.two_sides.ReportedAnswerLemmas.{one_reported_answer}
 use Rattle.fe2o3_sasl_core.proofs.lemmas.histories.OneServerHistoryLemmas.{one_accepted, one_server_history}
 use Rattle.fe2o3_sasl.proofs.lemmas.two_sides.VerdictLemmas.{one_verdict_each}
 
@@ -130,9 +131,9 @@ one_verifier sides finding other places is too =
     let client : finding.client ≡ other.client = ap (λ (place : ℕ × ℕ). place.0) places in
     let server : finding.server ≡ other.server = ap (λ (place : ℕ × ℕ). place.1) places in
     let answer : too.1.0 ≡ is.1.0 =
-    one_open_answer sides.login sides.client_events sides.client_replies finding.client too.1.0 is.1.0
-    (subst (λ (m : ℕ). OpenAnswer sides.login sides.client_events sides.client_replies m too.1.0) (sym client) too.1.3)
-    is.1.3 in
+    one_reported_answer sides.login sides.client_events sides.client_replies finding.client too.1.0 is.1.0
+    (subst (λ (m : ℕ). ReportedAnswer sides.login sides.client_events sides.client_replies m too.1.0)
+    (sym client) too.1.3) is.1.3 in
     let accepted : too.1.1 ≡ is.1.1 =
     one_accepted sides.provider sides.server_events sides.server_replies finding.server too.1.1 is.1.1
     (subst (λ (n : ℕ). AcceptsAt sides.provider sides.server_events sides.server_replies n too.1.1)

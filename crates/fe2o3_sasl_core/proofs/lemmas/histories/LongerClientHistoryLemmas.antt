@@ -4,7 +4,7 @@ use Rattle.std.specs.Prelude.{slice_get}
 use Rattle.std.proofs.lemmas.Option.{same_Some, slice_get_within}
 use Rattle.fe2o3_sasl_wire.specs.declared.sasl_frames.error.Error.{Error}
 use Rattle.fe2o3_sasl_wire.specs.SaslFrames.{SaslFrame}
-use Rattle.fe2o3_sasl_core.specs.ClientHistory.{ClientAnswers, ClientAllocates, is_start, is_answer, ends_answer, NonceAt, IsDue, AnswersAt, OpenAnswer, ClientHistory}
+use Rattle.fe2o3_sasl_core.specs.ClientHistory.{ClientAnswers, ClientAllocates, is_start, is_answer, ends_answer, NonceAt, IsDue, AnswersAt, OpenAnswer, SignsAt, VerifiedAnswer, ClientHistory}
 use Rattle.fe2o3_sasl_core.specs.Events.{Given, Login, ClientSays, Refused}
 use Rattle.fe2o3_sasl_core.specs.Bodies.{SpellsBody}
 use Rattle.fe2o3_sasl_core.proofs.lemmas.histories.OneClientHistoryLemmas.{challenge_moves, client_moves}
@@ -49,7 +49,7 @@ answers_front login events more replies others k n l =
       ),
     )
 
-open_answer_front : (login : Login) (events more : List Given) (replies others : List ClientSays) (k : ℕ)
+pub open_answer_front : (login : Login) (events more : List Given) (replies others : List ClientSays) (k : ℕ)
     → length replies ≡ length events → k ≤ length replies
     → AreSame (OpenAnswer login events replies k) (OpenAnswer login (events ++ more) (replies ++ others) k)
 open_answer_front login events more replies others k n l =
@@ -57,11 +57,30 @@ open_answer_front login events more replies others k n l =
     (AnswersAt login (events ++ more) (replies ++ others)) replies others k l
     (λ j b. answers_front login events more replies others j n (omega arith))
 
+pub signs_front : (login : Login) (events more : List Given) (replies others : List ClientSays) (k : ℕ)
+    → length replies ≡ length events → k < length replies
+    → AreSame (SignsAt login events replies k) (SignsAt login (events ++ more) (replies ++ others) k)
+signs_front login events more replies others k n l =
+    let opened = open_answer_front login events more replies others k n (omega arith) in
+    let at = slice_get-front events more k (omega arith) in (
+      λ answer h. (h.0, h.1, at ∙ h.2, h.3, (h.4.0, opened.0 answer h.4.1), h.5),
+      λ answer h. (h.0, h.1, sym at ∙ h.2, h.3, (h.4.0, opened.1 answer h.4.1), h.5),
+    )
+
+verified_front : (login : Login) (events more : List Given) (replies others : List ClientSays) (k : ℕ)
+    → length replies ≡ length events → k ≤ length replies
+    → AreSame (VerifiedAnswer login events replies k) (VerifiedAnswer login (events ++ more) (replies ++ others) k)
+verified_front login events more replies others k n l =
+    open_by_front is_answer ends_answer (SignsAt login events replies)
+    (SignsAt login (events ++ more) (replies ++ others)) replies others k l
+    (λ j b. signs_front login events more replies others j n (omega arith))
+
 -- what an event may be answered at a position
 abbrev pub SaysAt : Login → List Given → List ClientSays → ℕ → Given → ClientSays → Type 0
 SaysAt login events replies k event says = (spelled : Result SaslFrame Error) × SpellsBody event.body spelled
     × ((ClientAllocates login spelled × (says ≡ Refused OutOfMemory))
-    ⊎ ClientAnswers login (IsDue events replies k) (OpenAnswer login events replies k) event spelled says)
+    ⊎ ClientAnswers login (IsDue events replies k) (OpenAnswer login events replies k)
+    (VerifiedAnswer login events replies k) event spelled says)
 
 -- the next reply of a history
 pub client_history_push : (login : Login) (events : List Given) (replies : List ClientSays) (event : Given)
@@ -82,16 +101,21 @@ client_history_push login events replies event says h s =
     moved k e t l x = (x.0, x.1, go x.2)
       where
         go : (ClientAllocates login x.0 × (t ≡ Refused OutOfMemory))
-            ⊎ ClientAnswers login (IsDue events replies k) (OpenAnswer login events replies k) e x.0 t →
+            ⊎ ClientAnswers login (IsDue events replies k) (OpenAnswer login events replies k)
+            (VerifiedAnswer login events replies k) e x.0 t →
             (ClientAllocates login x.0 × (t ≡ Refused OutOfMemory))
             ⊎ ClientAnswers login (IsDue (events ++ event ∷ []) (replies ++ says ∷ []) k)
-            (OpenAnswer login (events ++ event ∷ []) (replies ++ says ∷ []) k) e x.0 t
+            (OpenAnswer login (events ++ event ∷ []) (replies ++ says ∷ []) k)
+            (VerifiedAnswer login (events ++ event ∷ []) (replies ++ says ∷ []) k) e x.0 t
         go (inl w) = inl w
         go (inr a) =
             inr (client_moves login (IsDue events replies k) (IsDue (events ++ event ∷ []) (replies ++ says ∷ []) k)
             (OpenAnswer login events replies k) (OpenAnswer login (events ++ event ∷ []) (replies ++ says ∷ []) k)
+            (VerifiedAnswer login events replies k)
+            (VerifiedAnswer login (events ++ event ∷ []) (replies ++ says ∷ []) k)
             (due_front events (event ∷ []) replies (says ∷ []) k h.count l)
-            (open_answer_front login events (event ∷ []) replies (says ∷ []) k h.count l) e x.0 t a)
+            (open_answer_front login events (event ∷ []) replies (says ∷ []) k h.count l)
+            (verified_front login events (event ∷ []) replies (says ∷ []) k h.count l) e x.0 t a)
 
     front : (k : ℕ) (e : Given) (t : ClientSays) → slice_get (events ++ event ∷ []) k ≡ Some e
         → slice_get (replies ++ says ∷ []) k ≡ Some t → k < length replies

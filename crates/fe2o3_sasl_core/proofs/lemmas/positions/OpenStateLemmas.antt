@@ -115,3 +115,22 @@ module _ {A X : Type 0} (opens closes : A → Bool) where
             ),
         λ x o. let p = earlier o.0 t.0 o.1 in t.2 ∙ h.only x (o.0, p, (same o.0 p.before).1 x o.2),
       )
+
+  -- a reply that opens a position of no value leaves nothing open
+  pub holds_vacant : (Other : ℕ → X → Type 0) (replies : List A) (reply : A) → opens reply ≡ true
+      → ((x : X) → ¬ Other (length replies) x) → Holds Other (replies ++ reply ∷ []) None
+  holds_vacant Other replies reply is none = record {
+    found = λ x e. absurd (none-some x e);
+    only = λ x o. absurd (none x (subst (λ (j : ℕ). Other j x) (one_open opens closes (replies ++ reply ∷ [])
+        (length (replies ++ reply ∷ [])) o.0 (length replies) o.1 place) o.2));
+  }
+    where
+      here : slice_get (replies ++ reply ∷ []) (length replies) ≡ Some reply
+      here = slice_get-behind replies reply []
+
+      l : suc (length replies) ≡ length (replies ++ reply ∷ [])
+      l = let y = length-append replies (reply ∷ []) in omega arith
+
+      place : IsLastOpen opens closes (replies ++ reply ∷ []) (length (replies ++ reply ∷ [])) (length replies)
+      place = subst (λ (k : ℕ). IsLastOpen opens closes (replies ++ reply ∷ []) k (length replies)) l
+          (opens_here opens closes (replies ++ reply ∷ []) (length replies) (ap (test_at opens) here ∙ is))

@@ -8,7 +8,7 @@ use Rattle.fe2o3_sasl_wire.specs.declared.sasl_frames.error.Error.TheVariants as
 use Rattle.fe2o3_sasl_wire.specs.SaslFrames as frames
 use Rattle.fe2o3_sasl_wire.specs.SaslFrames.{SaslFrame}
 use Rattle.fe2o3_scram.specs.declared.scram_messages.error.ScramErrorKind.{ScramErrorKind}
-use Rattle.fe2o3_sasl_core.specs.ClientHistory.{ClientHistory, OpenAnswer, IsDue, ClientAnswers, ClientAllocates, ReadsOutcome}
+use Rattle.fe2o3_sasl_core.specs.ClientHistory.{ClientHistory, OpenAnswer, VerifiedAnswer, IsDue, ClientAnswers, ClientAllocates, ReadsOutcome}
 use Rattle.fe2o3_scram.specs.Credentials.{Provider}
 use Rattle.fe2o3_sasl_core.specs.Events.{Given, Login, IsRecord, ServerSays, Concluded, Failed, ClientSays, Reported, Refused, scram_fault}
 use Rattle.fe2o3_sasl_core.specs.Headline.{AnswersOkExactly, SignedAt, ReportsOkExactly, VerifierAgrees, TakenVerifiersAgree}
@@ -16,8 +16,8 @@ use Rattle.fe2o3_sasl_core.specs.Laws.{EveryServer, EveryClient}
 use Rattle.fe2o3_sasl_core.specs.Positions.{test_at}
 use Rattle.fe2o3_sasl_core.specs.Bodies.{SpellsBody}
 use Rattle.fe2o3_sasl_core.specs.ServerHistory.{Challenging, Accepted, FitsAsResponse, AcceptsAt, Open, ServerAnswers, ServerAllocates, ServerHistory, says_ok, is_ok}
-use Rattle.fe2o3_sasl_core.specs.TwoSides.{Sides, Histories, Takes}
-use Rattle.fe2o3_sasl_core.proofs.lemmas.histories.OneClientHistoryLemmas.{one_open_answer, one_reading_of_outcome}
+use Rattle.fe2o3_sasl_core.specs.TwoSides.{Sides, Histories, ReportedAnswer, Takes}
+use Rattle.fe2o3_sasl_core.proofs.lemmas.histories.OneClientHistoryLemmas.{one_open_answer, one_verified_answer, one_reading_of_outcome}
 use Rattle.fe2o3_sasl_core.proofs.lemmas.histories.ReportedOkLemmas.{reported}
 use Rattle.fe2o3_sasl_core.proofs.lemmas.two_sides.MeetingSidesLemmas.{agree, met_taken, taken_signature}
 use Rattle.fe2o3_sasl_core.proofs.lemmas.positions.PositionLemmas.{some_at}
@@ -90,17 +90,18 @@ answers_ok_exactly provider events replies history = record {
 signed : (login : Login) (events : List Given) (replies : List ClientSays) (m : ℕ) (event : Given)
     (more : Option (List ℕ)) → slice_get events m ≡ Some event
     → SpellsBody event.body (Ok (frames.Outcome outcomes.Ok more))
-    → ReadsOutcome login (OpenAnswer login events replies m) more (Ok tt)
-    → (text : List ℕ) × (more ≡ Some text) × SignedAt login events replies m text
-signed login events replies m event None at spells reads = absurd reads
-signed login events replies m event (Some text) at spells reads =
-    (text, refl, (event, reads.0, at, spells, reads.1, reads.2))
+    → ReadsOutcome login (OpenAnswer login events replies m) (VerifiedAnswer login events replies m) more (Ok tt)
+    → SignedAt login events replies m more
+signed login events replies m event None at spells reads = (event, reads.0, at, spells, reads.1)
+signed login events replies m event (Some text) at spells reads = (event, reads.0, at, spells, reads.1, reads.2)
 
 -- a client reports Ok only where the signature is given
 only_where_signed : (login : Login) (events : List Given) (replies : List ClientSays) (m : ℕ) (more : Option (List ℕ))
     → ClientHistory login events replies → slice_get replies m ≡ Some (Reported outcomes.Ok more)
-    → (text : List ℕ) × (more ≡ Some text) × SignedAt login events replies m text
+    → SignedAt login events replies m more
 only_where_signed login events replies m more history at =
+    let IsOpen = OpenAnswer login events replies m in
+    let IsVerified = VerifiedAnswer login events replies m in
     let event = some_at events m (omega (
       arith,
       history.count,
@@ -109,42 +110,52 @@ only_where_signed login events replies m more history at =
     let row = history.each m event.0 (Reported outcomes.Ok more) event.1 at in
     ⊎_elim (λ (none : ClientAllocates login row.0 × (Reported outcomes.Ok more ≡ Refused OutOfMemory)). let is = none.1
     in absurd (cc))
-    (λ (told : ClientAnswers login (IsDue events replies m) (OpenAnswer login events replies m) event.0 row.0
+    (λ (told : ClientAnswers login (IsDue events replies m) IsOpen IsVerified event.0 row.0
     (Reported outcomes.Ok more)).
-    let is = reported login (IsDue events replies m) (OpenAnswer login events replies m) event.0 row.0 more told in
+    let is = reported login (IsDue events replies m) IsOpen IsVerified event.0 row.0 more told in
     signed login events replies m event.0 more event.1 (subst
     (λ (s : Result SaslFrame Error). SpellsBody event.0.body s) is.0 row.1) is.1)
     row.2
 
+-- where it is given, the outcome is read so
+reads_signed : (login : Login) (events : List Given) (replies : List ClientSays) (m : ℕ) (more : Option (List ℕ))
+    → SignedAt login events replies m more → (event : Given) × (slice_get events m ≡ Some event)
+    × SpellsBody event.body (Ok (frames.Outcome outcomes.Ok more))
+    × ReadsOutcome login (OpenAnswer login events replies m) (VerifiedAnswer login events replies m) more (Ok tt)
+reads_signed login events replies m None is = (is.0, is.2, is.3, (is.1, is.4))
+reads_signed login events replies m (Some text) is = (is.0, is.2, is.3, (is.1, is.4, is.5))
+
 -- and wherever it is
-wherever_signed : (login : Login) (events : List Given) (replies : List ClientSays) (m : ℕ) (text : List ℕ)
-    (says : ClientSays) → ClientHistory login events replies → SignedAt login events replies m text
-    → slice_get replies m ≡ Some says → says ≢ Refused OutOfMemory → says ≡ Reported outcomes.Ok (Some text)
-wherever_signed login events replies m text says history is at memory =
-    let event = is.0 in
-    let row = history.each m event says is.2 at in
-    let spelled = one_spelling event.body row.0 (Ok (frames.Outcome outcomes.Ok (Some text))) row.1 is.3 in
-    let reads : ReadsOutcome login (OpenAnswer login events replies m) (Some text) (Ok tt) = (is.1, is.4, is.5) in
+wherever_signed : (login : Login) (events : List Given) (replies : List ClientSays) (m : ℕ) (more : Option (List ℕ))
+    (says : ClientSays) → ClientHistory login events replies → SignedAt login events replies m more
+    → slice_get replies m ≡ Some says → says ≢ Refused OutOfMemory → says ≡ Reported outcomes.Ok more
+wherever_signed login events replies m more says history is at memory =
+    let signs = reads_signed login events replies m more is in
+    let event = signs.0 in
+    let row = history.each m event says signs.1 at in
+    let spelled = one_spelling event.body row.0 (Ok (frames.Outcome outcomes.Ok more)) row.1 signs.2 in
     ⊎_elim (λ (none : ClientAllocates login row.0 × (says ≡ Refused OutOfMemory)). absurd (memory none.1))
-    (λ (told : ClientAnswers login (IsDue events replies m) (OpenAnswer login events replies m) event row.0 says).
-    go reads (subst (λ (s : Result SaslFrame Error). ClientAnswers login (IsDue events replies m)
-    (OpenAnswer login events replies m) event s says) spelled told))
+    (λ (told : ClientAnswers login (IsDue events replies m) (OpenAnswer login events replies m)
+    (VerifiedAnswer login events replies m) event row.0 says).
+    go signs.3 (subst (λ (s : Result SaslFrame Error). ClientAnswers login (IsDue events replies m)
+    (OpenAnswer login events replies m) (VerifiedAnswer login events replies m) event s says) spelled told))
     row.2
   where
-    go : ReadsOutcome login (OpenAnswer login events replies m) (Some text) (Ok tt)
-        → (ReadsOutcome login (OpenAnswer login events replies m) (Some text) (Ok tt)
-        × (says ≡ Reported outcomes.Ok (Some text)))
-        ⊎ ((kind : ScramErrorKind) × ReadsOutcome login (OpenAnswer login events replies m) (Some text) (Err kind)
-        × (says ≡ Refused (scram_fault kind)))
-        → says ≡ Reported outcomes.Ok (Some text)
+    go : ReadsOutcome login (OpenAnswer login events replies m) (VerifiedAnswer login events replies m) more (Ok tt)
+        → (ReadsOutcome login (OpenAnswer login events replies m) (VerifiedAnswer login events replies m) more (Ok tt)
+        × (says ≡ Reported outcomes.Ok more))
+        ⊎ ((kind : ScramErrorKind) × ReadsOutcome login (OpenAnswer login events replies m)
+        (VerifiedAnswer login events replies m) more (Err kind) × (says ≡ Refused (scram_fault kind)))
+        → says ≡ Reported outcomes.Ok more
     go reads (inl told) = told.1
     go reads (inr told) = let same = one_reading_of_outcome login (OpenAnswer login events replies m)
-        (one_open_answer login events replies m) (Some text) (Ok tt) (Err told.0) reads told.1 in absurd (cc)
+        (VerifiedAnswer login events replies m) (one_open_answer login events replies m)
+        (one_verified_answer login events replies m) more (Ok tt) (Err told.0) reads told.1 in absurd (cc)
 
 pub reports_ok_exactly : EveryClient ReportsOkExactly
 reports_ok_exactly login events replies history = record {
   only = λ m more. only_where_signed login events replies m more history;
-  wherever = λ m text says. wherever_signed login events replies m text says history;
+  wherever = λ m more says. wherever_signed login events replies m more says history;
 }
 
 -- ---- both
@@ -154,10 +165,12 @@ pub verifier_agrees : (sides : Sides) (m n : ℕ) (accepted : Accepted) → Hist
     → IsRecord accepted.challenge.stored → Takes sides m n accepted → VerifierAgrees sides m accepted
 verifier_agrees sides m n accepted histories kept takes =
     let taken = taken_signature sides m n accepted histories takes in
-    let meets = met_taken sides m n taken.0 accepted histories kept takes taken.1 in
+    let reported_on : ReportedAnswer sides.login sides.client_events sides.client_replies m taken.0 =
+    (takes.more, takes.reported, taken.1) in
+    let meets = met_taken sides m n taken.0 accepted histories kept takes reported_on in
     record {
       answer = taken.0;
-      opened = taken.1;
+      opened = reported_on;
       agrees = λ same. agree sides taken.0 accepted meets same;
       collides = λ differ. record { version = taken.2.0; differ = differ; one = taken.2.1 };
     }

@@ -1,7 +1,7 @@
 -- Where a client and a server meet: one version, and one login where the AuthMessages are equal.
 use Rattle.std.proofs.Common.{◌≡◌, ℕ, Bool, true, false, List, length, subst, sym, ap, ◌∙◌, codes, inl, inr}
 use Rattle.fe2o3_scram.specs.declared.hmac.ScramVersion.{ScramVersion}
-use Rattle.fe2o3_sasl_core.specs.ClientHistory.{Answering, OpenAnswer}
+use Rattle.fe2o3_sasl_core.specs.ClientHistory.{Answering, answer_at}
 use Rattle.std.specs.Prelude.{if◌then◌else◌}
 use Rattle.fe2o3_scram.specs.ClientFinal.{fit, keys_for}
 use Rattle.fe2o3_scram.specs.ClientKeys.{AreSized, ClientKeys, keys_of}
@@ -13,13 +13,14 @@ use Rattle.fe2o3_scram.specs.Hmac.{digest_len, hmac_of}
 use Rattle.fe2o3_sasl_core.specs.Laws.{AreMatched, MatchEqually, EqualMessagesAgree, NoShortExtensions}
 use Rattle.fe2o3_scram.specs.Keys.{stored_key}
 use Rattle.fe2o3_sasl_core.specs.ServerHistory.{Accepted}
-use Rattle.fe2o3_sasl_core.specs.TwoSides.{Sides, Histories, Takes, Shows, Agree, client_message, server_message, keys_at}
+use Rattle.fe2o3_sasl_core.specs.TwoSides.{Sides, Histories, SignedAnswer, ReportedAnswer, Takes, Shows, Agree, client_message, server_message, keys_at}
+use Rattle.fe2o3_scram.specs.Texts.{HasBase64}
 use Rattle.fe2o3_scram.proofs.lemmas.hashes.DigestLemmas.{length-hmac_of}
 use Rattle.fe2o3_scram.proofs.lemmas.messages.AgreementLemmas.{one_signature, sized_version}
 use Rattle.fe2o3_scram.proofs.lemmas.messages.ExchangeLemmas.{length-exclusive_or}
-use Rattle.fe2o3_sasl_core.proofs.lemmas.histories.OneClientHistoryLemmas.{one_open_answer}
 use Rattle.fe2o3_sasl_core.proofs.lemmas.histories.ReportedOkLemmas.{signature_of_ok}
 use Rattle.fe2o3_sasl_core.proofs.lemmas.two_sides.EqualMessageLemmas.{SameMessages, same_messages, is_accepted}
+use Rattle.fe2o3_sasl_core.proofs.lemmas.two_sides.ReportedAnswerLemmas.{one_reported_answer, one_verifier_text, signed_position}
 
 -- the keys of an answer are as long as a digest, where those of the secret are
 pub sized_at : (login : Login) (answer : Answering) → IsSecret login.secret → AreSized (keys_at login answer)
@@ -52,32 +53,38 @@ OneSignature sides answer accepted =
     × (hmac_of version (keys_at sides.login answer).server_key (client_message sides.login answer)
     ≡ hmac_of version accepted.challenge.stored.server_key (server_message accepted))
 
-pub taken_signature : (sides : Sides) (m n : ℕ) (accepted : Accepted) → Histories sides → Takes sides m n accepted
-    → (answer : Answering) × OpenAnswer sides.login sides.client_events sides.client_replies m answer
+pub taken_signature : (sides : Sides) (m n : ℕ) (accepted : Accepted) → Histories sides
+    → (takes : Takes sides m n accepted) → (answer : Answering)
+    × SignedAnswer sides.login sides.client_events sides.client_replies m takes.more answer
     × OneSignature sides answer accepted
 taken_signature sides m n accepted histories takes =
-    let stands = signature_of_ok sides.login sides.client_events sides.client_replies m takes.text histories.client
+    let stands = signature_of_ok sides.login sides.client_events sides.client_replies m takes.more histories.client
     takes.reported in
+    let text = one_verifier_text sides.client_events sides.client_replies m takes.more stands.1 takes.text stands.3
+    takes.verifier in
+    let signs = subst (λ (z : List ℕ). HasBase64 z 0 (codes "v=") (answer_at sides.login stands.0).signature) text
+    stands.4 in
     let keys = keys_at sides.login stands.0 in
     let its_key = accepted.challenge.stored.server_key in
     let signed = one_signature keys.version sides.provider.version keys.server_key its_key
-    (client_message sides.login stands.0) (server_message accepted) takes.text stands.2 takes.one in (
+    (client_message sides.login stands.0) (server_message accepted) takes.text signs takes.one in (
       stands.0,
-      stands.1,
+      stands.2,
       (
         signed.0,
         signed.1 ∙ ap (λ (of : ScramVersion). hmac_of of its_key (server_message accepted)) (sym signed.0),
       ),
     )
 
--- it is that of the answer which is open
+-- it is that of the answer on which the client reported Ok
 signature_at : (sides : Sides) (m n : ℕ) (answer : Answering) (accepted : Accepted) → Histories sides
-    → Takes sides m n accepted → OpenAnswer sides.login sides.client_events sides.client_replies m answer
+    → Takes sides m n accepted → ReportedAnswer sides.login sides.client_events sides.client_replies m answer
     → OneSignature sides answer accepted
-signature_at sides m n answer accepted histories takes opened =
+signature_at sides m n answer accepted histories takes reported =
     let signed = taken_signature sides m n accepted histories takes in
     subst (λ (other : Answering). OneSignature sides other accepted)
-    (one_open_answer sides.login sides.client_events sides.client_replies m signed.0 answer signed.1 opened) signed.2
+    (one_reported_answer sides.login sides.client_events sides.client_replies m signed.0 answer
+    (takes.more, takes.reported, signed.1) reported) signed.2
 
 -- a proof that was shown has the length of either side's digest
 pub shown_version : (sides : Sides) (k n : ℕ) (answer : Answering) (accepted : Accepted) → IsSecret sides.login.secret
@@ -102,11 +109,13 @@ pub record Met (sides : Sides) (answer : Answering) (accepted : Accepted) : Type
 -- where the client took the verifier
 pub met_taken : (sides : Sides) (m n : ℕ) (answer : Answering) (accepted : Accepted) → Histories sides
     → IsRecord accepted.challenge.stored → Takes sides m n accepted
-    → OpenAnswer sides.login sides.client_events sides.client_replies m answer → Met sides answer accepted
-met_taken sides m n answer accepted histories kept takes opened = record {
-  version = (signature_at sides m n answer accepted histories takes opened).0;
-  same = same_messages sides opened.0 n answer accepted kept opened.2 takes.ok.accepts;
-}
+    → ReportedAnswer sides.login sides.client_events sides.client_replies m answer → Met sides answer accepted
+met_taken sides m n answer accepted histories kept takes reported =
+    let place = signed_position sides.login sides.client_events sides.client_replies m reported.0 answer reported.2 in
+    record {
+      version = (signature_at sides m n answer accepted histories takes reported).0;
+      same = same_messages sides place.0 n answer accepted kept place.2 takes.ok.accepts;
+    }
 
 -- and where it showed the proof
 pub met_shown : (sides : Sides) (k n : ℕ) (answer : Answering) (accepted : Accepted) → IsSecret sides.login.secret

@@ -10,7 +10,7 @@ use Rattle.fe2o3_sasl_wire.specs.SaslFrames as frames
 use Rattle.fe2o3_scram.specs.declared.scram_messages.error.ScramErrorKind.{ScramErrorKind}
 use Rattle.fe2o3_scram.specs.Texts.{base64_text}
 use Rattle.fe2o3_scram.specs.ClientFirst.{client_first}
-use Rattle.fe2o3_sasl_core.specs.ClientHistory.{Answering, answer_at, ReadsChallenge, ClientAnswers, ClientAllocates, ClientHistory, IsDue, OpenAnswer}
+use Rattle.fe2o3_sasl_core.specs.ClientHistory.{Answering, answer_at, MaySign, ReadsChallenge, ClientAnswers, ClientAllocates, ClientHistory, IsDue, OpenAnswer, VerifiedAnswer}
 use Rattle.fe2o3_scram.specs.Credentials.{Provider}
 use Rattle.fe2o3_sasl_core.specs.Events.{Given, Login, ServerSays, Challenged, Concluded, Failed, ClientSays, Started, Answered, Reported, Refused}
 use Rattle.fe2o3_scram.specs.Hmac.{mechanism_name}
@@ -35,7 +35,8 @@ use Rattle.fe2o3_sasl_core.specs.declared.sasl_profile.error.ProfileError.TheVar
 abbrev ClientRow : Login → List Given → List ClientSays → ℕ → Given → Result SaslFrame Error → ClientSays → Type 0
 ClientRow login events replies k event spelled says =
     (ClientAllocates login spelled × (says ≡ Refused OutOfMemory))
-    ⊎ ClientAnswers login (IsDue events replies k) (OpenAnswer login events replies k) event spelled says
+    ⊎ ClientAnswers login (IsDue events replies k) (OpenAnswer login events replies k)
+    (VerifiedAnswer login events replies k) event spelled says
 
 abbrev ServerRow : Provider → List Given → List ServerSays → ℕ → Given → Result SaslFrame Error → ServerSays → Type 0
 ServerRow provider events replies k event spelled says =
@@ -203,38 +204,49 @@ read_not_refused login Due text answer kind one reads (inr (inr x)) =
     differ : (first : ServerFirst) → ◌≡◌ {A = Result ServerFirst ScramErrorKind} (Ok first) (Err kind) → ⊥
     differ first e = absurd (cc)
 
+-- the challenge may not be the signature of an answer
+abbrev pub NoneMaySign : Login → List Given → List ClientSays → ℕ → Type 0
+NoneMaySign login events replies k =
+    (answer : Answering) → ¬ MaySign login (OpenAnswer login events replies k) answer
+
 answer_row : (login : Login) (events : List Given) (replies : List ClientSays) (k : ℕ) (event : Given) (text : List ℕ)
-    (answer : Answering) (says : ClientSays) (body : List ℕ)
+    (answer : Answering) (says : ClientSays) (body : List ℕ) → NoneMaySign login events replies k
     → ((nonce : List ℕ) → IsDue events replies k nonce → nonce ≡ answer.nonce)
     → ReadsChallenge login (IsDue events replies k) text (Ok answer)
     → ClientRow login events replies k event (Ok (frames.Challenge text)) says
     → says ≢ Refused OutOfMemory → says ≢ Refused (Frame faults.TooLarge) → Arrives (client_body (Some says)) body
     → (says ≡ Answered body) × (canonical (frames.Response (answer_at login answer).message) ≡ Some body)
-answer_row login events replies k event text answer says body one reads (inl wants) memory small arrives =
+answer_row login events replies k event text answer says body none one reads (inl wants) memory small arrives =
     absurd (memory wants.1)
-answer_row login events replies k event text answer says body one reads (inr (inl row)) memory small arrives =
+answer_row login events replies k event text answer says body none one reads (inr (inl row)) memory small arrives =
+    absurd (none row.0.0 row.0.1)
+answer_row login events replies k event text answer says body none one reads
+    (inr (inr (inl row))) memory small arrives = absurd (none row.1.0 row.1.1)
+answer_row login events replies k event text answer says body none one reads
+    (inr (inr (inr (unsigned, inl row)))) memory small arrives =
     let step = sent_as client_body (Refused (Frame faults.TooLarge)) (λ (b : List ℕ). Answered b) (λ bytes. refl)
     (canonical (frames.Response (answer_at login row.0).message)) says body row.2 small arrives in (
       step.0,
       subst (λ (a : Answering). canonical (frames.Response (answer_at login a).message) ≡ Some body)
           (one_answering login (IsDue events replies k) text answer row.0 one reads row.1) step.1,
     )
-answer_row login events replies k event text answer says body one reads (inr (inr row)) memory small arrives =
+answer_row login events replies k event text answer says body none one reads
+    (inr (inr (inr (unsigned, inr row)))) memory small arrives =
     absurd (read_not_refused login (IsDue events replies k) text answer row.0 one reads row.1)
 
--- a challenge that is due and is read is answered by its response
+-- a challenge that is due, is read and may not be a signature is answered by its response
 pub client_answers : (login : Login) (events : List Given) (replies : List ClientSays) (k : ℕ) (event : Given)
     (text : List ℕ) (answer : Answering) (body : List ℕ) → ClientHistory login events replies
     → slice_get events k ≡ Some event
-    → SpellsBody event.body (Ok (frames.Challenge text)) → ((nonce : List ℕ) → IsDue events replies k nonce
-    → nonce ≡ answer.nonce) → ReadsChallenge login (IsDue events replies k) text (Ok answer)
+    → SpellsBody event.body (Ok (frames.Challenge text)) → NoneMaySign login events replies k
+    → ((nonce : List ℕ) → IsDue events replies k nonce → nonce ≡ answer.nonce) → ReadsChallenge login (IsDue events replies k) text (Ok answer)
     → ClientComplete replies → ClientSmall replies → Arrives (client_body (slice_get replies k)) body
     → (slice_get replies k ≡ Some (Answered body))
     × (canonical (frames.Response (answer_at login answer).message) ≡ Some body)
-client_answers login events replies k event text answer body history at spells one reads complete small arrives =
+client_answers login events replies k event text answer body history at spells none one reads complete small arrives =
     let reply = client_reply login events replies k event (frames.Challenge text) history at spells in
     let some = λ (r : ClientSays). Some r in
-    let step = answer_row login events replies k event text answer reply.0 body one reads reply.2
+    let step = answer_row login events replies k event text answer reply.0 body none one reads reply.2
     (λ e. complete k (reply.1 ∙ ap some e)) (λ e. small k (reply.1 ∙ ap some e))
     (arrives_at client_body (slice_get replies k) reply.0 body reply.1 arrives) in
     (reply.1 ∙ ap some step.0, step.1)

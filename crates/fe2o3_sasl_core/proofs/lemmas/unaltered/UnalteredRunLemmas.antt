@@ -1,5 +1,5 @@
 -- An unaltered run logs in.
-use Rattle.std.proofs.Common.{◌≡◌, ℕ, zero, suc, List, [], ◌∷◌, ◌++◌, codes, Some, length, refl, sym, ap, ◌∙◌, arith}
+use Rattle.std.proofs.Common.{◌≡◌, ℕ, zero, suc, List, [], ◌∷◌, ◌++◌, codes, Option, Some, length, refl, sym, ap, ◌∙◌, arith}
 use Rattle.std.specs.Prelude.{slice_get}
 use Rattle.fe2o3_sasl_wire.specs.declared.amqp_types.SaslCode.TheVariants as outcomes
 use Rattle.fe2o3_sasl_wire.specs.SaslFrames.{canonical}
@@ -51,13 +51,13 @@ three_replies (x ∷ y ∷ z ∷ []) a b c count first second third = cc
 three_replies (x ∷ y ∷ z ∷ w ∷ xs) a b c count first second third = absurd (omega (arith, count))
 
 -- where such replies are
-only_report : (init response text other : List ℕ) (m : ℕ)
+only_report : (init response text : List ℕ) (more : Option (List ℕ)) (m : ℕ)
     → slice_get (Started init ∷ Answered response ∷ Reported outcomes.Ok (Some text) ∷ []) m
-    ≡ Some (Reported outcomes.Ok (Some other)) → m ≡ 2
-only_report init response text other zero at = absurd (cc)
-only_report init response text other (suc zero) at = absurd (cc)
-only_report init response text other (suc (suc zero)) at = refl
-only_report init response text other (suc (suc (suc m))) at = absurd (cc)
+    ≡ Some (Reported outcomes.Ok more) → m ≡ 2
+only_report init response text more zero at = absurd (cc)
+only_report init response text more (suc zero) at = absurd (cc)
+only_report init response text more (suc (suc zero)) at = refl
+only_report init response text more (suc (suc (suc m))) at = absurd (cc)
 
 only_answer : (init response text body : List ℕ) (k : ℕ)
     → slice_get (Started init ∷ Answered response ∷ Reported outcomes.Ok (Some text) ∷ []) k ≡ Some (Answered body)
@@ -179,8 +179,10 @@ module _ (sides : Sides) (password salt : List ℕ) (count : ℕ) (run : Unalter
 
   takes : Takes sides 2 1 (accepted_in exchange)
   takes = record {
+    more = Some final_sent;
     text = final_sent;
     reported = reports;
+    verifier = refl;
     ok = ok_at;
     one = (_, only_part final_sent (part_of (codes "v=") (base64_text _) refl (no_comma-base64_text _)), refl);
   }
@@ -202,7 +204,7 @@ module _ (sides : Sides) (password salt : List ℕ) (count : ℕ) (run : Unalter
 
   one_taken : (m n : ℕ) → (accepted : Accepted) × Takes sides m n accepted → (m ≡ 2) × (n ≡ 1)
   one_taken m n taken = (
-    only_report run.init.body run.response.body final_sent taken.1.text m
+    only_report run.init.body run.response.body final_sent taken.1.more m
         (ap (λ (replies : List ClientSays). slice_get replies m) (sym client_list) ∙ taken.1.reported),
     ok_place n taken.0 taken.1.ok,
   )
@@ -250,7 +252,10 @@ module _ (sides : Sides) (password salt : List ℕ) (count : ℕ) (run : Unalter
         (accepted_in exchange, takes) one_taken;
     shows = one_pair (λ k n. (answer : Answering) × (accepted : Accepted) × Shows sides k n answer accepted) 1 1
         (answering_in exchange, accepted_in exchange, shows) one_shown;
-    verifier_verdicts = ((refl, (answering_in exchange, accepted_in exchange, takes, open_answer, are_agreed)), tt);
+    verifier_verdicts = (
+      (refl, (answering_in exchange, accepted_in exchange, takes, (Some final_sent, reports, open_answer), are_agreed)),
+      tt,
+    );
     proof_verdicts = (
       (
         refl,

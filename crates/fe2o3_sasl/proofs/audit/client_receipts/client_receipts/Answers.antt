@@ -1,4 +1,4 @@
-use Rattle.std.proofs.Common.{map, arith}
+use Rattle.std.proofs.Common.{map, refl, arith}
 use Rattle.fe2o3_sasl_core.specs.Events.{Login}
 use Rattle.fe2o3_sasl_core.specs.Runs.{given, client_answer, login_of}
 use Rattle.fe2o3_sasl.specs.private.Findings.{client_receipt}
@@ -22,7 +22,7 @@ loop-place-preserved c =
     let keeps = c.in_ok-start.ensures.keeps in
     record {
       so_far = client_next login (map given c.args.events.now) (map client_answer c.args.replies.now)
-          c.requires.history i start next shown shown' taken taken' (given init) (given event) (client_answer reply)
+          c.requires.history refl i start next shown shown' taken taken' (given init) (given event) (client_answer reply)
           (at_index client_answer c.args.replies.now i reply (omega arith) c.index-replies-place.is)
           (at_index given c.args.events.now start init (omega arith) c.index-events-start.is)
           (at_index given c.args.events.now i event (omega arith) c.index-events-place.is)
