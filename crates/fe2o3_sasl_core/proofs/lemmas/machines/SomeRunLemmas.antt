@@ -317,8 +317,9 @@ some_move hostname side nonce (frames.Mechanisms names) = go (contains_or names 
 some_move hostname side nonce (frames.Challenge text) = go (utf8_or text)
   where
     go : Decided (IsUtf8 text) → Moves hostname side nonce (frames.Challenge text)
-    go (inl utf8) = let reply = some_reply (expects_signature side) side text in
-    (reply.0, reply.1, inr (utf8, reply.2), reply.3)
+    go (inl utf8) =
+        let reply = some_reply (expects_signature side) side text in
+        (reply.0, reply.1, inr (utf8, reply.2), reply.3)
     go (inr other) = (Err (Scram Utf8Error), side, inl (other, refl, refl), λ is. cc)
 some_move hostname side nonce (frames.Outcome outcomes.Ok None) =
     let answer = some_end side.state side in (

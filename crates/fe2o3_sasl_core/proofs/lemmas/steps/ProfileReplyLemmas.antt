@@ -1,5 +1,5 @@
 -- What the machine of a SCRAM profile replies, from what a SCRAM client answers.
-use Rattle.std.proofs.Common.{◌≡◌, ◌≢◌, ◌⊎◌, ℕ, Bool, true, false, Option, Some, None, List, ◌+◌, ◌<◌, ◌≤◌, length, take, get_or, refl, sym, ap, ◌∙◌, subst, inl, inr, Result, Err}
+use Rattle.std.proofs.Common.{◌≡◌, ◌≢◌, ◌⊎◌, ℕ, Bool, true, false, Option, Some, List, ◌+◌, ◌<◌, ◌≤◌, length, take, get_or, refl, sym, ap, ◌∙◌, subst, inl, inr, Result, Err}
 use Rattle.std.proofs.lemmas.List.{take_more, take_all}
 use Rattle.std.proofs.lemmas.List.Elements.{Contains-push_cases}
 use Rattle.std.specs.List.{Contains}
@@ -10,7 +10,7 @@ use Rattle.fe2o3_scram.specs.declared.scram_messages.error.ScramErrorKind.{Scram
 use Rattle.fe2o3_scram.specs.declared.scram_messages.error.ScramErrorKind.TheVariants as kinds
 use Rattle.fe2o3_scram.specs.Readings.{Gives}
 use Rattle.fe2o3_scram.specs.ScramClient as client_states
-use Rattle.fe2o3_scram.specs.ScramClient.{ClientSide, ClientState, AnswersIn, ChecksSignatureIn, ConcludesIn, VerifiesIn, ReachesSaltIn, ReachesVerifierIn, expects_signature}
+use Rattle.fe2o3_scram.specs.ScramClient.{ClientSide, ClientState, AnswersIn, ChecksSignatureIn, VerifiesIn, ReachesSaltIn, ReachesVerifierIn, expects_signature}
 use Rattle.fe2o3_sasl_wire.specs.declared.amqp_types.SaslCode.{SaslCode}
 use Rattle.fe2o3_sasl_wire.specs.declared.amqp_types.SaslCode.TheVariants as outcomes
 use Rattle.fe2o3_scram.specs.ClientKeys.{ClientKeys}
@@ -44,13 +44,13 @@ pub challenge_refused : {V : Type 0} (view : V → List ℕ) (client next : Clie
     (λ answer. AnswersIn client.state client text answer next)
     → ProfileAnswers FrameAllocates (ScramProfile client) hostname nonce (frames.Challenge text)
     (Err (fault_of_kind kind)) (ScramProfile next)
-challenge_refused view client next hostname nonce text kinds.OutOfMemory no utf8 same from =
-    (challenge_allocates client text false no utf8 (from.0 refl), ap (λ (side : ClientSide). ScramProfile side) same)
-challenge_refused view client next hostname nonce text kinds.StaleKeys no utf8 same from =
-    challenge_replied client hostname nonce text false (Err StaleKeys) (ScramProfile next) no utf8
+challenge_refused view client next hostname nonce text kinds.OutOfMemory unsigned utf8 same from =
+    (challenge_allocates client text false unsigned utf8 (from.0 refl), ap (λ (side : ClientSide). ScramProfile side) same)
+challenge_refused view client next hostname nonce text kinds.StaleKeys unsigned utf8 same from =
+    challenge_replied client hostname nonce text false (Err StaleKeys) (ScramProfile next) unsigned utf8
     (Err kinds.StaleKeys, next, from.1 (λ e. absurd (cc)), refl, refl)
-challenge_refused view client next hostname nonce text kind no utf8 same from =
-    challenge_replied client hostname nonce text false (Err (fault_of_kind kind)) (ScramProfile next) no utf8
+challenge_refused view client next hostname nonce text kind unsigned utf8 same from =
+    challenge_replied client hostname nonce text false (Err (fault_of_kind kind)) (ScramProfile next) unsigned utf8
     (Err kind, next, from.1 (λ e. absurd (cc)), refl, refl)
 
 -- a signature in a challenge that the client rejects
@@ -71,28 +71,6 @@ signature_refused view client next hostname nonce text kinds.StaleKeys expects u
 signature_refused view client next hostname nonce text kind expects utf8 same from =
     challenge_replied client hostname nonce text true (Err (fault_of_kind kind)) (ScramProfile next) expects utf8
     (Err kind, next, from.1 (λ e. absurd (cc)), refl, refl)
-
--- an outcome Ok without data that the client rejects: the signature is missing
-pub conclusion_refused : (client next : ClientSide) (hostname : Option (List ℕ)) (nonce : List ℕ)
-    (kind : ScramErrorKind) → ConcludesIn client.state client (Err kind) next
-    → ProfileAnswers FrameAllocates (ScramProfile client) hostname nonce (frames.Outcome outcomes.Ok None)
-    (Err (fault_of_kind kind)) (ScramProfile next)
-conclusion_refused client next hostname nonce kind from = go kind (missing client.state kind from) from
-  where
-    missing : (state : ClientState) (kind : ScramErrorKind) → ConcludesIn state client (Err kind) next
-        → kind ≡ kinds.ServerSignatureMismatch
-    missing (client_states.SignatureVerified keys) kind from = absurd from
-    missing client_states.ClientInitial kind from = from.0
-    missing (client_states.ClientFirstSent sent bare) kind from = from.0
-    missing (client_states.ClientFinalSent signature keys) kind from = from.0
-    missing (client_states.Complete keys) kind from = from.0
-
-    go : (kind : ScramErrorKind) → kind ≡ kinds.ServerSignatureMismatch
-        → ConcludesIn client.state client (Err kind) next
-        → ProfileAnswers FrameAllocates (ScramProfile client) hostname nonce (frames.Outcome outcomes.Ok None)
-        (Err (fault_of_kind kind)) (ScramProfile next)
-    go kinds.ServerSignatureMismatch is from = (Err kinds.ServerSignatureMismatch, next, from, refl, refl)
-    go kind is from = absurd (cc)
 
 -- a client that reaches the signature has answered
 pub waiting : (state : ClientState) (text : List ℕ) → ReachesVerifierIn state text → IsUtf8 text × IsAnswered state
@@ -142,9 +120,9 @@ undue client text none = go client.state none
 pub undue_challenge : (client : ClientSide) (text : List ℕ) → IsUtf8 text → expects_signature client ≡ false
     → ((nonce bare : List ℕ) → client.state ≢ client_states.ClientFirstSent nonce bare)
     → RefusesAlways (ScramProfile client) (frames.Challenge text) (Scram kinds.IllegalClientState)
-undue_challenge client text utf8 no none = λ hostname nonce.
-    challenge_replied client hostname nonce text false (Err (Scram kinds.IllegalClientState)) (ScramProfile client) no
-    utf8 (Err kinds.IllegalClientState, client, undue client text none, refl, refl)
+undue_challenge client text utf8 unsigned none = λ hostname nonce.
+    challenge_replied client hostname nonce text false (Err (Scram kinds.IllegalClientState)) (ScramProfile client)
+    unsigned utf8 (Err kinds.IllegalClientState, client, undue client text none, refl, refl)
 
 -- an outcome Ok that is not expected is rejected, and then one whose data are not UTF-8
 pub undue_outcome : (client : ClientSide) (text : List ℕ)

@@ -261,12 +261,12 @@ reported_oks_are_signed hostname client event more next (Ok frame, spells, inr g
         absurd (challenge_is_no_report (expects_signature client) client text reply moved next more m.1 said)
     go (frames.Outcome outcomes.Ok None) reply moved spells m said =
         let ended = ended_is_verified client.state client m.1 m.0 reply moved next more m.2 m.3 said in
-        subst (λ (data : Option (List ℕ)). SpellsBody event.body (Ok (frames.Outcome outcomes.Ok data))
-        × ShowsSignature client.state data) (sym ended.0) (spells, ended.1)
+        subst (λ (shown : Option (List ℕ)). SpellsBody event.body (Ok (frames.Outcome outcomes.Ok shown))
+        × ShowsSignature client.state shown) (sym ended.0) (spells, ended.1)
     go (frames.Outcome outcomes.Ok (Some text)) reply moved spells m said =
         let signed = verified_is_signed client m.1 event text m.0 reply moved next more m.2 m.3 said in
-        subst (λ (data : Option (List ℕ)). SpellsBody event.body (Ok (frames.Outcome outcomes.Ok data))
-        × ShowsSignature client.state data) (sym signed.0) (spells, signed.1)
+        subst (λ (shown : Option (List ℕ)). SpellsBody event.body (Ok (frames.Outcome outcomes.Ok shown))
+        × ShowsSignature client.state shown) (sym signed.0) (spells, signed.1)
     go (frames.Outcome outcomes.Auth shown) reply moved spells m said =
         absurd (other_code (ScramProfile client) moved next reply outcomes.Auth shown more m.0 (λ is. absurd (cc)) said)
     go (frames.Outcome outcomes.Sys shown) reply moved spells m said =
