@@ -9,7 +9,7 @@ use Rattle.fe2o3_scram.specs.Credentials.{Provider}
 use Rattle.fe2o3_scram.specs.ScramServer.{Initial}
 use Rattle.fe2o3_scram.specs.Texts.{Part}
 use Rattle.fe2o3_sasl_core.specs.Bodies.{SpellsBody}
-use Rattle.fe2o3_sasl_core.specs.ClientHistory.{Answering, OpenAnswer}
+use Rattle.fe2o3_sasl_core.specs.ClientHistory.{Answering}
 use Rattle.fe2o3_sasl_core.specs.Events.{Given, Login, IsLogin, IsSecret, Concluded, Reported}
 use Rattle.fe2o3_sasl_core.specs.Headline.{VerifierAgrees}
 use Rattle.fe2o3_sasl_core.specs.Laws.{HoldsRecords}
@@ -18,7 +18,7 @@ use Rattle.fe2o3_sasl_core.specs.Profiles.{Profile, scram_profile}
 use Rattle.fe2o3_sasl_core.specs.Runs.{ProfileSteps}
 use Rattle.fe2o3_sasl_core.specs.SaslAcceptor.{ScramAcceptor, acceptor_names, acceptor_machine, acceptor_user}
 use Rattle.fe2o3_sasl_core.specs.ServerHistory.{Accepted, AcceptsAt, final_message, is_challenge, is_ok}
-use Rattle.fe2o3_sasl_core.specs.TwoSides.{Sides, sides_of, OkAt, Takes, Shows, Agree, client_message, server_message}
+use Rattle.fe2o3_sasl_core.specs.TwoSides.{Sides, sides_of, OkAt, ReportedAnswer, Takes, Shows, Agree, client_message, server_message}
 use Rattle.fe2o3_sasl_core.specs.UnalteredRuns.{HoldsLogin}
 use Rattle.fe2o3_sasl_core.specs.Verdicts.{Verdict, JudgesProof}
 use Rattle.fe2o3_sasl_negotiation.specs.declared.progress.Progress.TheVariants.{Authenticated}
@@ -158,7 +158,7 @@ MeanOneLogin login provider answer accepted =
 -- the client took a verifier that the server issued, and the AuthMessages are equal
 abbrev pub TakesEqually : Login → Provider → Sides → Type 0
 TakesEqually login provider sides = (m : ℕ) × (n : ℕ) × (answer : Answering) × (accepted : Accepted)
-    × Takes sides m n accepted × OpenAnswer sides.login sides.client_events sides.client_replies m answer
+    × Takes sides m n accepted × ReportedAnswer sides.login sides.client_events sides.client_replies m answer
     × MeanOneLogin login provider answer accepted
 
 -- the client showed a proof that the server accepted, and the AuthMessages are equal

@@ -1,5 +1,6 @@
 -- What a client and a server answer to the units of their login.
-use Rattle.std.proofs.Common.{◌≡◌, ℕ, ◌<◌, ◌^◌, Option, Some, List, [], ◌∷◌, ◌++◌, codes, refl, sym, ap, ◌∙◌, subst, arith, inl, inr, Ok}
+use Rattle.std.proofs.Common.{◌≡◌, ℕ, ◌<◌, ◌^◌, Bool, true, false, Option, Some, List, [], ◌∷◌, ◌++◌, codes, refl, sym, ap, ◌∙◌, subst, arith, inl, inr, Ok}
+use Rattle.std.specs.Prelude.{◌&&◌}
 use Rattle.std.specs.Fmt.{decimal}
 use Rattle.std.specs.List.{Contains}
 use Rattle.std.specs.Str.{IsUtf8}
@@ -25,7 +26,7 @@ use Rattle.fe2o3_scram.proofs.lemmas.messages.ExchangeLemmas.{nonce_text}
 use Rattle.fe2o3_scram.proofs.lemmas.texts.AsciiLemmas.{IsUtf8-base64_text, IsUtf8-literal}
 use Rattle.fe2o3_sasl_core.specs.Events.{Login, Challenged, Concluded, Failed, Started, Answered, Reported, Refused, ServerSays, ClientSays}
 use Rattle.fe2o3_sasl_core.specs.declared.sasl_profile.error.ProfileError.TheVariants.{Frame as FrameFault}
-use Rattle.fe2o3_sasl_core.specs.Profiles.{Profile, ScramProfile, scram_profile}
+use Rattle.fe2o3_sasl_core.specs.Profiles.{Profile, ScramProfile, ChallengeReplies, scram_profile}
 use Rattle.fe2o3_sasl_core.specs.Runs.{SendsCanonical, AcceptorGives, ProfileReplies}
 use Rattle.fe2o3_sasl_core.specs.SaslAcceptor.{Acceptor, ScramAcceptor, acceptor_names, acceptor_machine}
 use Rattle.fe2o3_sasl_core.proofs.lemmas.frames.SpellingLemmas.{spells_mechanisms, spells_init, spells_challenge, spells_response, spells_outcome}
@@ -97,6 +98,11 @@ quiet progress turn = record { sent = []; progress = progress; expected = Frame 
 abbrev pub ends : List ℕ → SideOutput
 ends body = record { sent = framed body; progress = Authenticated; expected = Frame turns.Response }
 
+-- a client that has sent only its first message does not take a challenge as the signature
+never_signs : (accept : Bool) → (accept && false) ≡ false
+never_signs true = refl
+never_signs false = refl
+
 module _ (p : Premises) where
   abbrev login : Login
   login = p.login
@@ -151,6 +157,7 @@ module _ (p : Premises) where
     secret = login.secret;
     version = login.version;
     limits = login.limits;
+    signature_by_challenge = login.signature_by_challenge;
     state = ClientInitial;
   }
 
@@ -195,7 +202,8 @@ module _ (p : Premises) where
     ScramProfile answered_side,
     inr (
       first_text exchange (frame.sound p),
-      (
+      subst (λ (expects : Bool). ChallengeReplies expects started_side (first_in exchange) (Ok (frames.Response message))
+          (ScramProfile answered_side)) (sym (never_signs login.signature_by_challenge)) (
         Ok message,
         answered_side,
         (answer_in exchange, (named_in exchange, (frame.meets p).server_first, refl), refl, refl),

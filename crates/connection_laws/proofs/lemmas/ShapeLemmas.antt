@@ -31,7 +31,7 @@ use Rattle.fe2o3_sasl_negotiation.proofs.lemmas.KindLemmas.{progress_of}
 use Rattle.fe2o3_sasl_negotiation.proofs.lemmas.LoginLemmas.{scram_servers_serve, scram_clients_report}
 use Rattle.fe2o3_sasl_negotiation.proofs.lemmas.UnitLemmas.{size_of-framed, length-framed, body_of-framed}
 use Rattle.connection_laws.specs.Pairs.{ClientOf, ServerOf}
-use Rattle.connection_laws.proofs.lemmas.PairLemmas.{reports_last, logged_in_servers_accept, one_split}
+use Rattle.connection_laws.proofs.lemmas.PairLemmas.{frames_within, reports_last, logged_in_servers_accept, one_split}
 
 -- ---- frames one after the other
 
@@ -51,14 +51,6 @@ one_frame body more other behind small fits same =
     ) in
     let both = one_split (framed body) more (framed other) behind same ends in
     (sym (body_of-framed body) ∙ (ap (drop 4) both.0 ∙ body_of-framed other), both.1)
-
--- at most one frame for each turn
-frames_within : (pieces : List Piece) (limit at : ℕ) (turns : List FrameKind) (events : List Given)
-    → AreFrames pieces limit at turns events → length events ≤ length turns
-frames_within pieces limit at turns [] frames = omega arith
-frames_within pieces limit at [] (event ∷ events) frames = absurd frames
-frames_within pieces limit at (turn ∷ turns) (event ∷ events) frames =
-    let rest = frames_within pieces limit (at + (length event.body + 4)) turns events frames.3 in omega (arith, rest)
 
 -- ---- what is sent
 
