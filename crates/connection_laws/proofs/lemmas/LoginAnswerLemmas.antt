@@ -1,5 +1,5 @@
 -- What a client and a server answer to the units of their login.
-use Rattle.std.proofs.Common.{◌≡◌, ℕ, ◌<◌, ◌^◌, Option, Some, List, [], ◌∷◌, ◌++◌, codes, refl, sym, ap, ◌∙◌, subst, arith, inl, inr, Ok}
+use Rattle.std.proofs.Common.{◌≡◌, ℕ, ◌<◌, ◌^◌, Bool, true, false, ◌&&◌, Option, Some, List, [], ◌∷◌, ◌++◌, codes, refl, sym, ap, ◌∙◌, subst, arith, inl, inr, Result, Ok}
 use Rattle.std.specs.Fmt.{decimal}
 use Rattle.std.specs.List.{Contains}
 use Rattle.std.specs.Str.{IsUtf8}
@@ -16,7 +16,7 @@ use Rattle.fe2o3_scram.specs.ClientFinal.{ReadsClientFinal, server_of}
 use Rattle.fe2o3_scram.specs.Credentials.{Provider}
 use Rattle.fe2o3_scram.specs.Exchanges.{Exchange, IsSound, nonce_in, bare_in, named_in, first_in, answer_in, final_in, record_in}
 use Rattle.fe2o3_scram.specs.Hmac.{mechanism_name}
-use Rattle.fe2o3_scram.specs.ScramClient.{ClientSide, ClientInitial, ClientFinalSent, Complete, started, with_state}
+use Rattle.fe2o3_scram.specs.ScramClient.{ClientSide, ClientInitial, ClientFinalSent, Complete, expects_signature, started, with_state}
 use Rattle.fe2o3_scram.specs.ScramServer.{Initial, ServerFirstSent, ServerFinalSent}
 use Rattle.fe2o3_scram.specs.ServerFinal.{ReadsServerFinal, server_final_of}
 use Rattle.fe2o3_scram.specs.ServerFirst.{ServerChallenge, challenge_of}
@@ -24,8 +24,9 @@ use Rattle.fe2o3_scram.specs.Texts.{base64_text}
 use Rattle.fe2o3_scram.proofs.lemmas.messages.ExchangeLemmas.{nonce_text}
 use Rattle.fe2o3_scram.proofs.lemmas.texts.AsciiLemmas.{IsUtf8-base64_text, IsUtf8-literal}
 use Rattle.fe2o3_sasl_core.specs.Events.{Login, Challenged, Concluded, Failed, Started, Answered, Reported, Refused, ServerSays, ClientSays}
+use Rattle.fe2o3_sasl_core.specs.declared.sasl_profile.error.ProfileError.{ProfileError}
 use Rattle.fe2o3_sasl_core.specs.declared.sasl_profile.error.ProfileError.TheVariants.{Frame as FrameFault}
-use Rattle.fe2o3_sasl_core.specs.Profiles.{Profile, ScramProfile, scram_profile}
+use Rattle.fe2o3_sasl_core.specs.Profiles.{Profile, ScramProfile, ChallengeReplies, scram_profile}
 use Rattle.fe2o3_sasl_core.specs.Runs.{SendsCanonical, AcceptorGives, ProfileReplies}
 use Rattle.fe2o3_sasl_core.specs.SaslAcceptor.{Acceptor, ScramAcceptor, acceptor_names, acceptor_machine}
 use Rattle.fe2o3_sasl_core.proofs.lemmas.frames.SpellingLemmas.{spells_mechanisms, spells_init, spells_challenge, spells_response, spells_outcome}
@@ -151,6 +152,7 @@ module _ (p : Premises) where
     secret = login.secret;
     version = login.version;
     limits = login.limits;
+    signature_by_challenge = login.signature_by_challenge;
     state = ClientInitial;
   }
 
@@ -188,6 +190,17 @@ module _ (p : Premises) where
       names_body mine names (Started init_body) (waits init_body turns.Challenge)
       (spells_mechanisms login.version names_body (frame.names_sent p).1) tt starts (inl ((frame.init_sent p).2, refl))
 
+  -- a client that has sent its first message expects no signature
+  no_signature : (accepts : Bool) → accepts && false ≡ false
+  no_signature true = refl
+  no_signature false = refl
+
+  unexpected : {reply : Result SaslFrame ProfileError} {moved : Profile}
+      → ChallengeReplies false started_side (first_in exchange) reply moved
+      → ChallengeReplies (expects_signature started_side) started_side (first_in exchange) reply moved
+  unexpected {reply} {moved} replies = subst (λ (expects : Bool). ChallengeReplies expects started_side (first_in exchange)
+      reply moved) (sym (no_signature login.signature_by_challenge)) replies
+
   answers : (nonce : List ℕ) → ProfileReplies login.hostname (ScramProfile started_side) nonce
       (frames.Challenge (first_in exchange)) (Answered response_body) (ScramProfile answered_side)
   answers nonce = inr (
@@ -195,7 +208,7 @@ module _ (p : Premises) where
     ScramProfile answered_side,
     inr (
       first_text exchange (frame.sound p),
-      (
+      unexpected (
         Ok message,
         answered_side,
         (answer_in exchange, (named_in exchange, (frame.meets p).server_first, refl), refl, refl),

@@ -1,5 +1,5 @@
 -- What the bytes of two connections say of both.
-use Rattle.std.proofs.Common.{◌≡◌, ◌⊎◌, ℕ, zero, suc, ◌+◌, Some, List, [], ◌∷◌, ◌++◌, length, replicate, codes, refl, sym, ap, ◌∙◌, subst, arith, ⊎_elim, inl, inr, Ok}
+use Rattle.std.proofs.Common.{◌≡◌, ◌⊎◌, ℕ, zero, suc, ◌+◌, Option, Some, List, [], ◌∷◌, ◌++◌, length, replicate, codes, refl, sym, ap, ◌∙◌, subst, arith, ⊎_elim, inl, inr, Ok}
 use Rattle.std.specs.Prelude.{slice_get, flat_map}
 use Rattle.std.specs.List.{Contains}
 use Rattle.std.proofs.lemmas.List.{length-append}
@@ -23,6 +23,7 @@ use Rattle.fe2o3_sasl_core.specs.Profiles.{scram_profile}
 use Rattle.fe2o3_sasl_core.specs.SaslAcceptor.{ScramAcceptor, acceptor_machine}
 use Rattle.fe2o3_sasl_core.specs.ServerHistory.{Accepted, LoggedIn as UserLoggedIn, full_nonce, is_challenge, is_ok}
 use Rattle.fe2o3_sasl_core.specs.TwoSides.{Sides, OkAt}
+use Rattle.fe2o3_sasl_core.proofs.lemmas.histories.ReportedOkLemmas.{signature_of_ok}
 use Rattle.fe2o3_sasl_core.proofs.lemmas.histories.ServerLawLemmas.{accepted_response}
 use Rattle.fe2o3_sasl_core.proofs.lemmas.positions.PositionLemmas.{opens_here}
 use Rattle.fe2o3_sasl_core.proofs.lemmas.two_sides.EqualMessageLemmas.{accepts_open, is_challenging}
@@ -56,8 +57,8 @@ held sides n accepted records ok =
 
 -- the last reply of a client that has logged in
 pub reports_last : (login : Login) (client : ClientOf login) → client.last.progress ≡ Authenticated
-    → (m : ℕ) × (text : List ℕ) × ReportsLast client m text
-    × SignedAt login client.connection.events client.connection.replies m text
+    → (m : ℕ) × (more : Option (List ℕ)) × (text : List ℕ) × ReportsLast client m more text
+    × SignedAt login client.connection.events client.connection.replies m more
 reports_last login client logged =
     let logs = scram_clients_report login client.limit client.pieces client.taken client.sent client.last
     client.connection in
@@ -66,8 +67,9 @@ reports_last login client logged =
     client.connection).0 logged) in
     let at = last.3 ∙ ap Some last.4.1 in
     let signed = logs.exactly.only last.0 last.4.0 at in
-    let reported = at ∙ ap (λ more. Some (Reported outcomes.Ok more)) signed.1 in
-    (last.0, signed.0, record { last = last.2; reported = reported }, signed.2)
+    let shown = signature_of_ok login client.connection.events client.connection.replies last.0 last.4.0 logs.history at
+    in
+    (last.0, last.4.0, shown.1, record { last = last.2; reported = at; verifier = shown.3 }, signed)
 
 pub logged_in_clients_agree : LoggedInClientsAgree
 logged_in_clients_agree login provider client server records logged =
@@ -79,10 +81,18 @@ logged_in_clients_agree login provider client server records logged =
       last.0,
       last.1,
       last.2,
+      last.3,
       λ n accepted ok one. verifier_agrees (sides client server) last.0 n accepted
           (record { client = logs.history; server = serves.history })
           (held (sides client server) n accepted records ok)
-          (record { text = last.1; reported = last.2.reported; ok = ok; one = one }),
+          (record {
+            more = last.1;
+            text = last.2;
+            reported = last.3.reported;
+            verifier = last.3.verifier;
+            ok = ok;
+            one = one;
+          }),
     )
 
 -- ---- from the client to the server
