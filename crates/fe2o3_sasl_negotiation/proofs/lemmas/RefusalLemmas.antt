@@ -1,16 +1,16 @@
 -- A profile that rejects is as it was, and so is an acceptor.
-use Rattle.std.proofs.Common.{◌≡◌, ℕ, Option, Some, None, List, ap, ◌∙◌, inl, inr, Result, Ok, Err}
+use Rattle.std.proofs.Common.{◌≡◌, ℕ, Bool, true, false, Option, Some, None, List, [], ap, ◌∙◌, inl, inr, Result, Ok, Err}
 use Rattle.fe2o3_sasl_wire.specs.declared.amqp_types.SaslCode.TheVariants as outcomes
 use Rattle.fe2o3_sasl_wire.specs.declared.sasl_frames.error.Error.{Error}
 use Rattle.fe2o3_sasl_wire.specs.declared.sasl_frames.error.Error.TheVariants as faults
 use Rattle.fe2o3_sasl_wire.specs.SaslFrames.{canonical, SaslFrame}
 use Rattle.fe2o3_sasl_wire.specs.SaslFrames as frames
 use Rattle.fe2o3_scram.specs.declared.scram_messages.error.ScramErrorKind.{ScramErrorKind}
-use Rattle.fe2o3_scram.specs.ScramClient.{ClientSide, ClientState, AnswersIn, VerifiesIn}
+use Rattle.fe2o3_scram.specs.ScramClient.{ClientSide, ClientState, AnswersIn, ChecksSignatureIn, ConcludesIn, VerifiesIn, expects_signature}
 use Rattle.fe2o3_scram.specs.ScramClient as client_states
 use Rattle.fe2o3_sasl_core.specs.Events.{Given, Failed, ClientSays, Started, Answered, Refused}
 use Rattle.fe2o3_sasl_core.specs.Bodies.{carried, server_says}
-use Rattle.fe2o3_sasl_core.specs.Profiles.{Profile, ScramProfile, PlainProfile, AnonymousProfile, ExternalProfile, client_frame, profile_machine}
+use Rattle.fe2o3_sasl_core.specs.Profiles.{Profile, ScramProfile, PlainProfile, AnonymousProfile, ExternalProfile, ChallengeReplies, client_frame, profile_machine}
 use Rattle.fe2o3_sasl_core.specs.Runs.{SendsCanonical, AcceptorAnswers, AcceptorGives, AcceptorSteps, Replies, ProfileSteps}
 use Rattle.fe2o3_sasl_core.specs.declared.sasl_profile.error.ProfileError.{ProfileError}
 use Rattle.fe2o3_sasl_core.specs.declared.sasl_profile.error.ProfileError.TheVariants.{Frame}
@@ -20,13 +20,31 @@ answer_refused : (state : ClientState) (side after : ClientSide) (text : List �
 answer_refused client_states.ClientInitial side after text kind refused = refused.1
 answer_refused (client_states.ClientFirstSent nonce bare) side after text kind refused = refused.1
 answer_refused (client_states.ClientFinalSent signature keys) side after text kind refused = refused.1
+answer_refused (client_states.SignatureVerified keys) side after text kind refused = refused.1
 answer_refused (client_states.Complete keys) side after text kind refused = refused.1
+
+signing_refused : (state : ClientState) (side after : ClientSide) (text : List ℕ) (kind : ScramErrorKind)
+    → ChecksSignatureIn state side text (Err kind) after → after ≡ side
+signing_refused client_states.ClientInitial side after text kind refused = refused.1
+signing_refused (client_states.ClientFirstSent nonce bare) side after text kind refused = refused.1
+signing_refused (client_states.ClientFinalSent signature keys) side after text kind refused = refused.1
+signing_refused (client_states.SignatureVerified keys) side after text kind refused = refused.1
+signing_refused (client_states.Complete keys) side after text kind refused = refused.1
+
+conclusion_refused : (state : ClientState) (side after : ClientSide) (kind : ScramErrorKind)
+    → ConcludesIn state side (Err kind) after → after ≡ side
+conclusion_refused client_states.ClientInitial side after kind refused = refused.1
+conclusion_refused (client_states.ClientFirstSent nonce bare) side after kind refused = refused.1
+conclusion_refused (client_states.ClientFinalSent signature keys) side after kind refused = refused.1
+conclusion_refused (client_states.SignatureVerified keys) side after kind refused = absurd refused
+conclusion_refused (client_states.Complete keys) side after kind refused = refused.1
 
 verification_refused : (state : ClientState) (side after : ClientSide) (text : List ℕ) (kind : ScramErrorKind)
     → VerifiesIn state side text (Err kind) after → after ≡ side
 verification_refused client_states.ClientInitial side after text kind refused = refused.1
 verification_refused (client_states.ClientFirstSent nonce bare) side after text kind refused = refused.1
 verification_refused (client_states.ClientFinalSent signature keys) side after text kind refused = refused.1
+verification_refused (client_states.SignatureVerified keys) side after text kind refused = refused.1
 verification_refused (client_states.Complete keys) side after text kind refused = refused.1
 
 machine_refused : (profile : Profile) (hostname : Option (List ℕ)) (nonce : List ℕ) (frame : SaslFrame)
@@ -37,7 +55,7 @@ machine_refused profile hostname nonce (frames.Mechanisms names) reply fault mov
 machine_refused profile hostname nonce (frames.Mechanisms names) reply fault moved is (inr m) = m.2
 machine_refused (ScramProfile client) hostname nonce (frames.Challenge text) reply fault moved is (inl m) = m.2
 machine_refused (ScramProfile client) hostname nonce (frames.Challenge text) reply fault moved is (inr m) =
-    go m.1.0 m.1.1 m.1.2 m.1.3 m.1.4
+    by (expects_signature client) m.1
   where
     go : (answer : Result (List ℕ) ScramErrorKind) (after : ClientSide) → AnswersIn client.state client text answer after
         → reply ≡ client_frame (λ message. frames.Response message) answer → moved ≡ ScramProfile after
@@ -45,7 +63,27 @@ machine_refused (ScramProfile client) hostname nonce (frames.Challenge text) rep
     go (Ok message) after from apart to = absurd (cc)
     go (Err kind) after from same to =
         to ∙ ap (λ (c : ClientSide). ScramProfile c) (answer_refused client.state client after text kind from)
-machine_refused (ScramProfile client) hostname nonce (frames.Outcome outcomes.Ok None) reply fault moved is m = m.1
+
+    signed : (answer : Result (Unit {0}) ScramErrorKind) (after : ClientSide)
+        → ChecksSignatureIn client.state client text answer after
+        → reply ≡ client_frame (λ verified. frames.Response []) answer → moved ≡ ScramProfile after
+        → moved ≡ ScramProfile client
+    signed (Ok verified) after from apart to = absurd (cc)
+    signed (Err kind) after from same to =
+        to ∙ ap (λ (c : ClientSide). ScramProfile c) (signing_refused client.state client after text kind from)
+
+    by : (expects : Bool) → ChallengeReplies expects client text reply moved → moved ≡ ScramProfile client
+    by false c = go c.0 c.1 c.2 c.3 c.4
+    by true c = signed c.0 c.1 c.2 c.3 c.4
+machine_refused (ScramProfile client) hostname nonce (frames.Outcome outcomes.Ok None) reply fault moved is m =
+    go m.0 m.1 m.2 m.3 m.4
+  where
+    go : (answer : Result (Unit {0}) ScramErrorKind) (after : ClientSide) → ConcludesIn client.state client answer after
+        → reply ≡ client_frame (λ verified. frames.Outcome outcomes.Ok None) answer → moved ≡ ScramProfile after
+        → moved ≡ ScramProfile client
+    go (Ok verified) after from apart to = absurd (cc)
+    go (Err kind) after from same to =
+        to ∙ ap (λ (c : ClientSide). ScramProfile c) (conclusion_refused client.state client after kind from)
 machine_refused (ScramProfile client) hostname nonce (frames.Outcome outcomes.Ok (Some text)) reply fault moved is m =
     go m.0 m.1 m.2 m.3 m.4
   where
