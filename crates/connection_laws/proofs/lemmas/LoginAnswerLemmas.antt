@@ -204,12 +204,12 @@ module _ (p : Premises) where
       first_text exchange (frame.sound p),
       subst (λ (expects : Bool). ChallengeReplies expects started_side (first_in exchange) (Ok (frames.Response message))
           (ScramProfile answered_side)) (sym (never_signs login.signature_by_challenge)) (
-        Ok message,
-        answered_side,
-        (answer_in exchange, (named_in exchange, (frame.meets p).server_first, refl), refl, refl),
-        refl,
-        refl,
-      ),
+            Ok message,
+            answered_side,
+            (answer_in exchange, (named_in exchange, (frame.meets p).server_first, refl), refl, refl),
+            refl,
+            refl,
+          ),
     ),
     sends_canonical (Refused (FrameFault faults.TooLarge)) (λ (b : List ℕ). Answered b)
         (canonical (frames.Response message)) response_body (ScramProfile started_side) (ScramProfile answered_side)

@@ -105,13 +105,13 @@ logged_in_clients_agree login provider client server records logged =
           (record { client = logs.history; server = serves.history })
           (held (sides client server) n accepted records ok)
           (record {
-        more = Some last.1;
-        text = last.1;
-        reported = last.2.reported;
-        verifier = refl;
-        ok = ok;
-        one = one;
-      }),
+            more = Some last.1;
+            text = last.1;
+            reported = last.2.reported;
+            verifier = refl;
+            ok = ok;
+            one = one;
+          }),
     )
 
 -- ---- from the client to the server
