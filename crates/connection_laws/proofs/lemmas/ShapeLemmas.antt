@@ -24,7 +24,7 @@ use Rattle.fe2o3_sasl_negotiation.specs.declared.progress.FrameKind.{FrameKind}
 use Rattle.fe2o3_sasl_negotiation.specs.declared.progress.FrameKind.TheVariants as turns
 use Rattle.fe2o3_sasl_negotiation.specs.ClientNegotiation as of_client
 use Rattle.fe2o3_sasl_negotiation.specs.ServerNegotiation as of_server
-use Rattle.fe2o3_sasl_negotiation.specs.Connections.{Piece, AreFrames, LeftOver, Negotiated, Replied, frames_of}
+use Rattle.fe2o3_sasl_negotiation.specs.Connections.{Piece, LeftOver, Negotiated, Replied, frames_of}
 use Rattle.fe2o3_sasl_negotiation.specs.Framing.{sasl_header, framed, size_of}
 use Rattle.fe2o3_sasl_negotiation.specs.Negotiations.{Side, SideOutput, Sends}
 use Rattle.fe2o3_sasl_negotiation.proofs.lemmas.KindLemmas.{progress_of}
