@@ -12,7 +12,7 @@ ghost use Rattle.fe2o3_sasl_core.specs.CostLaws.{ServerRunsCost, ClientRunsCost}
 ghost use Rattle.fe2o3_sasl_core.specs.AnyMechanismLaws.{AnyMechanismRunsAreSplit, ScramFirstAnswersOkExactly, ScramSecondAnswersOkExactly, OfferingRunsPassOn};
 ghost use Rattle.fe2o3_sasl_core.specs.AnyMechanismUsers.{AnyMechanismNamesUsers, OfferedNamesUsers};
 ghost use Rattle.fe2o3_sasl_core.specs.UnknownUsers.{MockRecordIsMet, SaltTextsDiffer, UnknownCostsAsMock, UnknownIsMock, UnknownIsMockInBoth};
-ghost use Rattle.fe2o3_sasl_core.specs.StepLaws.{OksLogIn, PlainOksLogIn, ReportedOksAreSigned};
+ghost use Rattle.fe2o3_sasl_core.specs.StepLaws.{OksLogIn, PlainOksLogIn, ReportedOksAreSigned, VerifiedOnSignature};
 ghost use Rattle.fe2o3_sasl_core.specs.Laws.{EveryServer, EveryClient, OneServerHistory, OneClientHistory, SomeServerHistory, SomeClientHistory, AcceptorRunsAreHistories, AcceptorRunsNameUsers, AgreedUsersAreNamed, ProfileRunsAreHistories, KeyedRunsAreRuns, KeyedRunsAreHistories, OksWithinChallenges, RepeatedResponsesAreRefused, OneResponseOneNonce, RefusalsLeaveOpen, PositionsAreUsedOnce, EqualMessagesAgree, NoShortExtensions, TakenVerifiersAreJudged, ShownProofsAreJudged, OneVerdictEach, OneAuditEach, RepeatedClientPositions, RepeatedServerPositions, RepeatedClientFindings, RepeatedServerFindings, ClientsLogIn, ServersLogIn, ServersWantMemory, ClientsWantMemory, ProfilesWantMemory};
 
 use fe2o3_sasl_core::any_mechanism::HasMechanism;
@@ -24,10 +24,10 @@ pub use fe2o3_scram::laws::{
 
 /// The headline theorem. Over every list of frame bodies, a SCRAM server answers Ok exactly when a response fits its
 /// open challenge and its proof meets the stored key, which closes the challenge; a SCRAM client reports Ok exactly on
-/// the signature of its open answered challenge; and if that verifier is one that a server issued, both agree on user
-/// name and client nonce, or their own differing AuthMessages share one HMAC value. If the init had two parts, or one
-/// side received no attribute of RFC 5802 in the place of an extension, they also agree on full nonce, salt and count,
-/// and in the second case on the header.
+/// the signature of its open answered challenge, in the outcome or, if it accepts that, in the challenge before it; and
+/// if that verifier is one that a server issued, both agree on user name and client nonce, or their own differing
+/// AuthMessages share one HMAC value. If the init had two parts, or one side received no attribute of RFC 5802 in the
+/// place of an extension, they also agree on full nonce, salt and count, and in the second case on the header.
 pub fn headline()
     ensures server { EveryServer AnswersOkExactly }
     ensures client { EveryClient ReportsOkExactly }
@@ -50,12 +50,17 @@ pub fn runs_are_histories()
 /// States what one step means to its caller: a SCRAM acceptor answers Ok only if a challenge is open and the body is a
 /// response to it whose proof meets the record of its user, whom the acceptor then names; one of PLAIN over records
 /// only if the body is an init with the password of its user's record; and a SCRAM profile reports Ok only on the
-/// signature of the answer that it waits on. A caller's own proof cites them as `oks_log_in`, `plain_oks_log_in` and
-/// `reported_oks_are_signed` of `proofs/lemmas/steps/StepLawLemmas.antt` of `fe2o3_sasl_core`.
+/// signature of the answer that it waits on, in the outcome or, if it accepts that, in a challenge before an outcome
+/// without data (RFC 4422, section 5).
+///
+/// A caller's own proof cites them as `oks_log_in`, `plain_oks_log_in` and `reported_oks_are_signed` of
+/// `StepLawLemmas.antt`, and `verified_on_signature` of `SignatureStepLemmas.antt`. Both files are in
+/// `proofs/lemmas/steps` of `fe2o3_sasl_core`.
 pub fn steps()
     ensures server { OksLogIn }
     ensures plain { PlainOksLogIn }
     ensures client { ReportedOksAreSigned }
+    ensures verified { VerifiedOnSignature }
 {}
 
 /// Bounds what a run costs if its steps share one meter: no more HMAC values than the sum over its bodies. A SCRAM

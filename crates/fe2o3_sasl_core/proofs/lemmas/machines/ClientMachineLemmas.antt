@@ -542,7 +542,7 @@ pub record Running (login : Login) (events : List Given) (replies : List ClientS
   pub holds_open : Holds is_answer ends_answer (AnswersAt login events replies) replies at.waits
   pub holds_verified : Holds is_answer ends_answer (SignsAt login events replies) replies at.verified
 
-expecting : Option (List ℕ) → Option Answering → Option Answering → Expected
+abbrev expecting : Option (List ℕ) → Option Answering → Option Answering → Expected
 expecting due waits verified = record { due = due; waits = waits; verified = verified }
 
 -- the state after the next reply represents what is expected, open and verified then

@@ -17,8 +17,8 @@ use Rattle.fe2o3_sasl_core.specs.Positions.{test_at}
 use Rattle.fe2o3_sasl_core.specs.Bodies.{SpellsBody}
 use Rattle.fe2o3_sasl_core.specs.ServerHistory.{Challenging, Accepted, FitsAsResponse, AcceptsAt, Open, ServerAnswers, ServerAllocates, ServerHistory, says_ok, is_ok}
 use Rattle.fe2o3_sasl_core.specs.TwoSides.{Sides, Histories, ReportedAnswer, Takes}
-use Rattle.fe2o3_sasl_core.proofs.lemmas.histories.OneClientHistoryLemmas.{one_open_answer, one_verified_answer, one_reading_of_outcome}
-use Rattle.fe2o3_sasl_core.proofs.lemmas.histories.ReportedOkLemmas.{reported}
+use Rattle.fe2o3_sasl_core.proofs.lemmas.histories.OneClientHistoryLemmas.{one_open_answer, one_reading_of_outcome}
+use Rattle.fe2o3_sasl_core.proofs.lemmas.histories.ReportedOkLemmas.{reported_at}
 use Rattle.fe2o3_sasl_core.proofs.lemmas.two_sides.MeetingSidesLemmas.{agree, met_taken, taken_signature}
 use Rattle.fe2o3_sasl_core.proofs.lemmas.positions.PositionLemmas.{some_at}
 use Rattle.fe2o3_sasl_core.proofs.lemmas.histories.OneServerHistoryLemmas.{one_response, one_challenge}
@@ -100,22 +100,8 @@ only_where_signed : (login : Login) (events : List Given) (replies : List Client
     → ClientHistory login events replies → slice_get replies m ≡ Some (Reported outcomes.Ok more)
     → SignedAt login events replies m more
 only_where_signed login events replies m more history at =
-    let IsOpen = OpenAnswer login events replies m in
-    let IsVerified = VerifiedAnswer login events replies m in
-    let event = some_at events m (omega (
-      arith,
-      history.count,
-      slice_get_within replies m (Reported outcomes.Ok more) at,
-    )) in
-    let row = history.each m event.0 (Reported outcomes.Ok more) event.1 at in
-    ⊎_elim (λ (none : ClientAllocates login row.0 × (Reported outcomes.Ok more ≡ Refused OutOfMemory)). let is = none.1
-    in absurd (cc))
-    (λ (told : ClientAnswers login (IsDue events replies m) IsOpen IsVerified event.0 row.0
-    (Reported outcomes.Ok more)).
-    let is = reported login (IsDue events replies m) IsOpen IsVerified event.0 row.0 more told in
-    signed login events replies m event.0 more event.1 (subst
-    (λ (s : Result SaslFrame Error). SpellsBody event.0.body s) is.0 row.1) is.1)
-    row.2
+    let is = reported_at login events replies m more history at in
+    signed login events replies m is.0 more is.1 is.2 is.3
 
 -- where it is given, the outcome is read so
 reads_signed : (login : Login) (events : List Given) (replies : List ClientSays) (m : ℕ) (more : Option (List ℕ))
@@ -149,8 +135,8 @@ wherever_signed login events replies m more says history is at memory =
         → says ≡ Reported outcomes.Ok more
     go reads (inl told) = told.1
     go reads (inr told) = let same = one_reading_of_outcome login (OpenAnswer login events replies m)
-        (VerifiedAnswer login events replies m) (one_open_answer login events replies m)
-        (one_verified_answer login events replies m) more (Ok tt) (Err told.0) reads told.1 in absurd (cc)
+        (VerifiedAnswer login events replies m) (one_open_answer login events replies m) more (Ok tt) (Err told.0)
+        reads told.1 in absurd (cc)
 
 pub reports_ok_exactly : EveryClient ReportsOkExactly
 reports_ok_exactly login events replies history = record {
