@@ -78,7 +78,8 @@ pub enum ScramErrorKind {
     #[error("Illegal SCRAM client state")]
     IllegalClientState,
 
-    /// The server-final message does not begin with `v=`, or has another signature.
+    /// The server-final message does not begin with `v=`, or has another signature. `ServerError::parse` says whether it
+    /// is an error of the server.
     #[error("Server signature mismatch")]
     ServerSignatureMismatch,
 
