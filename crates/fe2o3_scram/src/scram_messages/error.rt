@@ -78,8 +78,7 @@ pub enum ScramErrorKind {
     #[error("Illegal SCRAM client state")]
     IllegalClientState,
 
-    /// The server-final message does not begin with `v=`, or has another signature. `ServerError::parse` says whether it
-    /// is an error of the server.
+    /// The server-final message does not begin with `v=`, or has another signature.
     #[error("Server signature mismatch")]
     ServerSignatureMismatch,
 
