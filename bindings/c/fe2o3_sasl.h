@@ -299,8 +299,7 @@ enum fe2o3_status {
     FE2O3_CLIENT_XOR_LENGTH_MISMATCH = 34,
     /* The client does not expect the message in this state. */
     FE2O3_CLIENT_ILLEGAL_CLIENT_STATE = 35,
-    /* The server-final message does not begin with `v=`, or has another signature. `ServerError::parse` says whether it
-     * is an error of the server. */
+    /* The server-final message does not begin with `v=`, or has another signature. */
     FE2O3_CLIENT_SERVER_SIGNATURE_MISMATCH = 36,
     /* The message is not UTF-8. */
     FE2O3_SERVER_UTF8_ERROR = 40,

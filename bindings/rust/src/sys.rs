@@ -98,8 +98,7 @@ pub const CLIENT_XOR_LENGTH_MISMATCH: u32 = 34;
 /// The client does not expect the message in this state.
 pub const CLIENT_ILLEGAL_CLIENT_STATE: u32 = 35;
 
-/// The server-final message does not begin with `v=`, or has another signature. `ServerError::parse` says whether it is
-/// an error of the server.
+/// The server-final message does not begin with `v=`, or has another signature.
 pub const CLIENT_SERVER_SIGNATURE_MISMATCH: u32 = 36;
 
 /// The message is not UTF-8.

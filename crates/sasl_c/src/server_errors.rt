@@ -1,14 +1,15 @@
 //! The errors that a server sends in the place of a message (RFC 5802, section 7).
 
-ghost use Rattle.std.specs.Prelude.{◌≡◌, ◌≢◌, ◌++◌, ◌∷◌, [], MatchOption};
+ghost use Rattle.std.specs.Prelude.{◌≡◌, ◌≢◌, ◌++◌, ◌∷◌, [], Err, IfErr, IfOk, MatchOption, Ok};
 ghost use Rattle.fe2o3_scram.specs.ServerErrors.{error_name};
 ghost use Rattle.fe2o3_scram.specs.declared.scram_messages.error.ServerScramErrorKind.{ServerScramErrorKind as Kinds};
 ghost use Rattle.fe2o3_scram.specs.declared.scram_messages.server_error.ServerError.{ServerError as Errors};
 ghost use Rattle.sasl_c.specs.ServerErrors.{IsErrorText, IsNumberOf, Reports, SpellsReport, error_number};
-ghost use Rattle.sasl_c.specs.Status.{AnswersText, AsksText, Fills, server_number};
+ghost use Rattle.sasl_c.specs.Status.{AnswersText, AsksText, AsksWhere, Fills, server_number};
+ghost use Rattle.sasl_c.specs.declared.status.Status.TheVariants.{OutOfMemory as StatusOutOfMemory};
 
-use crate::arrays::put;
-use crate::status::text_number;
+use crate::arrays::write;
+use crate::status::{Status, text_number};
 use crate::texts::Text;
 use fe2o3_scram::{ServerError, ServerScramErrorKind};
 
@@ -149,12 +150,22 @@ fn reported(status: u32) -> ServerError
     }
 }
 
+/// Returns the message by which a server reports a status.
+fn message_of(status: u32) -> Result<&'static [u8], Status>
+    ensures ok { IfOk result (λ message. SpellsReport status (Ok message.now)) }
+    ensures err { IfErr result (λ why. why ≢ StatusOutOfMemory → SpellsReport status (Err why)) }
+    ensures memory { AsksWhere ⊥ result }
+{
+    Ok(reported(status).message().as_bytes())
+}
+
 /// Writes the message by which a server reports to its client why a call failed with this status: `e=` and a name (RFC
 /// 5802, section 7). The status is one that a call of the server over messages returned, or FE2O3_NO_SUCH_USER.
 ///
 /// An unknown user, a mock record and a wrong proof have one message, `e=invalid-proof`. A status that no name of RFC 5802
 /// describes has `e=other-error`.
 #[unsafe(no_mangle)]
+#[tactic(auto, using(crate::proofs::StatusLemmas::written))]
 pub extern "C" fn fe2o3_scram_server_error_message(
     status: u32,
     out: &mut [u8],
@@ -163,5 +174,5 @@ pub extern "C" fn fe2o3_scram_server_error_message(
     ensures { AnswersText result (λ answer. Fills (SpellsReport status) (record { bytes = out.old; len = out_len.old })
         (record { bytes = out.new; len = out_len.new }) answer × AsksText ⊥ answer) }
 {
-    text_number(put(reported(status).message().as_bytes(), out, out_len))
+    text_number(write(message_of(status), out, out_len))
 }
