@@ -160,6 +160,34 @@ enum fe2o3_scram_server_state {
     FE2O3_SCRAM_SERVER_CHALLENGE_OPEN_CBIND_FLAG_Y = 3
 };
 
+/* The error that a server sends in the place of a message (RFC 5802, section 7, `server-error-value`). */
+enum fe2o3_server_error {
+    /* The message is no error. */
+    FE2O3_SERVER_ERROR_NONE = 0,
+    /* `invalid-encoding`. */
+    FE2O3_SERVER_ERROR_INVALID_ENCODING = 1,
+    /* `extensions-not-supported`: the server does not support a mandatory extension. */
+    FE2O3_SERVER_ERROR_EXTENSIONS_NOT_SUPPORTED = 2,
+    /* `invalid-proof`: the password is wrong, or the user is unknown. */
+    FE2O3_SERVER_ERROR_INVALID_PROOF = 3,
+    /* `channel-bindings-dont-match`. */
+    FE2O3_SERVER_ERROR_CHANNEL_BINDINGS_DONT_MATCH = 4,
+    /* `server-does-support-channel-binding`: the client assumed that the server does not. */
+    FE2O3_SERVER_ERROR_SERVER_DOES_SUPPORT_CHANNEL_BINDING = 5,
+    /* `channel-binding-not-supported`. */
+    FE2O3_SERVER_ERROR_CHANNEL_BINDING_NOT_SUPPORTED = 6,
+    /* `unsupported-channel-binding-type`. */
+    FE2O3_SERVER_ERROR_UNSUPPORTED_CHANNEL_BINDING_TYPE = 7,
+    /* `unknown-user`. */
+    FE2O3_SERVER_ERROR_UNKNOWN_USER = 8,
+    /* `invalid-username-encoding`: the user name is not UTF-8, or SASLprep rejects it. */
+    FE2O3_SERVER_ERROR_INVALID_USERNAME_ENCODING = 9,
+    /* `no-resources`. */
+    FE2O3_SERVER_ERROR_NO_RESOURCES = 10,
+    /* `other-error`, and every value that RFC 5802 does not name. */
+    FE2O3_SERVER_ERROR_OTHER_ERROR = 11
+};
+
 /* The frames of the SASL layer, by their descriptors (AMQP 1.0, part 5, section 5.3.3). */
 enum fe2o3_frame_kind {
     /* The list of mechanisms. */
@@ -355,7 +383,10 @@ enum fe2o3_status {
      * right-to-left one (RFC 3454, section 6). */
     FE2O3_MIXED_DIRECTIONS = 87,
     /* The text, or the prepared text, contains a code point that Unicode 3.2 does not assign. */
-    FE2O3_UNASSIGNED_CODE_POINT = 88
+    FE2O3_UNASSIGNED_CODE_POINT = 88,
+    /* The server sent an error in the place of its signature, such as `e=invalid-proof` for a wrong password.
+     * fe2o3_scram_server_error says which. */
+    FE2O3_SERVER_ERROR = 89
 };
 
 /* ---- The library ---- */
@@ -577,7 +608,11 @@ uint32_t fe2o3_scram_client_final(
     size_t out_size,
     size_t *out_len);
 
-/* Verifies the server-final message. Only FE2O3_OK means that the login is complete and the server authenticated. */
+/* Verifies the server-final message. Only FE2O3_OK means that the login is complete and the server authenticated.
+ *
+ * The message may be an error of the server, such as `e=invalid-proof` for a wrong password. The call then returns
+ * FE2O3_SERVER_ERROR, and fe2o3_scram_server_error says which error it is. After FE2O3_CLIENT_SERVER_SIGNATURE_MISMATCH
+ * the server has not proved that it knows the user's keys. */
 uint32_t fe2o3_scram_client_verify(
     const struct fe2o3_login *login,
     struct fe2o3_scram_client *client,
@@ -676,6 +711,27 @@ uint32_t fe2o3_scram_server_authenticated_user(
     uint8_t *out,
     size_t out_size,
     size_t *out_len);
+
+/* ---- Errors that a server sends in the place of a message ---- */
+
+/* Returns which error of the server a message is, or 0 (FE2O3_SERVER_ERROR_NONE) if it is none. The result is one of
+ * enum fe2o3_server_error.
+ *
+ * A server may send an error in the place of any message, such as `e=invalid-proof` after a wrong password (RFC 5802,
+ * section 7). A value that RFC 5802 does not name is FE2O3_SERVER_ERROR_OTHER_ERROR. The message is not authenticated:
+ * anyone who can alter the connection can write it. */
+uint32_t fe2o3_scram_server_error(const uint8_t *message, size_t message_len);
+
+/* Writes the name of a server's error to `text`, as RFC 5802 spells it. `error` is one of enum fe2o3_server_error. The
+ * text ends with a zero byte and stays valid for as long as the library is loaded. */
+void fe2o3_scram_server_error_text(uint32_t error, struct fe2o3_text *text);
+
+/* Writes the message by which a server reports to its client why a call failed with this status: `e=` and a name (RFC
+ * 5802, section 7). The status is one that a call of the server over messages returned, or FE2O3_NO_SUCH_USER.
+ *
+ * An unknown user, a mock record and a wrong proof have one message, `e=invalid-proof`. A status that no name of RFC 5802
+ * describes has `e=other-error`. */
+uint32_t fe2o3_scram_server_error_message(uint32_t status, uint8_t *out, size_t out_size, size_t *out_len);
 
 /* ---- The client's side of a connection, over bytes ---- */
 

@@ -143,6 +143,13 @@ static void cases(uint32_t version)
     told(version, "a wrong password",
         run(&next, &stranger, &record) == FE2O3_SERVER_AUTHENTICATION_FAILED
             && fe2o3_scram_server_authenticated_user(&next.server, ROOM(text)) != FE2O3_OK);
+    told(version, "an error of the server, and a wrong signature",
+        fe2o3_scram_server_error_message(FE2O3_SERVER_AUTHENTICATION_FAILED, ROOM(text)) == FE2O3_OK
+            && spells(&text, "e=invalid-proof")
+            && fe2o3_scram_client_verify(&stranger, &next.client, GIVEN(text)) == FE2O3_SERVER_ERROR
+            && fe2o3_scram_server_error(GIVEN(text)) == FE2O3_SERVER_ERROR_INVALID_PROOF
+            && fe2o3_scram_client_verify(&stranger, &next.client, TEXT("v=AAAA"))
+                == FE2O3_CLIENT_SERVER_SIGNATURE_MISMATCH);
     told(version, "an unknown user, who is told the same salt each time",
         fe2o3_scram_record_mock(version, secret, 32, TEXT("user"), sizeof salt, 4096, &mock) == FE2O3_OK
             && fe2o3_scram_record_mock(version, secret, 32, TEXT("user"), sizeof salt, 4096, &read) == FE2O3_OK

@@ -50,9 +50,9 @@ A login over frame bodies, each from the data offset on, for programs that read 
         send_body(answer)
     # complete if side.progress is Progress.AUTHENTICATED; otherwise side.why says why not
 
-A call that fails raises `Refused` and leaves the object as it was. An argument of a wrong type, or a number that does
-not fit its C type, raises TypeError or ValueError before the library is called. Any thread may call. Calls on one
-object wait for each other, and the interpreter is not locked meanwhile.
+A call that fails raises `Refused`, or its subclass `ServerError`, and leaves the object as it was. An argument of a wrong
+type, or a number that does not fit its C type, raises TypeError or ValueError before the library is called. Any thread
+may call. Calls on one object wait for each other, and the interpreter is not locked meanwhile.
 
 No `repr` and no exception of this module contains a secret. Secrets are not wiped from memory.
 """
@@ -173,6 +173,7 @@ class Status(enum.IntEnum):
     PROHIBITED_CHARACTER = 86
     MIXED_DIRECTIONS = 87
     UNASSIGNED_CODE_POINT = 88
+    SERVER_ERROR = 89
 
 
 class Progress(enum.IntEnum):
@@ -583,6 +584,17 @@ _EXPORTS: dict[str, tuple[Any, list[Any]]] = {
             ctypes.POINTER(ctypes.c_size_t),
         ],
     ),
+    "fe2o3_scram_server_error": (ctypes.c_uint32, [ctypes.c_char_p, ctypes.c_size_t]),
+    "fe2o3_scram_server_error_text": (None, [ctypes.c_uint32, ctypes.POINTER(_TextStruct)]),
+    "fe2o3_scram_server_error_message": (
+        ctypes.c_uint32,
+        [
+            ctypes.c_uint32,
+            ctypes.c_void_p,
+            ctypes.c_size_t,
+            ctypes.POINTER(ctypes.c_size_t),
+        ],
+    ),
     "fe2o3_sasl_client_open": (ctypes.c_uint32, [ctypes.c_void_p, ctypes.c_size_t, ctypes.POINTER(ctypes.c_size_t)]),
     "fe2o3_sasl_client_receive": (
         ctypes.c_uint32,
@@ -707,6 +719,22 @@ class Refused(Exception):
         return f"{self.text} ({self.status})"
 
 
+class ServerError(Refused):
+    """The server sent an error in the place of its signature (RFC 5802, section 7). Nothing has changed.
+
+    `error` is its name, such as `invalid-proof` for a wrong password. It is not authenticated: anyone who can alter the
+    connection can write it.
+    """
+
+    def __init__(self, status: int, text: str, error: str) -> None:
+        super().__init__(status, text)
+        self.args = status, text, error
+        self.error = error
+
+    def __str__(self) -> str:
+        return f"{self.text}: {self.error} ({self.status})"
+
+
 def _load(name: str) -> ctypes.CDLL:
     """The library of this name, with the types of its exports. OSError if it is not there or does not fit."""
     library = ctypes.CDLL(name)
@@ -733,12 +761,17 @@ def library_version() -> tuple[int, int, int]:
     return number // 10000, number // 100 % 100, number % 100
 
 
-def _status_text(status: int) -> str:
+def _lent(call: Callable[..., None], number: int) -> str:
+    """Returns the text that a call lends for a number."""
     text = _TextStruct()
-    _library.fe2o3_status_text(status, ctypes.byref(text))
+    call(number, ctypes.byref(text))
     if not text.bytes:
         return ""
     return ctypes.string_at(text.bytes, text.bytes_len).rstrip(b"\0").decode("utf-8", "replace")
+
+
+def _status_text(status: int) -> str:
+    return _lent(_library.fe2o3_status_text, status)
 
 
 def _done(status: int) -> None:
@@ -810,6 +843,22 @@ def saslprep(text: Text, *, unassigned: bool = False) -> str:
         len(typed), lambda *room: _library.fe2o3_saslprep(typed, len(typed), choice, *room)
     )
     return prepared.decode("utf-8")
+
+
+def server_error(message: Bytes) -> Optional[str]:
+    """Returns the name of the error that a server sent in the place of a message, such as `invalid-proof`, or None if the
+    message is no error. A name that RFC 5802, section 7, does not have is `other-error`."""
+    given = _bytes(message)
+    number = int(_library.fe2o3_scram_server_error(given, len(given)))
+    return _lent(_library.fe2o3_scram_server_error_text, number) if number else None
+
+
+def server_error_message(status: int) -> bytes:
+    """Returns the message by which a server reports to its client why it failed: `e=` and a name (RFC 5802, section 7).
+    The status is that of a `Refused` that a call of `Server` raised, or `Status.NO_SUCH_USER`. An unknown user, a mock
+    record and a wrong proof have one message."""
+    number = _number(status)
+    return _written(64, lambda *room: _library.fe2o3_scram_server_error_message(number, *room))
 
 
 class Keys:
@@ -1063,10 +1112,13 @@ class Client:
 
     def verify(self, server_final: Bytes) -> None:
         """Verifies the server-final message. The login is complete, and the server authenticated, only if this does not
-        raise."""
+        raise. Raises `ServerError` if the message is an error of the server."""
         message = _bytes(server_final)
         with self._lock:
-            _done(_library.fe2o3_scram_client_verify(self._login, self._struct, message, len(message)))
+            status = _library.fe2o3_scram_client_verify(self._login, self._struct, message, len(message))
+        if status == Status.SERVER_ERROR:
+            raise ServerError(status, _status_text(status), server_error(message) or "")
+        _done(status)
 
     def keys(self) -> Keys:
         """Returns the keys of a complete login. As long as the server keeps its salt and iteration count, a login by

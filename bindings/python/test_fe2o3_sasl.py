@@ -23,7 +23,7 @@ from unittest import mock
 import fe2o3_sasl
 from examples.login import log_in, serve
 from fe2o3_sasl import SHA_1, SHA_256, SHA_512, Client, ClientConnection, Keys, Record, Refused, Server, Progress, Status
-from fe2o3_sasl import ClientSteps, Offer, ServerConnection, ServerSteps
+from fe2o3_sasl import ClientSteps, Offer, ServerConnection, ServerError, ServerSteps, server_error, server_error_message
 from peers import (
     CHALLENGE,
     INIT,
@@ -56,6 +56,20 @@ LIBRARY: Any = fe2o3_sasl._library
 SALT = bytes(range(16))
 OTHER_SALT = bytes(range(100, 124))
 NAMES = ["user", "", "a=b,c", "=2C", "J\u00fcrgen \U0001f600", "x" * 240]
+# The names of RFC 5802, section 7, in its order.
+SERVER_ERRORS = [
+    "invalid-encoding",
+    "extensions-not-supported",
+    "invalid-proof",
+    "channel-bindings-dont-match",
+    "server-does-support-channel-binding",
+    "channel-binding-not-supported",
+    "unsupported-channel-binding-type",
+    "unknown-user",
+    "invalid-username-encoding",
+    "no-resources",
+    "other-error",
+]
 PASSWORDS = ["pencil", "", " ~!,=", "p" * 200]
 
 
@@ -227,12 +241,41 @@ class Logins(Case):
         record = Record.make(SHA_256, "pencil")
         server_final = server.final(client.final(server.first(record, client.first())))
         before = bytes(client._struct)
-        for other in (b"", b"v=", b"v=AAAA", b"e=other-error", server_final[:-4], server_final + b"A", b"\xff"):
-            with self.assertRaises(Refused):
+        for other in (b"", b"v=", b"v=AAAA", b"x=y,e=other-error", server_final[:-4], server_final + b"A", b"\xff"):
+            with self.assertRaises(Refused) as caught:
                 client.verify(other)
+            self.assertNotIsInstance(caught.exception, ServerError)
             self.assertEqual(bytes(client._struct), before)
             self.refused(Status.CLIENT_ILLEGAL_CLIENT_STATE, client.keys)
+        for message, error in (
+            (b"e=invalid-proof", "invalid-proof"),
+            (b"e=invalid-proof,x=y", "invalid-proof"),
+            (b"e=of-another-document", "other-error"),
+        ):
+            with self.assertRaises(ServerError) as told:
+                client.verify(message)
+            self.assertEqual((told.exception.status, told.exception.error), (Status.SERVER_ERROR, error))
+            self.assertIn(error, str(told.exception))
+            self.assertEqual(bytes(client._struct), before)
         client.verify(server_final)
+
+    def test_errors_of_a_server(self) -> None:
+        for name in SERVER_ERRORS:
+            self.assertEqual(server_error(b"e=" + name.encode()), name)
+        for message in (b"", b"e", b"v=", b"x=y,e=invalid-proof", b"E=invalid-proof", b"e=\xff"):
+            self.assertIsNone(server_error(message), message)
+        self.assertEqual(fe2o3_sasl._lent(LIBRARY.fe2o3_scram_server_error_text, 12), "No server error")
+        # A wrong proof and an unknown user have one message.
+        for status, message in {
+            Status.SERVER_AUTHENTICATION_FAILED: b"e=invalid-proof",
+            Status.NO_SUCH_USER: b"e=invalid-proof",
+            Status.SERVER_UTF8_ERROR: b"e=invalid-encoding",
+            Status.SERVER_CANNOT_PARSE_USERNAME: b"e=invalid-username-encoding",
+            Status.SERVER_INVALID_CHANNEL_BINDING: b"e=channel-bindings-dont-match",
+            Status.OUT_OF_MEMORY: b"e=no-resources",
+            Status.TOO_LONG: b"e=other-error",
+        }.items():
+            self.assertEqual(server_error_message(status), message)
 
     def test_threads(self) -> None:
         record = Record.make(SHA_256, "pencil")

@@ -37,6 +37,8 @@ SECTIONS = [  # in the order of use: a title, the structs, and the functions aft
     ("A SCRAM server, over messages", "ScramServer",
      "scram_server_claimed_user scram_server_first scram_server_first_with_cbind_flag_y scram_server_final"
      " scram_server_authenticated_user"),
+    ("Errors that a server sends in the place of a message", "",
+     "scram_server_error scram_server_error_text scram_server_error_message"),
     ("The client's side of a connection, over bytes", "Connection SaslLogin SaslClient",
      "sasl_client_open sasl_client_receive"),
     ("The server's side of a connection, over bytes", "SaslServerConfig SaslServer",

@@ -160,6 +160,34 @@ enum fe2o3_scram_server_state {
     FE2O3_SCRAM_SERVER_CHALLENGE_OPEN_CBIND_FLAG_Y = 3
 };
 
+/* The error that a server sends in the place of a message (RFC 5802, section 7, `server-error-value`). */
+enum fe2o3_server_error {
+    /* The message is no error. */
+    FE2O3_SERVER_ERROR_NONE = 0,
+    /* `invalid-encoding`. */
+    FE2O3_SERVER_ERROR_INVALID_ENCODING = 1,
+    /* `extensions-not-supported`: the server does not support a mandatory extension. */
+    FE2O3_SERVER_ERROR_EXTENSIONS_NOT_SUPPORTED = 2,
+    /* `invalid-proof`: the password is wrong, or the user is unknown. */
+    FE2O3_SERVER_ERROR_INVALID_PROOF = 3,
+    /* `channel-bindings-dont-match`. */
+    FE2O3_SERVER_ERROR_CHANNEL_BINDINGS_DONT_MATCH = 4,
+    /* `server-does-support-channel-binding`: the client assumed that the server does not. */
+    FE2O3_SERVER_ERROR_SERVER_DOES_SUPPORT_CHANNEL_BINDING = 5,
+    /* `channel-binding-not-supported`. */
+    FE2O3_SERVER_ERROR_CHANNEL_BINDING_NOT_SUPPORTED = 6,
+    /* `unsupported-channel-binding-type`. */
+    FE2O3_SERVER_ERROR_UNSUPPORTED_CHANNEL_BINDING_TYPE = 7,
+    /* `unknown-user`. */
+    FE2O3_SERVER_ERROR_UNKNOWN_USER = 8,
+    /* `invalid-username-encoding`: the user name is not UTF-8, or SASLprep rejects it. */
+    FE2O3_SERVER_ERROR_INVALID_USERNAME_ENCODING = 9,
+    /* `no-resources`. */
+    FE2O3_SERVER_ERROR_NO_RESOURCES = 10,
+    /* `other-error`, and every value that RFC 5802 does not name. */
+    FE2O3_SERVER_ERROR_OTHER_ERROR = 11
+};
+
 /* The frames of the SASL layer, by their descriptors (AMQP 1.0, part 5, section 5.3.3). */
 enum fe2o3_frame_kind {
     /* The list of mechanisms. */

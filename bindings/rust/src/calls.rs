@@ -35,18 +35,31 @@ pub fn library_version() -> u32 {
     unsafe { sys::fe2o3_version() }
 }
 
-/// Returns the text of a status.
-pub(crate) fn text_of(status: u32) -> &'static str {
+/// An export that lends the text of a number.
+type Lends = unsafe extern "C" fn(u32, *mut sys::Text);
+
+/// Returns the text that such an export lends for a number.
+fn lent_by(lend: Lends, number: u32) -> &'static str {
     let none: &[u8] = &[];
     let mut text = sys::Text { bytes: none.as_ptr(), bytes_len: 0 };
-    // SAFETY: `text` is a struct of this function, and any status has its text. The text that the call lends stands for
-    // ever, for as many bytes as its length says.
+    // SAFETY: `lend` is an export of the library, `text` is a struct of this function, and any number has its text. The
+    // text that the call lends stays valid, for as many bytes as its length says.
     let bytes: &'static [u8] = unsafe {
-        sys::fe2o3_status_text(status, &mut text);
+        lend(number, &mut text);
         std::slice::from_raw_parts(text.bytes, text.bytes_len)
     };
     let words = bytes.strip_suffix(b"\0").unwrap_or(bytes);
     std::str::from_utf8(words).unwrap_or_default()
+}
+
+/// Returns the text of a status.
+pub(crate) fn text_of(status: u32) -> &'static str {
+    lent_by(sys::fe2o3_status_text, status)
+}
+
+/// Returns the name of an error of a server.
+pub(crate) fn text_of_error(error: u32) -> &'static str {
+    lent_by(sys::fe2o3_scram_server_error_text, error)
 }
 
 /// Returns a status as a result.

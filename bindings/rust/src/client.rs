@@ -2,7 +2,7 @@
 
 use crate::calls::{done, filled};
 use crate::keys::NO_KEYS;
-use crate::{generate_nonce, sys, CachedKeys, Password, ScramErrorKind, ScramVersion};
+use crate::{generate_nonce, sys, CachedKeys, Password, ScramErrorKind, ScramVersion, ServerError};
 use std::fmt;
 use std::marker::PhantomData;
 
@@ -184,6 +184,8 @@ impl ScramClient {
     }
 
     /// Verifies the server-final message. Only `Ok` means that the login is complete and the server authenticated.
+    ///
+    /// If the message is an error of the server, the result is `ScramErrorKind::ServerError` with that error.
     pub fn validate_server_final(&mut self, server_final: &[u8]) -> Result<(), ScramErrorKind> {
         let lent = self.who.lend();
         // SAFETY: the login's pointers are to what `lent` borrows, and the message is a slice that lives through the
@@ -191,7 +193,10 @@ impl ScramClient {
         let status = unsafe {
             sys::fe2o3_scram_client_verify(&lent.login, &mut self.state, server_final.as_ptr(), server_final.len())
         };
-        done(status).map_err(ScramErrorKind::of)
+        done(status).map_err(|status| match ServerError::parse(server_final) {
+            Some(error) if status == sys::SERVER_ERROR => ScramErrorKind::ServerError(error),
+            _ => ScramErrorKind::of(status),
+        })
     }
 
     /// Returns the keys of a complete login. `None` before that, and if the server's salt is longer than 128 bytes. The

@@ -1,7 +1,7 @@
 //! Why a call is not done. Each kind is a number of the library, whose text it shows.
 
 use crate::calls::text_of;
-use crate::sys;
+use crate::{sys, ServerError};
 use std::error::Error;
 use std::fmt;
 
@@ -28,14 +28,14 @@ impl fmt::Debug for Status {
     }
 }
 
-/// Writes an enum of kinds, each with its number in the library.
+/// Writes an enum of kinds, each with its number in the library. A kind may hold an error of the server.
 macro_rules! kinds {
-    ($(#[$about:meta])* $name:ident { $($(#[$what:meta])* $kind:ident = $number:ident,)* }) => {
+    ($(#[$about:meta])* $name:ident { $($(#[$what:meta])* $kind:ident $(($held:ident))? = $number:ident,)* }) => {
         $(#[$about])*
         #[derive(Clone, Copy, Debug, PartialEq, Eq)]
         #[non_exhaustive]
         pub enum $name {
-            $($(#[$what])* $kind,)*
+            $($(#[$what])* $kind $(($held))?,)*
 
             /// What has no name here, as a later library may answer.
             Other(Status),
@@ -45,7 +45,7 @@ macro_rules! kinds {
             /// Returns the number of the status in the library.
             pub fn number(self) -> u32 {
                 match self {
-                    $($name::$kind => sys::$number,)*
+                    $($name::$kind { .. } => sys::$number,)*
                     $name::Other(status) => status.number(),
                 }
             }
@@ -53,7 +53,7 @@ macro_rules! kinds {
             /// The kind of a number.
             pub(crate) fn of(number: u32) -> Self {
                 match number {
-                    $(sys::$number => $name::$kind,)*
+                    $(sys::$number => $name::$kind $(($held::OtherError))?,)*
                     _ => $name::Other(Status(number)),
                 }
             }
@@ -61,7 +61,11 @@ macro_rules! kinds {
 
         impl fmt::Display for $name {
             fn fmt(&self, f: &mut fmt::Formatter<'_>) -> fmt::Result {
-                f.write_str(text_of(self.number()))
+                f.write_str(text_of(self.number()))?;
+                match self {
+                    $($($name::$kind(error) => write!(f, ": {}", error as &$held),)?)*
+                    _ => Ok(()),
+                }
             }
         }
 
@@ -105,8 +109,10 @@ kinds! {
         XorLengthMismatch = CLIENT_XOR_LENGTH_MISMATCH,
         /// The message does not come in this state of the client.
         IllegalClientState = CLIENT_ILLEGAL_CLIENT_STATE,
-        /// The server-final message does not begin with `v=`, or has another signature.
+        /// The server-final message is no error of the server, and does not begin with `v=` or has another signature.
         ServerSignatureMismatch = CLIENT_SERVER_SIGNATURE_MISMATCH,
+        /// The server sent this error in the place of its signature, such as `invalid-proof` for a wrong password.
+        ServerError(ServerError) = SERVER_ERROR,
         /// An allocation failed. Nothing has changed, and you can repeat the call.
         OutOfMemory = OUT_OF_MEMORY,
     }

@@ -38,6 +38,7 @@ mod password;
 mod preparation;
 mod records;
 mod server;
+mod server_error;
 mod serving;
 mod steps;
 #[allow(dead_code, missing_docs)]
@@ -56,6 +57,7 @@ pub use password::Password;
 pub use preparation::{saslprep, Unassigned};
 pub use records::{ScramRecord, StoredPassword};
 pub use server::{ScramAuthenticator, ScramCredentialProvider, SingleScramCredential};
+pub use server_error::ServerError;
 pub use serving::{PasswordServer, ServerNegotiation, UserRecords};
 pub use steps::{Answered, ClientSteps, ServerSteps};
 pub use version::ScramVersion;

@@ -223,6 +223,10 @@ pub const MIXED_DIRECTIONS: u32 = 87;
 /// The text, or the prepared text, contains a code point that Unicode 3.2 does not assign.
 pub const UNASSIGNED_CODE_POINT: u32 = 88;
 
+/// The server sent an error in the place of its signature, such as `e=invalid-proof` for a wrong password.
+/// fe2o3_scram_server_error says which.
+pub const SERVER_ERROR: u32 = 89;
+
 /// `scram_version`: SCRAM-SHA-1.
 pub const SHA_1: u32 = 1;
 
@@ -336,6 +340,42 @@ pub const SCRAM_SERVER_AUTHENTICATED: u32 = 2;
 
 /// `scram_server_state`: A challenge is open, to a client whose GS2 header is `y,,`.
 pub const SCRAM_SERVER_CHALLENGE_OPEN_CBIND_FLAG_Y: u32 = 3;
+
+/// `server_error`: The message is no error.
+pub const SERVER_ERROR_NONE: u32 = 0;
+
+/// `server_error`: `invalid-encoding`.
+pub const SERVER_ERROR_INVALID_ENCODING: u32 = 1;
+
+/// `server_error`: `extensions-not-supported`: the server does not support a mandatory extension.
+pub const SERVER_ERROR_EXTENSIONS_NOT_SUPPORTED: u32 = 2;
+
+/// `server_error`: `invalid-proof`: the password is wrong, or the user is unknown.
+pub const SERVER_ERROR_INVALID_PROOF: u32 = 3;
+
+/// `server_error`: `channel-bindings-dont-match`.
+pub const SERVER_ERROR_CHANNEL_BINDINGS_DONT_MATCH: u32 = 4;
+
+/// `server_error`: `server-does-support-channel-binding`: the client assumed that the server does not.
+pub const SERVER_ERROR_SERVER_DOES_SUPPORT_CHANNEL_BINDING: u32 = 5;
+
+/// `server_error`: `channel-binding-not-supported`.
+pub const SERVER_ERROR_CHANNEL_BINDING_NOT_SUPPORTED: u32 = 6;
+
+/// `server_error`: `unsupported-channel-binding-type`.
+pub const SERVER_ERROR_UNSUPPORTED_CHANNEL_BINDING_TYPE: u32 = 7;
+
+/// `server_error`: `unknown-user`.
+pub const SERVER_ERROR_UNKNOWN_USER: u32 = 8;
+
+/// `server_error`: `invalid-username-encoding`: the user name is not UTF-8, or SASLprep rejects it.
+pub const SERVER_ERROR_INVALID_USERNAME_ENCODING: u32 = 9;
+
+/// `server_error`: `no-resources`.
+pub const SERVER_ERROR_NO_RESOURCES: u32 = 10;
+
+/// `server_error`: `other-error`, and every value that RFC 5802 does not name.
+pub const SERVER_ERROR_OTHER_ERROR: u32 = 11;
 
 /// `frame_kind`: The list of mechanisms.
 pub const KIND_MECHANISMS: u32 = 64;
@@ -736,6 +776,10 @@ extern "C" {
         out_len: *mut usize) -> u32;
 
     /// Verifies the server-final message. Only OK means that the login is complete and the server authenticated.
+    ///
+    /// The message may be an error of the server, such as `e=invalid-proof` for a wrong password. The call then returns
+    /// SERVER_ERROR, and fe2o3_scram_server_error says which error it is. After CLIENT_SERVER_SIGNATURE_MISMATCH the
+    /// server has not proved that it knows the user's keys.
     pub fn fe2o3_scram_client_verify(
         login: *const Login,
         client: *mut ScramClient,
@@ -805,6 +849,25 @@ extern "C" {
         out: *mut u8,
         out_size: usize,
         out_len: *mut usize) -> u32;
+
+    /// Returns which error of the server a message is, or 0 (SERVER_ERROR_NONE) if it is none. The result is one of the
+    /// `server_error` constants.
+    ///
+    /// A server may send an error in the place of any message, such as `e=invalid-proof` after a wrong password (RFC
+    /// 5802, section 7). A value that RFC 5802 does not name is SERVER_ERROR_OTHER_ERROR. The message is not
+    /// authenticated: anyone who can alter the connection can write it.
+    pub fn fe2o3_scram_server_error(message: *const u8, message_len: usize) -> u32;
+
+    /// Writes the name of a server's error to `text`, as RFC 5802 spells it. `error` is one of the `server_error`
+    /// constants. The text ends with a zero byte and stays valid for as long as the library is loaded.
+    pub fn fe2o3_scram_server_error_text(error: u32, text: *mut Text);
+
+    /// Writes the message by which a server reports to its client why a call failed with this status: `e=` and a name
+    /// (RFC 5802, section 7). The status is one that a call of the server over messages returned, or NO_SUCH_USER.
+    ///
+    /// An unknown user, a mock record and a wrong proof have one message, `e=invalid-proof`. A status that no name of
+    /// RFC 5802 describes has `e=other-error`.
+    pub fn fe2o3_scram_server_error_message(status: u32, out: *mut u8, out_size: usize, out_len: *mut usize) -> u32;
 
     /// Writes the SASL protocol header, with which a client begins a connection.
     pub fn fe2o3_sasl_client_open(out: *mut u8, out_size: usize, out_len: *mut usize) -> u32;

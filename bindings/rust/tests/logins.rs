@@ -303,13 +303,52 @@ fn what_a_client_refuses() {
     assert_eq!(client.validate_server_final(b"\xff"), Err(Utf8Error));
     assert_eq!(client.validate_server_final(b"v=YQ="), Err(Base64DecodeError));
     assert_eq!(client.validate_server_final(b"v=YQ=="), Err(ServerSignatureMismatch));
-    assert_eq!(client.validate_server_final(b"e=other-error"), Err(ServerSignatureMismatch));
+    assert_eq!(client.validate_server_final(b"x=y"), Err(ServerSignatureMismatch));
+    let (wrong, other) = (NAMES[2].1, NAMES[10].1);
+    assert_eq!(client.validate_server_final(b"e=invalid-proof"), Err(ServerError(wrong)));
+    assert_eq!(client.validate_server_final(b"e=invalid-proof,x=y"), Err(ServerError(wrong)));
+    assert_eq!(client.validate_server_final(b"e=of-another-document"), Err(ServerError(other)));
     assert!(client.keys().is_none());
 
     let mut accented = ScramClient::new("user", "p\u{e9}ncil", ScramVersion::Sha256).with_min_iterations(2);
     let nonce = challenged(&mut accented);
     let refused = accented.compute_client_final_message(&format!("r={}x,s=YQ==,i=2", nonce));
     assert_eq!(refused, Err(NormalizeError));
+}
+
+/// The names of RFC 5802, section 7, in its order.
+const NAMES: [(&str, ServerError); 11] = [
+    ("invalid-encoding", ServerError::InvalidEncoding),
+    ("extensions-not-supported", ServerError::ExtensionsNotSupported),
+    ("invalid-proof", ServerError::InvalidProof),
+    ("channel-bindings-dont-match", ServerError::ChannelBindingsDontMatch),
+    ("server-does-support-channel-binding", ServerError::ServerDoesSupportChannelBinding),
+    ("channel-binding-not-supported", ServerError::ChannelBindingNotSupported),
+    ("unsupported-channel-binding-type", ServerError::UnsupportedChannelBindingType),
+    ("unknown-user", ServerError::UnknownUser),
+    ("invalid-username-encoding", ServerError::InvalidUsernameEncoding),
+    ("no-resources", ServerError::NoResources),
+    ("other-error", ServerError::OtherError),
+];
+
+#[test]
+fn errors_of_a_server() {
+    for (name, error) in NAMES {
+        let message = format!("e={}", name);
+        assert_eq!(error.name(), name);
+        assert_eq!(error.to_string(), name);
+        assert_eq!(error.message(), message);
+        assert_eq!(ServerError::parse(message.as_bytes()), Some(error));
+    }
+    let none: [&[u8]; 4] = [b"", b"v=", b"x=y,e=invalid-proof", b"e=\xff"];
+    for message in none {
+        assert_eq!(ServerError::parse(message), None, "{:?}", message);
+    }
+    // A wrong proof and an unknown user have one message.
+    assert_eq!(ServerError::of(ServerScramErrorKind::AuthenticationFailed).message(), "e=invalid-proof");
+    assert_eq!(ServerError::of_unknown_user().message(), "e=invalid-proof");
+    let text = ScramErrorKind::ServerError(ServerError::InvalidProof).to_string();
+    assert_eq!(text, "Client: The server sent an error: invalid-proof");
 }
 
 #[test]

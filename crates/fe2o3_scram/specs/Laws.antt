@@ -13,7 +13,7 @@ use Rattle.fe2o3_scram.specs.ClientSecret.{Password, Keys, Both}
 use Rattle.fe2o3_scram.specs.Passwords.{PasswordText, Typed, Prepared, IsNormal, password_bytes}
 use Rattle.fe2o3_scram.specs.SaslprepAscii.{IsPrintable}
 use Rattle.fe2o3_scram.specs.declared.client_secret.IterationLimits.{IterationLimits}
-use Rattle.fe2o3_scram.specs.declared.scram_messages.error.ScramErrorKind.TheVariants.{StaleKeys}
+use Rattle.fe2o3_scram.specs.declared.scram_messages.error.ScramErrorKind.TheVariants.{ServerSignatureMismatch, StaleKeys}
 use Rattle.fe2o3_scram.specs.Credentials.{MakesRecord, Record, Records, VersionedRecord, record_of}
 use Rattle.fe2o3_scram.specs.declared.keys.RecordError.{RecordError}
 use Rattle.fe2o3_scram.specs.Mixed.{MultiRecords, unversioned}
@@ -30,6 +30,8 @@ use Rattle.fe2o3_scram.specs.declared.credentials.record_lines.ReadLinesErrorKin
 use Rattle.fe2o3_scram.specs.RecordLines.{IsWritable, ReadsUsers, users_text}
 use Rattle.std.specs.List.{AllByRecursion}
 use Rattle.fe2o3_scram.specs.ServerFinal.{ReadsSignature, ReadsServerFinal}
+use Rattle.fe2o3_scram.specs.ServerErrors.{NamesServerError, error_message}
+use Rattle.fe2o3_scram.specs.declared.scram_messages.server_error.ServerError.{ServerError}
 use Rattle.fe2o3_scram.specs.ServerFirst.{Client, ServerFirst, ReadsServerFirst, client_of}
 
 -- no two versions have one name
@@ -104,6 +106,20 @@ OneServerFinal = (signature text : List ℕ) (answer other : Result (Unit {0}) S
 abbrev pub OneSignature : Type 0
 OneSignature = (text : List ℕ) (answer other : Result (List ℕ) ScramErrorKind) → ReadsSignature text answer
     → ReadsSignature text other → answer ≡ other
+
+-- the message of a server error is read as that error
+abbrev pub ServerErrorsAreReadAgain : Type 0
+ServerErrorsAreReadAgain = (error : ServerError) → NamesServerError (error_message error) error
+
+-- a message is at most one server error
+abbrev pub OneServerError : Type 0
+OneServerError = (text : List ℕ) (error other : ServerError) → NamesServerError text error → NamesServerError text other
+    → error ≡ other
+
+-- a client that waits for a signature rejects a server error in its place, like a wrong signature
+abbrev pub ServerErrorsAreNoSignature : Type 0
+ServerErrorsAreNoSignature = (signature text : List ℕ) (error : ServerError) → NamesServerError text error
+    → ReadsServerFinal signature text (Err ServerSignatureMismatch)
 
 -- in an exchange whose messages arrive as they were sent, each side accepts what the other wrote
 abbrev pub UnalteredExchangesSucceed : Type 0

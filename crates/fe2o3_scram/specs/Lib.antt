@@ -22,6 +22,7 @@ pub mod ServerFirst
 pub mod ClientFinal
 pub mod ServerFirstAnswers
 pub mod ServerFinal
+pub mod ServerErrors
 pub mod ScramClient
 pub mod ScramServer
 pub mod Exchanges

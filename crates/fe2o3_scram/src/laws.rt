@@ -4,7 +4,7 @@
 ghost use Rattle.std.specs.Prelude.{◌≡◌};
 ghost use Rattle.fe2o3_scram.specs.Agreement.{VerifiedTextsAgree};
 ghost use Rattle.fe2o3_scram.specs.Logins.{AcceptedTextsLogIn, VerifiedTextsAreSigned};
-ghost use Rattle.fe2o3_scram.specs.Laws.{OneVersion, OneFinalText, OneSignature, DigestsAreSized, MacsAreSized, OneBytesOfBase64, Base64IsReadAgain, NoCommaInBase64, PartsExist, OneListOfParts, OneEscapedName, NoCommaInEscapedNames, OneClientFirst, OneServerFirst, OneClientFinal, OneServerFinal, SomeClientFirst, SomeServerFirst, SomeClientFinal, SomeServerFinal, UnalteredExchangesSucceed, MadeRecordsAreReadable, OneRecord, OneSpelling, RecordsAreReadAgain, SomeRecord, OneUsersAnswer, SomeUsersAnswer, UsersAreReadAgain, OneMixedAnswer, SomeMixedAnswer, MixedAreReadAgain, MixedAreWrittenBack, NoMismatch, KeysStandForPassword, KeysAnswerAsPassword, BothAnswerAsPassword, OneRecordOfPassword, OneAnswerOfPassword};
+ghost use Rattle.fe2o3_scram.specs.Laws.{OneVersion, OneFinalText, OneSignature, DigestsAreSized, MacsAreSized, OneBytesOfBase64, Base64IsReadAgain, NoCommaInBase64, PartsExist, OneListOfParts, OneEscapedName, NoCommaInEscapedNames, OneClientFirst, OneServerFirst, OneClientFinal, OneServerFinal, SomeClientFirst, SomeServerFirst, SomeClientFinal, SomeServerFinal, UnalteredExchangesSucceed, MadeRecordsAreReadable, OneRecord, OneSpelling, RecordsAreReadAgain, SomeRecord, OneUsersAnswer, SomeUsersAnswer, UsersAreReadAgain, OneMixedAnswer, SomeMixedAnswer, MixedAreReadAgain, MixedAreWrittenBack, NoMismatch, KeysStandForPassword, KeysAnswerAsPassword, BothAnswerAsPassword, OneRecordOfPassword, OneAnswerOfPassword, ServerErrorsAreReadAgain, OneServerError, ServerErrorsAreNoSignature};
 ghost use Rattle.fe2o3_scram.specs.ScramServer.{StatesAreReported};
 ghost use Rattle.fe2o3_scram.specs.examples.MemoryExamples.{AnsweredClientsTakeNone, CommasTakeNone, ErrorsTakeNone, OtherNoncesTakeNone, UnboundTextsTakeNone, UnknownMechanismsTakeNone, UnknownUsersTakeNone};
 
@@ -55,6 +55,14 @@ pub fn one_answer_each()
     ensures final_text { OneFinalText }
     ensures server_final { OneServerFinal }
     ensures signature { OneSignature }
+{}
+
+/// The message of a server error is read as that error, and no message is two errors. A client that waits for a signature
+/// rejects each with `ServerSignatureMismatch`.
+pub fn server_errors()
+    ensures again { ServerErrorsAreReadAgain }
+    ensures one { OneServerError }
+    ensures rejected { ServerErrorsAreNoSignature }
 {}
 
 /// States what an accepted message means. A server accepts a client-final message only if a challenge

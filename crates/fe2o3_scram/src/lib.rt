@@ -9,7 +9,8 @@
 //! the [`CachedKeys`] of an earlier login, or by both ([`ClientSecret`]).
 //!
 //! [`ClientFirst`], [`ServerFirst`], [`ClientFinal`] and [`ServerFinal`] are the values of the four messages, and each
-//! has a `parse`. The keys, the proof and the signature are in [`keys`].
+//! has a `parse`. [`ServerError`] is an error in the place of a server message. The keys, the proof and the signature
+//! are in [`keys`].
 #![tactic(auto)]
 
 pub mod cached_keys;
@@ -41,9 +42,9 @@ pub use crate::provider::{ScramCredentialProvider, StoredPassword};
 pub use crate::saslprep_ascii::{NormalizeError, saslprep};
 pub use crate::scram_client::ScramClient;
 pub use crate::scram_messages::{
-    ChannelBindingFlag, ClientAnswer, ClientFinal, ClientFirst, ScramErrorKind, ServerFinal,
-    ServerFirst, ServerFirstMessage, ServerScramErrorKind, UnescapeError, escape_username,
-    unescape_username,
+    ChannelBindingFlag, ClientAnswer, ClientFinal, ClientFirst, ScramErrorKind, ServerError,
+    ServerFinal, ServerFirst, ServerFirstMessage, ServerScramErrorKind, UnescapeError,
+    escape_username, unescape_username,
 };
 pub use crate::scram_server::open_challenge::OpenChallenge;
 pub use crate::scram_server::{SaltTooLong, ScramAuthenticator};

@@ -309,7 +309,8 @@ impl ScramClient {
     /// The errors are, in this order: `IllegalClientState` if the client has not sent the client-final message last;
     /// `Utf8Error`; `ServerSignatureMismatch` if the first part does not begin with `v=`; `Base64DecodeError`;
     /// `ServerSignatureMismatch` for another signature. `OutOfMemory` is returned only if none of the first three
-    /// errors applies.
+    /// errors applies. After `ServerSignatureMismatch`, `ServerError::parse` says whether the message is an error of the
+    /// server.
     pub fn validate_server_final(
         &mut self,
         alloc: Global,

@@ -23,13 +23,15 @@ use Rattle.fe2o3_scram.specs.ServerFirstAnswers.{AnswersServerFirst}
 use Rattle.fe2o3_scram.specs.declared.client_secret.IterationLimits.{IterationLimits}
 use Rattle.fe2o3_scram.specs.Texts.{Part, base64_text, joined}
 use Rattle.fe2o3_scram.specs.declared.scram_messages.error.ScramErrorKind.{ScramErrorKind}
-use Rattle.fe2o3_scram.specs.declared.scram_messages.error.ScramErrorKind.TheVariants.{IllegalClientState, Utf8Error, OutOfMemory as NoMemory}
+use Rattle.fe2o3_scram.specs.declared.scram_messages.error.ScramErrorKind.TheVariants.{IllegalClientState, ServerSignatureMismatch, Utf8Error, OutOfMemory as NoMemory}
+use Rattle.fe2o3_scram.specs.ServerErrors.{NamesServerError}
+use Rattle.fe2o3_scram.specs.declared.scram_messages.server_error.ServerError.{ServerError}
 use Rattle.std.specs.Str.{IsUtf8}
 use Rattle.sasl_c.specs.declared.status.Status.{Status}
 use Rattle.sasl_c.specs.declared.status.Status.TheVariants as statuses
 use Rattle.sasl_c.specs.declared.login.Login.{Login}
 use Rattle.sasl_c.specs.declared.client.ScramClient.{ScramClient as Struct}
-use Rattle.sasl_c.specs.Client.{AnswersByMessage, AwaitsSignature, Verifies, HasSecret, Holds, IsAnswer, IsClientOf, IsTestedLogin, IsNoLogin, IsNoSecret, IsReached, IsSecretOf, IsSide, IsState, NotAnswered, Responds, WritesClient, complete_struct, name_tests}
+use Rattle.sasl_c.specs.Client.{AnswersByMessage, AwaitsSignature, Verifies, HasSecret, Holds, IsAnswer, IsClientOf, IsTestedLogin, IsNoLogin, IsNoSecret, IsReached, IsSecretOf, IsSide, IsState, IsVerifyStatus, NotAnswered, Responds, WritesClient, complete_struct, name_tests}
 use Rattle.sasl_c.specs.declared.keys.ScramKeys.{ScramKeys as KeysStruct}
 use Rattle.sasl_c.specs.Keys.{shown_keys}
 use Rattle.sasl_c.specs.Records.{IsVersion}
@@ -420,16 +422,22 @@ server_verified login before after text signature version verified known is wait
     (reads, refl)
     written
 
+-- a status other than that of failed memory is of another error
+verify_memory : (text : List ℕ) (why : ScramErrorKind) (status : Status) → IsVerifyStatus text why status
+    → status ≢ statuses.OutOfMemory → why ≢ NoMemory
+verify_memory text why status is other same =
+    other (carried (λ (kind : ScramErrorKind). IsVerifyStatus text kind status) why NoMemory same is)
+
 pub unverified : (login : Login) (before : Struct) (text signature : List ℕ) (version : ScramVersion)
     (why : ScramErrorKind) (status : Status) → IsVersion login.version version → IsTestedLogin login
     → AwaitsSignature before → signature ≡ take before.signature_len before.signature
-    → (why ≢ NoMemory → ReadsServerFinal signature text (Err why)) → status ≡ client_status why
+    → (why ≢ NoMemory → ReadsServerFinal signature text (Err why)) → IsVerifyStatus text why status
     → Verifies login text before before (Err status)
 unfolding Verifies
 unverified login before text signature version why status known is waits same held gives = (
   refl,
   λ other.
-      let told : why ≢ NoMemory = λ memory. other (gives ∙ ap client_status memory) in
+      let told : why ≢ NoMemory = verify_memory text why status gives other in
       let secret = secret_of_login login is.1 in
       let keys = holds before.keys in
       let side = side_with login version secret.0 (ClientFinalSent signature keys.0) in
@@ -444,6 +452,19 @@ unverified login before text signature version why status known is waits same he
         ),
       ),
 )
+
+-- the status of an error, where the message is a server error and where it is none
+pub server_error_status : (text : List ℕ) (why : ScramErrorKind) (error : ServerError) → why ≡ ServerSignatureMismatch
+    → NamesServerError text error → IsVerifyStatus text why statuses.ServerError
+server_error_status text why error same names =
+    carried (λ (kind : ScramErrorKind). IsVerifyStatus text kind statuses.ServerError) ServerSignatureMismatch why (sym same)
+    (inl (refl, (error, names)))
+
+pub mismatch_status : (text : List ℕ) (why : ScramErrorKind) (status : Status) → why ≡ ServerSignatureMismatch
+    → ((error : ServerError) → ¬ NamesServerError text error) → status ≡ client_status why → IsVerifyStatus text why status
+mismatch_status text why status same none gives =
+    carried (λ (kind : ScramErrorKind). IsVerifyStatus text kind status) ServerSignatureMismatch why (sym same)
+    (inr (gives ∙ ap client_status same, none))
 
 -- a client that waits for no signature
 not_waiting_in : (user : List ℕ) (before : Struct) (state : ClientState) (side : ClientSide) (text : List ℕ)

@@ -95,6 +95,7 @@ shows_none kept statuses.RefusedSys shown wrong is = absurd wrong
 shows_none kept statuses.RefusedSysPerm shown wrong is = absurd wrong
 shows_none kept statuses.RefusedSysTemp shown wrong is = absurd wrong
 shows_none kept statuses.UnassignedCodePoint shown wrong is = absurd wrong
+shows_none kept statuses.ServerError shown wrong is = absurd wrong
 shows_none kept statuses.MixedDirections shown wrong is = absurd wrong
 shows_none kept statuses.ProhibitedCharacter shown wrong is = absurd wrong
 shows_none kept statuses.NoSuchChoice shown wrong is = absurd wrong

@@ -3,7 +3,7 @@ use Rattle.std.specs.Prelude.{◌≡◌, ◌≢◌, ◌<◌, ◌≤◌, ◌⊎�
 use Rattle.std.specs.Str.{IsUtf8}
 use Rattle.fe2o3_scram.specs.declared.hmac.ScramVersion.{ScramVersion}
 use Rattle.fe2o3_scram.specs.declared.scram_messages.error.ScramErrorKind.{ScramErrorKind}
-use Rattle.fe2o3_scram.specs.declared.scram_messages.error.ScramErrorKind.TheVariants.{IllegalClientState, Utf8Error}
+use Rattle.fe2o3_scram.specs.declared.scram_messages.error.ScramErrorKind.TheVariants.{IllegalClientState, ServerSignatureMismatch, Utf8Error}
 use Rattle.fe2o3_scram.specs.ClientFinal.{Answer}
 use Rattle.fe2o3_scram.specs.ClientFirst.{client_first, client_first_bare}
 use Rattle.fe2o3_scram.specs.ClientKeys.{ClientKeys}
@@ -12,6 +12,8 @@ use Rattle.fe2o3_scram.specs.ScramClient.{AnswersIn, VerifiesIn, ClientSide, Cli
 use Rattle.fe2o3_scram.specs.Hmac.{zero_filled}
 use Rattle.fe2o3_scram.specs.Readings.{IsFirst, NoneHolds}
 use Rattle.fe2o3_scram.specs.ServerFinal.{ReachesVerifier}
+use Rattle.fe2o3_scram.specs.ServerErrors.{NamesServerError}
+use Rattle.fe2o3_scram.specs.declared.scram_messages.server_error.ServerError.{ServerError}
 use Rattle.fe2o3_scram.specs.Texts.{base64_text}
 use Rattle.sasl_c.specs.declared.client.ScramClient.{ScramClient as Struct}
 use Rattle.sasl_c.specs.declared.login.Login.{Login}
@@ -206,12 +208,25 @@ AnswerAsks login text before = IsUtf8 text × IsTestedLogin login × (before.sta
 abbrev pub VerifyAsks : Login → List ℕ → Struct → Type 0
 VerifyAsks login text before = IsTestedLogin login × AwaitsSignature before × ReachesVerifier text
 
+-- the status of why a client rejects a server-final message: an error of the server in the place of its signature (RFC
+-- 5802, section 7) has its own
+abbrev pub IsVerifyStatus : List ℕ → ScramErrorKind → Status → Type 0
+IsVerifyStatus text ServerSignatureMismatch status =
+    ((status ≡ statuses.ServerError) × ((error : ServerError) × NamesServerError text error))
+    ⊎ ((status ≡ client_status ServerSignatureMismatch) × ((error : ServerError) → ¬ NamesServerError text error))
+IsVerifyStatus text why status = status ≡ client_status why
+
+-- a server-final message is rejected by the client of a struct, with this status
+abbrev pub NotVerified : Login → Struct → List ℕ → Status → Type 0
+NotVerified login before text status = (why : ScramErrorKind) × IsVerifyStatus text why status
+    × ((side : ClientSide) × IsSide login before side × VerifiesIn side.state side text (Err why) side)
+
 -- the server is authenticated, or it is not
 unfoldable pub Verifies : Login → List ℕ → Struct → Struct → Result (Unit {0}) Status → Type 0
 Verifies login text before after (Ok done) = (side next : ClientSide) × IsSide login before side
     × VerifiesIn side.state side text (Ok done) next × IsSide login after next × (after ≡ complete_struct before.keys)
 Verifies login text before after (Err status) = (after ≡ before) × (status ≢ statuses.OutOfMemory
-    → IsNoLogin login status ⊎ Refuses login before (λ side why. VerifiesIn side.state side text (Err why) side) status)
+    → IsNoLogin login status ⊎ NotVerified login before text status)
 
 -- the keys of a login whose server was authenticated, and of no other
 abbrev pub HandsOut : Struct → Result KeysStruct Status → Type 0

@@ -2,6 +2,7 @@ pub mod Status
 pub mod Passwords
 pub mod Records
 pub mod Keys
+pub mod ServerErrors
 pub mod Client
 pub mod Server
 pub mod Connection

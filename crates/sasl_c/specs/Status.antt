@@ -110,6 +110,7 @@ status_number statuses.NoSuchChoice = 85
 status_number statuses.ProhibitedCharacter = 86
 status_number statuses.MixedDirections = 87
 status_number statuses.UnassignedCodePoint = 88
+status_number statuses.ServerError = 89
 
 -- the status of an error of a client
 abbrev pub client_status : ScramErrorKind → Status

@@ -75,7 +75,8 @@ status_texts = (0, codes "Done")
     ∷ (85, codes "No such choice")
     ∷ (86, codes "The text holds a prohibited character")
     ∷ (87, codes "The text mixes directions")
-    ∷ (88, codes "The text holds an unassigned code point") ∷ []
+    ∷ (88, codes "The text holds an unassigned code point")
+    ∷ (89, codes "Client: The server sent an error") ∷ []
 
 -- the text of a number in a table, and of every other number that of an unknown status
 abbrev pub text_in : List (ℕ × List ℕ) → ℕ → List ℕ

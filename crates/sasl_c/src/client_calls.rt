@@ -1,9 +1,10 @@
 //! The calls of a SCRAM client over messages, without the client-final message.
 
 ghost use Rattle.std.specs.Prelude.{◌≡◌, ◌≢◌, ◌<◌, ◌≤◌, length, IfOk, IfErr, Ok};
-ghost use Rattle.sasl_c.specs.Client.{Verifies, HandsOut, IsTestedLogin, IsNoLogin, StartsClient, Starts, VerifyAsks, started_struct};
+ghost use Rattle.sasl_c.specs.Client.{Verifies, HandsOut, IsTestedLogin, IsVerifyStatus, IsNoLogin, StartsClient, Starts, VerifyAsks, started_struct};
 ghost use Rattle.sasl_c.specs.Status.{Answers, AnswersText, AsksText, AsksWhere, Fills, Makes, with_written};
 ghost use Rattle.sasl_c.specs.declared.status.Status.TheVariants.{OutOfMemory as StatusOutOfMemory};
+ghost use Rattle.fe2o3_scram.specs.declared.scram_messages.error.ScramErrorKind.TheVariants.{OutOfMemory as NoMemory};
 ghost use Rattle.sasl_c.specs.declared.status.WriteError.TheVariants.{RoomTooSmall};
 
 use crate::arrays::{put, store};
@@ -12,7 +13,7 @@ use crate::keys::ScramKeys;
 use crate::login::Login;
 use crate::status::{Status, WriteError, number, text_number};
 use bytes::Bytes;
-use fe2o3_scram::ScramErrorKind;
+use fe2o3_scram::{ScramErrorKind, ServerError};
 use std::alloc::Global;
 
 /// Returns the client-first message.
@@ -96,6 +97,20 @@ pub extern "C" fn fe2o3_scram_client_first(
     text_number(first(alloc, login, client, nonce, out, out_len))
 }
 
+/// Returns the status of why a client rejects a server-final message.
+fn verify_status(why: ScramErrorKind, server_final: &[u8]) -> Status
+    ensures status { IsVerifyStatus server_final.now why result }
+    ensures memory { result ≡ StatusOutOfMemory → why ≡ NoMemory }
+{
+    match why {
+        ScramErrorKind::ServerSignatureMismatch => match ServerError::parse(server_final) {
+            Some(_) => Status::ServerError,
+            None => Status::Client(ScramErrorKind::ServerSignatureMismatch),
+        },
+        why => Status::from(why),
+    }
+}
+
 /// Verifies the server-final message.
 fn verify(
     alloc: Global,
@@ -114,13 +129,17 @@ fn verify(
         return Err(Status::Client(ScramErrorKind::IllegalClientState));
     };
     if let Err(why) = version.validate_server_final(alloc, server_final, signature) {
-        return Err(Status::from(why));
+        return Err(verify_status(why, server_final));
     }
     client.complete();
     Ok(())
 }
 
 /// Verifies the server-final message. Only FE2O3_OK means that the login is complete and the server authenticated.
+///
+/// The message may be an error of the server, such as `e=invalid-proof` for a wrong password. The call then returns
+/// FE2O3_SERVER_ERROR, and fe2o3_scram_server_error says which error it is. After FE2O3_CLIENT_SERVER_SIGNATURE_MISMATCH
+/// the server has not proved that it knows the user's keys.
 #[unsafe(no_mangle)]
 pub extern "C" fn fe2o3_scram_client_verify(
     alloc: Global,

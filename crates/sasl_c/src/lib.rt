@@ -29,6 +29,7 @@ mod records;
 mod sasl_client;
 mod sasl_server;
 mod server;
+mod server_errors;
 mod server_steps;
 mod server_user;
 mod status;

@@ -129,6 +129,10 @@ pub enum Status {
 
     /// The text, or the prepared text, contains a code point that Unicode 3.2 does not assign.
     UnassignedCodePoint,
+
+    /// The server sent an error in the place of its signature, such as `e=invalid-proof` for a wrong password.
+    /// fe2o3_scram_server_error says which.
+    ServerError,
 }
 
 /// Why a call that writes a text fails.
@@ -223,6 +227,7 @@ impl Status {
             Status::ProhibitedCharacter => 86,
             Status::MixedDirections => 87,
             Status::UnassignedCodePoint => 88,
+            Status::ServerError => 89,
         }
     }
 }

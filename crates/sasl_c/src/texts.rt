@@ -100,6 +100,7 @@ fn text_of(status: u32) -> &'static [u8]
         86 => b"The text holds a prohibited character\0",
         87 => b"The text mixes directions\0",
         88 => b"The text holds an unassigned code point\0",
+        89 => b"Client: The server sent an error\0",
         _ => b"Unknown status\0",
     }
 }

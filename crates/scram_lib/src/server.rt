@@ -9,7 +9,8 @@ use crate::server::mock::Shape;
 use crate::{frames, nonces};
 use fe2o3_sasl_negotiation::AuthenticatedUser;
 use fe2o3_scram::{
-    MultiRecordStore, RecordStore, ScramAuthenticator, ScramVersion, ServerScramErrorKind,
+    MultiRecordStore, RecordStore, ScramAuthenticator, ScramVersion, ServerError,
+    ServerScramErrorKind,
 };
 use mock_secret::secret_of;
 use scram_base_lib::stop::Stop;
@@ -151,31 +152,8 @@ fn reply<O: Write>(
             Err(Stop::UnknownUser)
         }
         Err(kind) => {
-            wire::send(alloc, output, error_of(kind))?;
+            wire::send(alloc, output, ServerError::of(kind).message().as_bytes())?;
             Err(Stop::from(kind))
         }
-    }
-}
-
-/// Returns the error that is sent to the client.
-fn error_of(kind: ServerScramErrorKind) -> &'static [u8] {
-    match kind {
-        ServerScramErrorKind::Utf8Error | ServerScramErrorKind::Base64DecodeError => {
-            b"e=invalid-encoding"
-        }
-        ServerScramErrorKind::CannotParseUsername => b"e=invalid-username-encoding",
-        ServerScramErrorKind::InvalidChannelBinding => b"e=channel-bindings-dont-match",
-        ServerScramErrorKind::AuthenticationFailed | ServerScramErrorKind::XorLengthMismatch => {
-            b"e=invalid-proof"
-        }
-        ServerScramErrorKind::OutOfMemory => b"e=no-resources",
-        ServerScramErrorKind::CannotParseGs2Header
-        | ServerScramErrorKind::CannotParseClientNonce
-        | ServerScramErrorKind::HmacErrorInvalidLength
-        | ServerScramErrorKind::NormalizeError
-        | ServerScramErrorKind::CannotParseClientFinalMessage
-        | ServerScramErrorKind::IncorrectClientFinalNonce
-        | ServerScramErrorKind::ProofNotFoundInClientFinal
-        | ServerScramErrorKind::IllegalAuthenticatorState => b"e=other-error",
     }
 }

@@ -5,7 +5,7 @@ use fe2o3_scram::hmac::UnknownMechanism;
 use fe2o3_scram::pbkdf2_hi::KeyError;
 use fe2o3_scram::saslprep_ascii::NormalizeError;
 use fe2o3_scram::scram_messages::{
-    ScramErrorKind, ServerScramErrorKind, UnescapeError, XorLengthMismatch,
+    ScramErrorKind, ServerError, ServerScramErrorKind, UnescapeError, XorLengthMismatch,
 };
 use std::alloc::Global;
 use std::fmt::Display;
@@ -133,6 +133,52 @@ fn texts_of_what_a_server_refuses(rt: HostRuntime) {
     for (kind, wanted) in &SERVER_SCRAM_ERROR_KINDS {
         assert!(rt; says(rt.alloc(), kind, wanted), "{kind:?}");
     }
+}
+
+/// The names of RFC 5802, section 7, in its order.
+static SERVER_ERRORS: [(ServerError, &str); 11] = [
+    (ServerError::InvalidEncoding, "invalid-encoding"),
+    (
+        ServerError::ExtensionsNotSupported,
+        "extensions-not-supported",
+    ),
+    (ServerError::InvalidProof, "invalid-proof"),
+    (
+        ServerError::ChannelBindingsDontMatch,
+        "channel-bindings-dont-match",
+    ),
+    (
+        ServerError::ServerDoesSupportChannelBinding,
+        "server-does-support-channel-binding",
+    ),
+    (
+        ServerError::ChannelBindingNotSupported,
+        "channel-binding-not-supported",
+    ),
+    (
+        ServerError::UnsupportedChannelBindingType,
+        "unsupported-channel-binding-type",
+    ),
+    (ServerError::UnknownUser, "unknown-user"),
+    (
+        ServerError::InvalidUsernameEncoding,
+        "invalid-username-encoding",
+    ),
+    (ServerError::NoResources, "no-resources"),
+    (ServerError::OtherError, "other-error"),
+];
+
+#[test]
+fn texts_of_server_errors(rt: HostRuntime) {
+    for (error, name) in &SERVER_ERRORS {
+        assert!(rt;
+            says(rt.alloc(), error, name) && error.name() == *name,
+            "{error:?}"
+        );
+    }
+    // A wrong proof and an unknown user have one message.
+    let wrong = ServerError::of(ServerScramErrorKind::AuthenticationFailed);
+    assert!(rt; wrong.message() == "e=invalid-proof" && ServerError::of_unknown_user() == wrong);
 }
 
 static RECORD_TEXT_ERRORS: [(RecordTextError, &str); 6] = [

@@ -35,6 +35,7 @@ enum Table {
     ClientSecrets,
     ClientFinal,
     ServerFinal,
+    ServerErrors,
     Records,
     RecordFaults,
     RecordLines,
@@ -46,7 +47,7 @@ enum Table {
 }
 
 /// The tables, and the file of each.
-static TABLES: [(Table, &str); 23] = [
+static TABLES: [(Table, &str); 24] = [
     (Table::Digests, "digests.txt"),
     (Table::Hmac, "hmac.txt"),
     (Table::SaltedPasswords, "salted-passwords.txt"),
@@ -59,6 +60,7 @@ static TABLES: [(Table, &str); 23] = [
     (Table::ClientSecrets, "client-secrets.txt"),
     (Table::ClientFinal, "client-final.txt"),
     (Table::ServerFinal, "server-final.txt"),
+    (Table::ServerErrors, "server-errors.txt"),
     (Table::Records, "records.txt"),
     (Table::RecordFaults, "record-faults.txt"),
     (Table::RecordLines, "record-lines.txt"),
@@ -87,6 +89,7 @@ impl Answers for Table {
             Table::ClientSecrets => messages::client_secret(row),
             Table::ClientFinal => messages::client_final(row),
             Table::ServerFinal => messages::server_final(row),
+            Table::ServerErrors => messages::server_error(row),
             Table::Records => records::record(row),
             Table::RecordFaults => records::record_fault(row),
             Table::RecordLines => records::record_lines(row),

@@ -6,6 +6,7 @@ use fe2o3_scram::client_secret::{ClientSecret, IterationLimits};
 use fe2o3_scram::credentials::{RecordStore, StoredPassword};
 use fe2o3_scram::hmac::Meter;
 use fe2o3_scram::passwords::Password;
+use fe2o3_scram::scram_messages::ServerError;
 
 /// Says the answer of a server with these lines of users: `VERSION LINES SERVER-NONCE MESSAGE`.
 pub fn client_first(row: &mut Row<'_>) {
@@ -163,4 +164,16 @@ pub fn server_final(row: &mut Row<'_>) {
     let (signature, message) = (row.base64(), row.bytes());
     let verdict = version.validate_server_final(alloc, &message, &signature);
     row.judge(&verdict, "verified");
+}
+
+/// Says which error of a server a message is, and the message of that error: `MESSAGE`.
+pub fn server_error(row: &mut Row<'_>) {
+    let message = row.bytes();
+    match ServerError::parse(&message) {
+        Some(error) => {
+            row.say(error.name());
+            row.say(error.message());
+        }
+        None => row.say("no error"),
+    }
 }

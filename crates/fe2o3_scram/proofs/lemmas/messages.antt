@@ -16,6 +16,7 @@ pub mod RecordLinesLawLemmas
 pub mod RecordLinesLemmas
 pub mod RecordTextLemmas
 pub mod SavedServerLemmas
+pub mod ServerErrorLemmas
 pub mod ServerFinalLemmas
 pub mod ServerFirstLemmas
 pub mod SomeReadingLemmas

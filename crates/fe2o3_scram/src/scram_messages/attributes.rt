@@ -33,5 +33,8 @@ pub(crate) const PROOF_KEY: &str = "p=";
 /// The server's signature, in base64.
 pub(crate) const VERIFIER_KEY: &str = "v=";
 
+/// The server's error.
+pub(crate) const ERROR_KEY: &str = "e=";
+
 /// The reserved attribute of mandatory extensions, of which there are none.
 pub(crate) const RESERVED_MEXT: &str = "m=";

@@ -47,7 +47,8 @@ impl ScramVersion {
     ///
     /// The errors are, in this order: `Utf8Error`; `ServerSignatureMismatch` if the first part does not begin with
     /// `v=`; `Base64DecodeError`; `ServerSignatureMismatch` for another signature. `OutOfMemory` is returned only if
-    /// neither of the first two errors applies.
+    /// neither of the first two errors applies. After `ServerSignatureMismatch`, `ServerError::parse` says whether the
+    /// message is an error of the server, such as `e=invalid-proof`.
     pub fn validate_server_final(
         &self,
         alloc: Global,

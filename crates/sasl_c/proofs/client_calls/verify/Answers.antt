@@ -4,8 +4,8 @@ use Rattle.sasl_c.proofs.client_calls.verify.Goals as goal
 pub returns-in-Err-validate_server_final-clause-verifies : goal.returns-in-Err-validate_server_final-clause-verifies
 returns-in-Err-validate_server_final-clause-verifies c =
     unverified c.args.login.now c.args.client.now c.args.server_final.now c.in-Some.signature.now c.in-Ok.version
-    c.in-Err-validate_server_final.why c.from.result c.in-Ok.ensures.ok.0 c.in-Ok.ensures.ok.1 c.in-Some.ensures.0
-    c.in-Some.ensures.1 c.in-Err-validate_server_final.ensures.1 c.from.ensures
+    c.in-Err-validate_server_final.why c.verify_status.result c.in-Ok.ensures.ok.0 c.in-Ok.ensures.ok.1 c.in-Some.ensures.0
+    c.in-Some.ensures.1 c.in-Err-validate_server_final.ensures.1 c.verify_status.ensures.status
 
 pub returns-in-Err-clause-verifies : goal.returns-in-Err-clause-verifies
 returns-in-Err-clause-verifies c =
