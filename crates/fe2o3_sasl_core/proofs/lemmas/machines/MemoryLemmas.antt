@@ -1,5 +1,5 @@
 -- Where memory may run out.
-use Rattle.std.proofs.Common.{◌≡◌, ◌≢◌, ◌⊎◌, ℕ, Option, Some, None, Bool, true, false, cond, List, refl, sym, ◌∙◌, subst, arith, inl, inr, Result, Ok, Err}
+use Rattle.std.proofs.Common.{◌≡◌, ◌≢◌, ◌⊎◌, ℕ, Option, Some, None, Bool, true, false, cond, List, [], refl, sym, ◌∙◌, subst, arith, inl, inr, Result, Ok, Err}
 use Rattle.std.proofs.lemmas.Option.{slice_get_within}
 use Rattle.fe2o3_sasl_wire.specs.declared.amqp_types.SaslCode.{SaslCode}
 use Rattle.fe2o3_sasl_wire.specs.declared.amqp_types.SaslCode.TheVariants as outcomes
@@ -13,7 +13,7 @@ use Rattle.fe2o3_scram.specs.declared.scram_messages.error.ScramErrorKind.TheVar
 use Rattle.fe2o3_sasl_core.specs.ClientHistory.{Answering, ClientAllocates, ClientAnswers, IsDue, OpenAnswer}
 use Rattle.fe2o3_sasl_core.specs.Events.{Given, Login, Answered, Reported, Refused, Failed, scram_fault}
 use Rattle.fe2o3_sasl_core.specs.Laws.{WantsAtServer, ServersWantMemory, ClientsWantMemory, ProfilesWantMemory}
-use Rattle.fe2o3_sasl_core.specs.Profiles.{Profile, ScramProfile, client_frame, profile_machine, StepAllocates}
+use Rattle.fe2o3_sasl_core.specs.Profiles.{Profile, ScramProfile, MessageProfile, client_frame, profile_machine, StepAllocates}
 use Rattle.fe2o3_sasl_core.specs.Runs.{Replies}
 use Rattle.fe2o3_sasl_core.specs.Bodies.{SpellsBody, carried}
 use Rattle.fe2o3_sasl_core.specs.ServerHistory.{Challenging, Open, ServerAllocates, ServerAnswers}
@@ -176,6 +176,7 @@ machine_wants hostname (ScramProfile client) next nonce (frames.Outcome outcomes
     (not_scram kinds.ServerSignatureMismatch) said)
 machine_wants hostname (ScramProfile client) next nonce (frames.Outcome outcomes.Ok (Some text)) reply moved is said =
     absurd (verified_otherwise (ScramProfile client) moved next reply text is.0 is.3 said)
+machine_wants hostname (MessageProfile mechanism message true) next nonce (frames.Challenge []) reply moved is said = tt
 machine_wants hostname profile next nonce (frames.Outcome code more) reply moved is said =
     absurd (reported_otherwise profile moved next reply code more is.0 said)
 machine_wants hostname profile next nonce frame reply moved is said =

@@ -1,5 +1,5 @@
 -- What the machine of a SCRAM profile replies, from what a SCRAM client answers.
-use Rattle.std.proofs.Common.{◌≡◌, ◌≢◌, ◌⊎◌, ℕ, false, Option, Some, List, ◌+◌, ◌<◌, ◌≤◌, length, take, get_or, refl, sym, ap, ◌∙◌, subst, inl, inr, Err}
+use Rattle.std.proofs.Common.{◌≡◌, ◌≢◌, ◌⊎◌, ℕ, Bool, true, false, Option, Some, List, [], ◌∷◌, ◌+◌, ◌<◌, ◌≤◌, length, take, get_or, refl, sym, ap, ◌∙◌, subst, inl, inr, Ok, Err}
 use Rattle.std.proofs.lemmas.List.{take_more, take_all}
 use Rattle.std.proofs.lemmas.List.Elements.{Contains-push_cases}
 use Rattle.std.specs.List.{Contains}
@@ -15,9 +15,9 @@ use Rattle.fe2o3_sasl_wire.specs.declared.amqp_types.SaslCode.{SaslCode}
 use Rattle.fe2o3_sasl_wire.specs.declared.amqp_types.SaslCode.TheVariants as outcomes
 use Rattle.fe2o3_scram.specs.ClientKeys.{ClientKeys}
 use Rattle.fe2o3_scram.specs.ServerFinal.{ReadsServerFinal, ReadsSignature}
-use Rattle.fe2o3_sasl_core.specs.Profiles.{Profile, ScramProfile, PlainProfile, AnonymousProfile, ExternalProfile, FrameAllocates, ViewAllocates, StepAllocates, IsAnswered, ProfileAnswers, is_scram}
+use Rattle.fe2o3_sasl_core.specs.Profiles.{Profile, ScramProfile, PlainProfile, AnonymousProfile, ExternalProfile, MessageProfile, MessageMechanism, FrameAllocates, ViewAllocates, StepAllocates, IsAnswered, ProfileAnswers, is_scram}
 use Rattle.fe2o3_sasl_core.specs.ProfileFaults.{fault_of_kind}
-use Rattle.fe2o3_sasl_core.specs.private.Writing.{RefusesAlways}
+use Rattle.fe2o3_sasl_core.specs.private.Writing.{AnswersAlways, RefusesAlways}
 use Rattle.fe2o3_sasl_core.specs.declared.sasl_profile.error.ProfileError.{ProfileError}
 use Rattle.fe2o3_sasl_core.specs.declared.sasl_profile.error.ProfileError.TheVariants.{NotImplemented, Scram, StaleKeys, Frame, OutOfMemory}
 
@@ -44,6 +44,7 @@ waiting state text reaches = absurd reaches
 view_allocates : (profile : Profile) (frame : SaslFrame) → FrameAllocates profile frame → ViewAllocates profile frame
 view_allocates profile (frames.Mechanisms names) has = has
 view_allocates (ScramProfile client) (frames.Challenge text) has = has
+view_allocates (MessageProfile mechanism message true) (frames.Challenge []) has = has
 view_allocates (ScramProfile client) (frames.Outcome outcomes.Ok (Some text)) has = waiting client.state text has
 view_allocates profile frame has = absurd has
 
@@ -58,6 +59,7 @@ outcome_allocates (ScramProfile client) outcomes.SysTemp text has = tt
 outcome_allocates (PlainProfile user password) code text has = tt
 outcome_allocates AnonymousProfile code text has = tt
 outcome_allocates ExternalProfile code text has = tt
+outcome_allocates (MessageProfile mechanism message is_due) code text has = tt
 
 -- what a profile rejects, it rejects of a view
 pub view_refuses : (profile next : Profile) (hostname : Option (List ℕ)) (nonce : List ℕ) (frame : SaslFrame)
@@ -124,14 +126,43 @@ unread_outcome (ScramProfile client) code text is = absurd (cc)
 unread_outcome (PlainProfile user password) code text is = tt
 unread_outcome AnonymousProfile code text is = tt
 unread_outcome ExternalProfile code text is = tt
+unread_outcome (MessageProfile mechanism message is_due) code text is = tt
 
--- a challenge to a profile that is not of SCRAM is rejected
-pub unchallenged : (profile : Profile) (text : List ℕ) → is_scram profile ≡ false
-    → RefusesAlways profile (frames.Challenge text) NotImplemented
-unchallenged (ScramProfile client) text is = absurd (cc)
-unchallenged (PlainProfile user password) text is = λ hostname nonce. (refl, refl)
-unchallenged AnonymousProfile text is = λ hostname nonce. (refl, refl)
-unchallenged ExternalProfile text is = λ hostname nonce. (refl, refl)
+-- of a profile with a single message, an empty challenge that is due is answered, and every other one is rejected
+pub empty_due : (mechanism : MessageMechanism) (message : List ℕ) (is_due : Bool) (text : List ℕ) → is_due ≡ true
+    → text ≡ [] → StepAllocates (MessageProfile mechanism message is_due) (frames.Challenge text)
+empty_due mechanism message true [] is none = tt
+empty_due mechanism message true (byte ∷ rest) is none = absurd (cc)
+empty_due mechanism message false text is none = absurd (cc)
+
+pub not_due : (mechanism : MessageMechanism) (message text : List ℕ)
+    → RefusesAlways (MessageProfile mechanism message false) (frames.Challenge text) NotImplemented
+not_due mechanism message text = λ hostname nonce. (refl, refl)
+
+pub not_empty : (mechanism : MessageMechanism) (message : List ℕ) (is_due : Bool) (text : List ℕ) → text ≢ []
+    → RefusesAlways (MessageProfile mechanism message is_due) (frames.Challenge text) NotImplemented
+not_empty mechanism message true [] some = absurd (some refl)
+not_empty mechanism message true (byte ∷ rest) some = λ hostname nonce. (refl, refl)
+not_empty mechanism message false text some = λ hostname nonce. (refl, refl)
+
+-- the message is the response
+pub message_responds : (mechanism : MessageMechanism) (message : List ℕ) (is_due : Bool) (text response : List ℕ)
+    → StepAllocates (MessageProfile mechanism message is_due) (frames.Challenge text) → response ≡ message
+    → AnswersAlways (MessageProfile mechanism message is_due) (frames.Challenge text) (Ok (frames.Response response))
+    (MessageProfile mechanism message false)
+message_responds mechanism message true [] response due is =
+    λ hostname nonce. (ap (λ (sent : List ℕ). Ok (frames.Response sent)) is, refl)
+message_responds mechanism message true (byte ∷ rest) response due is = absurd due
+message_responds mechanism message false text response due is = absurd due
+
+-- where a step allocates for a challenge to a profile with a single message, a call does
+pub message_allocates : (mechanism : MessageMechanism) (message : List ℕ) (is_due : Bool) (text : List ℕ)
+    → StepAllocates (MessageProfile mechanism message is_due) (frames.Challenge text)
+    → AnswersAlways (MessageProfile mechanism message is_due) (frames.Challenge text) (Err OutOfMemory)
+    (MessageProfile mechanism message is_due)
+message_allocates mechanism message true [] due = λ hostname nonce. (tt, refl)
+message_allocates mechanism message true (byte ∷ rest) due = absurd due
+message_allocates mechanism message false text due = absurd due
 
 -- ---- the search for a name
 

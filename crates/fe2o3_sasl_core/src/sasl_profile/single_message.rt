@@ -1,0 +1,107 @@
+//! The message of a mechanism of one message, which a client sends with its init (RFC 4422, section 5).
+
+ghost use Rattle.std.specs.Prelude.{◌≡◌, IfOk, MatchOption, OnErr, OnOk, List, ℕ, false, string_bytes};
+ghost use Rattle.fe2o3_sasl_wire.specs.AmqpTypes.{binary_bytes, response_frame};
+ghost use Rattle.fe2o3_sasl_wire.specs.SaslFrames.{Challenge};
+ghost use Rattle.fe2o3_sasl_core.specs.Profiles.{MessageMechanism, MessageProfile, StepAllocates, after_init};
+ghost use Rattle.fe2o3_sasl_core.specs.ProfileFaults.{answered};
+ghost use Rattle.fe2o3_sasl_core.specs.SaslProfile.{message_profile};
+ghost use Rattle.fe2o3_sasl_core.specs.private.Writing.{AnswersAlways, RefusesAlways};
+
+use crate::OutOfMemory;
+use crate::sasl_profile::error::ProfileError;
+use fe2o3_sasl_wire::{Binary, SaslResponse};
+use std::alloc::{AllocError, Global};
+
+/// The message that a client of ANONYMOUS or EXTERNAL sends as its initial response. If the server asks for it by an
+/// empty challenge nevertheless, the client sends it again, once for each init (RFC 4422, section 5).
+#[derive(Debug, Drop)]
+pub struct SingleMessage {
+    message: String,
+    is_due: bool,
+}
+
+impl SingleMessage {
+    /// Returns this message, before its init.
+    pub(super) fn new(message: String) -> SingleMessage
+        ensures { (mechanism : MessageMechanism)
+            → message_profile mechanism result ≡ MessageProfile mechanism (string_bytes message) false }
+    {
+        SingleMessage {
+            message,
+            is_due: false,
+        }
+    }
+
+    /// Returns whether an empty challenge is answered by the message.
+    pub(super) fn is_due(&self) -> bool
+        ensures { result ≡ self.now.is_due }
+    {
+        self.is_due
+    }
+
+    /// Returns the message as it is sent.
+    fn sent(&self, alloc: Global) -> Result<Binary, OutOfMemory>
+        ensures { IfOk result (λ sent. binary_bytes sent ≡ string_bytes self.now.message) }
+    {
+        Ok(Binary(Vec::from_slice(alloc, self.message.as_bytes())?))
+    }
+
+    /// Returns the initial response, after which an empty challenge is answered.
+    pub(super) fn start(&mut self, alloc: Global) -> Result<Binary, OutOfMemory>
+        ensures ok { IfOk result (λ response. binary_bytes response ≡ string_bytes self.old.message) }
+        ensures started { OnOk result ((mechanism : MessageMechanism)
+            → (nonce : List ℕ) → message_profile mechanism self.new ≡ after_init (message_profile mechanism self.old) nonce) }
+        ensures err { OnErr result (self.new ≡ self.old) }
+    {
+        let response = self.sent(alloc)?;
+        self.is_due = true;
+        Ok(response)
+    }
+
+    /// Returns why a challenge is rejected before anything is allocated: it is not empty, or no empty one is expected.
+    pub(super) fn refusal_unread(&self, challenge: &[u8]) -> Option<ProfileError>
+        ensures { (mechanism : MessageMechanism) → MatchOption result
+            (StepAllocates (message_profile mechanism self.now) (Challenge challenge.now))
+            (λ fault. RefusesAlways (message_profile mechanism self.now) (Challenge challenge.now) fault) }
+    {
+        if self.is_due && challenge.is_empty() {
+            None
+        } else {
+            Some(ProfileError::NotImplemented)
+        }
+    }
+
+    /// Returns the response to an empty challenge, after which no other is answered.
+    pub(super) fn respond(
+        &mut self,
+        alloc: Global,
+        challenge: &[u8],
+    ) -> Result<SaslResponse, ProfileError>
+        ensures answer { (mechanism : MessageMechanism) → AnswersAlways (message_profile mechanism self.old)
+            (Challenge challenge.now) (answered response_frame result) (message_profile mechanism self.new) }
+        ensures err { OnErr result (self.new ≡ self.old) }
+    {
+        if let Some(fault) = self.refusal_unread(challenge) {
+            return Err(fault);
+        }
+        let response = self.sent(alloc)?;
+        self.is_due = false;
+        Ok(SaslResponse { response })
+    }
+}
+
+impl Clone for SingleMessage {
+    ghost use Rattle.fe2o3_sasl_core.specs.Profiles.{MessageMechanism};
+    ghost use Rattle.fe2o3_sasl_core.specs.SaslProfile.{message_profile};
+
+    ghost is_clone = { λ single copy. (mechanism : MessageMechanism)
+        → message_profile mechanism copy ≡ message_profile mechanism single };
+
+    fn clone(&self) -> Result<Self, AllocError> {
+        Ok(SingleMessage {
+            message: self.message.clone()?,
+            is_due: self.is_due,
+        })
+    }
+}
