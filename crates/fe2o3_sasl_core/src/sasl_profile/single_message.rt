@@ -1,10 +1,11 @@
 //! The message of a mechanism of one message, which a client sends with its init (RFC 4422, section 5).
 
-ghost use Rattle.std.specs.Prelude.{◌≡◌, IfOk, MatchOption, OnErr, OnOk, List, ℕ, false, string_bytes};
+ghost use Rattle.std.specs.Prelude.{◌≡◌, IfOk, MatchBool, MatchOption, OnErr, OnOk, true, false, string_bytes};
 ghost use Rattle.fe2o3_sasl_wire.specs.AmqpTypes.{binary_bytes, response_frame};
 ghost use Rattle.fe2o3_sasl_wire.specs.SaslFrames.{Challenge};
-ghost use Rattle.fe2o3_sasl_core.specs.Profiles.{MessageMechanism, MessageProfile, StepAllocates, after_init};
+ghost use Rattle.fe2o3_sasl_core.specs.Profiles.{MessageMechanism, StepAllocates};
 ghost use Rattle.fe2o3_sasl_core.specs.ProfileFaults.{answered};
+ghost use Rattle.fe2o3_sasl_core.specs.declared.sasl_profile.error.ProfileError.TheVariants.{NotImplemented};
 ghost use Rattle.fe2o3_sasl_core.specs.SaslProfile.{message_profile};
 ghost use Rattle.fe2o3_sasl_core.specs.private.Writing.{AnswersAlways, RefusesAlways};
 
@@ -24,8 +25,8 @@ pub struct SingleMessage {
 impl SingleMessage {
     /// Returns this message, before its init.
     pub(super) fn new(message: String) -> SingleMessage
-        ensures { (mechanism : MessageMechanism)
-            → message_profile mechanism result ≡ MessageProfile mechanism (string_bytes message) false }
+        ensures message { string_bytes result.message ≡ string_bytes message }
+        ensures due { result.is_due ≡ false }
     {
         SingleMessage {
             message,
@@ -50,13 +51,21 @@ impl SingleMessage {
     /// Returns the initial response, after which an empty challenge is answered.
     pub(super) fn start(&mut self, alloc: Global) -> Result<Binary, OutOfMemory>
         ensures ok { IfOk result (λ response. binary_bytes response ≡ string_bytes self.old.message) }
-        ensures started { OnOk result ((mechanism : MessageMechanism)
-            → (nonce : List ℕ) → message_profile mechanism self.new ≡ after_init (message_profile mechanism self.old) nonce) }
+        ensures started { OnOk result ((self.new.message ≡ self.old.message) × (self.new.is_due ≡ true)) }
         ensures err { OnErr result (self.new ≡ self.old) }
     {
         let response = self.sent(alloc)?;
         self.is_due = true;
         Ok(response)
+    }
+
+    /// Returns whether a challenge asks for the message: it is empty, and expected.
+    fn is_asked_by(&self, challenge: &[u8]) -> bool
+        ensures { (mechanism : MessageMechanism) → MatchBool result
+            (StepAllocates (message_profile mechanism self.now) (Challenge challenge.now))
+            (RefusesAlways (message_profile mechanism self.now) (Challenge challenge.now) NotImplemented) }
+    {
+        self.is_due && challenge.is_empty()
     }
 
     /// Returns why a challenge is rejected before anything is allocated: it is not empty, or no empty one is expected.
@@ -65,7 +74,7 @@ impl SingleMessage {
             (StepAllocates (message_profile mechanism self.now) (Challenge challenge.now))
             (λ fault. RefusesAlways (message_profile mechanism self.now) (Challenge challenge.now) fault) }
     {
-        if self.is_due && challenge.is_empty() {
+        if self.is_asked_by(challenge) {
             None
         } else {
             Some(ProfileError::NotImplemented)
@@ -82,8 +91,8 @@ impl SingleMessage {
             (Challenge challenge.now) (answered response_frame result) (message_profile mechanism self.new) }
         ensures err { OnErr result (self.new ≡ self.old) }
     {
-        if let Some(fault) = self.refusal_unread(challenge) {
-            return Err(fault);
+        if !self.is_asked_by(challenge) {
+            return Err(ProfileError::NotImplemented);
         }
         let response = self.sent(alloc)?;
         self.is_due = false;
@@ -92,11 +101,8 @@ impl SingleMessage {
 }
 
 impl Clone for SingleMessage {
-    ghost use Rattle.fe2o3_sasl_core.specs.Profiles.{MessageMechanism};
-    ghost use Rattle.fe2o3_sasl_core.specs.SaslProfile.{message_profile};
-
-    ghost is_clone = { λ single copy. (mechanism : MessageMechanism)
-        → message_profile mechanism copy ≡ message_profile mechanism single };
+    ghost is_clone = { λ single copy.
+        (string_bytes copy.message ≡ string_bytes single.message) × (copy.is_due ≡ single.is_due) };
 
     fn clone(&self) -> Result<Self, AllocError> {
         Ok(SingleMessage {

@@ -128,24 +128,7 @@ unread_outcome AnonymousProfile code text is = tt
 unread_outcome ExternalProfile code text is = tt
 unread_outcome (MessageProfile mechanism message is_due) code text is = tt
 
--- of a profile with a single message, an empty challenge that is due is answered, and every other one is rejected
-pub empty_due : (mechanism : MessageMechanism) (message : List ℕ) (is_due : Bool) (text : List ℕ) → is_due ≡ true
-    → text ≡ [] → StepAllocates (MessageProfile mechanism message is_due) (frames.Challenge text)
-empty_due mechanism message true [] is none = tt
-empty_due mechanism message true (byte ∷ rest) is none = absurd (cc)
-empty_due mechanism message false text is none = absurd (cc)
-
-pub not_due : (mechanism : MessageMechanism) (message text : List ℕ)
-    → RefusesAlways (MessageProfile mechanism message false) (frames.Challenge text) NotImplemented
-not_due mechanism message text = λ hostname nonce. (refl, refl)
-
-pub not_empty : (mechanism : MessageMechanism) (message : List ℕ) (is_due : Bool) (text : List ℕ) → text ≢ []
-    → RefusesAlways (MessageProfile mechanism message is_due) (frames.Challenge text) NotImplemented
-not_empty mechanism message true [] some = absurd (some refl)
-not_empty mechanism message true (byte ∷ rest) some = λ hostname nonce. (refl, refl)
-not_empty mechanism message false text some = λ hostname nonce. (refl, refl)
-
--- the message is the response
+-- a single message is the response to a challenge that asks for it
 pub message_responds : (mechanism : MessageMechanism) (message : List ℕ) (is_due : Bool) (text response : List ℕ)
     → StepAllocates (MessageProfile mechanism message is_due) (frames.Challenge text) → response ≡ message
     → AnswersAlways (MessageProfile mechanism message is_due) (frames.Challenge text) (Ok (frames.Response response))
@@ -154,15 +137,6 @@ message_responds mechanism message true [] response due is =
     λ hostname nonce. (ap (λ (sent : List ℕ). Ok (frames.Response sent)) is, refl)
 message_responds mechanism message true (byte ∷ rest) response due is = absurd due
 message_responds mechanism message false text response due is = absurd due
-
--- where a step allocates for a challenge to a profile with a single message, a call does
-pub message_allocates : (mechanism : MessageMechanism) (message : List ℕ) (is_due : Bool) (text : List ℕ)
-    → StepAllocates (MessageProfile mechanism message is_due) (frames.Challenge text)
-    → AnswersAlways (MessageProfile mechanism message is_due) (frames.Challenge text) (Err OutOfMemory)
-    (MessageProfile mechanism message is_due)
-message_allocates mechanism message true [] due = λ hostname nonce. (tt, refl)
-message_allocates mechanism message true (byte ∷ rest) due = absurd due
-message_allocates mechanism message false text due = absurd due
 
 -- ---- the search for a name
 
