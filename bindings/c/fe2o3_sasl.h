@@ -62,7 +62,13 @@ enum fe2o3_mechanism {
     /* ANONYMOUS (RFC 4505). */
     FE2O3_ANONYMOUS = 2,
     /* EXTERNAL (RFC 4422, appendix A). */
-    FE2O3_EXTERNAL = 3
+    FE2O3_EXTERNAL = 3,
+    /* ANONYMOUS with the user name of the login as its initial response: trace information (RFC 4505, section 2), or
+     * the empty text. The client also answers one empty challenge by it. */
+    FE2O3_ANONYMOUS_AS = 4,
+    /* EXTERNAL with the user name of the login as its initial response: the authorization identity, or the empty text
+     * for the user whom the transport has authenticated. The client also answers one empty challenge by it. */
+    FE2O3_EXTERNAL_AS = 5
 };
 
 /* What a client logs in with. */
@@ -763,7 +769,8 @@ struct fe2o3_sasl_login {
     /* The hostname of the init frame. If empty, the init has none. */
     const uint8_t *hostname;
     size_t hostname_len;
-    /* The user and the secret. PLAIN uses the name and the password. ANONYMOUS and EXTERNAL use nothing of it. */
+    /* The user and the secret. PLAIN uses the name and the password. FE2O3_ANONYMOUS_AS and FE2O3_EXTERNAL_AS use the
+     * name, which may be empty. ANONYMOUS and EXTERNAL use nothing of it. */
     struct fe2o3_login login;
 };
 
@@ -771,7 +778,8 @@ struct fe2o3_sasl_login {
 struct fe2o3_sasl_client {
     /* The connection. */
     struct fe2o3_connection connection;
-    /* The SCRAM client. After the login it holds the keys (`fe2o3_scram_client_get_keys`). */
+    /* The SCRAM client. After the login it holds the keys (`fe2o3_scram_client_get_keys`). For FE2O3_ANONYMOUS_AS and
+     * FE2O3_EXTERNAL_AS its `state` is FE2O3_CLIENT_FIRST_SENT after the init, until the response. */
     struct fe2o3_scram_client scram;
 };
 

@@ -204,6 +204,8 @@ class _Mechanism(enum.IntEnum):
     PLAIN = 1
     ANONYMOUS = 2
     EXTERNAL = 3
+    ANONYMOUS_AS = 4
+    EXTERNAL_AS = 5
 
 
 class _Secret(enum.IntEnum):
@@ -1297,6 +1299,19 @@ class _ClientSide(_Login):
     def external(cls: type[_Side], *, hostname: Text = "") -> _Side:
         """A login by EXTERNAL (RFC 4422, appendix A), as the user that the transport has authenticated."""
         return cls._by(_Mechanism.EXTERNAL, "", "", hostname)
+
+    @classmethod
+    def anonymous_as(cls: type[_Side], trace: Text = "", *, hostname: Text = "") -> _Side:
+        """A login by ANONYMOUS with this trace information as its initial response (RFC 4505, section 2). The client
+        also answers one empty challenge by it."""
+        return cls._by(_Mechanism.ANONYMOUS_AS, trace, "", hostname)
+
+    @classmethod
+    def external_as(cls: type[_Side], identity: Text = "", *, hostname: Text = "") -> _Side:
+        """A login by EXTERNAL with this authorization identity as its initial response (RFC 4422, appendix A). The
+        empty identity asks for the user that the transport has authenticated. The client also answers one empty
+        challenge by it."""
+        return cls._by(_Mechanism.EXTERNAL_AS, identity, "", hostname)
 
     def keys(self) -> Keys:
         """Returns the keys of a login by SCRAM, like `Client.keys`."""

@@ -481,6 +481,18 @@ class Connections(Case):
                 self.assertEqual(one.receive(data)[0], b"")
                 self.closed(one, status)
 
+    def test_a_message_that_is_asked_for(self) -> None:
+        for side, name, message in (
+            (ClientConnection.external_as(), b"EXTERNAL", b""),
+            (ClientConnection.anonymous_as("me@example.org"), b"ANONYMOUS", b"me@example.org"),
+        ):
+            sent, _ = side.receive(SASL_HEADER + mechanisms_frame(name.decode()))
+            self.assertEqual(fields_of(sent), (INIT, [name, message]))
+            sent, _ = side.receive(frame_of(CHALLENGE, short(0xA0, b"")))
+            self.assertEqual(fields_of(sent), (RESPONSE, [message]))
+            side.receive(frame_of(OUTCOME, b"\x50\0"))
+            self.assertEqual((side.progress, side.why), (Progress.AUTHENTICATED, None))
+
     def test_a_frame_that_is_too_large(self) -> None:
         one = ClientConnection(Client(SHA_256, "x" * 500, "pencil"))
         self.assertEqual(one.receive(SASL_HEADER + mechanisms_frame(MECHANISMS[SHA_256])), (b"", b""))
@@ -491,7 +503,7 @@ class Connections(Case):
         self.refused(Status.NOT_UTF8, ClientConnection.plain("a", b"\xff").receive, b"A")
         self.refused(Status.NO_SUCH_VERSION, ClientConnection(Client(2, "a", "b")).receive, b"A")
         one = ClientConnection.anonymous()
-        one._login[0].mechanism = 4
+        one._login[0].mechanism = 6
         self.refused(Status.NO_SUCH_MECHANISM, one.receive, b"A")
         for field, value in (("expected", 6), ("held_len", 513), ("held_len", 8)):
             one = ClientConnection.anonymous()
@@ -687,6 +699,7 @@ class Steps(Case):
              [b"PLAIN", "\0us\u00e9r\0p\u00e9ncil".encode(), None]),
             (ClientSteps.anonymous, [b"ANONYMOUS", None, None]),
             (lambda: ClientSteps.external(hostname="b"), [b"EXTERNAL", None, b"b"]),
+            (lambda: ClientSteps.external_as("\u00e9", hostname="b"), [b"EXTERNAL", "\u00e9".encode(), b"b"]),
         ):
             for code in range(5):
                 side, broker = side_of(), Broker(known, "PLAIN", "ANONYMOUS", "EXTERNAL", code=code)
@@ -735,6 +748,14 @@ class Steps(Case):
             self.refused(status, side.on_frame, body)
             self.assertEqual(side.progress, Progress.IN_PROGRESS)
             self.assertEqual(bytes(side._struct), bytes(ctypes.sizeof(side._struct)))
+        asked = body_of(CHALLENGE, short(0xA0, b""))
+        side = ClientSteps.external_as("peer")
+        self.refused(Status.NOT_IMPLEMENTED, side.on_frame, asked)
+        side.on_frame(mechanisms_frame("EXTERNAL")[4:])
+        self.refused(Status.NOT_IMPLEMENTED, side.on_frame, challenge)
+        self.assertEqual(side.on_frame(asked), body_of(RESPONSE, short(0xA0, b"peer")))
+        self.refused(Status.NOT_IMPLEMENTED, side.on_frame, asked)
+        self.refused(Status.NOT_UTF8, ClientSteps.external_as(b"\xff").on_frame, asked)
         self.refused(Status.NOT_IMPLEMENTED, ClientSteps.anonymous().on_frame, challenge)
         self.refused(Status.NOT_UTF8, ClientSteps.anonymous(hostname=b"\xff").on_frame, challenge)
         self.refused(Status.NO_SUCH_VERSION, ClientSteps(Client(2, "a", "b")).on_frame, challenge)

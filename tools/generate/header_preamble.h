@@ -62,7 +62,13 @@ enum fe2o3_mechanism {
     /* ANONYMOUS (RFC 4505). */
     FE2O3_ANONYMOUS = 2,
     /* EXTERNAL (RFC 4422, appendix A). */
-    FE2O3_EXTERNAL = 3
+    FE2O3_EXTERNAL = 3,
+    /* ANONYMOUS with the user name of the login as its initial response: trace information (RFC 4505, section 2), or
+     * the empty text. The client also answers one empty challenge by it. */
+    FE2O3_ANONYMOUS_AS = 4,
+    /* EXTERNAL with the user name of the login as its initial response: the authorization identity, or the empty text
+     * for the user whom the transport has authenticated. The client also answers one empty challenge by it. */
+    FE2O3_EXTERNAL_AS = 5
 };
 
 /* What a client logs in with. */

@@ -7,7 +7,8 @@
     tools/models/negotiations.py check  compares these files, and what the program printed, with what would be written
 
 A model of both sides, written from AMQP 1.0, part 2 (section 2.2, headers; 2.3.1, frames) and part 5 (5.3, SASL),
-RFC 5802 and RFC 7677 (SCRAM), RFC 4616 (PLAIN) and RFC 4505 (ANONYMOUS), independently of this repository's code. Bodies
+RFC 5802 and RFC 7677 (SCRAM), RFC 4616 (PLAIN), RFC 4505 (ANONYMOUS) and RFC 4422 (EXTERNAL), independently of this
+repository's code. Bodies
 are read and written by `tools/models/frames.py`. The project's own are the names of the faults and their order, how
 lists of bodies are answered and audited (docs/SPECIFICATION.md), and what docs/COMPATIBILITY.md lists.
 """
@@ -270,6 +271,15 @@ class OtherClient:
         pass
 
 
+class MessageClient(OtherClient):
+    """A client that sends its one message again if an empty challenge asks for it (RFC 4422, section 5)."""
+
+    def challenge(self, message):
+        if message != b"":
+            raise Fault("Mechanism NotImplemented")
+        return self.message
+
+
 # The two sides of a connection (AMQP 1.0, part 5, section 5.3.2)
 
 class Side:
@@ -366,7 +376,7 @@ class Client(Side):
         return sent
 
     def challenge(self, fields, nonce):
-        if not isinstance(self.machine, ScramClient):
+        if not isinstance(self.machine, ScramClient | MessageClient):
             raise Fault("Mechanism NotImplemented")
         sent = self.says("Response", self.machine.challenge(fields[0]))
         self.due = ("Outcome",)
@@ -404,6 +414,8 @@ def side_of(line):
             hostname = None if hostname == "none" else unhexed(hostname)
             if mechanism in HASHES:
                 return Client(ScramClient(mechanism, user, password, int(limit)), hostname)
+            if mechanism.endswith("-AS"):
+                return Client(MessageClient(mechanism.removesuffix("-AS"), user), hostname)
             message = b"\0" + user + b"\0" + password if mechanism == "PLAIN" else None
             return Client(OtherClient(mechanism, message), hostname)
     return side_of_run(line)
@@ -758,12 +770,30 @@ def other_spellings(rows):
             rows.add(f"Damaged bytes {place}", line, [*before, frame(body)], nonces)
 
 
+def single_messages(rows):
+    """ANONYMOUS and EXTERNAL with an initial response, to servers that take it and that ask for it."""
+    asks, accepts = spelled("Challenge", b""), spelled("Outcome", 0, None)
+    for mechanism in ("ANONYMOUS", "EXTERNAL"):
+        listed = spelled("Mechanisms", [mechanism.encode()])
+        for message in (b"", b"user", "é".encode()):
+            line = client_line(f"{mechanism}-AS", message, b"", hostname=b"localhost" if message == b"user" else None)
+            rows.add(f"A login by {mechanism} with its message.", line, [SASL, listed, accepts + AMQP])
+            rows.add(f"A login by {mechanism}, whose message is asked for.", line, [SASL, listed, asks, accepts + AMQP])
+            rows.add(f"A message of {mechanism} that is asked for twice.", line, [SASL, listed, asks, asks, accepts])
+            rows.add(f"A challenge with a text to {mechanism}.", line, [SASL, listed, spelled("Challenge", b"\0") + AMQP])
+            rows.add(f"{mechanism} that is rejected once it is asked for.", line,
+                     [SASL, listed, asks, spelled("Outcome", 1, None)])
+            rows.add(f"A challenge to {mechanism} before the mechanisms.", line, [SASL, asks, listed])
+            rows.add(f"Another list for {mechanism}.", line, [SASL, spelled("Mechanisms", [b"PLAIN"]) + AMQP])
+
+
 HEADING = """\
 # Connections over the SASL layer of AMQP 1.0, separated by empty lines. A connection begins with its side,
 #     server SCRAM-SHA-256 USER PASSWORD SALT COUNT     a server of one user, and so of the other two of SCRAM
 #     server PLAIN USER PASSWORD
 #     server ANONYMOUS
-#     client MECHANISM USER PASSWORD LIMIT HOSTNAME     a client; `none` is no hostname
+#     client MECHANISM USER PASSWORD LIMIT HOSTNAME     a client; `none` is no hostname; of ANONYMOUS-AS and EXTERNAL-AS,
+#                                                       the user is the initial response
 # and has a line for each call with bytes as they came, and with what is answered:
 #     NONCE BYTES => TAKEN SENT STANDING
 # how many of the bytes are taken, and the bytes that are sent. STANDING is InProgress; Authenticated, of a server with the
@@ -779,7 +809,7 @@ MODEL = "a model in Python, `tools/models/negotiations.py`, which wrote this fil
 def connections():
     rows = Rows(HEADING + MODEL)
     for part in (whole_logins, headers, sizes, types, out_of_turn, refused_logins, scram_messages, large_replies,
-                 other_spellings):
+                 other_spellings, single_messages):
         part(rows)
     return rows
 

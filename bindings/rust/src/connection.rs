@@ -34,6 +34,14 @@ pub enum SaslProfile {
     /// EXTERNAL (RFC 4422, appendix A): as the user that the transport has authenticated.
     External,
 
+    /// ANONYMOUS with this trace information as its initial response (RFC 4505, section 2), which may be empty. The
+    /// client also answers one empty challenge by it.
+    AnonymousAs(String),
+
+    /// EXTERNAL with this authorization identity as its initial response (RFC 4422, appendix A). The empty identity asks
+    /// for the user that the transport has authenticated. The client also answers one empty challenge by it.
+    ExternalAs(String),
+
     /// SCRAM. The client's own exchange is not affected.
     Scram(ScramClient),
 }
@@ -52,6 +60,8 @@ impl fmt::Debug for SaslProfile {
                 f.debug_struct("Plain").field("username", username).finish_non_exhaustive()
             }
             SaslProfile::External => f.write_str("External"),
+            SaslProfile::AnonymousAs(trace) => f.debug_tuple("AnonymousAs").field(trace).finish(),
+            SaslProfile::ExternalAs(identity) => f.debug_tuple("ExternalAs").field(identity).finish(),
             SaslProfile::Scram(client) => f.debug_tuple("Scram").field(client).finish(),
         }
     }
@@ -82,6 +92,8 @@ impl Login {
             SaslProfile::Plain { username, password } => (sys::PLAIN, words(username, &password)),
             SaslProfile::Anonymous => (sys::ANONYMOUS, words(String::new(), "")),
             SaslProfile::External => (sys::EXTERNAL, words(String::new(), "")),
+            SaslProfile::AnonymousAs(trace) => (sys::ANONYMOUS_AS, words(trace, "")),
+            SaslProfile::ExternalAs(identity) => (sys::EXTERNAL_AS, words(identity, "")),
         };
         Self { who, mechanism, hostname: hostname.unwrap_or_default().to_owned() }
     }

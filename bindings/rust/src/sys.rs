@@ -248,6 +248,14 @@ pub const ANONYMOUS: u32 = 2;
 /// `mechanism`: EXTERNAL (RFC 4422, appendix A).
 pub const EXTERNAL: u32 = 3;
 
+/// `mechanism`: ANONYMOUS with the user name of the login as its initial response: trace information (RFC 4505, section
+/// 2), or * the empty text. The client also answers one empty challenge by it.
+pub const ANONYMOUS_AS: u32 = 4;
+
+/// `mechanism`: EXTERNAL with the user name of the login as its initial response: the authorization identity, or the
+/// empty text * for the user whom the transport has authenticated. The client also answers one empty challenge by it.
+pub const EXTERNAL_AS: u32 = 5;
+
 /// `secret`: The password.
 pub const BY_PASSWORD: u32 = 0;
 
@@ -555,7 +563,8 @@ pub struct SaslLogin {
     /// The hostname of the init frame. If empty, the init has none.
     pub hostname: *const u8,
     pub hostname_len: usize,
-    /// The user and the secret. PLAIN uses the name and the password. ANONYMOUS and EXTERNAL use nothing of it.
+    /// The user and the secret. PLAIN uses the name and the password. ANONYMOUS_AS and EXTERNAL_AS use the name, which
+    /// may be empty. ANONYMOUS and EXTERNAL use nothing of it.
     pub login: Login,
 }
 
@@ -565,7 +574,8 @@ pub struct SaslLogin {
 pub struct SaslClient {
     /// The connection.
     pub connection: Connection,
-    /// The SCRAM client. After the login it holds the keys (`fe2o3_scram_client_get_keys`).
+    /// The SCRAM client. After the login it holds the keys (`fe2o3_scram_client_get_keys`). For ANONYMOUS_AS and
+    /// EXTERNAL_AS its `state` is CLIENT_FIRST_SENT after the init, until the response.
     pub scram: ScramClient,
 }
 

@@ -107,6 +107,22 @@ fn other_mechanisms() {
 }
 
 #[test]
+fn a_message_that_is_asked_for() {
+    for (profile, name, says) in [
+        (SaslProfile::ExternalAs(String::new()), "EXTERNAL", &b""[..]),
+        (SaslProfile::AnonymousAs("me@example.org".to_owned()), "ANONYMOUS", b"me@example.org"),
+    ] {
+        let mut side = ClientNegotiation::new(profile, None);
+        let init = fields(&side.receive(&offer(name)).unwrap().sent);
+        assert_eq!((init[0].as_deref(), init[1].as_deref()), (Some(name.as_bytes()), Some(says)));
+        let response = fields(&side.receive(&frame(CHALLENGE, &[&binary(b"")])).unwrap().sent);
+        assert_eq!(response[0].as_deref(), Some(says));
+        side.receive(&frame(OUTCOME, &[&[0x50, 0]])).unwrap();
+        assert_eq!(side.progress(), Progress::Authenticated);
+    }
+}
+
+#[test]
 fn a_byte_at_a_time() {
     let mut side = ClientNegotiation::new(SaslProfile::Anonymous, None);
     let mut sent = Vec::new();

@@ -202,6 +202,8 @@ fn other_mechanisms() {
         (plain("pencils"), asked("PLAIN", &binary("\0user\0pencils")), REFUSED, None),
         (SaslProfile::Anonymous, asked("ANONYMOUS", NULL), Progress::Authenticated, None),
         (SaslProfile::External, asked("EXTERNAL", NULL), Progress::Authenticated, Some("peer")),
+        (SaslProfile::ExternalAs("peer".to_owned()), asked("EXTERNAL", &binary("peer")), Progress::Authenticated, Some("peer")),
+        (SaslProfile::ExternalAs("other".to_owned()), asked("EXTERNAL", &binary("other")), REFUSED, None),
     ] {
         let mut side = ServerSteps::new(with_all(scram(ScramVersion::Sha256)));
         let mut client = ClientSteps::new(profile, Some("host"));

@@ -74,6 +74,7 @@ pub use fe2o3_sasl_core::sasl_profile::SaslProfile;
 pub use fe2o3_sasl_core::sasl_profile::SaslScramSha1;
 pub use fe2o3_sasl_core::sasl_profile::SaslScramSha256;
 pub use fe2o3_sasl_core::sasl_profile::SaslScramSha512;
+pub use fe2o3_sasl_core::sasl_profile::SingleMessage;
 pub use fe2o3_sasl_core::sasl_profile::UrlError;
 pub use fe2o3_scram::cached_keys;
 pub use fe2o3_scram::cached_keys::CachedKeys;

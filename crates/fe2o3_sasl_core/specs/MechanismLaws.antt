@@ -10,7 +10,7 @@ use Rattle.fe2o3_scram.specs.declared.hmac.ScramVersion.TheVariants.{Sha1, Sha25
 use Rattle.fe2o3_sasl_core.specs.Events.{Given, Login, ServerSays, Concluded}
 use Rattle.fe2o3_sasl_core.specs.Runs.{Runs, AcceptorSteps}
 use Rattle.fe2o3_sasl_core.specs.SaslAcceptor.{Acceptor, ScramAcceptor, PlainAcceptor, AnonymousAcceptor, acceptor_machine, acceptor_names, acceptor_user, offered, ends_with, NoZero}
-use Rattle.fe2o3_sasl_core.specs.Profiles.{Profile, ScramProfile, PlainProfile, AnonymousProfile, ExternalProfile, profile_machine, profile_name, scram_profile}
+use Rattle.fe2o3_sasl_core.specs.Profiles.{Profile, ScramProfile, PlainProfile, AnonymousProfile, ExternalProfile, MessageProfile, AnonymousMessage, profile_machine, profile_name, scram_profile}
 use Rattle.fe2o3_sasl_core.specs.declared.sasl_profile.error.ProfileError.{ProfileError}
 
 -- an acceptor has at most one reply to each frame, and one acceptor after it
@@ -85,6 +85,7 @@ abbrev pub AreOfOneMechanism : Acceptor → Profile → Type 0
 AreOfOneMechanism (ScramAcceptor provider state) (ScramProfile client) = client.version ≡ provider.version
 AreOfOneMechanism (PlainAcceptor user password accepted) (PlainProfile other secret) = Unit {0}
 AreOfOneMechanism AnonymousAcceptor AnonymousProfile = Unit {0}
+AreOfOneMechanism AnonymousAcceptor (MessageProfile AnonymousMessage message is_due) = Unit {0}
 AreOfOneMechanism acceptor profile = ⊥
 
 -- an acceptor offers what a profile asks for exactly if both are of one mechanism

@@ -17,17 +17,31 @@ use Rattle.fe2o3_sasl_core.specs.Events.{Login, scram_fault}
 use Rattle.fe2o3_sasl_core.specs.declared.sasl_profile.error.ProfileError.{ProfileError}
 use Rattle.fe2o3_sasl_core.specs.declared.sasl_profile.error.ProfileError.TheVariants.{NotImplemented, Scram, OutOfMemory}
 
--- the profiles: SCRAM of the three versions, PLAIN, ANONYMOUS and EXTERNAL
+-- the mechanisms of a single message, which the client can send as its initial response: ANONYMOUS with trace information
+-- (RFC 4505, section 2), and EXTERNAL with an authorization identity (RFC 4422, appendix A)
+pub data MessageMechanism : Type 0 where
+  AnonymousMessage : MessageMechanism
+  ExternalMessage : MessageMechanism
+
+-- the profiles: SCRAM of the three versions, PLAIN, ANONYMOUS and EXTERNAL; and the last two with an initial response. A
+-- server that wants that response by a challenge sends an empty one first (RFC 4422, section 5), which is due after the
+-- init until it is answered
 pub data Profile : Type 0 where
   ScramProfile : (client : ClientSide) → Profile
   PlainProfile : (user password : List ℕ) → Profile
   AnonymousProfile : Profile
   ExternalProfile : Profile
+  MessageProfile : (mechanism : MessageMechanism) (message : List ℕ) (is_due : Bool) → Profile
 
 -- whether a profile is of SCRAM
 abbrev pub is_scram : Profile → Bool
 is_scram (ScramProfile client) = true
 is_scram profile = false
+
+-- the name of a mechanism of a single message
+abbrev pub message_name : MessageMechanism → List ℕ
+message_name AnonymousMessage = codes "ANONYMOUS"
+message_name ExternalMessage = codes "EXTERNAL"
 
 -- the name of a profile's mechanism
 abbrev pub profile_name : Profile → List ℕ
@@ -35,17 +49,25 @@ profile_name (ScramProfile client) = mechanism_name client.version
 profile_name (PlainProfile user password) = codes "PLAIN"
 profile_name AnonymousProfile = codes "ANONYMOUS"
 profile_name ExternalProfile = codes "EXTERNAL"
+profile_name (MessageProfile mechanism message is_due) = message_name mechanism
 
 -- the initial response of a profile, with this nonce
 abbrev pub initial_response : Profile → List ℕ → Option (List ℕ)
 initial_response (ScramProfile client) nonce = Some (client_first client.user (base64_text nonce))
 initial_response (PlainProfile user password) nonce = Some (0 ∷ user ++ 0 ∷ password)
+initial_response (MessageProfile mechanism message is_due) nonce = Some message
 initial_response profile nonce = None
 
 -- the profile after its init
 abbrev pub after_init : Profile → List ℕ → Profile
 after_init (ScramProfile client) nonce = ScramProfile (started client nonce)
+after_init (MessageProfile mechanism message is_due) nonce = MessageProfile mechanism message true
 after_init profile nonce = profile
+
+-- whether a profile answers an empty challenge by its initial response
+abbrev pub answers_empty_challenge : Profile → Bool
+answers_empty_challenge (MessageProfile mechanism message is_due) = is_due
+answers_empty_challenge profile = false
 
 -- the frame of a SCRAM client's answer, or its error
 abbrev pub client_frame : {A : Type 0} → (A → SaslFrame) → Result A ScramErrorKind → Result SaslFrame ProfileError
@@ -83,6 +105,8 @@ profile_machine (ScramProfile client) hostname nonce (frames.Outcome outcomes.Ok
     × VerifiesIn client.state client text answer after
     × (reply ≡ client_frame (λ verified. frames.Outcome outcomes.Ok (Some text)) answer)
     × (next ≡ ScramProfile after)
+profile_machine (MessageProfile mechanism message true) hostname nonce (frames.Challenge []) reply next =
+    (reply ≡ Ok (frames.Response message)) × (next ≡ MessageProfile mechanism message false)
 profile_machine profile hostname nonce (frames.Outcome code more) reply next =
     (reply ≡ Ok (frames.Outcome code more)) × (next ≡ profile)
 profile_machine profile hostname nonce frame reply next = (reply ≡ Err NotImplemented) × (next ≡ profile)
@@ -94,11 +118,12 @@ ChallengeAllocates false client text = ReachesSaltIn client.state text
 ChallengeAllocates true client text = ReachesVerifierIn client.state text
 
 -- where a profile allocates before it has its answer to a frame: for an init; for the response to a challenge in UTF-8
--- as above; and for the signature of an outcome Ok
+-- as above, and to an empty one that is due; and for the signature of an outcome Ok
 abbrev pub FrameAllocates : Profile → SaslFrame → Type 0
 FrameAllocates profile (frames.Mechanisms names) = Contains names (profile_name profile)
 FrameAllocates (ScramProfile client) (frames.Challenge text) =
     IsUtf8 text × ChallengeAllocates (expects_signature client) client text
+FrameAllocates (MessageProfile mechanism message true) (frames.Challenge []) = Unit {0}
 FrameAllocates (ScramProfile client) (frames.Outcome outcomes.Ok (Some text)) = ReachesVerifierIn client.state text
 FrameAllocates profile frame = ⊥
 
@@ -117,6 +142,7 @@ abbrev pub ViewAllocates : Profile → SaslFrame → Type 0
 ViewAllocates profile (frames.Mechanisms names) = Contains names (profile_name profile)
 ViewAllocates (ScramProfile client) (frames.Challenge text) =
     IsUtf8 text × ChallengeAllocates (expects_signature client) client text
+ViewAllocates (MessageProfile mechanism message true) (frames.Challenge []) = Unit {0}
 ViewAllocates (ScramProfile client) (frames.Outcome outcomes.Ok (Some text)) = IsUtf8 text × IsAnswered client.state
 ViewAllocates profile (frames.Outcome code (Some text)) = Unit {0}
 ViewAllocates profile frame = ⊥
@@ -125,10 +151,11 @@ ViewAllocates profile frame = ⊥
 abbrev pub IsChallengeDue : ClientSide → Type 0
 IsChallengeDue client = IsStarted client.state ⊎ (expects_signature client ≡ true)
 
--- where a step of a profile allocates: a profile that expects a challenge in UTF-8 is copied
+-- where a step of a profile allocates: a profile that expects a challenge in UTF-8, or an empty one, is copied
 abbrev pub StepAllocates : Profile → SaslFrame → Type 0
 StepAllocates profile (frames.Mechanisms names) = Contains names (profile_name profile)
 StepAllocates (ScramProfile client) (frames.Challenge text) = IsUtf8 text × IsChallengeDue client
+StepAllocates (MessageProfile mechanism message true) (frames.Challenge []) = Unit {0}
 StepAllocates (ScramProfile client) (frames.Outcome outcomes.Ok (Some text)) = IsUtf8 text × IsAnswered client.state
 StepAllocates profile (frames.Outcome code (Some text)) = Unit {0}
 StepAllocates profile frame = ⊥

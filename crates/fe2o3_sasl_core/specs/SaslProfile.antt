@@ -10,14 +10,21 @@ use Rattle.fe2o3_sasl_core.specs.declared.sasl_profile.Negotiation.{Negotiation}
 use Rattle.fe2o3_sasl_core.specs.declared.sasl_profile.Negotiation.TheVariants as negotiations
 use Rattle.fe2o3_sasl_core.specs.declared.sasl_profile.SaslProfile.{SaslProfile}
 use Rattle.fe2o3_sasl_core.specs.declared.sasl_profile.SaslProfile.TheVariants as profiles
+use Rattle.fe2o3_sasl_core.specs.declared.sasl_profile.single_message.SingleMessage.{SingleMessage}
 use Rattle.url.specs.Parts.{Parts}
-use Rattle.fe2o3_sasl_core.specs.Profiles.{Profile, ScramProfile, PlainProfile, AnonymousProfile, ExternalProfile}
+use Rattle.fe2o3_sasl_core.specs.Profiles.{Profile, ScramProfile, PlainProfile, AnonymousProfile, ExternalProfile, MessageProfile, MessageMechanism, AnonymousMessage, ExternalMessage}
+
+-- the profile of a mechanism with its single message
+abbrev pub message_profile : MessageMechanism → SingleMessage → Profile
+message_profile mechanism single = MessageProfile mechanism (string_bytes single.message) single.is_due
 
 -- the profile that a value is
 abbrev pub profile_of : SaslProfile → Profile
 profile_of profiles.Anonymous = AnonymousProfile
 profile_of (profiles.Plain username password) = PlainProfile (string_bytes username) (string_bytes password)
 profile_of profiles.External = ExternalProfile
+profile_of (profiles.AnonymousAs single) = message_profile AnonymousMessage single
+profile_of (profiles.ExternalAs single) = message_profile ExternalMessage single
 profile_of (profiles.ScramSha1 scram) = ScramProfile scram
 profile_of (profiles.ScramSha256 scram) = ScramProfile scram
 profile_of (profiles.ScramSha512 scram) = ScramProfile scram

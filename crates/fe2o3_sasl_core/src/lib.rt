@@ -31,7 +31,7 @@ pub use crate::sasl_acceptor::{
 };
 pub use crate::sasl_profile::{
     Negotiation, ProfileError, SaslProfile, SaslScramSha1, SaslScramSha256, SaslScramSha512,
-    UrlError,
+    SingleMessage, UrlError,
 };
 pub use crate::steps::{
     acceptor_body_step, acceptor_frame_step, acceptor_step, profile_body_step, profile_frame_step,

@@ -11,7 +11,7 @@ ghost use Rattle.fe2o3_scram.specs.ClientKeys.{ClientKeys};
 ghost use Rattle.fe2o3_scram.specs.ScramClient.{ClientInitial, ClientFirstSent, ClientFinalSent, SignatureVerified, answer_keys, login_keys};
 ghost use Rattle.fe2o3_scram.specs.Texts.{base64_text};
 ghost use Rattle.fe2o3_sasl_core.specs.Costs.{ProfileCosts};
-ghost use Rattle.fe2o3_sasl_core.specs.Profiles.{ScramProfile, PlainProfile, scram_profile, profile_name, is_scram, profile_state, in_state, initial_response, after_init, FrameAllocates, ViewAllocates, StepAllocates, ProfileAnswers};
+ghost use Rattle.fe2o3_sasl_core.specs.Profiles.{ScramProfile, PlainProfile, MessageProfile, AnonymousMessage, ExternalMessage, answers_empty_challenge, scram_profile, profile_name, is_scram, profile_state, in_state, initial_response, after_init, FrameAllocates, ViewAllocates, StepAllocates, ProfileAnswers};
 ghost use Rattle.fe2o3_sasl_core.specs.ProfileFaults.{answered};
 ghost use Rattle.fe2o3_sasl_core.specs.Runs.{login_of};
 ghost use Rattle.fe2o3_sasl_core.specs.SaslProfile.{RefusesUrl, HasCredentials, negotiated_frame, profile_of, variant_version};
@@ -20,6 +20,7 @@ ghost use Rattle.fe2o3_sasl_core.specs.private.Writing.{AnswersAlways, RefusesAl
 mod error;
 mod scram;
 mod scram_frames;
+mod single_message;
 
 use crate::OutOfMemory;
 use crate::mechanism_names::{ANONYMOUS, EXTERNAL, PLAIN, symbol_of};
@@ -33,6 +34,7 @@ use fe2o3_scram::scram_client::ScramClient;
 use fe2o3_scram::scram_messages::ScramErrorKind;
 pub use scram::{SaslScram, SaslScramSha1, SaslScramSha256, SaslScramSha512};
 use scram_frames::{answer, first_message, outcome_refusal_unread, refusal_unread, verify};
+pub use single_message::SingleMessage;
 use std::alloc::{AllocError, Global};
 use std::fmt;
 use url::Url;
@@ -54,6 +56,12 @@ pub enum SaslProfile {
 
     /// EXTERNAL (RFC 4422, appendix A).
     External,
+
+    /// ANONYMOUS with trace information as its initial response, made by [`SaslProfile::anonymous_as`].
+    AnonymousAs(SingleMessage),
+
+    /// EXTERNAL with an authorization identity as its initial response, made by [`SaslProfile::external_as`].
+    ExternalAs(SingleMessage),
 
     /// SCRAM-SHA-1.
     ScramSha1(SaslScramSha1),
@@ -85,6 +93,26 @@ impl SaslProfile {
         ensures { profile_of result ≡ PlainProfile (string_bytes username) (string_bytes password) }
     {
         SaslProfile::Plain { username, password }
+    }
+
+    /// Makes an ANONYMOUS profile that sends this trace information, which may be empty, as its initial response (RFC
+    /// 4505, section 2). Like that of [`SaslProfile::external_as`], it answers one empty challenge. The text is sent
+    /// unchanged: that of the RFC has at most 255 characters.
+    pub fn anonymous_as(trace: String) -> SaslProfile
+        ensures { profile_of result ≡ MessageProfile AnonymousMessage (string_bytes trace) false }
+    {
+        SaslProfile::AnonymousAs(SingleMessage::new(trace))
+    }
+
+    /// Makes an EXTERNAL profile that sends this authorization identity as its initial response (RFC 4422, appendix A).
+    /// The empty identity asks for the user whom the transport authenticated, and is sent as an empty response, unlike
+    /// that of `SaslProfile::External`, which sends none. Some servers reject an init without a response, and others ask
+    /// for it by an empty challenge: the profile answers one after each init. The text is sent unchanged: that of the RFC
+    /// has no zero byte.
+    pub fn external_as(identity: String) -> SaslProfile
+        ensures { profile_of result ≡ MessageProfile ExternalMessage (string_bytes identity) false }
+    {
+        SaslProfile::ExternalAs(SingleMessage::new(identity))
     }
 
     /// Makes a PLAIN profile for the user name and the password of an address, in the spelling of `url`. That escapes
@@ -135,6 +163,7 @@ impl SaslProfile {
     {
         match self {
             SaslProfile::Anonymous | SaslProfile::Plain { .. } | SaslProfile::External => None,
+            SaslProfile::AnonymousAs(_) | SaslProfile::ExternalAs(_) => None,
             SaslProfile::ScramSha1(scram) => Some(&scram.client),
             SaslProfile::ScramSha256(scram) => Some(&scram.client),
             SaslProfile::ScramSha512(scram) => Some(&scram.client),
@@ -238,6 +267,18 @@ impl SaslProfile {
         }
     }
 
+    /// Returns whether an empty challenge is answered: the profile has sent its message with its init, and no response
+    /// since. Restore such a profile by `initial_response`.
+    pub fn answers_empty_challenge(&self) -> bool
+        ensures { result ≡ answers_empty_challenge (profile_of self.now) }
+    {
+        match self {
+            SaslProfile::AnonymousAs(single) => single.is_due(),
+            SaslProfile::ExternalAs(single) => single.is_due(),
+            _ => false,
+        }
+    }
+
     /// Returns the name of the mechanism.
     pub(crate) fn name(&self) -> &'static str
         ensures name { result.now ≡ profile_name (profile_of self.now) }
@@ -247,6 +288,8 @@ impl SaslProfile {
             SaslProfile::Anonymous => ANONYMOUS,
             SaslProfile::Plain { .. } => PLAIN,
             SaslProfile::External => EXTERNAL,
+            SaslProfile::AnonymousAs(_) => ANONYMOUS,
+            SaslProfile::ExternalAs(_) => EXTERNAL,
             SaslProfile::ScramSha1(scram) => scram.client.version().mechanism(),
             SaslProfile::ScramSha256(scram) => scram.client.version().mechanism(),
             SaslProfile::ScramSha512(scram) => scram.client.version().mechanism(),
@@ -260,8 +303,9 @@ impl SaslProfile {
         symbol_of(alloc, self.name())
     }
 
-    /// Returns the initial response: nothing for ANONYMOUS and EXTERNAL, the message of PLAIN, and for SCRAM the
-    /// client-first message of a restart, with a nonce of 32 bytes. An error leaves the profile unchanged.
+    /// Returns the initial response: nothing for ANONYMOUS and EXTERNAL, unless they were made with one; the message of
+    /// PLAIN; and for SCRAM the client-first message of a restart, with a nonce of 32 bytes. An error leaves the profile
+    /// unchanged.
     pub fn initial_response(
         &mut self,
         alloc: Global,
@@ -277,6 +321,8 @@ impl SaslProfile {
             SaslProfile::Plain { username, password } => {
                 Ok(Some(plain_message(alloc, username, password)?))
             }
+            SaslProfile::AnonymousAs(single) => Ok(Some(single.start(alloc)?)),
+            SaslProfile::ExternalAs(single) => Ok(Some(single.start(alloc)?)),
             SaslProfile::ScramSha1(scram) => {
                 Ok(Some(first_message(&mut scram.client, alloc, nonce)?))
             }
@@ -291,8 +337,8 @@ impl SaslProfile {
 
     /// Answers a frame of the server: mechanisms with the profile's name by an init with this hostname, a challenge by
     /// a response, an outcome by itself. Errors: NotImplemented for mechanisms without the name, for a challenge to a
-    /// profile other than SCRAM, and for an init or a response; otherwise those of SCRAM. An error leaves the profile
-    /// unchanged.
+    /// profile other than SCRAM, unless `answers_empty_challenge` and it is empty, and for an init or a response;
+    /// otherwise those of SCRAM. An error leaves the profile unchanged.
     pub fn on_frame(
         &mut self,
         alloc: Global,
@@ -431,15 +477,21 @@ impl SaslProfile {
         })
     }
 
-    /// Returns why a challenge is rejected before a part of it is read: the profile is not of SCRAM, or the text is not
-    /// UTF-8, or it is not expected.
+    /// Returns why a challenge is rejected before a part of it is read: the profile expects none, or SCRAM's is not
+    /// UTF-8, or not expected.
     pub(crate) fn refusal_unread(&self, challenge: &[u8]) -> Option<ProfileError>
         ensures { MatchOption result (StepAllocates (profile_of self.now) (Challenge challenge.now))
             (λ fault. RefusesAlways (profile_of self.now) (Challenge challenge.now) fault) }
     {
-        match self.scram_client() {
-            Some(client) => refusal_unread(client, challenge),
-            None => Some(ProfileError::NotImplemented),
+        match self {
+            SaslProfile::Anonymous | SaslProfile::Plain { .. } | SaslProfile::External => {
+                Some(ProfileError::NotImplemented)
+            }
+            SaslProfile::AnonymousAs(single) => single.refusal_unread(challenge),
+            SaslProfile::ExternalAs(single) => single.refusal_unread(challenge),
+            SaslProfile::ScramSha1(scram) => refusal_unread(&scram.client, challenge),
+            SaslProfile::ScramSha256(scram) => refusal_unread(&scram.client, challenge),
+            SaslProfile::ScramSha512(scram) => refusal_unread(&scram.client, challenge),
         }
     }
 
@@ -477,6 +529,8 @@ impl SaslProfile {
             SaslProfile::Anonymous | SaslProfile::Plain { .. } | SaslProfile::External => {
                 Err(ProfileError::NotImplemented)
             }
+            SaslProfile::AnonymousAs(single) => single.respond(alloc, challenge),
+            SaslProfile::ExternalAs(single) => single.respond(alloc, challenge),
             SaslProfile::ScramSha1(scram) => answer(&mut scram.client, alloc, challenge, meter),
             SaslProfile::ScramSha256(scram) => answer(&mut scram.client, alloc, challenge, meter),
             SaslProfile::ScramSha512(scram) => answer(&mut scram.client, alloc, challenge, meter),
@@ -496,6 +550,7 @@ impl SaslProfile {
     {
         match self {
             SaslProfile::Anonymous | SaslProfile::Plain { .. } | SaslProfile::External => Ok(()),
+            SaslProfile::AnonymousAs(_) | SaslProfile::ExternalAs(_) => Ok(()),
             SaslProfile::ScramSha1(scram) => verify(&mut scram.client, alloc, outcome),
             SaslProfile::ScramSha256(scram) => verify(&mut scram.client, alloc, outcome),
             SaslProfile::ScramSha512(scram) => verify(&mut scram.client, alloc, outcome),
@@ -514,6 +569,8 @@ impl Clone for SaslProfile {
                 password: password.clone()?,
             },
             SaslProfile::External => SaslProfile::External,
+            SaslProfile::AnonymousAs(single) => SaslProfile::AnonymousAs(single.clone()?),
+            SaslProfile::ExternalAs(single) => SaslProfile::ExternalAs(single.clone()?),
             SaslProfile::ScramSha1(scram) => SaslProfile::ScramSha1(scram.clone()?),
             SaslProfile::ScramSha256(scram) => SaslProfile::ScramSha256(scram.clone()?),
             SaslProfile::ScramSha512(scram) => SaslProfile::ScramSha512(scram.clone()?),
@@ -562,6 +619,8 @@ impl fmt::Debug for SaslProfile {
                 write!(f, "Plain {{ username: {username:?}, .. }}")
             }
             SaslProfile::External => f.write_str("External"),
+            SaslProfile::AnonymousAs(single) => write!(f, "AnonymousAs({single:?})"),
+            SaslProfile::ExternalAs(single) => write!(f, "ExternalAs({single:?})"),
             SaslProfile::ScramSha1(scram) => write!(f, "ScramSha1({scram:?})"),
             SaslProfile::ScramSha256(scram) => write!(f, "ScramSha256({scram:?})"),
             SaslProfile::ScramSha512(scram) => write!(f, "ScramSha512({scram:?})"),

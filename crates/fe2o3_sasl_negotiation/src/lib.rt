@@ -55,6 +55,7 @@ pub use fe2o3_sasl_core::SaslServerFrame;
 pub use fe2o3_sasl_core::ScramHashes;
 pub use fe2o3_sasl_core::Selected;
 pub use fe2o3_sasl_core::ServerReply;
+pub use fe2o3_sasl_core::SingleMessage;
 pub use fe2o3_sasl_core::UrlError;
 pub use fe2o3_sasl_core::acceptor_body_step;
 pub use fe2o3_sasl_core::acceptor_frame_step;

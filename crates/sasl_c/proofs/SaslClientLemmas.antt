@@ -1,6 +1,6 @@
 -- What a client of a connection reaches (AMQP 1.0, part 5, section 5.3.2).
 use Rattle.std.proofs.Common.{arith, refl, sym, ap, inl, inr, ◌∙◌, ◌≡◌, ◌≤◌, ◌<◌, ◌⊎◌, ◌+◌, ◌++◌, ℕ, List, [], length, IsTrue}
-use Rattle.std.specs.Prelude.{Option, Some, None, false, IfSome, MatchOption, Result, Ok, Err, drop, nat_eq, if◌then◌else◌}
+use Rattle.std.specs.Prelude.{Option, Some, None, Bool, true, false, ◌∷◌, replicate, IfSome, MatchOption, Result, Ok, Err, drop, nat_eq, if◌then◌else◌}
 use Rattle.std.proofs.lemmas.Bool.{cases_lt}
 use Rattle.fe2o3_sasl_wire.specs.declared.amqp_types.SaslCode.TheVariants as outcomes
 use Rattle.fe2o3_sasl_wire.specs.declared.sasl_frames.error.Error.{Error}
@@ -11,9 +11,10 @@ use Rattle.fe2o3_scram.specs.declared.scram_messages.error.ScramErrorKind.{Scram
 use Rattle.fe2o3_scram.specs.Readings.{IsFirst, NoneHolds}
 use Rattle.fe2o3_scram.specs.ScramClient as states
 use Rattle.fe2o3_scram.specs.ScramClient.{AnswersIn, VerifiesIn, ClientSide, ClientState, started}
+use Rattle.fe2o3_scram.proofs.lemmas.texts.DecisionLemmas.{same_number_or}
 use Rattle.fe2o3_sasl_core.specs.Bodies.{carried as sent_or_not}
 use Rattle.fe2o3_sasl_core.specs.Events.{Given, ClientSays, Started, Answered, Reported, Refused}
-use Rattle.fe2o3_sasl_core.specs.Profiles.{Profile, ScramProfile, PlainProfile, AnonymousProfile, ExternalProfile, is_scram, profile_machine}
+use Rattle.fe2o3_sasl_core.specs.Profiles.{Profile, ScramProfile, PlainProfile, AnonymousProfile, ExternalProfile, MessageProfile, MessageMechanism, AnonymousMessage, ExternalMessage, after_init, answers_empty_challenge, is_scram, profile_machine}
 use Rattle.fe2o3_sasl_core.specs.Runs.{ProfileGives, Replies}
 use Rattle.fe2o3_sasl_negotiation.specs.declared.snapshot.Snapshot.{Snapshot}
 use Rattle.fe2o3_sasl_negotiation.specs.declared.progress.Expected.{Expected}
@@ -34,9 +35,9 @@ use Rattle.sasl_c.specs.declared.sasl_client.SaslClient.{SaslClient as Struct}
 use Rattle.sasl_c.specs.declared.sasl_client.SaslLogin.{SaslLogin as Login}
 use Rattle.sasl_c.specs.declared.status.Status.{Status}
 use Rattle.sasl_c.specs.declared.status.Status.TheVariants as statuses
-use Rattle.sasl_c.specs.Client.{IsNoLogin, IsReached, IsState, WritesClient, fresh_client_struct}
+use Rattle.sasl_c.specs.Client.{IsNoLogin, IsReached, IsState, WritesClient, fresh_client_struct, started_struct}
 use Rattle.sasl_c.specs.Connection.{Keeps, KeepsNoPartOf, expected_number, side_tests, connection_struct}
-use Rattle.sasl_c.specs.SaslClient.{ProfileIsReached, HasNoHostname, HasNoClientWords, IsClient, IsHostname, IsNoClient, IsNoProfile, IsProfile, ReadsClient, ReceivesAsClient, ClientIsReached, WritesProfile, WritesSide}
+use Rattle.sasl_c.specs.SaslClient.{ProfileIsReached, HasNoHostname, HasNoClientWords, HasNoMessage, IsClient, IsDueIn, message_number, IsHostname, IsNoClient, IsNoProfile, IsProfile, ReadsClient, ReceivesAsClient, ClientIsReached, WritesProfile, WritesSide}
 use Rattle.sasl_c.proofs.ClientLemmas.{answer_fits, answering_login, verifying_login, moved_login}
 use Rattle.sasl_c.proofs.StateLemmas.{reached}
 use Rattle.sasl_c.proofs.StatusLemmas.{carried}
@@ -140,6 +141,20 @@ external_stays hostname nonce (frames.Outcome code more) reply moved is = is.1
 external_stays hostname nonce (frames.Init mechanism response host) reply moved is = is.1
 external_stays hostname nonce (frames.Response text) reply moved is = is.1
 
+-- a profile of a single message keeps it
+message_stays : (mechanism : MessageMechanism) (message : List ℕ) (is_due : Bool) (hostname : Option (List ℕ))
+    (nonce : List ℕ) (frame : SaslFrame) (reply : Result SaslFrame ProfileError) (moved : Profile)
+    → profile_machine (MessageProfile mechanism message is_due) hostname nonce frame reply moved
+    → (due : Bool) × (moved ≡ MessageProfile mechanism message due)
+message_stays mechanism message is_due hostname nonce (frames.Mechanisms names) reply moved (inl is) = (true, is.2)
+message_stays mechanism message is_due hostname nonce (frames.Mechanisms names) reply moved (inr is) = (is_due, is.2)
+message_stays mechanism message true hostname nonce (frames.Challenge []) reply moved is = (false, is.1)
+message_stays mechanism message true hostname nonce (frames.Challenge (byte ∷ rest)) reply moved is = (true, is.1)
+message_stays mechanism message false hostname nonce (frames.Challenge text) reply moved is = (false, is.1)
+message_stays mechanism message is_due hostname nonce (frames.Outcome code more) reply moved is = (is_due, is.1)
+message_stays mechanism message is_due hostname nonce (frames.Init name response host) reply moved is = (is_due, is.1)
+message_stays mechanism message is_due hostname nonce (frames.Response text) reply moved is = (is_due, is.1)
+
 same_comes : (login : Login) (profile next : Profile) → next ≡ profile → ProfileIsReached login profile → ProfileIsReached login next
 same_comes login profile next same comes = carried (ProfileIsReached login) profile next (sym same) comes
 
@@ -155,6 +170,9 @@ machine_comes login AnonymousProfile hostname nonce frame reply moved is comes =
     same_comes login _ moved (anonymous_stays hostname nonce frame reply moved is) comes
 machine_comes login ExternalProfile hostname nonce frame reply moved is comes =
     same_comes login _ moved (external_stays hostname nonce frame reply moved is) comes
+machine_comes login (MessageProfile mechanism message is_due) hostname nonce frame reply moved is comes =
+    let stays = message_stays mechanism message is_due hostname nonce frame reply moved is in
+    same_comes login (MessageProfile mechanism message stays.0) moved stays.1 comes
 
 -- also where the reply is not sent
 sent_comes : (login : Login) (profile : Profile) (body : Option (List ℕ)) (moved next : Profile)
@@ -312,6 +330,7 @@ profile_comes login scram (ScramProfile side) is = (is.0, (is.1.0, reached side.
 profile_comes login scram (PlainProfile user password) is = is
 profile_comes login scram AnonymousProfile is = is
 profile_comes login scram ExternalProfile is = is
+profile_comes login scram (MessageProfile mechanism message is_due) is = (is.0, is.1)
 
 -- the struct that a profile was saved as
 pub shows_scram : (login : Login) (profile : Profile) (machine : ClientSide) (answer : Option ScramStruct)
@@ -327,11 +346,12 @@ shows_scram login profile machine (Some scram) is comes held =
     (stands.0, (stands.1.0, held machine.user stands.1.1))
 
 pub shows_other : (login : Login) (profile : Profile) (scram : ScramStruct) → is_scram profile ≡ false
-    → ProfileIsReached login profile → IsProfile login scram profile
-shows_other login (ScramProfile side) scram other comes = absurd (cc)
-shows_other login (PlainProfile user password) scram other comes = comes
-shows_other login AnonymousProfile scram other comes = comes
-shows_other login ExternalProfile scram other comes = comes
+    → IsDueIn scram (answers_empty_challenge profile) → ProfileIsReached login profile → IsProfile login scram profile
+shows_other login (ScramProfile side) scram other due comes = absurd (cc)
+shows_other login (PlainProfile user password) scram other due comes = comes
+shows_other login AnonymousProfile scram other due comes = comes
+shows_other login ExternalProfile scram other due comes = comes
+shows_other login (MessageProfile mechanism message is_due) scram other due comes = (comes.0, comes.1, due)
 
 -- the struct that is written for a profile
 pub writes_scram : (profile : Profile) (machine : ClientSide) (answer : Option ScramStruct)
@@ -342,11 +362,22 @@ writes_scram profile machine (Some scram) is held =
     carried (WritesProfile scram) (ScramProfile machine) profile (sym is) held
 
 pub writes_other : (profile : Profile) (scram : ScramStruct) → is_scram profile ≡ false → scram ≡ fresh_client_struct
-    → WritesProfile scram profile
-writes_other (ScramProfile side) scram other same = absurd (cc)
-writes_other (PlainProfile user password) scram other same = same
-writes_other AnonymousProfile scram other same = same
-writes_other ExternalProfile scram other same = same
+    → answers_empty_challenge profile ≡ false → WritesProfile scram profile
+writes_other (ScramProfile side) scram other same due = absurd (cc)
+writes_other (PlainProfile user password) scram other same due = same
+writes_other AnonymousProfile scram other same due = same
+writes_other ExternalProfile scram other same due = same
+writes_other (MessageProfile mechanism message true) scram other same due = absurd (cc)
+writes_other (MessageProfile mechanism message false) scram other same due = same
+
+pub writes_due : (profile : Profile) (scram : ScramStruct) → scram ≡ started_struct (replicate 32 0)
+    → answers_empty_challenge profile ≡ true → WritesProfile scram profile
+writes_due (ScramProfile side) scram same due = absurd (cc)
+writes_due (PlainProfile user password) scram same due = absurd (cc)
+writes_due AnonymousProfile scram same due = absurd (cc)
+writes_due ExternalProfile scram same due = absurd (cc)
+writes_due (MessageProfile mechanism message true) scram same due = same
+writes_due (MessageProfile mechanism message false) scram same due = absurd (cc)
 
 -- and those that are written for a side
 pub writes_side : (connection : Kept) (scram : ScramStruct) (side : Side Profile) (kept : Snapshot)
@@ -474,11 +505,34 @@ pub no_plain : (login : Login) (status : Status) → login.mechanism ≡ 1 → H
 unfolding IsNoProfile
 no_plain login status is wrong = inr (inl (is, wrong))
 
-pub no_mechanism : (login : Login) → 3 < login.mechanism → IsNoProfile login statuses.NoSuchMechanism
+pub no_trace : (login : Login) (status : Status) → login.mechanism ≡ 4 → HasNoMessage login.login status
+    → IsNoProfile login status
 unfolding IsNoProfile
-no_mechanism login wide = inr (inr (wide, refl))
+no_trace login status is wrong = inr (inr (inl ((AnonymousMessage, is), wrong)))
 
-pub ruleset no_profiles = (no_scram, no_plain, no_mechanism)
+pub no_identity : (login : Login) (status : Status) → login.mechanism ≡ 5 → HasNoMessage login.login status
+    → IsNoProfile login status
+unfolding IsNoProfile
+no_identity login status is wrong = inr (inr (inl ((ExternalMessage, is), wrong)))
+
+pub no_mechanism : (login : Login) → 5 < login.mechanism → IsNoProfile login statuses.NoSuchMechanism
+unfolding IsNoProfile
+no_mechanism login wide = inr (inr (inr (wide, refl)))
+
+pub ruleset no_profiles = (no_scram, no_plain, no_trace, no_identity, no_mechanism)
+
+-- a profile of a single message, as the struct says whether its init was sent last
+pub message_begun : (login : Login) (scram : ScramStruct) (mechanism : MessageMechanism) (message : List ℕ)
+    (begun after : Profile) → login.mechanism ≡ message_number mechanism → message ≡ login.login.username.now
+    → begun ≡ MessageProfile mechanism message false → (scram.state ≡ 1 → after ≡ after_init begun (replicate 32 0))
+    → (scram.state ≢ 1 → after ≡ begun) → IsProfile login scram after
+message_begun login scram mechanism message begun after number same is sent not_sent = go (same_number_or scram.state 1)
+  where
+    go : (scram.state ≡ 1) ⊎ (scram.state ≢ 1) → IsProfile login scram after
+    go (inl first) = carried (IsProfile login scram) (MessageProfile mechanism message true) after
+        (sym (sent first ∙ ap (λ (p : Profile). after_init p (replicate 32 0)) is)) (number, same, first)
+    go (inr other) = carried (IsProfile login scram) (MessageProfile mechanism message false) after
+        (sym (not_sent other ∙ is)) (number, same, other)
 
 -- what a call makes of bytes
 pub received : (login : Login) (bytes nonce : List ℕ) (before after : Struct) (hostname : Option (List ℕ))

@@ -1,9 +1,9 @@
 -- The client's side of a connection that is kept in structs of C between its calls (AMQP 1.0, part 5, section 5.3.2).
-use Rattle.std.specs.Prelude.{◌≡◌, ◌≢◌, ◌<◌, ◌⊎◌, ℕ, Option, Some, None, List, [], Result, Ok, Err}
+use Rattle.std.specs.Prelude.{◌≡◌, ◌≢◌, ◌<◌, ◌⊎◌, ℕ, Bool, true, false, Option, Some, None, List, [], replicate, Result, Ok, Err}
 use Rattle.std.specs.Str.{IsUtf8}
 use Rattle.fe2o3_scram.specs.Readings.{IsFirst, NoneHolds}
 use Rattle.fe2o3_scram.specs.ScramClient.{ClientSide}
-use Rattle.fe2o3_sasl_core.specs.Profiles.{Profile, ScramProfile, PlainProfile, AnonymousProfile, ExternalProfile}
+use Rattle.fe2o3_sasl_core.specs.Profiles.{Profile, ScramProfile, PlainProfile, AnonymousProfile, ExternalProfile, MessageProfile, MessageMechanism, AnonymousMessage, ExternalMessage}
 use Rattle.fe2o3_sasl_negotiation.specs.declared.progress.Progress.TheVariants.{InProgress}
 use Rattle.fe2o3_sasl_negotiation.specs.ClientNegotiation.{ClientReceives}
 use Rattle.fe2o3_sasl_negotiation.specs.Framing.{sasl_header}
@@ -15,7 +15,7 @@ use Rattle.sasl_c.specs.declared.sasl_client.SaslClient.{SaslClient as Struct}
 use Rattle.sasl_c.specs.declared.sasl_client.SaslLogin.{SaslLogin as Login}
 use Rattle.sasl_c.specs.declared.status.Status.{Status}
 use Rattle.sasl_c.specs.declared.status.Status.TheVariants as statuses
-use Rattle.sasl_c.specs.Client.{IsClientOf, IsNoLogin, IsReached, IsSide, WritesClient, fresh_client_struct}
+use Rattle.sasl_c.specs.Client.{IsClientOf, IsNoLogin, IsReached, IsSide, WritesClient, fresh_client_struct, started_struct}
 use Rattle.sasl_c.specs.Connection.{IsSideOf, KeepsNoPartOf, side_tests, connection_struct}
 
 -- the hostname of a login: none where it is empty
@@ -27,6 +27,16 @@ IsHostname login (Some name) = (login.hostname.now ≢ []) × (name ≡ login.ho
 abbrev pub HasNoHostname : Login → Type 0
 HasNoHostname login = (login.hostname.now ≢ []) × ¬ IsUtf8 login.hostname.now
 
+-- the number of a mechanism with its single message, which is the user name of the login
+abbrev pub message_number : MessageMechanism → ℕ
+message_number AnonymousMessage = 4
+message_number ExternalMessage = 5
+
+-- whether an empty challenge is due (RFC 4422, section 5): the struct says that the init was sent last
+abbrev pub IsDueIn : ScramStruct → Bool → Type 0
+IsDueIn scram true = scram.state ≡ 1
+IsDueIn scram false = scram.state ≢ 1
+
 -- the profile of a login; that of SCRAM has the client of the struct (RFC 4616, RFC 4505, RFC 4422, RFC 5802)
 abbrev pub IsProfile : Login → ScramStruct → Profile → Type 0
 IsProfile login scram (ScramProfile side) = (login.mechanism ≡ 0) × IsSide login.login scram side
@@ -34,27 +44,37 @@ IsProfile login scram (PlainProfile user password) = (login.mechanism ≡ 1) × 
     × (password ≡ login.login.password.now)
 IsProfile login scram AnonymousProfile = login.mechanism ≡ 2
 IsProfile login scram ExternalProfile = login.mechanism ≡ 3
+IsProfile login scram (MessageProfile mechanism message is_due) = (login.mechanism ≡ message_number mechanism)
+    × (message ≡ login.login.username.now) × IsDueIn scram is_due
 
 -- why the words of a login give no PLAIN: they are not UTF-8
 abbrev pub HasNoClientWords : Words → Status → Type 0
 HasNoClientWords words status = (status ≡ statuses.NotUtf8) × (¬ IsUtf8 words.username.now ⊎ ¬ IsUtf8 words.password.now)
 
+-- why they give no message: the user name is not UTF-8
+abbrev pub HasNoMessage : Words → Status → Type 0
+HasNoMessage words status = (status ≡ statuses.NotUtf8) × ¬ IsUtf8 words.username.now
+
 -- why a login has no profile
 unfoldable pub IsNoProfile : Login → Status → Type 0
 IsNoProfile login status = ((login.mechanism ≡ 0) × IsNoLogin login.login status)
     ⊎ ((login.mechanism ≡ 1) × HasNoClientWords login.login status)
-    ⊎ ((3 < login.mechanism) × (status ≡ statuses.NoSuchMechanism))
+    ⊎ (((mechanism : MessageMechanism) × (login.mechanism ≡ message_number mechanism)) × HasNoMessage login.login status)
+    ⊎ ((5 < login.mechanism) × (status ≡ statuses.NoSuchMechanism))
 
 -- the structs are those of this side
 abbrev pub IsClient : Login → Struct → Side Profile → Type 0
 IsClient login client side = IsSideOf client.connection side × IsProfile login client.scram side.state
 
--- the struct of SCRAM that a call writes for a profile: all zeros where it is not SCRAM's
+-- the struct of SCRAM that a call writes for a profile: where it is not SCRAM's all zeros, but for the state of a profile
+-- of a single message after its init
 abbrev pub WritesProfile : ScramStruct → Profile → Type 0
 WritesProfile written (ScramProfile side) = WritesClient written side.state
 WritesProfile written (PlainProfile user password) = written ≡ fresh_client_struct
 WritesProfile written AnonymousProfile = written ≡ fresh_client_struct
 WritesProfile written ExternalProfile = written ≡ fresh_client_struct
+WritesProfile written (MessageProfile mechanism message true) = written ≡ started_struct (replicate 32 0)
+WritesProfile written (MessageProfile mechanism message false) = written ≡ fresh_client_struct
 
 -- the structs that a call writes for a side
 abbrev pub WritesSide : Struct → Side Profile → Type 0
@@ -84,6 +104,8 @@ ProfileIsReached login (PlainProfile user password) = (login.mechanism ≡ 1) ×
     × (password ≡ login.login.password.now)
 ProfileIsReached login AnonymousProfile = login.mechanism ≡ 2
 ProfileIsReached login ExternalProfile = login.mechanism ≡ 3
+ProfileIsReached login (MessageProfile mechanism message is_due) = (login.mechanism ≡ message_number mechanism)
+    × (message ≡ login.login.username.now)
 
 -- the header with which a client begins
 abbrev pub OpensConnection : Result (List ℕ) Status → Type 0

@@ -1,12 +1,12 @@
 //! The client's side of a connection as a struct between calls.
 
-ghost use Rattle.std.specs.Prelude.{◌≡◌, ◌≢◌, ◌≤◌, ◌^◌, List, ℕ, Ok, Err, length, option_map, string_bytes, IfOk, IfErr, IfSome, OnErr, MatchOption};
-ghost use Rattle.fe2o3_sasl_core.specs.Profiles.{PlainProfile};
+ghost use Rattle.std.specs.Prelude.{◌≡◌, ◌≢◌, ◌≤◌, ◌^◌, List, ℕ, Ok, Err, length, replicate, option_map, string_bytes, IfOk, IfErr, IfSome, OnErr, MatchOption};
+ghost use Rattle.fe2o3_sasl_core.specs.Profiles.{PlainProfile, after_init};
 ghost use Rattle.fe2o3_sasl_core.specs.SaslProfile.{profile_of};
 ghost use Rattle.fe2o3_sasl_negotiation.specs.declared.progress.Progress.TheVariants.{InProgress};
 ghost use Rattle.fe2o3_sasl_negotiation.specs.ClientNegotiation.{ClientReceives};
 ghost use Rattle.fe2o3_sasl_negotiation.specs.Sides.{client_side, hostname_in};
-ghost use Rattle.sasl_c.specs.SaslClient.{ProfileIsReached, HasNoClientWords, IsClient, IsHostname, IsNoClient, HasNoHostname, IsNoProfile, ReadsClient, IsProfile, OpensConnection, ReceivesAsClient, WritesProfile, WritesSide};
+ghost use Rattle.sasl_c.specs.SaslClient.{ProfileIsReached, HasNoClientWords, HasNoMessage, IsClient, IsHostname, IsNoClient, HasNoHostname, IsNoProfile, ReadsClient, IsProfile, OpensConnection, ReceivesAsClient, WritesProfile, WritesSide};
 ghost use Rattle.sasl_c.specs.declared.sasl_client.SaslClient.{SaslClient as Structs};
 ghost use Rattle.sasl_c.specs.declared.sasl_client.SaslLogin.{SaslLogin as LoginStruct};
 ghost use Rattle.sasl_c.specs.Status.{AnswersText, AsksText, AsksWhere, Fills, FillsWithin};
@@ -35,7 +35,8 @@ pub struct SaslLogin<'a> {
     /// The hostname of the init frame. If empty, the init has none.
     pub hostname: &'a [u8],
 
-    /// The user and the secret. PLAIN uses the name and the password. ANONYMOUS and EXTERNAL use nothing of it.
+    /// The user and the secret. PLAIN uses the name and the password. FE2O3_ANONYMOUS_AS and FE2O3_EXTERNAL_AS use the
+    /// name, which may be empty. ANONYMOUS and EXTERNAL use nothing of it.
     pub login: Login<'a>,
 }
 
@@ -46,7 +47,8 @@ pub struct SaslClient {
     /// The connection.
     pub connection: Connection,
 
-    /// The SCRAM client. After the login it holds the keys (`fe2o3_scram_client_get_keys`).
+    /// The SCRAM client. After the login it holds the keys (`fe2o3_scram_client_get_keys`). For FE2O3_ANONYMOUS_AS and
+    /// FE2O3_EXTERNAL_AS its `state` is FE2O3_CLIENT_FIRST_SENT after the init, until the response.
     pub scram: ScramClient,
 }
 
@@ -75,6 +77,15 @@ impl SaslLogin<'_> {
         Ok(SaslProfile::plain(username, password))
     }
 
+    /// Returns the user name, which is the message of ANONYMOUS and EXTERNAL. The errors are `NotUtf8` and
+    /// `OutOfMemory`.
+    fn message(&self, alloc: Global) -> Result<String, Status>
+        ensures ok { IfOk result (λ message. string_bytes message ≡ self.now.login.username.now) }
+        ensures err { IfErr result (λ status. status ≢ StatusOutOfMemory → HasNoMessage self.now.login status) }
+    {
+        Ok(text(self.login.username)?.to_string(alloc)?)
+    }
+
     /// Returns the profile. That of SCRAM has the client of the struct.
     #[tactic(auto, using(crate::proofs::SaslClientLemmas::no_profiles))]
     pub fn profile(&self, alloc: Global, scram: &ScramClient) -> Result<SaslProfile, Status>
@@ -89,12 +100,45 @@ impl SaslLogin<'_> {
             1 => self.plain(alloc),
             2 => Ok(SaslProfile::Anonymous),
             3 => Ok(SaslProfile::External),
+            4 => match self.message(alloc) {
+                Ok(trace) => after_init(alloc, SaslProfile::anonymous_as(trace), scram),
+                Err(status) => Err(status),
+            },
+            5 => match self.message(alloc) {
+                Ok(identity) => after_init(alloc, SaslProfile::external_as(identity), scram),
+                Err(status) => Err(status),
+            },
             _ => Err(Status::NoSuchMechanism),
         }
     }
 }
 
-/// Returns the struct of a profile's SCRAM client, or a fresh one for another profile.
+/// Returns a profile that has sent nothing, restored after its init if the struct says that the init was sent last.
+fn after_init(
+    alloc: Global,
+    profile: SaslProfile,
+    scram: &ScramClient,
+) -> Result<SaslProfile, Status>
+    ensures sent { IfOk result (λ after. scram.now.state ≡ 1
+        → profile_of after ≡ after_init (profile_of profile.entry) (replicate 32 0)) }
+    ensures not_sent { IfOk result (λ after. scram.now.state ≢ 1 → profile_of after ≡ profile_of profile.entry) }
+    ensures err { IfErr result (λ status. status ≡ StatusOutOfMemory) }
+{
+    if scram.state != 1 {
+        return Ok(profile);
+    }
+    let mut profile = profile;
+    match profile.initial_response(alloc, &[0; 32]) {
+        Ok(_) => Ok(profile),
+        Err(_) => {
+            drop(profile);
+            Err(Status::OutOfMemory)
+        }
+    }
+}
+
+/// Returns the struct of a profile's SCRAM client, or a fresh one for another profile, whose state says whether an empty
+/// challenge is answered.
 pub fn scram_of(profile: &SaslProfile) -> Option<ScramClient>
     ensures state { (login : LoginStruct) → ProfileIsReached login (profile_of profile.now)
         → MatchOption result ⊥ (λ scram. IsProfile login scram (profile_of profile.now)) }
@@ -102,7 +146,12 @@ pub fn scram_of(profile: &SaslProfile) -> Option<ScramClient>
 {
     match profile.scram_client() {
         Some(machine) => ScramClient::of(machine),
-        None => Some(ScramClient::fresh()),
+        None => {
+            if profile.answers_empty_challenge() {
+                return Some(ScramClient::started(&[0; 32]));
+            }
+            Some(ScramClient::fresh())
+        }
     }
 }
 

@@ -1,8 +1,8 @@
-//! A client of SCRAM over whole connections.
+//! Clients of SCRAM and of EXTERNAL over whole connections.
 
 use crate::cuts::{Call, End, Row, all_end, text};
 use crate::units::*;
-use fe2o3_sasl::sasl_profile::{SaslProfile, SaslScramSha256};
+use fe2o3_sasl::sasl_profile::{ProfileError, SaslProfile, SaslScramSha256};
 use fe2o3_sasl_negotiation::{CloseReason, Piece, Progress, client_connection};
 use fe2o3_sasl_wire::SaslCode;
 use std::process::Abort;
@@ -70,4 +70,53 @@ static ROWS: [Row; 6] = [
 #[test]
 fn clients_end(rt: HostRuntime) {
     all_end(&rt, &Client, &ROWS);
+}
+
+/// A client of EXTERNAL with the empty identity by [`client_connection`].
+struct External;
+
+impl Call for External {
+    const NONCE: (u8, usize) = (1, 35);
+
+    fn ends<R: Abort + AllocGlobal>(&self, rt: &R, pieces: &[Piece<'_>], end: &End<'_>) -> bool {
+        let profile = SaslProfile::external_as(text(rt, ""));
+        let answered = client_connection(rt.alloc(), profile, None, pieces).expect(rt, "memory");
+        end.is(&answered, answered.side.progress())
+    }
+}
+
+/// Connections to a client of EXTERNAL.
+static EXTERNAL_ROWS: [Row; 3] = [
+    Row {
+        name: "A login by EXTERNAL, whose message is asked for",
+        given: &[
+            SASL,
+            EXTERNAL_MECHANISMS,
+            EMPTY_CHALLENGE,
+            PLAIN_OUTCOME,
+            AMQP,
+        ],
+        sent: &[EXTERNAL_EMPTY_INIT, EMPTY_RESPONSE],
+        progress: Progress::Authenticated,
+        stops: [(0, 67), (67, 0), (9, 4)],
+    },
+    Row {
+        name: "An empty challenge after the response",
+        given: &[SASL, EXTERNAL_MECHANISMS, EMPTY_CHALLENGE, EMPTY_CHALLENGE],
+        sent: &[EXTERNAL_EMPTY_INIT, EMPTY_RESPONSE],
+        progress: Progress::Failed(CloseReason::UnexpectedFrame),
+        stops: [(1, 0), (67, 0), (10, 0)],
+    },
+    Row {
+        name: "A challenge that is not empty",
+        given: &[SASL, EXTERNAL_MECHANISMS, CHALLENGE],
+        sent: &[EXTERNAL_EMPTY_INIT],
+        progress: Progress::Failed(CloseReason::Mechanism(ProfileError::NotImplemented)),
+        stops: [(1, 0), (192, 0), (28, 0)],
+    },
+];
+
+#[test]
+fn clients_of_external_end(rt: HostRuntime) {
+    all_end(&rt, &External, &EXTERNAL_ROWS);
 }

@@ -77,5 +77,14 @@ pub const EMPTY_RESPONSE: &str = "0000001002010000005343c00301a000";
 /// The init of EXTERNAL, which asks for no name.
 pub const EXTERNAL_INIT: &str = "0000001802010000005341c00b01a30845585445524e414c";
 
+/// The mechanism EXTERNAL.
+pub const EXTERNAL_MECHANISMS: &str = "0000001b02010000005340c00e01e00b01a30845585445524e414c";
+
+/// The init of EXTERNAL with the empty identity as its initial response.
+pub const EXTERNAL_EMPTY_INIT: &str = "0000001a02010000005341c00d02a30845585445524e414ca000";
+
+/// A challenge of no bytes.
+pub const EMPTY_CHALLENGE: &str = "0000001002010000005342c00301a000";
+
 /// The init of ANONYMOUS.
 pub const ANONYMOUS_INIT: &str = "0000001902010000005341c00c01a309414e4f4e594d4f5553";

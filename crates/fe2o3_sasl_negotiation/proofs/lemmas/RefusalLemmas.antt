@@ -1,5 +1,5 @@
 -- A profile that rejects is as it was, and so is an acceptor.
-use Rattle.std.proofs.Common.{◌≡◌, ℕ, Bool, true, false, Option, Some, None, List, [], ap, ◌∙◌, inl, inr, Result, Ok, Err}
+use Rattle.std.proofs.Common.{◌≡◌, ℕ, Bool, true, false, Option, Some, None, List, [], ap, ◌∙◌, inl, inr, Result, Ok, Err, ◌∷◌, sym}
 use Rattle.fe2o3_sasl_wire.specs.declared.amqp_types.SaslCode.TheVariants as outcomes
 use Rattle.fe2o3_sasl_wire.specs.declared.sasl_frames.error.Error.{Error}
 use Rattle.fe2o3_sasl_wire.specs.declared.sasl_frames.error.Error.TheVariants as faults
@@ -10,7 +10,7 @@ use Rattle.fe2o3_scram.specs.ScramClient.{ClientSide, ClientState, AnswersIn, Ch
 use Rattle.fe2o3_scram.specs.ScramClient as client_states
 use Rattle.fe2o3_sasl_core.specs.Events.{Given, Failed, ClientSays, Started, Answered, Refused}
 use Rattle.fe2o3_sasl_core.specs.Bodies.{carried, server_says}
-use Rattle.fe2o3_sasl_core.specs.Profiles.{Profile, ScramProfile, PlainProfile, AnonymousProfile, ExternalProfile, ChallengeReplies, client_frame, profile_machine}
+use Rattle.fe2o3_sasl_core.specs.Profiles.{Profile, ScramProfile, PlainProfile, AnonymousProfile, ExternalProfile, ChallengeReplies, client_frame, profile_machine, MessageProfile}
 use Rattle.fe2o3_sasl_core.specs.Runs.{SendsCanonical, AcceptorAnswers, AcceptorGives, AcceptorSteps, Replies, ProfileSteps}
 use Rattle.fe2o3_sasl_core.specs.declared.sasl_profile.error.ProfileError.{ProfileError}
 use Rattle.fe2o3_sasl_core.specs.declared.sasl_profile.error.ProfileError.TheVariants.{Frame}
@@ -115,6 +115,18 @@ machine_refused ExternalProfile hostname nonce (frames.Challenge text) reply fau
 machine_refused ExternalProfile hostname nonce (frames.Outcome code more) reply fault moved is m = m.1
 machine_refused ExternalProfile hostname nonce (frames.Init mechanism response host) reply fault moved is m = m.1
 machine_refused ExternalProfile hostname nonce (frames.Response text) reply fault moved is m = m.1
+machine_refused (MessageProfile mechanism message true) hostname nonce (frames.Challenge []) reply fault moved is m =
+    let no = sym is ∙ m.0 in absurd (cc)
+machine_refused (MessageProfile mechanism message true) hostname nonce (frames.Challenge (byte ∷ rest)) reply fault moved
+    is m = m.1
+machine_refused (MessageProfile mechanism message false) hostname nonce (frames.Challenge text) reply fault moved is m =
+    m.1
+machine_refused (MessageProfile mechanism message is_due) hostname nonce (frames.Outcome code more) reply fault moved is
+    m = m.1
+machine_refused (MessageProfile mechanism message is_due) hostname nonce (frames.Init name response host) reply fault
+    moved is m = m.1
+machine_refused (MessageProfile mechanism message is_due) hostname nonce (frames.Response text) reply fault moved is m =
+    m.1
 
 -- a frame that is not sent leaves the profile
 unsent_stays : (says : List ℕ → ClientSays) (body : Option (List ℕ)) (profile moved next : Profile)

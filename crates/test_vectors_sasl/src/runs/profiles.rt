@@ -94,6 +94,8 @@ pub fn profile_of(row: &mut Row<'_>, kind: &str) -> Option<SaslProfile> {
     match mechanism {
         "ANONYMOUS" => Some(SaslProfile::Anonymous),
         "EXTERNAL" => Some(SaslProfile::External),
+        "ANONYMOUS-AS" => Some(SaslProfile::anonymous_as(user)),
+        "EXTERNAL-AS" => Some(SaslProfile::external_as(user)),
         "PLAIN" => Some(SaslProfile::plain(user, password)),
         "SCRAM-SHA-256" => {
             let secret = secret_of(kind, &password, &keys)?;

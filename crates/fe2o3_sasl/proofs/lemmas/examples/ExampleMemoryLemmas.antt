@@ -13,7 +13,7 @@ use Rattle.fe2o3_scram.specs.ScramClient.{ClientSide, ClientState, ReachesSaltIn
 use Rattle.fe2o3_sasl_core.specs.ClientHistory.{ClientAllocates}
 use Rattle.fe2o3_sasl_core.specs.Events.{Login}
 use Rattle.fe2o3_sasl_core.specs.Laws.{WantsAtServer}
-use Rattle.fe2o3_sasl_core.specs.Profiles.{Profile, ScramProfile, PlainProfile, AnonymousProfile, ExternalProfile, FrameAllocates, ViewAllocates, StepAllocates, ChallengeAllocates, IsChallengeDue, IsStarted, IsAnswered}
+use Rattle.fe2o3_sasl_core.specs.Profiles.{Profile, ScramProfile, PlainProfile, AnonymousProfile, ExternalProfile, FrameAllocates, ViewAllocates, StepAllocates, ChallengeAllocates, IsChallengeDue, IsStarted, IsAnswered, MessageProfile}
 use Rattle.fe2o3_sasl.specs.examples.MemoryExamples.{AcceptorsAskForNone, AskForNone, OwnedAskForNone, ServersWantNone, ClientsWantNone}
 use Rattle.fe2o3_sasl.proofs.lemmas.machines.MechanismLemmas.{other_name}
 
@@ -70,6 +70,7 @@ no_data (ScramProfile client) outcomes.SysTemp asks = asks
 no_data (PlainProfile user password) code asks = asks
 no_data AnonymousProfile code asks = asks
 no_data ExternalProfile code asks = asks
+no_data (MessageProfile mechanism message is_due) code asks = asks
 
 pub owned_ask_for_none : OwnedAskForNone
 owned_ask_for_none = (
@@ -95,6 +96,7 @@ no_data_in_view (ScramProfile client) outcomes.SysTemp asks = asks
 no_data_in_view (PlainProfile user password) code asks = asks
 no_data_in_view AnonymousProfile code asks = asks
 no_data_in_view ExternalProfile code asks = asks
+no_data_in_view (MessageProfile mechanism message is_due) code asks = asks
 
 pub views_ask_for_none : AskForNone ViewAllocates
 views_ask_for_none = (
@@ -116,6 +118,7 @@ no_data_in_step (ScramProfile client) outcomes.SysTemp asks = asks
 no_data_in_step (PlainProfile user password) code asks = asks
 no_data_in_step AnonymousProfile code asks = asks
 no_data_in_step ExternalProfile code asks = asks
+no_data_in_step (MessageProfile mechanism message is_due) code asks = asks
 
 pub steps_ask_for_none : AskForNone StepAllocates
 steps_ask_for_none = (

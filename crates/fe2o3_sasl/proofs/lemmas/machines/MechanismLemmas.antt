@@ -9,7 +9,7 @@ use Rattle.fe2o3_scram.specs.declared.hmac.ScramVersion.TheVariants.{Sha1, Sha25
 use Rattle.fe2o3_scram.specs.Hmac.{mechanism_name}
 use Rattle.fe2o3_sasl_core.specs.MechanismLaws.{PlainLetsIn, PlainRefuses, AnonymousLetsIn, OffersAgree, SomethingIsOffered, NamesDiffer}
 use Rattle.fe2o3_sasl_core.specs.SaslAcceptor.{ScramAcceptor, PlainAcceptor, AnonymousAcceptor}
-use Rattle.fe2o3_sasl_core.specs.Profiles.{ScramProfile, PlainProfile, AnonymousProfile, ExternalProfile, initial_response}
+use Rattle.fe2o3_sasl_core.specs.Profiles.{ScramProfile, PlainProfile, AnonymousProfile, ExternalProfile, MessageProfile, AnonymousMessage, ExternalMessage, initial_response}
 use Rattle.fe2o3_sasl_wire.specs.SaslFrames as frames
 use Rattle.fe2o3_sasl_core.proofs.lemmas.machines.ZeroPartLemmas.{names_both, names_no_other}
 
@@ -58,6 +58,10 @@ offers_agree (ScramAcceptor provider state) AnonymousProfile =
     (λ has. absurd ((other_name provider.version).1 (the_one _ _ has)), λ same. absurd same)
 offers_agree (ScramAcceptor provider state) ExternalProfile =
     (λ has. absurd ((other_name provider.version).2 (the_one _ _ has)), λ same. absurd same)
+offers_agree (ScramAcceptor provider state) (MessageProfile AnonymousMessage message is_due) =
+    (λ has. absurd ((other_name provider.version).1 (the_one _ _ has)), λ same. absurd same)
+offers_agree (ScramAcceptor provider state) (MessageProfile ExternalMessage message is_due) =
+    (λ has. absurd ((other_name provider.version).2 (the_one _ _ has)), λ same. absurd same)
 offers_agree (PlainAcceptor user password accepted) (ScramProfile client) =
     (λ has. absurd ((other_name client.version).0 (sym (the_one _ _ has))), λ same. absurd same)
 offers_agree (PlainAcceptor user password accepted) (PlainProfile other secret) = (λ has. tt, λ same. contains_one _)
@@ -65,12 +69,20 @@ offers_agree (PlainAcceptor user password accepted) AnonymousProfile =
     (λ has. absurd (differ _ _ refl (the_one _ _ has)), λ same. absurd same)
 offers_agree (PlainAcceptor user password accepted) ExternalProfile =
     (λ has. absurd (differ _ _ refl (the_one _ _ has)), λ same. absurd same)
+offers_agree (PlainAcceptor user password accepted) (MessageProfile AnonymousMessage message is_due) =
+    (λ has. absurd (differ _ _ refl (the_one _ _ has)), λ same. absurd same)
+offers_agree (PlainAcceptor user password accepted) (MessageProfile ExternalMessage message is_due) =
+    (λ has. absurd (differ _ _ refl (the_one _ _ has)), λ same. absurd same)
 offers_agree AnonymousAcceptor (ScramProfile client) =
     (λ has. absurd ((other_name client.version).1 (sym (the_one _ _ has))), λ same. absurd same)
 offers_agree AnonymousAcceptor (PlainProfile user password) =
     (λ has. absurd (differ _ _ refl (the_one _ _ has)), λ same. absurd same)
 offers_agree AnonymousAcceptor AnonymousProfile = (λ has. tt, λ same. contains_one _)
 offers_agree AnonymousAcceptor ExternalProfile =
+    (λ has. absurd (differ _ _ refl (the_one _ _ has)), λ same. absurd same)
+offers_agree AnonymousAcceptor (MessageProfile AnonymousMessage message is_due) =
+    (λ has. tt, λ same. contains_one _)
+offers_agree AnonymousAcceptor (MessageProfile ExternalMessage message is_due) =
     (λ has. absurd (differ _ _ refl (the_one _ _ has)), λ same. absurd same)
 
 pub something_is_offered : SomethingIsOffered

@@ -1,12 +1,12 @@
 -- Each machine has a reply to each frame that its side is sent.
-use Rattle.std.proofs.Common.{ℕ, Option, Some, None, List, refl, inl, inr, Bool, true, Result, Ok, Err}
+use Rattle.std.proofs.Common.{ℕ, Option, Some, None, List, [], ◌∷◌, refl, inl, inr, Bool, true, false, Result, Ok, Err}
 use Rattle.std.specs.List.{Contains}
 use Rattle.fe2o3_sasl_wire.specs.declared.amqp_types.SaslCode.TheVariants as outcomes
 use Rattle.fe2o3_sasl_wire.specs.SaslFrames as frames
 use Rattle.fe2o3_sasl_wire.specs.SaslFrames.{SaslFrame}
 use Rattle.fe2o3_scram.proofs.lemmas.texts.DecisionLemmas.{Decided}
 use Rattle.fe2o3_sasl_core.specs.MechanismLaws.{SomeAcceptorReply, SomeProfileReply}
-use Rattle.fe2o3_sasl_core.specs.Profiles.{Profile, ScramProfile, PlainProfile, AnonymousProfile, ExternalProfile, profile_machine, profile_name, initial_response, after_init}
+use Rattle.fe2o3_sasl_core.specs.Profiles.{Profile, ScramProfile, PlainProfile, AnonymousProfile, ExternalProfile, MessageProfile, MessageMechanism, message_name, profile_machine, profile_name, initial_response, after_init}
 use Rattle.fe2o3_sasl_core.specs.SaslAcceptor.{Acceptor, ScramAcceptor, PlainAcceptor, AnonymousAcceptor, acceptor_machine, ends_with, server_frame, NamesPlain}
 use Rattle.fe2o3_sasl_core.proofs.lemmas.machines.SomeRunLemmas.{some_start, some_conclusion, some_move, contains_or}
 use Rattle.fe2o3_sasl_core.proofs.lemmas.machines.ZeroPartLemmas.{names_plain_or}
@@ -66,6 +66,24 @@ listed profile hostname nonce names (inl has) = (
 )
 listed profile hostname nonce names (inr none) = (Err NotImplemented, profile, inr (none, refl, refl))
 
+-- a profile of a single message answers an empty challenge that is due
+message_reply : (mechanism : MessageMechanism) (message : List ℕ) (is_due : Bool) (hostname : Option (List ℕ))
+    (nonce : List ℕ) (frame : SaslFrame) → Answers (MessageProfile mechanism message is_due) hostname nonce frame
+message_reply mechanism message is_due hostname nonce (frames.Mechanisms names) = listed
+    (MessageProfile mechanism message is_due) hostname nonce names (contains_or names (message_name mechanism))
+message_reply mechanism message true hostname nonce (frames.Challenge []) =
+    (Ok (frames.Response message), MessageProfile mechanism message false, (refl, refl))
+message_reply mechanism message true hostname nonce (frames.Challenge (byte ∷ rest)) =
+    (Err NotImplemented, MessageProfile mechanism message true, (refl, refl))
+message_reply mechanism message false hostname nonce (frames.Challenge text) =
+    (Err NotImplemented, MessageProfile mechanism message false, (refl, refl))
+message_reply mechanism message is_due hostname nonce (frames.Outcome code more) =
+    (Ok (frames.Outcome code more), MessageProfile mechanism message is_due, (refl, refl))
+message_reply mechanism message is_due hostname nonce (frames.Init name response host) =
+    (Err NotImplemented, MessageProfile mechanism message is_due, (refl, refl))
+message_reply mechanism message is_due hostname nonce (frames.Response text) =
+    (Err NotImplemented, MessageProfile mechanism message is_due, (refl, refl))
+
 pub some_profile_reply : SomeProfileReply
 some_profile_reply (ScramProfile client) hostname nonce frame =
     let move = some_move hostname client nonce frame in (move.0, ScramProfile move.1, move.2)
@@ -99,3 +117,5 @@ some_profile_reply ExternalProfile hostname nonce (frames.Challenge text) =
     (Err NotImplemented, ExternalProfile, (refl, refl))
 some_profile_reply ExternalProfile hostname nonce (frames.Response text) =
     (Err NotImplemented, ExternalProfile, (refl, refl))
+some_profile_reply (MessageProfile mechanism message is_due) hostname nonce frame =
+    message_reply mechanism message is_due hostname nonce frame

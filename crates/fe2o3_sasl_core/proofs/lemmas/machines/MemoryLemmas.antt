@@ -14,7 +14,7 @@ use Rattle.fe2o3_sasl_core.specs.ClientHistory.{Answering, ClientAllocates, Clie
 use Rattle.fe2o3_sasl_core.specs.Events.{Given, Login, Answered, Reported, Refused, Failed, scram_fault}
 use Rattle.fe2o3_sasl_core.specs.Laws.{WantsAtServer, ServersWantMemory, ClientsWantMemory, ProfilesWantMemory}
 use Rattle.fe2o3_scram.specs.ScramClient.{ClientSide, expects_signature}
-use Rattle.fe2o3_sasl_core.specs.Profiles.{Profile, ScramProfile, ChallengeReplies, client_frame, profile_machine, StepAllocates}
+use Rattle.fe2o3_sasl_core.specs.Profiles.{Profile, ScramProfile, ChallengeReplies, client_frame, profile_machine, StepAllocates, MessageProfile}
 use Rattle.fe2o3_sasl_core.specs.Runs.{Replies}
 use Rattle.fe2o3_sasl_core.specs.Bodies.{SpellsBody, carried}
 use Rattle.fe2o3_sasl_core.specs.ServerHistory.{Challenging, Open, ServerAllocates, ServerAnswers}
@@ -196,6 +196,7 @@ machine_wants hostname (ScramProfile client) next nonce (frames.Outcome outcomes
     absurd (verified_otherwise (ScramProfile client) moved next reply None is.0 is.3 said)
 machine_wants hostname (ScramProfile client) next nonce (frames.Outcome outcomes.Ok (Some text)) reply moved is said =
     absurd (verified_otherwise (ScramProfile client) moved next reply (Some text) is.0 is.3 said)
+machine_wants hostname (MessageProfile mechanism message true) next nonce (frames.Challenge []) reply moved is said = tt
 machine_wants hostname profile next nonce (frames.Outcome code more) reply moved is said =
     absurd (reported_otherwise profile moved next reply code more is.0 said)
 machine_wants hostname profile next nonce frame reply moved is said =

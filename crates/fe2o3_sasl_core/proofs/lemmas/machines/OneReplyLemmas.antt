@@ -25,7 +25,7 @@ use Rattle.fe2o3_scram.proofs.lemmas.messages.ServerFinalLemmas.{one_server_fina
 use Rattle.fe2o3_scram.proofs.lemmas.messages.ServerFirstLemmas.{one_server_first}
 use Rattle.fe2o3_sasl_core.specs.MechanismLaws.{OneAcceptorReply, OneProfileReply}
 use Rattle.fe2o3_sasl_core.specs.SaslAcceptor.{Acceptor, ScramAcceptor, PlainAcceptor, AnonymousAcceptor, server_frame}
-use Rattle.fe2o3_sasl_core.specs.Profiles.{Profile, ScramProfile, ChallengeReplies, client_frame}
+use Rattle.fe2o3_sasl_core.specs.Profiles.{Profile, ScramProfile, ChallengeReplies, client_frame, MessageProfile}
 use Rattle.fe2o3_sasl_core.specs.declared.sasl_profile.error.ProfileError.{ProfileError}
 
 -- the result is made of a reading
@@ -339,6 +339,8 @@ one_profile_reply (ScramProfile client) hostname nonce (frames.Outcome outcomes.
     next last is too =
     same_turn (λ verified. frames.Outcome outcomes.Ok (Some text)) (is.0, is.1) (too.0, too.1) reply other next last
     (one_verification client.state client text is.0 too.0 is.1 too.1 is.2 too.2) is.3 is.4 too.3 too.4
+one_profile_reply (MessageProfile mechanism message true) hostname nonce (frames.Challenge []) reply other next last is
+    too = both_are _ _ reply other next last is too
 one_profile_reply profile hostname nonce (frames.Outcome code more) reply other next last is too =
     both_are _ _ reply other next last is too
 one_profile_reply profile hostname nonce frame reply other next last is too =

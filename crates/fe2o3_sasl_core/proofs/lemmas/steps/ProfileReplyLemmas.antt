@@ -1,5 +1,5 @@
 -- What the machine of a SCRAM profile replies, from what a SCRAM client answers.
-use Rattle.std.proofs.Common.{◌≡◌, ◌≢◌, ◌⊎◌, ℕ, Bool, true, false, Option, Some, List, ◌+◌, ◌<◌, ◌≤◌, length, take, get_or, refl, sym, ap, ◌∙◌, subst, inl, inr, Result, Err}
+use Rattle.std.proofs.Common.{◌≡◌, ◌≢◌, ◌⊎◌, ℕ, Bool, true, false, Option, Some, List, ◌+◌, ◌<◌, ◌≤◌, length, take, get_or, refl, sym, ap, ◌∙◌, subst, inl, inr, Result, Err, [], ◌∷◌, Ok}
 use Rattle.std.proofs.lemmas.List.{take_more, take_all}
 use Rattle.std.proofs.lemmas.List.Elements.{Contains-push_cases}
 use Rattle.std.specs.List.{Contains}
@@ -15,9 +15,9 @@ use Rattle.fe2o3_sasl_wire.specs.declared.amqp_types.SaslCode.{SaslCode}
 use Rattle.fe2o3_sasl_wire.specs.declared.amqp_types.SaslCode.TheVariants as outcomes
 use Rattle.fe2o3_scram.specs.ClientKeys.{ClientKeys}
 use Rattle.fe2o3_scram.specs.ServerFinal.{ReadsServerFinal, ReadsSignature}
-use Rattle.fe2o3_sasl_core.specs.Profiles.{Profile, ScramProfile, PlainProfile, AnonymousProfile, ExternalProfile, ChallengeAllocates, ChallengeReplies, profile_machine, FrameAllocates, ViewAllocates, StepAllocates, IsAnswered, ProfileAnswers, is_scram}
+use Rattle.fe2o3_sasl_core.specs.Profiles.{Profile, ScramProfile, PlainProfile, AnonymousProfile, ExternalProfile, ChallengeAllocates, ChallengeReplies, profile_machine, FrameAllocates, ViewAllocates, StepAllocates, IsAnswered, ProfileAnswers, is_scram, MessageProfile, MessageMechanism}
 use Rattle.fe2o3_sasl_core.specs.ProfileFaults.{fault_of_kind}
-use Rattle.fe2o3_sasl_core.specs.private.Writing.{RefusesAlways}
+use Rattle.fe2o3_sasl_core.specs.private.Writing.{AnswersAlways, RefusesAlways}
 use Rattle.fe2o3_sasl_core.specs.declared.sasl_profile.error.ProfileError.{ProfileError}
 use Rattle.fe2o3_sasl_core.specs.declared.sasl_profile.error.ProfileError.TheVariants.{NotImplemented, Scram, StaleKeys, Frame, OutOfMemory}
 
@@ -81,6 +81,7 @@ waiting state text reaches = absurd reaches
 view_allocates : (profile : Profile) (frame : SaslFrame) → FrameAllocates profile frame → ViewAllocates profile frame
 view_allocates profile (frames.Mechanisms names) has = has
 view_allocates (ScramProfile client) (frames.Challenge text) has = has
+view_allocates (MessageProfile mechanism message true) (frames.Challenge []) has = has
 view_allocates (ScramProfile client) (frames.Outcome outcomes.Ok (Some text)) has = waiting client.state text has
 view_allocates profile frame has = absurd has
 
@@ -95,6 +96,7 @@ outcome_allocates (ScramProfile client) outcomes.SysTemp text has = tt
 outcome_allocates (PlainProfile user password) code text has = tt
 outcome_allocates AnonymousProfile code text has = tt
 outcome_allocates ExternalProfile code text has = tt
+outcome_allocates (MessageProfile mechanism message is_due) code text has = tt
 
 -- what a profile rejects, it rejects of a view
 pub view_refuses : (profile next : Profile) (hostname : Option (List ℕ)) (nonce : List ℕ) (frame : SaslFrame)
@@ -168,14 +170,17 @@ unread_outcome (ScramProfile client) code text is = absurd (cc)
 unread_outcome (PlainProfile user password) code text is = tt
 unread_outcome AnonymousProfile code text is = tt
 unread_outcome ExternalProfile code text is = tt
+unread_outcome (MessageProfile mechanism message is_due) code text is = tt
 
--- a challenge to a profile that is not of SCRAM is rejected
-pub unchallenged : (profile : Profile) (text : List ℕ) → is_scram profile ≡ false
-    → RefusesAlways profile (frames.Challenge text) NotImplemented
-unchallenged (ScramProfile client) text is = absurd (cc)
-unchallenged (PlainProfile user password) text is = λ hostname nonce. (refl, refl)
-unchallenged AnonymousProfile text is = λ hostname nonce. (refl, refl)
-unchallenged ExternalProfile text is = λ hostname nonce. (refl, refl)
+-- a single message is the response to a challenge that asks for it
+pub message_responds : (mechanism : MessageMechanism) (message : List ℕ) (is_due : Bool) (text response : List ℕ)
+    → StepAllocates (MessageProfile mechanism message is_due) (frames.Challenge text) → response ≡ message
+    → AnswersAlways (MessageProfile mechanism message is_due) (frames.Challenge text) (Ok (frames.Response response))
+    (MessageProfile mechanism message false)
+message_responds mechanism message true [] response due is =
+    λ hostname nonce. (ap (λ (sent : List ℕ). Ok (frames.Response sent)) is, refl)
+message_responds mechanism message true (byte ∷ rest) response due is = absurd due
+message_responds mechanism message false text response due is = absurd due
 
 -- ---- the search for a name
 

@@ -1,5 +1,5 @@
 -- What a profile replies in a body, from what it answers and what was written.
-use Rattle.std.proofs.Common.{◌≡◌, ℕ, Bool, true, false, Option, Some, List, refl, sym, ap, ◌∙◌, subst, inl, inr, Ok, Err}
+use Rattle.std.proofs.Common.{◌≡◌, ℕ, Bool, true, false, Option, Some, List, refl, sym, ap, ◌∙◌, subst, inl, inr, Ok, Err, []}
 use Rattle.std.specs.List.{Contains}
 use Rattle.fe2o3_sasl_wire.specs.declared.amqp_types.SaslCode.{SaslCode}
 use Rattle.fe2o3_sasl_wire.specs.declared.amqp_types.SaslCode.TheVariants as outcomes
@@ -9,7 +9,7 @@ use Rattle.fe2o3_sasl_wire.specs.SaslFrames as frames
 use Rattle.fe2o3_sasl_wire.specs.SaslFrames.{SaslFrame, canonical}
 use Rattle.fe2o3_sasl_core.specs.Events.{Started, Answered, Reported, Refused}
 use Rattle.fe2o3_sasl_core.specs.Runs.{ProfileReplies, SendsCanonical}
-use Rattle.fe2o3_sasl_core.specs.Profiles.{Profile, ScramProfile, profile_name, initial_response, after_init, profile_machine, ChallengeAllocates, FrameAllocates, StepAllocates, IsStarted, IsChallengeDue, ProfileAnswers}
+use Rattle.fe2o3_sasl_core.specs.Profiles.{Profile, ScramProfile, profile_name, initial_response, after_init, profile_machine, ChallengeAllocates, FrameAllocates, StepAllocates, IsStarted, IsChallengeDue, ProfileAnswers, MessageProfile}
 use Rattle.fe2o3_scram.specs.ScramClient as client_states
 use Rattle.fe2o3_scram.specs.ScramClient.{ClientSide, ClientState, ReachesSaltIn, expects_signature}
 use Rattle.fe2o3_sasl_core.specs.declared.sasl_profile.error.ProfileError.{ProfileError}
@@ -33,6 +33,7 @@ due client text true is has = inr is
 step_allocates : (profile : Profile) (frame : SaslFrame) → FrameAllocates profile frame → StepAllocates profile frame
 step_allocates profile (frames.Mechanisms names) has = has
 step_allocates (ScramProfile client) (frames.Challenge text) has = (has.0, due client text (expects_signature client) refl has.1)
+step_allocates (MessageProfile mechanism message true) (frames.Challenge []) has = has
 step_allocates (ScramProfile client) (frames.Outcome outcomes.Ok (Some text)) has = waiting client.state text has
 step_allocates profile frame has = absurd has
 

@@ -1,9 +1,0 @@
-use Rattle.fe2o3_sasl_core.specs.SaslProfile.{profile_of}
-use Rattle.fe2o3_sasl_core.proofs.lemmas.steps.ProfileReplyLemmas.{unchallenged}
-use Rattle.fe2o3_sasl_core.proofs.sasl_profile.SaslProfile.refusal_unread.Goals as goal
-
-pub returns-in-Some : goal.returns-in-Some
-returns-in-Some c = rw c.in-Some.ensures.side c.refusal_unread.ensures
-
-pub returns-in-None : goal.returns-in-None
-returns-in-None c = unchallenged (profile_of c.args.self.now) c.args.challenge.now c.in-None.ensures.side
