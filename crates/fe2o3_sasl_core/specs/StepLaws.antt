@@ -32,7 +32,7 @@ abbrev pub PlainOksLogIn : Type 0
 PlainOksLogIn = (server next : PlainState) (event : Given) (body : List ℕ)
     → AcceptorSteps plain_machine server event (Concluded outcomes.Ok body) next
     → (frame : SaslFrame) × (user : List ℕ) × SpellsBody event.body (Ok frame)
-    × PlainLogsIn server.provider frame user × (next ≡ record server { user = Some user })
+    × PlainLogsIn server.passwords server.provider frame user × (next ≡ record server { user = Some user })
 
 -- a SCRAM profile reports Ok only on an outcome Ok whose data shows the signature that it waits for (RFC 5802, section
 -- 5), with this data

@@ -29,6 +29,6 @@ returns-else-has_password-clause-exactly g c =
 
 pub returns-else-has_password-clause-user : goal.returns-else-has_password-clause-user
 returns-else-has_password-clause-user g c =
-    not_logged_in (g.C.ScramCredentialProvider.meaning c.args.self.now.credentials) (init_frame c.args.init.now)
+    not_logged_in c.args.self.now.passwords (g.C.ScramCredentialProvider.meaning c.args.self.now.credentials) (init_frame c.args.init.now)
     (parts_of c.in_ok-message.message) c.in_ok-message.ensures
     (λ has. let yes = c.has_password.ensures.verdict.1 has in let no = c.if-has_password.false in absurd (cc))
