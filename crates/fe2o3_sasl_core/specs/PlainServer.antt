@@ -16,8 +16,8 @@ use Rattle.fe2o3_sasl_core.specs.declared.plain_server.passwords.PlainPasswords.
 use Rattle.fe2o3_sasl_core.specs.declared.plain_server.PlainServer.{PlainServer}
 use Rattle.fe2o3_sasl_core.specs.declared.plain_server.PlainMessage.{PlainMessage}
 
--- a server of PLAIN over records: its provider, its iteration count for an unknown user, what it tests of a password, and
--- the user who has logged in
+-- a server of PLAIN over records: its provider, its iteration count for an unknown user, the form of its passwords, and the
+-- user who has logged in
 pub record PlainState : Type 0 where
   pub provider : Store
   pub count : ℕ

@@ -27,17 +27,31 @@ unknown provider user password stored met none empty verdict = (
   λ has. let wrong : None ≡ Some has.0 = sym none ∙ has.1 in absurd (cc),
 )
 
+-- a test against the record of a user, and against a mock record of that count, costs what its count says
+pub costs_known : (password : PasswordText) (count : ℕ) (found : Option Record) (stored : Record) (before after : ℕ)
+    → Some stored ≡ found → CheckingCosts password stored.count before after
+    → CheckingCosts password (count_or count found) before after
+costs_known password count found stored before after is costs =
+    subst (λ (found : Option Record). CheckingCosts password (count_or count found) before after) is costs
+
+pub costs_unknown : (password : PasswordText) (count : ℕ) (found : Option Record) (mock before after : ℕ)
+    → None ≡ found → mock ≡ count → CheckingCosts password mock before after
+    → CheckingCosts password (count_or count found) before after
+costs_unknown password count found mock before after is same costs =
+    subst (λ (found : Option Record). CheckingCosts password (count_or count found) before after) is
+    (subst (λ (count : ℕ). CheckingCosts password count before after) same costs)
+
 -- ---- the tested password
 
 -- there is one at most
-pub one_tested : (passwords : PlainPasswords) (text : List ℕ) (password other : PasswordText)
+one_tested : (passwords : PlainPasswords) (text : List ℕ) (password other : PasswordText)
     → TestedPassword passwords text password → TestedPassword passwords text other → password ≡ other
 one_tested forms.Typed text password other is too = is ∙ sym too
 one_tested forms.Prepared text password other is too = is ∙ sym too
 one_tested forms.Saslprep text password other is too = is.2 ∙ sym too.2
 
 -- what it says of the user, the message has
-pub has_tested : (passwords : PlainPasswords) (provider : Store) (parts : PlainParts) (password : PasswordText)
+has_tested : (passwords : PlainPasswords) (provider : Store) (parts : PlainParts) (password : PasswordText)
     (met : Bool) → TestedPassword passwords parts.password password
     → (IsTrue met ↔ MeetsUser provider parts.user password) → (IsTrue met ↔ HasPassword passwords provider parts)
 has_tested passwords provider parts password met is verdict = (
@@ -52,9 +66,7 @@ tested_where : (text : List ℕ) (why : Option SaslprepError) (out : List ℕ) �
 tested_where text None [] is empty = inr (λ password tested. tested.1 empty)
 tested_where text None (byte ∷ bytes) is some = inl (
   Prepared (saslprep_text text),
-  is,
-  (λ empty. let no : byte ∷ bytes ≡ [] = sym some ∙ empty in absurd (cc)),
-  refl,
+  (is, (λ empty. let no : byte ∷ bytes ≡ [] = sym some ∙ empty in absurd (cc)), refl),
 )
 tested_where text (Some why) out is some =
     inr (λ password tested. let no : Some why ≡ None = sym is ∙ tested.0 in absurd (cc))
@@ -69,7 +81,7 @@ normal_or : (password : PasswordText) → Decided (IsNormal password)
 normal_or (Typed text) = printable_or text
 normal_or (Prepared text) = inl (tt {0})
 
-pub costs_tested : (passwords : PlainPasswords) (text : List ℕ) (password : PasswordText) (count before after : ℕ)
+costs_tested : (passwords : PlainPasswords) (text : List ℕ) (password : PasswordText) (count before after : ℕ)
     → TestedPassword passwords text password → CheckingCosts password count before after
     → TestingCosts passwords text count before after
 costs_tested passwords text password count before after is costs = (
@@ -77,6 +89,23 @@ costs_tested passwords text password count before after is costs = (
       (one_tested passwords text password other is too) costs,
   λ none. absurd (none password is),
 )
+
+-- and where the server's form is this one
+pub has_form : (passwords form : PlainPasswords) (provider : Store) (parts : PlainParts) (password : PasswordText)
+    (met : Bool) → passwords ≡ form → TestedPassword form parts.password password
+    → (IsTrue met ↔ MeetsUser provider parts.user password) → (IsTrue met ↔ HasPassword passwords provider parts)
+has_form passwords form provider parts password met same is verdict =
+    subst (λ (passwords : PlainPasswords). IsTrue met ↔ HasPassword passwords provider parts) (sym same)
+    (has_tested form provider parts password met is verdict)
+
+pub costs_form : (passwords form : PlainPasswords) (text : List ℕ) (password : PasswordText) (count before after : ℕ)
+    → passwords ≡ form → TestedPassword form text password → CheckingCosts password count before after
+    → TestingCosts passwords text count before after
+costs_form passwords form text password count before after same is costs =
+    subst (λ (passwords : PlainPasswords). TestingCosts passwords text count before after) (sym same)
+    (costs_tested form text password count before after is costs)
+
+-- ---- an init
 
 -- a frame asks by one message
 pub one_asked : (frame : SaslFrame) (parts other : PlainParts) → AsksPlain frame parts → AsksPlain frame other
@@ -103,7 +132,7 @@ unmade : (server : PlainState) (frame : SaslFrame) (parts : PlainParts) (before 
 unmade server frame parts before after asks costs (inl (password, tested)) none =
     (costs.0 password tested).1 (λ passed. none (count_or server.count (record_at server.provider.records parts.user))
     (parts, password, asks, tested, refl, passed))
-unmade server frame parts before after asks costs (inr no) none = costs.1 no
+unmade server frame parts before after asks costs (inr untested) none = costs.1 untested
 
 -- that of an answer to a frame that asks is that of the test of its password
 pub cost_of_test : (server : PlainState) (frame : SaslFrame) (parts : PlainParts) (before after : ℕ)
