@@ -112,7 +112,11 @@ enum fe2o3_offer {
     /* EXTERNAL, if `external_authcid` is not empty. */
     FE2O3_OFFER_EXTERNAL = 32,
     /* No mechanism: SCRAM also accepts the GS2 header `y,,`, like fe2o3_scram_server_first_with_cbind_flag_y. */
-    FE2O3_ACCEPT_CBIND_FLAG_Y = 64
+    FE2O3_ACCEPT_CBIND_FLAG_Y = 64,
+    /* No mechanism: PLAIN tests the password as received, also a non-ASCII one. Clients prepare their passwords. */
+    FE2O3_PLAIN_PREPARED = 128,
+    /* No mechanism: PLAIN tests the text that SASLprep prepares the password to. Not with FE2O3_PLAIN_PREPARED. */
+    FE2O3_PLAIN_SASLPREP = 256
 };
 
 /* How far a login on a connection is. */
@@ -808,7 +812,9 @@ uint32_t fe2o3_sasl_client_receive(
 /* What a server offers, and the records of one user. You lend the struct to each call. */
 struct fe2o3_sasl_server_config {
     /* The offered mechanisms: a sum of values of enum fe2o3_offer. PLAIN sends the password in clear, so offer it
-     * over TLS only. */
+     * over TLS only. It rejects every password that is not printable ASCII, unless the sum has FE2O3_PLAIN_PREPARED
+     * or FE2O3_PLAIN_SASLPREP. By the latter it also rejects a password that SASLprep rejects or prepares to the empty
+     * text. */
     uint32_t mechanisms;
     /* The iteration count with which PLAIN hashes the password of an unknown user. */
     uint32_t iterations;

@@ -186,7 +186,9 @@ class Progress(enum.IntEnum):
 
 class Offer(enum.IntFlag):
     """What a server offers. PLAIN sends the password in clear, so offer it over TLS only. ACCEPT_CBIND_FLAG_Y
-    is no mechanism: SCRAM also accepts the GS2 header `y,,`, like `Server.first` with `accept_cbind_flag_y`."""
+    is no mechanism: SCRAM also accepts the GS2 header `y,,`, like `Server.first` with `accept_cbind_flag_y`.
+    PLAIN_PREPARED and PLAIN_SASLPREP, of which one is allowed, say which passwords PLAIN tests: the password as received,
+    or as the server prepares it by SASLprep. Without them it rejects non-ASCII passwords."""
 
     SCRAM_SHA_512 = 1
     SCRAM_SHA_256 = 2
@@ -195,6 +197,8 @@ class Offer(enum.IntFlag):
     ANONYMOUS = 16
     EXTERNAL = 32
     ACCEPT_CBIND_FLAG_Y = 64
+    PLAIN_PREPARED = 128
+    PLAIN_SASLPREP = 256
 
 
 class _Mechanism(enum.IntEnum):

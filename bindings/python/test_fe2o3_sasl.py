@@ -556,7 +556,34 @@ class Connections(Case):
         self.refused(Status.NO_SUCH_MECHANISM, server(0).receive, b"A")
         self.refused(Status.NO_SUCH_MECHANISM, server(64).receive, b"A")
         self.refused(Status.NO_SUCH_MECHANISM, server(128).receive, b"A")
+        both_forms = Offer.PLAIN | Offer.PLAIN_PREPARED | Offer.PLAIN_SASLPREP
+        for mechanisms in (both_forms, Offer.PLAIN | 512):
+            self.refused(Status.NO_SUCH_MECHANISM, server(mechanisms).receive, b"A")
         self.refused(Status.NOT_UTF8, ServerConnection(nobody, external_authcid=b"\xff").receive, b"A")
+
+    def test_plain_passwords(self) -> None:
+        # (RFC 4013, section 3, prepares two of these texts to "IX"; "\xad" alone to nothing; and rejects the last one)
+        passwords = {"ix": "IX", "accents": "p\xe4ssw\xf6rd"}
+        known = {name: Record.parse(Secret(SHA_256, text, SALT, 4096).record_text()) for name, text in passwords.items()}
+        for form, name, password, logged_in in (
+            (0, "ix", "IX", True),
+            (0, "ix", "I\xadX", False),
+            (0, "accents", "p\xe4ssw\xf6rd", False),
+            (Offer.PLAIN_PREPARED, "ix", "I\xadX", False),
+            (Offer.PLAIN_PREPARED, "accents", "p\xe4ssw\xf6rd", True),
+            (Offer.PLAIN_SASLPREP, "ix", "IX", True),
+            (Offer.PLAIN_SASLPREP, "ix", "I\xadX", True),
+            (Offer.PLAIN_SASLPREP, "ix", "\u2168", True),
+            (Offer.PLAIN_SASLPREP, "accents", "pa\u0308sswo\u0308rd", True),
+            (Offer.PLAIN_SASLPREP, "nobody", "\u2168", False),
+            (Offer.PLAIN_SASLPREP, "ix", "\xad", False),
+            (Offer.PLAIN_SASLPREP, "ix", "\u06271", False),
+        ):
+            side, by = ServerConnection(of(known), mechanisms=Offer.PLAIN | form), Plain(name, password)
+            by.begin()
+            served(side, by, 4096)
+            progress = Progress.AUTHENTICATED if logged_in else Progress.FAILED
+            self.assertEqual((side.progress, by.logged_in), (progress, logged_in), (form, name, password))
 
     def test_several_hashes(self) -> None:
         known = [Record.make(version, "pencil", salt=SALT) for version in (SHA_256, SHA_512)]

@@ -360,7 +360,9 @@ def python_block(reader):
                             [(one.name, one.number) for one in enums["progress"].values]))
     out.append(python_class("IntFlag", "Offer", "What a server offers. PLAIN sends the password in clear, so offer it over TLS"
                             " only. ACCEPT_CBIND_FLAG_Y\n    is no mechanism: SCRAM also accepts the GS2 header `y,,`, like `Server.first`"
-                            " with `accept_cbind_flag_y`.",
+                            " with `accept_cbind_flag_y`.\n    PLAIN_PREPARED and PLAIN_SASLPREP, of which one is allowed, say which"
+                            " passwords PLAIN tests: the password as received,\n    or as the server prepares it by SASLprep."
+                            " Without them it rejects non-ASCII passwords.",
                             [(one.name.replace("OFFER_", ""), one.number) for one in enums["offer"].values]))
     for name, title, prefix in [("mechanism", "_Mechanism", ""), ("secret", "_Secret", ""), ("password_form", "_Form", ""),
                                 ("unassigned", "_Unassigned", "UNASSIGNED_"), ("scram_server_state", "_ServerState",

@@ -112,7 +112,11 @@ enum fe2o3_offer {
     /* EXTERNAL, if `external_authcid` is not empty. */
     FE2O3_OFFER_EXTERNAL = 32,
     /* No mechanism: SCRAM also accepts the GS2 header `y,,`, like fe2o3_scram_server_first_with_cbind_flag_y. */
-    FE2O3_ACCEPT_CBIND_FLAG_Y = 64
+    FE2O3_ACCEPT_CBIND_FLAG_Y = 64,
+    /* No mechanism: PLAIN tests the password as received, also a non-ASCII one. Clients prepare their passwords. */
+    FE2O3_PLAIN_PREPARED = 128,
+    /* No mechanism: PLAIN tests the text that SASLprep prepares the password to. Not with FE2O3_PLAIN_PREPARED. */
+    FE2O3_PLAIN_SASLPREP = 256
 };
 
 /* How far a login on a connection is. */

@@ -58,7 +58,7 @@ pub use preparation::{saslprep, Unassigned};
 pub use records::{ScramRecord, StoredPassword};
 pub use server::{ScramAuthenticator, ScramCredentialProvider, SingleScramCredential};
 pub use server_error::ServerError;
-pub use serving::{PasswordServer, ServerNegotiation, UserRecords};
+pub use serving::{PasswordServer, PlainPasswords, ServerNegotiation, UserRecords};
 pub use steps::{Answered, ClientSteps, ServerSteps};
 pub use version::ScramVersion;
 

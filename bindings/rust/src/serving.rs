@@ -49,6 +49,20 @@ fn structs(records: &[ScramRecord]) -> Vec<sys::ScramRecord> {
 /// The hashes of SCRAM, the strongest first.
 const HASHES: [ScramVersion; 3] = [ScramVersion::Sha512, ScramVersion::Sha256, ScramVersion::Sha1];
 
+/// Which password PLAIN tests for the received one. User names are compared as received.
+#[derive(Clone, Copy, Debug, PartialEq, Eq)]
+pub enum PlainPasswords {
+    /// The password as typed, which is printable ASCII. Every other password is rejected.
+    Typed,
+
+    /// The password as received, as a prepared text. It is for clients that prepare their passwords.
+    Prepared,
+
+    /// The text that SASLprep (RFC 4013) prepares the password to, with unassigned code points allowed. A password that
+    /// SASLprep rejects, or whose prepared text is empty, is rejected.
+    Saslprep,
+}
+
 /// A server of SCRAM, PLAIN, ANONYMOUS and EXTERNAL over the records of users. Without options it offers SCRAM-SHA-512
 /// and SCRAM-SHA-256.
 ///
@@ -110,6 +124,16 @@ impl<R: UserRecords + Clone> PasswordServer<R> {
     /// clear.
     pub fn plain_under_tls(self, is_tls: bool) -> Self {
         self.with(sys::OFFER_PLAIN, is_tls)
+    }
+
+    /// Sets which password PLAIN tests for the received one. The default is [`PlainPasswords::Typed`].
+    pub fn plain_passwords(self, passwords: PlainPasswords) -> Self {
+        let server = self.with(sys::PLAIN_PREPARED | sys::PLAIN_SASLPREP, false);
+        match passwords {
+            PlainPasswords::Typed => server,
+            PlainPasswords::Prepared => server.with(sys::PLAIN_PREPARED, true),
+            PlainPasswords::Saslprep => server.with(sys::PLAIN_SASLPREP, true),
+        }
     }
 
     /// Makes the server offer ANONYMOUS (RFC 4505).

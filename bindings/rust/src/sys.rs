@@ -298,6 +298,12 @@ pub const OFFER_EXTERNAL: u32 = 32;
 /// `offer`: No mechanism: SCRAM also accepts the GS2 header `y,,`, like fe2o3_scram_server_first_with_cbind_flag_y.
 pub const ACCEPT_CBIND_FLAG_Y: u32 = 64;
 
+/// `offer`: No mechanism: PLAIN tests the password as received, also a non-ASCII one. Clients prepare their passwords.
+pub const PLAIN_PREPARED: u32 = 128;
+
+/// `offer`: No mechanism: PLAIN tests the text that SASLprep prepares the password to. Not with PLAIN_PREPARED.
+pub const PLAIN_SASLPREP: u32 = 256;
+
 /// `progress`: The login goes on: the other side has to send more.
 pub const IN_PROGRESS: u32 = 0;
 
@@ -584,7 +590,8 @@ pub struct SaslClient {
 #[derive(Clone, Copy)]
 pub struct SaslServerConfig {
     /// The offered mechanisms: a sum of values of the `offer` constants. PLAIN sends the password in clear, so offer it
-    /// over TLS only.
+    /// over TLS only. It rejects every password that is not printable ASCII, unless the sum has PLAIN_PREPARED or
+    /// PLAIN_SASLPREP. By the latter it also rejects a password that SASLprep rejects or prepares to the empty text.
     pub mechanisms: u32,
     /// The iteration count with which PLAIN hashes the password of an unknown user.
     pub iterations: u32,

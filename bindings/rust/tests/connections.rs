@@ -213,6 +213,32 @@ fn a_server_that_offers_nothing() {
     assert_eq!(side.progress(), Progress::Failed(ConnectionError::ProtocolHeaderMismatch));
 }
 
+/// RFC 4013, section 3: two of these texts are prepared to `IX`, and one mixes directions.
+#[test]
+fn plain_passwords() {
+    let record = ScramRecord::from_password(ScramVersion::Sha256, "IX", &[1; 16], 4096).unwrap();
+    let server = PasswordServer::new(HashMap::from([("user".to_owned(), vec![record])])).plain_under_tls(true);
+    let refused = Progress::Failed(ConnectionError::RefusedAuth);
+    for (passwords, password, progress) in [
+        (PlainPasswords::Typed, "IX", Progress::Authenticated),
+        (PlainPasswords::Typed, "I\u{ad}X", refused),
+        (PlainPasswords::Prepared, "IX", Progress::Authenticated),
+        (PlainPasswords::Prepared, "I\u{ad}X", refused),
+        (PlainPasswords::Saslprep, "I\u{ad}X", Progress::Authenticated),
+        (PlainPasswords::Saslprep, "\u{2168}", Progress::Authenticated),
+        (PlainPasswords::Saslprep, "\u{ad}", refused),
+        (PlainPasswords::Saslprep, "\u{627}1", refused),
+    ] {
+        let profile = SaslProfile::Plain { username: "user".to_owned(), password: password.to_owned() };
+        let mut client = ClientNegotiation::new(profile, None);
+        // (a later call replaces the form of an earlier one)
+        let other = server.clone().plain_passwords(PlainPasswords::Prepared);
+        let mut side = ServerNegotiation::new(other.plain_passwords(passwords));
+        joined(&mut client, &mut side);
+        assert_eq!((client.progress(), side.progress()), (progress, progress), "{passwords:?} {password:?}");
+    }
+}
+
 /// A user of two hashes, at a server that offers three and PLAIN.
 #[test]
 fn a_server_of_several_hashes() {

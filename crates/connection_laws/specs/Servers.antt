@@ -3,7 +3,7 @@
 use Rattle.std.specs.Prelude.{◌≡◌, ◌≢◌, ℕ, Bool, Option, Some, None, List, [], ◌∷◌, Ok}
 use Rattle.fe2o3_sasl_wire.specs.SaslFrames as frames
 use Rattle.fe2o3_sasl_wire.specs.SaslFrames.{SaslFrame}
-use Rattle.fe2o3_scram.specs.Credentials.{Provider, Store}
+use Rattle.fe2o3_scram.specs.Credentials.{Provider}
 use Rattle.fe2o3_sasl_core.specs.Bodies.{SpellsBody}
 use Rattle.fe2o3_sasl_core.specs.Events.{Given, ServerSays}
 use Rattle.fe2o3_sasl_core.specs.ExternalServer.{External, IsInitOf, external_machine, external_user}
@@ -150,16 +150,16 @@ ExternalServersLogIn = (state : External) (server : ServerBy external_machine st
 
 -- a server of PLAIN over records (RFC 4616) has logged its client in: the only event is an init whose message has the
 -- password of its user's record, and the server names that user
-pub record PlainServes (provider : Store) (events : List Given) (last : PlainState) : Type 0 where
+pub record PlainServes (state : PlainState) (events : List Given) (last : PlainState) : Type 0 where
   pub event : Given
   pub frame : SaslFrame
   pub user : List ℕ
   pub only : events ≡ event ∷ []
   pub spells : SpellsBody event.body (Ok frame)
-  pub logs_in : PlainLogsIn provider frame user
+  pub logs_in : PlainLogsIn state.passwords state.provider frame user
   pub named : last.user ≡ Some user
 
 -- every server of PLAIN over records that has logged its client in has `PlainServes`
 abbrev pub PlainServersLogIn : Type 0
 PlainServersLogIn = (state : PlainState) (server : ServerBy plain_machine state) → server.last.progress ≡ Authenticated
-    → PlainServes state.provider server.connection.events server.last.state
+    → PlainServes state server.connection.events server.last.state

@@ -56,6 +56,7 @@ pub use fe2o3_sasl_core::password_server::PasswordServerBuilder;
 pub use fe2o3_sasl_core::password_server::ScramHashes;
 pub use fe2o3_sasl_core::plain_server;
 pub use fe2o3_sasl_core::plain_server::MAX_PASSWORD_LEN;
+pub use fe2o3_sasl_core::plain_server::PlainPasswords;
 pub use fe2o3_sasl_core::plain_server::PlainServer;
 pub use fe2o3_sasl_core::restrict_mechanisms;
 pub use fe2o3_sasl_core::restrict_mechanisms::OfferError;

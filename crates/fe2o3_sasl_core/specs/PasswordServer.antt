@@ -20,6 +20,7 @@ use Rattle.fe2o3_sasl_core.specs.RestrictMechanisms.{Offering, offering_allocate
 use Rattle.fe2o3_sasl_core.specs.SaslAcceptor.{Acceptor, AnonymousAcceptor, ScramAcceptor, acceptor_allocates, acceptor_machine, acceptor_names, acceptor_user}
 use Rattle.fe2o3_sasl_core.specs.declared.any_mechanism.Selected.{Selected}
 use Rattle.fe2o3_sasl_core.specs.declared.any_mechanism.Selected.TheVariants.{First, Second}
+use Rattle.fe2o3_sasl_core.specs.declared.plain_server.passwords.PlainPasswords.{PlainPasswords}
 use Rattle.fe2o3_sasl_core.specs.declared.password_server.Mock.{Mock}
 use Rattle.fe2o3_sasl_core.specs.declared.password_server.Restored.{Restored}
 use Rattle.fe2o3_sasl_core.specs.declared.password_server.PasswordServer.{PasswordServer as Server}
@@ -181,9 +182,9 @@ pub record OpenExchange : Type 0 where
   pub stored : Record
 
 -- what a server offers and knows: the records; the settings of mock authentication, if any; the hashes of SCRAM, and
--- whether the GS2 flag `y` is accepted; whether PLAIN is offered, the hash of its records and the iteration count for an
--- unknown user, if one is set; whether ANONYMOUS is; the name of EXTERNAL, which is not offered if the name is empty; and
--- the open challenge, if any
+-- whether the GS2 flag `y` is accepted; whether PLAIN is offered, the hash of its records, the iteration count for an
+-- unknown user, if one is set, and the form of its passwords; whether ANONYMOUS is; the name of EXTERNAL, which is not
+-- offered if the name is empty; and the open challenge, if any
 pub record PasswordSettings : Type 0 where
   pub records : MultiRecords
   pub mock : Option MockChoice
@@ -192,6 +193,7 @@ pub record PasswordSettings : Type 0 where
   pub plain : Bool
   pub plain_version : ScramVersion
   pub plain_count : Option ℕ
+  pub plain_passwords : PlainPasswords
   pub anonymous : Bool
   pub external : List ℕ
   pub restored : Option OpenExchange
@@ -254,6 +256,7 @@ others_of settings = record {
   first = record {
     provider = provider_for settings.plain_version settings.records;
     count = count_of_unknown settings.plain_count settings.mock;
+    passwords = settings.plain_passwords;
     user = None;
   };
   second = record {
@@ -372,6 +375,7 @@ settings_of builder = record {
   plain = builder.plain;
   plain_version = builder.plain_version;
   plain_count = builder.plain_iterations;
+  plain_passwords = builder.plain_passwords;
   anonymous = builder.anonymous;
   external = builder.external.now;
   restored = option_map restored_held builder.restored;

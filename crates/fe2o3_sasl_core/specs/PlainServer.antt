@@ -1,21 +1,27 @@
 -- What a server answers to PLAIN that tests the password against its users' records (RFC 4616).
-use Rattle.std.specs.Prelude.{◌≡◌, ◌≢◌, ◌⊎◌, ◌≤◌, ◌+◌, ℕ, Option, Some, None, List, [], ◌∷◌, ◌++◌, codes, length, option_map, string_bytes}
-use Rattle.std.specs.Str.{IsUtf8}
+use Rattle.std.specs.Prelude.{◌≡◌, ◌≢◌, ◌⊎◌, ◌≤◌, ◌+◌, ℕ, Option, Some, None, List, [], ◌∷◌, ◌++◌, chars, codes, encode_utf8_all, length, option_map, string_bytes}
+use Rattle.std.specs.Str.{IsAscii, IsUtf8}
+use Rattle.saslprep.specs.Saslprep.{prepared, refusal}
+use Rattle.saslprep.specs.declared.Unassigned.TheVariants.{Allowed}
 use Rattle.fe2o3_sasl_wire.specs.declared.amqp_types.SaslCode.TheVariants as outcomes
 use Rattle.fe2o3_sasl_wire.specs.SaslFrames as frames
 use Rattle.fe2o3_sasl_wire.specs.SaslFrames.{SaslFrame}
-use Rattle.fe2o3_scram.specs.Credentials.{MeetsRecord, Store, Record, making_tests, record_at}
-use Rattle.fe2o3_scram.specs.Passwords.{Typed}
+use Rattle.fe2o3_scram.specs.Credentials.{CheckingCosts, MeetsRecord, Store, Record, making_tests, record_at}
+use Rattle.fe2o3_scram.specs.Passwords.{PasswordText, Typed, Prepared}
 use Rattle.fe2o3_scram.specs.Readings.{NoneHolds}
 use Rattle.fe2o3_scram.specs.Texts.{Without}
 use Rattle.fe2o3_sasl_core.specs.SaslAcceptor.{ends_with}
+use Rattle.fe2o3_sasl_core.specs.declared.plain_server.passwords.PlainPasswords.{PlainPasswords}
+use Rattle.fe2o3_sasl_core.specs.declared.plain_server.passwords.PlainPasswords.TheVariants as forms
 use Rattle.fe2o3_sasl_core.specs.declared.plain_server.PlainServer.{PlainServer}
 use Rattle.fe2o3_sasl_core.specs.declared.plain_server.PlainMessage.{PlainMessage}
 
--- a server of PLAIN over records: its provider, its iteration count for an unknown user, and the user who has logged in
+-- a server of PLAIN over records: its provider, its iteration count for an unknown user, the form of its passwords, and the
+-- user who has logged in
 pub record PlainState : Type 0 where
   pub provider : Store
   pub count : ℕ
+  pub passwords : PlainPasswords
   pub user : Option (List ℕ)
 
 -- the parts of a message (RFC 4616, section 2): the identity to act as, or nothing, the user's name, and the password
@@ -40,27 +46,51 @@ AsksPlain (frames.Init mechanism (Some text) hostname) message =
     (mechanism ≡ codes "PLAIN") × SpellsPlain message text × IsTaken message
 AsksPlain frame message = ⊥
 
+-- the text that SASLprep prepares a text to (RFC 4013, sections 2.1 and 2.2)
+abbrev pub saslprep_text : List ℕ → List ℕ
+saslprep_text text = encode_utf8_all (prepared (chars text))
+
+-- the password that is tested for the password of a message: its text as typed, its text as prepared, or the text that
+-- SASLprep prepares it to as a query (RFC 4616, section 2). If SASLprep rejects the text, or if the prepared text is
+-- empty, there is none.
+abbrev pub TestedPassword : PlainPasswords → List ℕ → PasswordText → Type 0
+TestedPassword forms.Typed text password = password ≡ Typed text
+TestedPassword forms.Prepared text password = password ≡ Prepared text
+TestedPassword forms.Saslprep text password = (refusal Allowed (chars text) ≡ None) × (saslprep_text text ≢ [])
+    × (password ≡ Prepared (saslprep_text text))
+
 -- the user has a record, and the password meets it (RFC 5802, section 3)
-abbrev pub HasPassword : Store → PlainParts → Type 0
-HasPassword provider message = (stored : Record) × (record_at provider.records message.user ≡ Some stored)
-    × MeetsRecord provider.version (Typed message.password) stored
+abbrev pub MeetsUser : Store → List ℕ → PasswordText → Type 0
+MeetsUser provider user password = (stored : Record) × (record_at provider.records user ≡ Some stored)
+    × MeetsRecord provider.version password stored
+
+-- the password that is tested for the message's is that of its user
+abbrev pub HasPassword : PlainPasswords → Store → PlainParts → Type 0
+HasPassword passwords provider message = (password : PasswordText)
+    × TestedPassword passwords message.password password × MeetsUser provider message.user password
 
 -- the frame logs this user in
-abbrev pub PlainLogsIn : Store → SaslFrame → List ℕ → Type 0
-PlainLogsIn provider frame user =
-    (message : PlainParts) × AsksPlain frame message × HasPassword provider message × (user ≡ message.user)
+abbrev pub PlainLogsIn : PlainPasswords → Store → SaslFrame → List ℕ → Type 0
+PlainLogsIn passwords provider frame user =
+    (message : PlainParts) × AsksPlain frame message × HasPassword passwords provider message × (user ≡ message.user)
 
 -- the machine of a server of PLAIN: a frame that logs a user in is answered by Ok, and every other by Auth
 abbrev pub plain_machine : PlainState → List ℕ → SaslFrame → SaslFrame → PlainState → Type 0
 plain_machine server nonce frame reply next =
-    ((user : List ℕ) × PlainLogsIn server.provider frame user × (reply ≡ ends_with outcomes.Ok)
+    ((user : List ℕ) × PlainLogsIn server.passwords server.provider frame user × (reply ≡ ends_with outcomes.Ok)
     × (next ≡ record server { user = Some user }))
-    ⊎ (((user : List ℕ) → ¬ PlainLogsIn server.provider frame user) × (reply ≡ ends_with outcomes.Auth)
+    ⊎ (((user : List ℕ) → ¬ PlainLogsIn server.passwords server.provider frame user) × (reply ≡ ends_with outcomes.Auth)
     × (next ≡ server))
 
--- where a server of PLAIN allocates: to keep the name of the user who logs in
+-- memory is requested to prepare a password: the server prepares it, and it is not ASCII
+abbrev pub PreparesPassword : PlainPasswords → SaslFrame → Type 0
+PreparesPassword passwords frame = (passwords ≡ forms.Saslprep)
+    × ((message : PlainParts) × AsksPlain frame message × ¬ IsAscii message.password)
+
+-- where a server of PLAIN allocates: to prepare a password, and to keep the name of the user who logs in
 abbrev pub plain_allocates : PlainState → SaslFrame → Type 0
-plain_allocates server frame = (user : List ℕ) × PlainLogsIn server.provider frame user
+plain_allocates server frame = PreparesPassword server.passwords frame
+    ⊎ ((user : List ℕ) × PlainLogsIn server.passwords server.provider frame user)
 
 -- the iteration count of the record, or this one if there is none
 abbrev pub count_or : ℕ → Option Record → ℕ
@@ -69,9 +99,17 @@ count_or count None = count
 
 -- the frame reaches the test of a password, against a record with this count
 abbrev pub TestsPassword : PlainState → SaslFrame → ℕ → Type 0
-TestsPassword server frame count = (message : PlainParts) × AsksPlain frame message
+TestsPassword server frame count = (message : PlainParts) × (password : PasswordText) × AsksPlain frame message
+    × TestedPassword server.passwords message.password password
     × (count ≡ count_or server.count (record_at server.provider.records message.user))
-    × NoneHolds (making_tests (Typed message.password) count)
+    × NoneHolds (making_tests password count)
+
+-- the HMAC values of testing the password of a message, as a meter shows them before and after: those of testing the
+-- password that is tested for it, and none if there is none
+abbrev pub TestingCosts : PlainPasswords → List ℕ → ℕ → ℕ → ℕ → Type 0
+TestingCosts passwords text count before after =
+    ((password : PasswordText) → TestedPassword passwords text password → CheckingCosts password count before after)
+    × (((password : PasswordText) → ¬ TestedPassword passwords text password) → after ≡ before)
 
 -- how many HMAC values a server of PLAIN makes (RFC 5802, section 3): to test a password those of making its record, of
 -- an unknown user too, and otherwise none
@@ -86,6 +124,7 @@ abbrev pub plain_state : {C : Type 0} → (C → Store) → PlainServer C → Pl
 plain_state meaning plain = record {
   provider = meaning plain.credentials;
   count = plain.iterations;
+  passwords = plain.passwords;
   user = option_map string_bytes plain.user;
 }
 

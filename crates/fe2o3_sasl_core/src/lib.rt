@@ -23,7 +23,7 @@ pub use crate::client_policy::{ChoiceError, ClientPolicy, Mechanism, select_mech
 pub use crate::events::{ClientReply, Event, EventError, ServerReply};
 pub use crate::external_server::{ExternalServer, NoExternalIdentity};
 pub use crate::password_server::{BuildError, PasswordServer, PasswordServerBuilder, ScramHashes};
-pub use crate::plain_server::{MAX_PASSWORD_LEN, PlainServer};
+pub use crate::plain_server::{MAX_PASSWORD_LEN, PlainPasswords, PlainServer};
 pub use crate::restrict_mechanisms::{OfferError, RestrictMechanisms};
 pub use crate::sasl_acceptor::{
     AuthenticatedUser, SaslAcceptor, SaslAcceptorExt, SaslAnonymousMechanism, SaslPlainMechanism,

@@ -14,6 +14,7 @@ ghost use Rattle.fe2o3_scram.specs.Mixed.{is_version};
 ghost use Rattle.fe2o3_scram.specs.ScramServer.{Initial, challenge_kept};
 ghost use Rattle.fe2o3_scram.specs.declared.hmac.ScramVersion.TheVariants.{Sha256};
 ghost use Rattle.fe2o3_sasl_core.specs.SaslAcceptor.{AnonymousAcceptor, ScramAcceptor};
+ghost use Rattle.fe2o3_sasl_core.specs.declared.plain_server.passwords.PlainPasswords.TheVariants.{Typed as FormTyped};
 ghost use Rattle.fe2o3_sasl_core.specs.declared.password_server.BuildError.TheVariants.{NoMechanism as BuildNoMechanism, OutOfMemory as BuildOutOfMemory, SaltTooLong as BuildSaltTooLong};
 
 mod others;
@@ -24,7 +25,7 @@ use crate::any_mechanism::{AnyMechanism, HasMechanism, Selected};
 use crate::external_server::ExternalServer;
 use crate::password_server::others::Others;
 use crate::password_server::scrams::{Scram, Scrams, Weaker, second_asked};
-use crate::plain_server::PlainServer;
+use crate::plain_server::{PlainPasswords, PlainServer};
 use crate::restrict_mechanisms::{OfferError, RestrictMechanisms};
 use crate::sasl_acceptor::{AuthenticatedUser, SaslAcceptor, SaslServerFrame};
 use fe2o3_sasl_wire::{Array, SaslInit, SaslResponse, Symbol};
@@ -127,6 +128,7 @@ pub struct PasswordServerBuilder<'a> {
     plain: bool,
     plain_version: ScramVersion,
     plain_iterations: Option<u32>,
+    plain_passwords: PlainPasswords,
     anonymous: bool,
     external: &'a str,
     restored: Option<Restored<'a>>,
@@ -143,6 +145,7 @@ impl<'a> PasswordServerBuilder<'a> {
           plain = false;
           plain_version = Sha256;
           plain_count = None;
+          plain_passwords = FormTyped;
           anonymous = false;
           external = [];
           restored = None;
@@ -160,6 +163,7 @@ impl<'a> PasswordServerBuilder<'a> {
             plain: false,
             plain_version: ScramVersion::Sha256,
             plain_iterations: None,
+            plain_passwords: PlainPasswords::Typed,
             anonymous: false,
             external: "",
             restored: None,
@@ -229,6 +233,16 @@ impl<'a> PasswordServerBuilder<'a> {
         let mut builder = self;
         builder.plain_version = version;
         builder.plain_iterations = Some(iterations);
+        builder
+    }
+
+    /// Returns this builder, whose PLAIN tests passwords in this form. Without this call the form is `Typed`, which
+    /// rejects every non-ASCII password.
+    pub fn plain_passwords(self, passwords: PlainPasswords) -> Self
+        ensures { settings_of result ≡ record (settings_of self.entry) { plain_passwords = passwords } }
+    {
+        let mut builder = self;
+        builder.plain_passwords = passwords;
         builder
     }
 
@@ -437,7 +451,10 @@ impl<'a> PasswordServerBuilder<'a> {
     fn others(&self, alloc: Global) -> Result<Others, OutOfMemory>
         ensures { IfOk result (λ others. others_state others ≡ others_of (settings_of self.now)) }
     {
-        let plain = PlainServer::new(self.store(self.plain_version)?, self.iterations());
+        let plain = PlainServer::new(
+            self.store(self.plain_version)?,
+            self.iterations(),
+        ).with_passwords(self.plain_passwords);
         let external = self.external_server(alloc)?;
         Ok(Others::new(plain, external))
     }
@@ -546,7 +563,12 @@ impl SaslAcceptor for PasswordServer {
           selected = same.0.0.2 i;
         };
         second = record {
-          first = record { provider = same.0.1.0.0 i; count = same.0.1.0.1 i; user = same.0.1.0.2 i };
+          first = record {
+            provider = same.0.1.0.0 i;
+            count = same.0.1.0.1 i;
+            passwords = same.0.1.0.2 i;
+            user = same.0.1.0.3 i;
+          };
           second = record { first = AnonymousAcceptor; second = same.0.1.1.1 i; selected = same.0.1.1.2 i };
           selected = same.0.1.2 i;
         };

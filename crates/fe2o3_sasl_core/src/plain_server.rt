@@ -1,18 +1,24 @@
 //! The server's side of PLAIN over the records of SCRAM (RFC 4616).
 
 ghost use Rattle.std.specs.Prelude.{◌≡◌, ◌≤◌, ◌+◌, ◌^◌, ◌↔◌, ℕ, List, [], ◌∷◌, None, Some, IsTrue, IfOk, IfErr, MatchOption, OnErr, OnOk, codes, option_map, string_bytes};
+ghost use Rattle.std.specs.Str.{IsAscii};
 ghost use Rattle.std.proofs.Common.{ap};
 ghost use Rattle.fe2o3_sasl_wire.specs.AmqpTypes.{init_frame, response_frame};
 ghost use Rattle.fe2o3_scram.specs.Credentials.{CheckingCosts, record_at};
-ghost use Rattle.fe2o3_scram.specs.Passwords.{Typed};
+ghost use Rattle.fe2o3_scram.specs.Passwords.{password_of};
 ghost use Rattle.fe2o3_scram.specs.Texts.{Cut};
 ghost use Rattle.fe2o3_sasl_core.specs.Costs.{CostsAtMost};
-ghost use Rattle.fe2o3_sasl_core.specs.PlainServer.{AsksPlain, HasPassword, IsTaken, PlainLogsIn, PlainParts, PlainState, SpellsPlain, count_or, parts_of, plain_allocates, plain_hmacs, plain_machine, plain_state};
+ghost use Rattle.fe2o3_sasl_core.specs.PlainServer.{AsksPlain, HasPassword, IsTaken, MeetsUser, PlainLogsIn, PlainParts, PlainState, PreparesPassword, SpellsPlain, TestingCosts, count_or, parts_of, plain_allocates, plain_hmacs, plain_machine, plain_state};
 ghost use Rattle.fe2o3_sasl_core.specs.SaslAcceptor.{sent_frame};
+ghost use Rattle.fe2o3_sasl_core.specs.declared.plain_server.passwords.PlainPasswords.TheVariants.{Typed as FormTyped, Saslprep as FormSaslprep};
+
+mod passwords;
 
 use crate::OutOfMemory;
 use crate::any_mechanism::HasMechanism;
 use crate::mechanism_names::PLAIN;
+pub use crate::plain_server::passwords::PlainPasswords;
+use crate::plain_server::passwords::prepare;
 use crate::sasl_acceptor::{AuthenticatedUser, SaslAcceptor, SaslServerFrame, one_name, outcome};
 use fe2o3_sasl_wire::{Array, SaslCode, SaslInit, SaslResponse, Symbol};
 use fe2o3_scram::credentials::ScramCredentialProvider;
@@ -22,7 +28,7 @@ use fe2o3_scram::provider::StoredPassword;
 use std::alloc::{AllocError, Global};
 use std::fmt;
 
-/// The maximum length of a password that is tested, in bytes. RFC 4616 asks a server to accept at least 255.
+/// The maximum length of a password that is tested, in bytes as received. RFC 4616 asks a server to accept at least 255.
 pub const MAX_PASSWORD_LEN: usize = 1024;
 
 /// The salt with which the password of an unknown user is hashed.
@@ -34,7 +40,8 @@ const NO_SALT: [u8; 16] = [0; 16];
 /// An init logs a user in if
 /// - its message is UTF-8 in three parts with zero bytes between them;
 /// - the first part, the identity to act as, is empty or the user's name;
-/// - the password is that of the user's record, printable ASCII of 1 to 1024 bytes.
+/// - the password is that of the user's record and has 1 to 1024 bytes of printable ASCII. [`PlainPasswords`] has the
+///   forms of other passwords.
 ///
 /// Every other init is answered by Auth and changes nothing, and so is a response. A password that is to be tested is
 /// hashed for an unknown user too, with the server's own iteration count. That takes as many HMAC values as the record
@@ -43,6 +50,7 @@ const NO_SALT: [u8; 16] = [0; 16];
 pub struct PlainServer<C: ScramCredentialProvider> {
     credentials: C,
     iterations: u32,
+    passwords: PlainPasswords,
     user: Option<String>,
 }
 
@@ -50,12 +58,26 @@ impl<C: ScramCredentialProvider> PlainServer<C> {
     /// Makes an acceptor for the users of this store, whose records have this iteration count.
     pub fn new(credentials: C, iterations: u32) -> Self
         ensures { plain_state C.meaning result
-            ≡ record { provider = C.meaning credentials; count = iterations; user = None } }
+            ≡ record { provider = C.meaning credentials; count = iterations; passwords = FormTyped; user = None } }
     {
         Self {
             credentials,
             iterations,
+            passwords: PlainPasswords::Typed,
             user: None,
+        }
+    }
+
+    /// Returns this acceptor, which tests passwords in this form. Without this call the form is `Typed`.
+    pub fn with_passwords(self, passwords: PlainPasswords) -> Self
+        ensures { plain_state C.meaning result
+            ≡ record (plain_state C.meaning self) { passwords = passwords } }
+    {
+        Self {
+            credentials: self.credentials,
+            iterations: self.iterations,
+            passwords,
+            user: self.user,
         }
     }
 
@@ -78,39 +100,79 @@ impl<C: ScramCredentialProvider> PlainServer<C> {
         Ok(Self {
             credentials: self.credentials,
             iterations: self.iterations,
+            passwords: self.passwords,
             user: Some(username.to_string(alloc)?),
         })
     }
 
-    /// Returns the user whom the init logs in. The meter counts the HMAC values.
-    fn logged_in<'a>(&self, init: &'a SaslInit, meter: &mut Meter) -> Option<&'a str>
+    /// Returns the user whom the init logs in. The meter counts the HMAC values. The only error is `OutOfMemory`.
+    fn logged_in<'a>(
+        &self,
+        alloc: Global,
+        init: &'a SaslInit,
+        meter: &mut Meter,
+    ) -> Result<Option<&'a str>, OutOfMemory>
         requires { meter.old ≤ 2 ^ 63 }
-        ensures user { MatchOption result
-            ((user : List ℕ) → ¬ PlainLogsIn (C.meaning self.now.credentials) (init_frame init.now) user)
-            (λ user. PlainLogsIn (C.meaning self.now.credentials) (init_frame init.now) user.now) }
+        ensures user { IfOk result (λ user. MatchOption user
+            ((user : List ℕ) → ¬ PlainLogsIn self.now.passwords (C.meaning self.now.credentials) (init_frame init.now) user)
+            (λ user. PlainLogsIn self.now.passwords (C.meaning self.now.credentials) (init_frame init.now) user.now)) }
+        ensures memory { IfErr result (λ _. PreparesPassword self.now.passwords (init_frame init.now)) }
         ensures cost { CostsAtMost plain_hmacs (plain_state C.meaning self.now) (init_frame init.now)
             meter.old meter.new }
-        ensures exactly { (n : ℕ) → plain_hmacs (plain_state C.meaning self.now) (init_frame init.now) n
-            → meter.new ≡ meter.old + n }
+        ensures exactly { IfOk result (λ _. (n : ℕ) → plain_hmacs (plain_state C.meaning self.now) (init_frame init.now) n
+            → meter.new ≡ meter.old + n) }
     {
-        let message = asked(init)?;
-        if self.has_password(&message, meter) {
-            Some(message.username)
+        let Some(message) = asked(init) else {
+            return Ok(None);
+        };
+        if self.has_password(alloc, &message, meter)? {
+            Ok(Some(message.username))
         } else {
-            None
+            Ok(None)
         }
     }
 
-    /// Returns whether the message has the password of its user. The meter counts the HMAC values.
-    fn has_password(&self, message: &PlainMessage<'_>, meter: &mut Meter) -> bool
+    /// Returns whether the message has the password of its user. The meter counts the HMAC values. The only error is
+    /// `OutOfMemory`, for a password that is prepared.
+    fn has_password(
+        &self,
+        alloc: Global,
+        message: &PlainMessage<'_>,
+        meter: &mut Meter,
+    ) -> Result<bool, OutOfMemory>
         requires { meter.old ≤ 2 ^ 63 }
-        ensures verdict { IsTrue result ↔ HasPassword (C.meaning self.now.credentials) (parts_of message.now) }
-        ensures cost { CheckingCosts (Typed message.now.password.now) (count_or self.now.iterations
-            (record_at (C.meaning self.now.credentials).records message.now.username.now)) meter.old meter.new }
+        ensures verdict { IfOk result (λ has. IsTrue has
+            ↔ HasPassword self.now.passwords (C.meaning self.now.credentials) (parts_of message.now)) }
+        ensures cost { IfOk result (λ _. TestingCosts self.now.passwords message.now.password.now (count_or self.now.iterations
+            (record_at (C.meaning self.now.credentials).records message.now.username.now)) meter.old meter.new) }
+        ensures memory { IfErr result (λ _. (self.now.passwords ≡ FormSaslprep) × ¬ IsAscii message.now.password.now
+            × (meter.new ≡ meter.old)) }
+    {
+        let (username, password) = (message.username, message.password);
+        match self.passwords {
+            PlainPasswords::Typed => Ok(self.meets(username, Password::Typed(password), meter)),
+            PlainPasswords::Prepared => {
+                Ok(self.meets(username, Password::Prepared(password), meter))
+            }
+            PlainPasswords::Saslprep => {
+                let Some(text) = prepare(alloc, password)? else {
+                    return Ok(false);
+                };
+                Ok(self.meets(username, Password::Prepared(text.as_str()), meter))
+            }
+        }
+    }
+
+    /// Returns whether the password is that of the user. The meter counts the HMAC values.
+    fn meets(&self, username: &str, password: Password<'_>, meter: &mut Meter) -> bool
+        requires { meter.old ≤ 2 ^ 63 }
+        ensures verdict { IsTrue result
+            ↔ MeetsUser (C.meaning self.now.credentials) username.now (password_of password.entry) }
+        ensures cost { CheckingCosts (password_of password.entry) (count_or self.now.iterations
+            (record_at (C.meaning self.now.credentials).records username.now)) meter.old meter.new }
     {
         let scram_version = *self.credentials.scram_version();
-        let password = Password::Typed(message.password);
-        match self.credentials.get_stored_password(message.username) {
+        match self.credentials.get_stored_password(username) {
             Some(stored_password) => stored_password.verify_password(
                 scram_version,
                 password,
@@ -247,12 +309,14 @@ impl<C: ScramCredentialProvider> fmt::Debug for PlainServer<C> {
 impl<C: ScramCredentialProvider> Clone for PlainServer<C> {
     ghost is_clone = { λ plain copy. C.is_clone plain.credentials copy.credentials
         × (copy.iterations ≡ plain.iterations)
+        × (copy.passwords ≡ plain.passwords)
         × (option_map string_bytes copy.user ≡ option_map string_bytes plain.user) };
 
     fn clone(&self) -> Result<Self, AllocError> {
         Ok(Self {
             credentials: self.credentials.clone()?,
             iterations: self.iterations,
+            passwords: self.passwords,
             user: self.user.clone()?,
         })
     }
@@ -273,7 +337,7 @@ impl<C: ScramCredentialProvider> SaslAcceptor for PlainServer<C> {
 
     ghost clone_keeps = { λ acceptor copy same.
         let kept = C.clone_keeps acceptor.credentials copy.credentials same.0 in
-        λ i. record { provider = kept i; count = same.1 i; user = same.2 i } };
+        λ i. record { provider = kept i; count = same.1 i; passwords = same.2 i; user = same.3 i } };
 
     fn mechanisms(&self, alloc: Global) -> Result<Array<Symbol>, OutOfMemory> {
         one_name(alloc, PLAIN)
@@ -311,10 +375,12 @@ impl<C: ScramCredentialProvider> SaslAcceptor for PlainServer<C> {
         ensures err { OnErr result (plain_state C.meaning self.new ≡ plain_state C.meaning self.old) }
         ensures cost { CostsAtMost plain_hmacs (plain_state C.meaning self.old) (init_frame init)
             meter.old meter.new }
-        ensures exactly { (n : ℕ) → plain_hmacs (plain_state C.meaning self.old) (init_frame init) n
-            → meter.new ≡ meter.old + n }
+        ensures exactly { IfOk result (λ _. (n : ℕ) → plain_hmacs (plain_state C.meaning self.old) (init_frame init) n
+            → meter.new ≡ meter.old + n) }
+        ensures unprepared { ¬ PreparesPassword self.old.passwords (init_frame init) → (n : ℕ)
+            → plain_hmacs (plain_state C.meaning self.old) (init_frame init) n → meter.new ≡ meter.old + n }
     {
-        let Some(username) = self.logged_in(&init, meter) else {
+        let Some(username) = self.logged_in(alloc, &init, meter)? else {
             return Ok(outcome(SaslCode::Auth));
         };
         self.user = Some(username.to_string(alloc)?);

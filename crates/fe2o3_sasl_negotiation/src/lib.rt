@@ -40,6 +40,7 @@ pub use fe2o3_sasl_core::NoExternalIdentity;
 pub use fe2o3_sasl_core::OfferError;
 pub use fe2o3_sasl_core::PasswordServer;
 pub use fe2o3_sasl_core::PasswordServerBuilder;
+pub use fe2o3_sasl_core::PlainPasswords;
 pub use fe2o3_sasl_core::PlainServer;
 pub use fe2o3_sasl_core::ProfileError;
 pub use fe2o3_sasl_core::RestrictMechanisms;

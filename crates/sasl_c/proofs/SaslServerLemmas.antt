@@ -16,6 +16,8 @@ use Rattle.fe2o3_scram.specs.Readings.{NoneHolds}
 use Rattle.fe2o3_scram.specs.ScramServer.{ServerState, server_against}
 use Rattle.fe2o3_scram.specs.ServerFirst.{ServerChallenge}
 use Rattle.fe2o3_sasl_core.specs.declared.any_mechanism.Selected.TheVariants.{First}
+use Rattle.fe2o3_sasl_core.specs.declared.plain_server.passwords.PlainPasswords.{PlainPasswords}
+use Rattle.fe2o3_sasl_core.specs.declared.plain_server.passwords.PlainPasswords.TheVariants as forms
 use Rattle.fe2o3_sasl_negotiation.specs.Sides.{ServerConnectionSide}
 use Rattle.fe2o3_sasl_negotiation.specs.declared.progress.CloseReason.{CloseReason}
 use Rattle.fe2o3_sasl_negotiation.specs.declared.progress.Progress.{Progress}
@@ -29,7 +31,7 @@ use Rattle.sasl_c.specs.declared.server.ScramServer.{ScramServer as ScramStruct}
 use Rattle.sasl_c.specs.declared.status.Status.{Status}
 use Rattle.sasl_c.specs.declared.status.Status.TheVariants as statuses
 use Rattle.sasl_c.specs.Records.{ShowsRecord, SpellsStruct}
-use Rattle.sasl_c.specs.SaslServer.{AddsRecord, HasNoServerWords, HasNone, HasNoStruct, HasRecords, IsNoConfig, IsOf, IsServer, NoRecordIsUnmet, ServerIsReached, ShowRecords, ShowsBy, ShowsOpen, ShowsProgress, ShowsSide, ShowsState, Stands, State, config_tests, exchange_of, version_of_first, no_record as record_without_keys, one_where, settings_for, side_in, side_struct, state_struct, struct_by, sum_of}
+use Rattle.sasl_c.specs.SaslServer.{AddsRecord, HasNoServerWords, HasNone, HasNoStruct, HasRecords, IsNoConfig, IsOf, IsServer, NoRecordIsUnmet, ServerIsReached, ShowRecords, ShowsBy, ShowsOpen, ShowsProgress, ShowsSide, ShowsState, Stands, State, config_tests, exchange_of, version_of_first, no_record as record_without_keys, one_where, passwords_number, settings_for, side_in, side_struct, state_struct, struct_by, sum_of}
 use Rattle.fe2o3_sasl_core.specs.PasswordServer.{asked_of, first_asked, opened, password_names, password_open, password_server, password_server_in, password_state, password_user, second_asked}
 use Rattle.fe2o3_sasl_core.specs.declared.password_server.PasswordServer.{PasswordServer}
 use Rattle.sasl_c.specs.Server.{IsAuthenticated, ChallengeHasRoom, IsOpen, open_number}
@@ -42,8 +44,13 @@ within : (is : Bool) (n : ℕ) → one_where is n ≤ n
 within true n = omega arith
 within false n = omega arith
 
--- a sum is at most 127
-pub sum_small : (choice : Choice) → sum_of choice ≤ 127
+form_within : (passwords : PlainPasswords) → passwords_number passwords ≤ 256
+form_within forms.Typed = omega (arith)
+form_within forms.Prepared = omega (arith)
+form_within forms.Saslprep = omega (arith)
+
+-- a sum is at most 383
+pub sum_small : (choice : Choice) → sum_of choice ≤ 383
 sum_small choice = omega (
   arith,
   within choice.sha_512 1,
@@ -53,6 +60,7 @@ sum_small choice = omega (
   within choice.anonymous 16,
   within choice.external 32,
   within choice.cbind_flag_y 64,
+  form_within choice.passwords,
 )
 
 -- ---- the record of a configuration's user

@@ -19,6 +19,8 @@ use Rattle.fe2o3_sasl_core.specs.Bodies.{SpellsBody}
 use Rattle.fe2o3_sasl_core.specs.PlainServer.{IsTaken, PlainParts, SpellsPlain}
 use Rattle.fe2o3_sasl_core.specs.PasswordServer.{OpenExchange, PasswordSettings, PasswordState, name_where, password_machine, password_names, password_open, password_server_in, password_state, password_user}
 use Rattle.fe2o3_sasl_core.specs.declared.password_server.PasswordServer.{PasswordServer}
+use Rattle.fe2o3_sasl_core.specs.declared.plain_server.passwords.PlainPasswords.{PlainPasswords}
+use Rattle.fe2o3_sasl_core.specs.declared.plain_server.passwords.PlainPasswords.TheVariants as forms
 use Rattle.fe2o3_sasl_negotiation.specs.declared.progress.Expected.{Expected}
 use Rattle.fe2o3_sasl_negotiation.specs.declared.progress.Expected.TheVariants.{Header}
 use Rattle.fe2o3_sasl_negotiation.specs.declared.progress.Progress.{Progress}
@@ -54,12 +56,18 @@ abbrev pub one_where : Bool → ℕ → ℕ
 one_where true n = n
 one_where false n = 0
 
+-- the number of a form of PLAIN's passwords (RFC 4616, section 2)
+abbrev pub passwords_number : PlainPasswords → ℕ
+passwords_number forms.Typed = 0
+passwords_number forms.Prepared = 128
+passwords_number forms.Saslprep = 256
+
 -- the sum of the mechanisms' numbers: 1 SCRAM-SHA-512, 2 SCRAM-SHA-256, 4 SCRAM-SHA-1, 8 PLAIN, 16 ANONYMOUS, 32
--- EXTERNAL; and 64 if SCRAM accepts the GS2 flag `y` (RFC 5802, section 6)
+-- EXTERNAL; 64 if SCRAM accepts the GS2 flag `y` (RFC 5802, section 6); and the number of the form of PLAIN's passwords
 abbrev pub sum_of : Choice → ℕ
 sum_of choice = one_where choice.sha_512 1 + one_where choice.sha_256 2 + one_where choice.sha_1 4
     + one_where choice.plain 8 + one_where choice.anonymous 16 + one_where choice.external 32
-    + one_where choice.cbind_flag_y 64
+    + one_where choice.cbind_flag_y 64 + passwords_number choice.passwords
 
 -- the records that an array of structs shows, in their order, each for this user
 abbrev pub ShowRecords : List ℕ → List Kept → MultiRecords → Type 0
@@ -94,6 +102,7 @@ settings_for config choice records restored = record {
   plain = choice.plain;
   plain_version = version_of_first records;
   plain_count = Some config.iterations;
+  plain_passwords = choice.passwords;
   anonymous = choice.anonymous;
   external = name_where choice.external config.external_authcid.now;
   restored = restored;

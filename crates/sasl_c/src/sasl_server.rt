@@ -15,7 +15,7 @@ ghost use Rattle.fe2o3_sasl_negotiation.specs.declared.progress.Progress.TheVari
 ghost use Rattle.fe2o3_sasl_negotiation.specs.ServerNegotiation.{ServerReceives};
 ghost use Rattle.fe2o3_sasl_negotiation.specs.Snapshot.{IsServerKept, side_of};
 ghost use Rattle.fe2o3_sasl_negotiation.specs.Sides.{ServerConnectionSide, server_side};
-ghost use Rattle.sasl_c.specs.SaslServer.{AddsRecord, HasNoServerWords, HasNone, IsNoConfig, NoRecordIsUnmet, NotReceived, Received, ReceivesAsServer, ServerIsReached, ShowRecords, ShowsBy, ShowsOpen, ShowsProgress, ShowsState, config_tests, exchange_of, one_where, progress_struct, record_for, settings_for, state_struct, struct_by, sum_of, version_of_first};
+ghost use Rattle.sasl_c.specs.SaslServer.{AddsRecord, HasNoServerWords, HasNone, IsNoConfig, NoRecordIsUnmet, NotReceived, Received, ReceivesAsServer, ServerIsReached, ShowRecords, ShowsBy, ShowsOpen, ShowsProgress, ShowsState, config_tests, exchange_of, one_where, passwords_number, progress_struct, record_for, settings_for, state_struct, struct_by, sum_of, version_of_first};
 ghost use Rattle.sasl_c.specs.declared.sasl_server.Choice.{Choice as Choices};
 ghost use Rattle.sasl_c.specs.declared.server.ScramServer.{ScramServer as ScramStruct};
 ghost use Rattle.sasl_c.specs.Connection.{side_tests};
@@ -30,7 +30,8 @@ use crate::server::ScramServer;
 use crate::status::{Status, WriteError, number_of, text, text_number};
 use bytes::BytesMut;
 use fe2o3_sasl_core::{
-    AuthenticatedUser, BuildError, PasswordServer, PasswordServerBuilder, ScramHashes,
+    AuthenticatedUser, BuildError, PasswordServer, PasswordServerBuilder, PlainPasswords,
+    ScramHashes,
 };
 use fe2o3_sasl_negotiation::{Progress, RestoreError, ServerNegotiation, Snapshot};
 use fe2o3_scram::{
@@ -43,7 +44,9 @@ use std::alloc::Global;
 #[derive(Drop)]
 pub struct SaslServerConfig<'a> {
     /// The offered mechanisms: a sum of values of enum fe2o3_offer. PLAIN sends the password in clear, so offer it
-    /// over TLS only.
+    /// over TLS only. It rejects every password that is not printable ASCII, unless the sum has FE2O3_PLAIN_PREPARED
+    /// or FE2O3_PLAIN_SASLPREP. By the latter it also rejects a password that SASLprep rejects or prepares to the empty
+    /// text.
     pub mechanisms: u32,
 
     /// The iteration count with which PLAIN hashes the password of an unknown user.
@@ -86,6 +89,9 @@ struct Choice {
 
     /// Whether SCRAM accepts the GS2 flag `y`.
     cbind_flag_y: bool,
+
+    /// Which passwords PLAIN tests.
+    passwords: PlainPasswords,
 }
 
 /// Whether a number is in a sum below its double, and the rest.
@@ -101,16 +107,32 @@ fn split(sum: u32, n: u32) -> (bool, u32)
     }
 }
 
+/// Returns the form of PLAIN's passwords of a sum, and the rest.
+fn split_passwords(sum: u32) -> (PlainPasswords, u32)
+    requires { sum ≤ 383 }
+    ensures sum { sum ≡ passwords_number result.0 + result.1 }
+    ensures rest { result.1 < 128 }
+{
+    if sum < 128 {
+        (PlainPasswords::Typed, sum)
+    } else if sum < 256 {
+        (PlainPasswords::Prepared, sum - 128)
+    } else {
+        (PlainPasswords::Saslprep, sum - 256)
+    }
+}
+
 impl Choice {
     /// The choice of a sum.
     #[tactic(auto, using(crate::proofs::SaslServerLemmas::sum_small))]
     fn of(sum: u32) -> Option<Choice>
         ensures { MatchOption result ((choice : Choices) → sum_of choice ≢ sum) (λ choice. sum_of choice ≡ sum) }
     {
-        if sum > 127 {
+        if sum > 383 {
             return None;
         }
-        let (cbind_flag_y, rest) = split(sum, 64);
+        let (passwords, rest) = split_passwords(sum);
+        let (cbind_flag_y, rest) = split(rest, 64);
         let (external, rest) = split(rest, 32);
         let (anonymous, rest) = split(rest, 16);
         let (plain, rest) = split(rest, 8);
@@ -125,6 +147,7 @@ impl Choice {
             anonymous,
             external,
             cbind_flag_y,
+            passwords,
         })
     }
 
@@ -239,6 +262,7 @@ impl SaslServerConfig<'_> {
             .accept_cbind_flag_y(choice.cbind_flag_y)
             .plain_under_tls(choice.plain)
             .plain_records(version, self.iterations)
+            .plain_passwords(choice.passwords)
             .anonymous(choice.anonymous)
             .external(if choice.external { external } else { "" });
         let Some((hash, challenge)) = scram.exchange() else {

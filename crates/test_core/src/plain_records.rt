@@ -1,9 +1,11 @@
-//! PLAIN for the users of a store, over a record as PostgreSQL 15 writes it, whose password is `pencil`.
+//! PLAIN for the users of a store, over a record as PostgreSQL 15 writes it, whose password is `pencil`, and over records
+//! of prepared passwords.
 
 use crate::values::bytes;
-use fe2o3_sasl::credentials::RecordStore;
+use fe2o3_sasl::credentials::{MultiRecordStore, RecordStore};
 use fe2o3_sasl::hmac::{Meter, ScramVersion};
-use fe2o3_sasl::plain_server::{PlainServer, plain_user};
+use fe2o3_sasl::password_server::PasswordServerBuilder;
+use fe2o3_sasl::plain_server::{PlainPasswords, PlainServer, plain_user};
 use fe2o3_sasl::sasl_acceptor::{AuthenticatedUser, SaslAcceptor, SaslServerFrame};
 use fe2o3_sasl_wire::{Binary, SaslCode, SaslInit, Symbol};
 use std::process::Abort;
@@ -76,4 +78,78 @@ fn plain_logs_in_by_records(rt: HostRuntime) {
     let no_text = b"\0\xff\0pencil";
     let refused = outcome(&rt, &mut plain, "PLAIN", no_text) == (Some(SaslCode::Auth), 0);
     assert!(rt; refused && plain.authenticated_user() == user && plain_user(no_text).is_none());
+}
+
+/// A file of two users, whose records GNU SASL 2.2 and Python's `hashlib` make of the passwords `IX` and `pässwörd`
+/// (`prepared-records.txt` of `test_vectors_scram`).
+const PREPARED: &str =
+    "ix SCRAM-SHA-256$4096:AgICAgICAgICAgIC$yckDAEKQ+lGbyM2xJrYXlLPcyjUj6EfNG8lmnHw4pmI=:\
+        w9opdqJ8E1sXOWcQ0VlIV0oTuyCaS53MAWj/LQ9F5+s=\n\
+    accents SCRAM-SHA-256$4096:AgICAgICAgICAgIC$/SeRLmBFTomtIuNyNBOYrlncUX/NgL8sF9Wwc133vBY=:\
+        LsQRaT9yVKvrlzOwcTj4hFxuj3NqUKfoWw0frcP9yIw=\n";
+
+/// A form, a message, whether it logs its user in, and how many HMAC values it takes.
+type FormRow = (PlainPasswords, &'static str, bool, u64);
+
+/// RFC 4013, section 3, has the texts of `ix`: two are prepared to `IX`, one has a prohibited character, and one mixes
+/// directions. U+00AD is mapped to nothing (section 2.1).
+static FORMS: [FormRow; 15] = [
+    (PlainPasswords::Typed, "\0ix\0IX", true, 4098),
+    (PlainPasswords::Typed, "\0ix\0I\u{ad}X", false, 0),
+    (
+        PlainPasswords::Typed,
+        "\0accents\0p\u{e4}ssw\u{f6}rd",
+        false,
+        0,
+    ),
+    (PlainPasswords::Prepared, "\0ix\0IX", true, 4098),
+    (PlainPasswords::Prepared, "\0ix\0I\u{ad}X", false, 4098),
+    (
+        PlainPasswords::Prepared,
+        "\0accents\0p\u{e4}ssw\u{f6}rd",
+        true,
+        4098,
+    ),
+    (
+        PlainPasswords::Prepared,
+        "\0nobody\0p\u{e4}ssw\u{f6}rd",
+        false,
+        12,
+    ),
+    (PlainPasswords::Saslprep, "\0ix\0IX", true, 4098),
+    (PlainPasswords::Saslprep, "\0ix\0I\u{ad}X", true, 4098),
+    (PlainPasswords::Saslprep, "\0ix\0\u{2168}", true, 4098),
+    (
+        PlainPasswords::Saslprep,
+        "\0accents\0pa\u{308}sswo\u{308}rd",
+        true,
+        4098,
+    ),
+    (PlainPasswords::Saslprep, "\0nobody\0\u{2168}", false, 12),
+    (PlainPasswords::Saslprep, "\0ix\0\u{ad}", false, 0),
+    (PlainPasswords::Saslprep, "\0ix\0\u{7}", false, 0),
+    (PlainPasswords::Saslprep, "\0ix\0\u{627}1", false, 0),
+];
+
+#[test]
+fn plain_tests_the_password_of_its_form(rt: HostRuntime) {
+    for &(passwords, message, is_ok, cost) in &FORMS {
+        let users = RecordStore::parse_lines(rt.alloc(), ScramVersion::Sha256, PREPARED);
+        let plain = PlainServer::new(users.expect(&rt, "users"), 10);
+        let mut plain = plain.with_passwords(passwords);
+        let code = if is_ok { SaslCode::Ok } else { SaslCode::Auth };
+        let answer = outcome(&rt, &mut plain, "PLAIN", message.as_bytes());
+        assert!(rt; answer == (Some(code), cost), "{passwords:?} {message:?}");
+    }
+}
+
+#[test]
+fn a_password_server_prepares(rt: HostRuntime) {
+    let users = MultiRecordStore::parse_lines(rt.alloc(), PREPARED).expect(&rt, "users");
+    let builder = PasswordServerBuilder::new(&users)
+        .plain_under_tls(true)
+        .plain_passwords(PlainPasswords::Saslprep);
+    let mut server = builder.build(rt.alloc()).expect(&rt, "a server");
+    let answer = outcome(&rt, &mut server, "PLAIN", "\0ix\0\u{2168}".as_bytes());
+    assert!(rt; answer == (Some(SaslCode::Ok), 4098));
 }

@@ -4,7 +4,6 @@ use Rattle.fe2o3_sasl_wire.specs.declared.amqp_types.SaslCode.TheVariants as out
 use Rattle.fe2o3_sasl_wire.specs.declared.sasl_frames.error.Error.TheVariants as faults
 use Rattle.fe2o3_sasl_wire.specs.SaslFrames as frames
 use Rattle.fe2o3_sasl_wire.specs.SaslFrames.{SaslFrame, canonical}
-use Rattle.fe2o3_scram.specs.Credentials.{Store}
 use Rattle.fe2o3_sasl_core.specs.Bodies.{SpellsBody, carried, server_says}
 use Rattle.fe2o3_sasl_core.specs.Events.{Given, ServerSays, Concluded, Failed}
 use Rattle.fe2o3_sasl_core.specs.ExternalServer.{External, IsInitOf, external_machine, external_user}
@@ -157,15 +156,15 @@ external_servers_log_in state server logged =
 
 -- ---- PLAIN
 
-no_message : (provider : Store) (frame : SaslFrame) (text user : List ℕ) → frame ≡ frames.Response text
-    → ¬ PlainLogsIn provider frame user
-no_message provider frame text user is logs =
-    (subst (λ (f : SaslFrame). PlainLogsIn provider f user) is logs).1
+no_message : (state : PlainState) (frame : SaslFrame) (text user : List ℕ) → frame ≡ frames.Response text
+    → ¬ PlainLogsIn state.passwords state.provider frame user
+no_message state frame text user is logs =
+    (subst (λ (f : SaslFrame). PlainLogsIn state.passwords state.provider f user) is logs).1
 
 plain_only_inits : OnlyInits plain_machine
 plain_only_inits state next event text spells (body, step) =
     let (frame, user, spelled, logs, to) = plain_oks_log_in state next event body step in
-    no_message state.provider frame text user (one_spelled_frame event.body frame (frames.Response text) spelled spells)
+    no_message state frame text user (one_spelled_frame event.body frame (frames.Response text) spelled spells)
     logs
 
 pub plain_servers_log_in : PlainServersLogIn

@@ -125,7 +125,7 @@ plain_answer_logs_in : (server moved next : PlainState) (event : Given) (frame r
     → SpellsBody event.body (Ok frame) → plain_machine server event.nonce frame reply moved
     → SendsCanonical (Failed faults.TooLarge) (server_says reply) (canonical reply) server moved (Concluded outcomes.Ok body) next
     → (frame : SaslFrame) × (user : List ℕ) × SpellsBody event.body (Ok frame)
-    × PlainLogsIn server.provider frame user × (next ≡ record server { user = Some user })
+    × PlainLogsIn server.passwords server.provider frame user × (next ≡ record server { user = Some user })
 plain_answer_logs_in server moved next event frame reply body spells (inl (user, logs, is, to)) said =
     let sent = subst (λ (f : SaslFrame). SendsCanonical (Failed faults.TooLarge) (server_says f) (canonical f) server moved
     (Concluded outcomes.Ok body) next) is said in (

@@ -3,32 +3,32 @@ use Rattle.fe2o3_sasl_core.specs.PlainServer.{parts_of, plain_state}
 use Rattle.fe2o3_sasl_core.proofs.lemmas.machines.PlainServerLemmas.{cost_of_test, most_of_test, not_logged_in}
 use Rattle.fe2o3_sasl_core.proofs.plain_server.PlainServer.logged_in.Goals as goal
 
-pub returns-then-has_password-clause-cost : goal.returns-then-has_password-clause-cost
-returns-then-has_password-clause-cost g c =
+pub returns-then-branch-clause-cost : goal.returns-then-branch-clause-cost
+returns-then-branch-clause-cost g c =
     most_of_test (plain_state g.C.ScramCredentialProvider.meaning c.args.self.now) (init_frame c.args.init.now)
-    (parts_of c.in_ok-message.message) c.args.meter.now c.has_password.new.meter c.in_ok-message.ensures
-    c.has_password.ensures.cost
+    (parts_of c.in-Some.message) c.args.meter.now c.has_password.new.meter c.in-Some.ensures
+    c.in_ok-has_password.ensures.cost
 
-pub returns-then-has_password-clause-exactly : goal.returns-then-has_password-clause-exactly
-returns-then-has_password-clause-exactly g c =
+pub returns-then-branch-clause-exactly : goal.returns-then-branch-clause-exactly
+returns-then-branch-clause-exactly g c =
     cost_of_test (plain_state g.C.ScramCredentialProvider.meaning c.args.self.now) (init_frame c.args.init.now)
-    (parts_of c.in_ok-message.message) c.args.meter.now c.has_password.new.meter c.in_ok-message.ensures
-    c.has_password.ensures.cost
+    (parts_of c.in-Some.message) c.args.meter.now c.has_password.new.meter c.in-Some.ensures
+    c.in_ok-has_password.ensures.cost
 
-pub returns-else-has_password-clause-cost : goal.returns-else-has_password-clause-cost
-returns-else-has_password-clause-cost g c =
+pub returns-else-branch-clause-cost : goal.returns-else-branch-clause-cost
+returns-else-branch-clause-cost g c =
     most_of_test (plain_state g.C.ScramCredentialProvider.meaning c.args.self.now) (init_frame c.args.init.now)
-    (parts_of c.in_ok-message.message) c.args.meter.now c.has_password.new.meter c.in_ok-message.ensures
-    c.has_password.ensures.cost
+    (parts_of c.in-Some.message) c.args.meter.now c.has_password.new.meter c.in-Some.ensures
+    c.in_ok-has_password.ensures.cost
 
-pub returns-else-has_password-clause-exactly : goal.returns-else-has_password-clause-exactly
-returns-else-has_password-clause-exactly g c =
+pub returns-else-branch-clause-exactly : goal.returns-else-branch-clause-exactly
+returns-else-branch-clause-exactly g c =
     cost_of_test (plain_state g.C.ScramCredentialProvider.meaning c.args.self.now) (init_frame c.args.init.now)
-    (parts_of c.in_ok-message.message) c.args.meter.now c.has_password.new.meter c.in_ok-message.ensures
-    c.has_password.ensures.cost
+    (parts_of c.in-Some.message) c.args.meter.now c.has_password.new.meter c.in-Some.ensures
+    c.in_ok-has_password.ensures.cost
 
-pub returns-else-has_password-clause-user : goal.returns-else-has_password-clause-user
-returns-else-has_password-clause-user g c =
-    not_logged_in (g.C.ScramCredentialProvider.meaning c.args.self.now.credentials) (init_frame c.args.init.now)
-    (parts_of c.in_ok-message.message) c.in_ok-message.ensures
-    (λ has. let yes = c.has_password.ensures.verdict.1 has in let no = c.if-has_password.false in absurd (cc))
+pub returns-else-branch-clause-user : goal.returns-else-branch-clause-user
+returns-else-branch-clause-user g c = not_logged_in c.args.self.now.passwords
+    (g.C.ScramCredentialProvider.meaning c.args.self.now.credentials) (init_frame c.args.init.now) (parts_of c.in-Some.message)
+    c.in-Some.ensures
+    (λ has. let yes = c.in_ok-has_password.ensures.verdict.1 has in let no = c.if-branch.false in absurd (cc))
