@@ -3,10 +3,11 @@
 //!
 //! ```text
 //! frames client HOST PORT MECHANISM USER
-//! frames server USERS LOGINS MECHANISM
+//! frames server USERS LOGINS MECHANISM [PEER]
 //! ```
 //!
-//! The client takes the password from standard input. The server offers the mechanism alone.
+//! The client takes the password from standard input. The server offers this mechanism only, where EXTERNAL accepts the
+//! name PEER.
 
 use fe2o3_sasl_proved::{ClientNegotiation, Progress, SaslProfile, ScramClient, ScramVersion, ServerNegotiation};
 use interop::{password, told, version_of, Failure, Users};
@@ -58,14 +59,14 @@ fn run_client(words: &[&str]) -> Result<i32, Failure> {
     Ok(told("logged in", &log_in(words[0], words[1].parse()?, profile)))
 }
 
-fn serve(mut channel: TcpStream, users: Users, mechanism: &str) -> Result<String, Failure> {
+fn serve(mut channel: TcpStream, users: Users, mechanism: &str, peer: &str) -> Result<String, Failure> {
     let hashes: Vec<_> = version_of(mechanism).into_iter().collect();
     let server = users
         .server()
         .hashes(&hashes)
         .plain_under_tls(mechanism == "PLAIN")
         .anonymous(mechanism == "ANONYMOUS")
-        .external(if mechanism == "EXTERNAL" { "user" } else { "" });
+        .external(peer);
     let mut side = ServerNegotiation::new(server);
     let mut room = [0; 4096];
     while side.progress() == Progress::InProgress {
@@ -83,7 +84,7 @@ fn run_server(words: &[&str]) -> Result<i32, Failure> {
     println!("{}", listener.local_addr()?.port());
     for _ in 0..words[1].parse()? {
         let (channel, _) = listener.accept()?;
-        match serve(channel, Users::read(words[0], version)?, words[2]) {
+        match serve(channel, Users::read(words[0], version)?, words[2], words.get(3).copied().unwrap_or("")) {
             Ok(name) => println!("logged in: {name}"),
             Err(why) => println!("not logged in: {why}"),
         }
@@ -96,7 +97,7 @@ fn main() -> Result<(), Failure> {
     let words: Vec<&str> = words.iter().map(String::as_str).collect();
     let status = match (words.first().copied(), words.len()) {
         (Some("client"), 5) => run_client(&words[1..])?,
-        (Some("server"), 4) => run_server(&words[1..])?,
+        (Some("server"), 4 | 5) => run_server(&words[1..])?,
         _ => 2,
     };
     std::process::exit(status)
