@@ -2,26 +2,30 @@
 //! `bindings/c/server.c` do in C.
 //!
 //! ```text
-//! frames client HOST PORT MECHANISM USER
+//! frames client HOST PORT MECHANISM USER [challenge]
 //! frames server USERS LOGINS MECHANISM [PEER]
 //! ```
 //!
-//! The client takes the password from standard input. The server offers this mechanism only, where EXTERNAL accepts the
-//! name PEER.
+//! The client takes the password from standard input. `EXTERNAL as` and `ANONYMOUS as` send USER as the initial response,
+//! which can be empty. With `challenge` the client also accepts the server's signature in a challenge. The server offers
+//! this mechanism only, where EXTERNAL accepts the name PEER.
 
 use fe2o3_sasl_proved::{ClientNegotiation, Progress, SaslProfile, ScramClient, ScramVersion, ServerNegotiation};
 use interop::{password, told, version_of, Failure, Users};
 use std::io::{Read, Write};
 use std::net::{TcpListener, TcpStream};
 
-fn profile(mechanism: &str, user: &str) -> Result<SaslProfile, Failure> {
+fn profile(mechanism: &str, user: &str, by_challenge: bool) -> Result<SaslProfile, Failure> {
     Ok(match mechanism {
         "PLAIN" => SaslProfile::Plain { username: user.to_owned(), password: password()? },
         "ANONYMOUS" => SaslProfile::Anonymous,
         "EXTERNAL" => SaslProfile::External,
+        "EXTERNAL as" => SaslProfile::ExternalAs(user.to_owned()),
+        "ANONYMOUS as" => SaslProfile::AnonymousAs(user.to_owned()),
         _ => ScramClient::new(user, password()?, version_of(mechanism).ok_or("no such mechanism")?)
             .with_min_iterations(4096)
             .with_iteration_limit(1_000_000)
+            .signature_by_challenge(by_challenge)
             .into(),
     })
 }
@@ -55,7 +59,7 @@ fn log_in(host: &str, port: u16, profile: SaslProfile) -> Result<(), Failure> {
 }
 
 fn run_client(words: &[&str]) -> Result<i32, Failure> {
-    let profile = profile(words[2], words[3])?;
+    let profile = profile(words[2], words[3], words.len() == 5)?;
     Ok(told("logged in", &log_in(words[0], words[1].parse()?, profile)))
 }
 
@@ -97,6 +101,7 @@ fn main() -> Result<(), Failure> {
     let words: Vec<&str> = words.iter().map(String::as_str).collect();
     let status = match (words.first().copied(), words.len()) {
         (Some("client"), 5) => run_client(&words[1..])?,
+        (Some("client"), 6) if words[5] == "challenge" => run_client(&words[1..])?,
         (Some("server"), 4 | 5) => run_server(&words[1..])?,
         _ => 2,
     };
