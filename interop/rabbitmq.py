@@ -121,12 +121,12 @@ class RabbitMq(Peer):
         """A login of our client. Whom the server takes for logged in cannot be seen."""
         return lambda side: Ending(side.log_in_by_frames(self.port, mechanism, user), None)
 
-    def log_in_external(self, certificate: Optional[str], name: str = ""):
+    def log_in_external(self, certificate: Optional[str], name: str = "", asked: str = EXTERNAL_AS):
         """A login of our client over TLS, with a certificate of this name or without one, to act as a name."""
         context = self.authority.client(certificate)
 
         def login(side: Side) -> Ending:
-            return Ending(side.log_in_by_frames(to_tls(self.tls_port, context), EXTERNAL_AS, User(name, "")), None)
+            return Ending(side.log_in_by_frames(to_tls(self.tls_port, context), asked, User(name, "")), None)
 
         return login
 
@@ -142,6 +142,8 @@ class RabbitMq(Peer):
         # (it lets one wait for three seconds)
         for what, certificate in (("unknown user", "nobody"), ("no certificate", None)):
             yield Cell("client", "EXTERNAL", what, self.log_in_external(certificate), REFUSED, at_once=True)
+        yield Cell("client", "EXTERNAL", "no initial response", self.log_in_external(USER.name, asked="EXTERNAL"),
+                   Ending("no connection", None), at_once=True)
 
     def serve(self, mechanism: str, user: User = USER, known: User = USER):
         """A login of its client to our server, which knows one user."""

@@ -6,9 +6,9 @@
 //! frames server USERS LOGINS MECHANISM [PEER]
 //! ```
 //!
-//! The client takes the password from standard input. `EXTERNAL as` and `ANONYMOUS as` send USER as the initial response,
-//! which can be empty. With `challenge` the client also accepts the server's signature in a challenge. The server offers
-//! this mechanism only, where EXTERNAL accepts the name PEER.
+//! The client takes the password from standard input. `EXTERNAL as` and `ANONYMOUS as` send USER as the initial
+//! response, which can be empty. With `challenge` the client also accepts the server's signature in a challenge. The
+//! server offers this mechanism only, where EXTERNAL accepts the name PEER.
 
 use fe2o3_sasl_proved::{ClientNegotiation, Progress, SaslProfile, ScramClient, ScramVersion, ServerNegotiation};
 use interop::{password, told, version_of, Failure, Users};
@@ -30,11 +30,14 @@ fn profile(mechanism: &str, user: &str, by_challenge: bool) -> Result<SaslProfil
     })
 }
 
+/// What the programs in C also say where the other side ends the connection first.
+const NO_CONNECTION: &str = "no connection";
+
 /// What came of the connection, and an error where the other side ends it first.
 fn came(channel: &mut TcpStream, room: &mut [u8]) -> Result<usize, Failure> {
     match channel.read(room) {
         Ok(len) if len > 0 => Ok(len),
-        _ => Err("the other side ended".into()),
+        _ => Err(NO_CONNECTION.into()),
     }
 }
 
@@ -60,7 +63,13 @@ fn log_in(host: &str, port: u16, profile: SaslProfile) -> Result<(), Failure> {
 
 fn run_client(words: &[&str]) -> Result<i32, Failure> {
     let profile = profile(words[2], words[3], words.len() == 5)?;
-    Ok(told("logged in", &log_in(words[0], words[1].parse()?, profile)))
+    match log_in(words[0], words[1].parse()?, profile) {
+        Err(why) if why.to_string() == NO_CONNECTION => {
+            println!("{NO_CONNECTION}");
+            Ok(2)
+        }
+        ended => Ok(told("logged in", &ended)),
+    }
 }
 
 fn serve(mut channel: TcpStream, users: Users, mechanism: &str, peer: &str) -> Result<String, Failure> {
