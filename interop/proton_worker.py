@@ -4,8 +4,12 @@
     {"side": "client", "port": PORT, "mechanism": NAME, "user": NAME, "password": WORD}
     {"side": "server", "mechanisms": NAMES, "settings": FOLDER}
 
-and writes {"in": BOOL, "user": NAME} once it has ended; a server first {"port": PORT}. The settings of a server's
-libsasl2 are the file proton-server.conf of that folder.
+and writes {"in": BOOL} once it has ended; a server first {"port": PORT}, and then also {"user": NAME, "acts_as": NAME}.
+The settings of a server's libsasl2 are the file proton-server.conf of that folder. A login is made over TLS with
+
+    "tls": {"authority": FILE, "certificate": FILE, "key": FILE}
+
+and a client's authorization identity is "acts_as", if there is one.
 """
 
 import contextlib
@@ -13,7 +17,7 @@ import json
 import socket
 import sys
 
-from proton import SASL, Connection, ProtonException, Transport
+from proton import SASL, SSL, Connection, ProtonException, SSLDomain, Transport
 
 PATIENCE = 60
 
@@ -37,9 +41,26 @@ def run(transport, channel):
             transport.push(came)
 
 
+def begin_tls(transport, mode, files):
+    """Begins TLS with a certificate, and verifies that of the other side."""
+    domain = SSLDomain(mode)
+    domain.set_credentials(files["certificate"], files["key"], None)
+    domain.set_trusted_ca_db(files["authority"])
+    if mode == SSLDomain.MODE_SERVER:
+        domain.set_peer_authentication(SSLDomain.VERIFY_PEER, files["authority"])
+        SSL(transport, domain)
+    else:
+        domain.set_peer_authentication(SSLDomain.VERIFY_PEER_NAME)
+        SSL(transport, domain).peer_hostname = "localhost"
+
+
 def client(job):
     connection, transport = Connection(), Transport()
     connection.hostname, connection.user, connection.password = "localhost", job["user"], job["password"]
+    if job.get("acts_as"):
+        connection.authorization = job["acts_as"]
+    if job.get("tls"):
+        begin_tls(transport, SSLDomain.MODE_CLIENT, job["tls"])
     sasl = transport.sasl()
     sasl.allow_insecure_mechs = True
     sasl.allowed_mechs(job["mechanism"])
@@ -47,7 +68,7 @@ def client(job):
     connection.open()
     with socket.create_connection(("127.0.0.1", job["port"]), timeout=PATIENCE) as channel:
         run(transport, channel)
-    say(**{"in": sasl.outcome == SASL.OK, "user": job["user"]})
+    say(**{"in": sasl.outcome == SASL.OK})
 
 
 def server(job):
@@ -58,6 +79,8 @@ def server(job):
     sasl.allow_insecure_mechs = True
     sasl.allowed_mechs(job["mechanisms"])
     transport.require_auth(job["mechanisms"] != "ANONYMOUS")
+    if job.get("tls"):
+        begin_tls(transport, SSLDomain.MODE_SERVER, job["tls"])
     transport.bind(Connection())
     with socket.create_server(("127.0.0.1", 0)) as listener:
         listener.settimeout(PATIENCE)
@@ -66,7 +89,7 @@ def server(job):
     with channel:
         channel.settimeout(PATIENCE)
         run(transport, channel)
-    say(**{"in": sasl.outcome == SASL.OK, "user": sasl.user or ""})
+    say(**{"in": sasl.outcome == SASL.OK, "user": sasl.user or "", "acts_as": sasl.authorization or ""})
 
 
 def main():

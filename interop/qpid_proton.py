@@ -4,6 +4,7 @@ from __future__ import annotations
 
 import json
 import os
+import shutil
 import socket
 import subprocess
 from pathlib import Path
@@ -11,7 +12,9 @@ from typing import Iterator, Optional
 
 from cells import Cell, Peer, none
 from cyrus_sasl import make_user
-from sides import COMMA, SCRAM, USER, Ending, Side, User, ended_after, marred
+from sides import ANONYMOUS_AS, BY_CHALLENGE, COMMA, EXTERNAL_AS, SCRAM, TRACE, USER
+from sides import Ending, Side, User, ended_after, marred, unsigned
+from tls import HOST, Authority, serve_external, to_tls
 
 PYTHON = "/usr/bin/python3"
 #: The mechanisms of which bytes are kept.
@@ -19,6 +22,7 @@ KEPT = ("SCRAM-SHA-256", "PLAIN")
 PAST = User("user", "p\u00e4ss")
 DONE = Ending("logged in: Done", True)
 REFUSED = Ending("not logged in: Connection: The login was rejected", False)
+FORGED = Ending("not logged in: Client: Server signature mismatch", False)
 
 
 class QpidProton(Peer):
@@ -30,6 +34,8 @@ class QpidProton(Peer):
         #: A program for each count of a server's settings, which libsasl2 reads once.
         self.workers: dict[int, subprocess.Popen] = {}
         self.environment = dict(os.environ)
+        #: Of the certificates, unless it or this machine has no TLS.
+        self.authority: Optional[Authority] = None
 
     def missing(self) -> bool:
         try:
@@ -50,6 +56,8 @@ class QpidProton(Peer):
 
     def start(self, folder: Path) -> None:
         self.folder = folder
+        if shutil.which("openssl") is not None and self.asked("proton.SSL.present()") == "True":
+            self.authority = Authority(folder / "tls")
 
     def stop(self) -> None:
         while self.workers:
@@ -71,16 +79,47 @@ class QpidProton(Peer):
     def told(self, worker: subprocess.Popen) -> dict:
         return json.loads(worker.stdout.readline())
 
-    def log_in(self, mechanism: str, user: User = USER, count: int = 4096, asked: str = ""):
+    def log_in(self, mechanism: str, user: User = USER, count: int = 4096, asked: str = "", more=(), mar=None):
         """A login of our client to a server of Proton that offers a mechanism. It asks for that, or for another one."""
 
         def login(side: Side) -> Ending:
             worker = self.worker(count)
             self.ask(worker, side="server", mechanisms=mechanism, settings=str(self.folder / str(count)))
-            ours = side.log_in_by_frames(self.told(worker)["port"], asked or mechanism, user)
+            ours = side.log_in_by_frames(self.told(worker)["port"], asked or mechanism, user, *more, mar=mar)
             return Ending(ours, self.told(worker)["in"])
 
         return login
+
+    def files(self, name: str) -> dict[str, str]:
+        """The files for TLS with a certificate of this name."""
+        pair = self.authority.issue(name)
+        return {"authority": str(self.authority.pair.certificate), "certificate": str(pair.certificate),
+                "key": str(pair.key)}
+
+    def log_in_external(self, asked: str, name: str = ""):
+        """A login of our client over TLS, which has a certificate. Proton takes it for the certificate's subject, which
+        acts as this name if there is one."""
+        subject = f"CN={USER.name}"
+
+        def login(side: Side) -> Ending:
+            worker = self.worker()
+            self.ask(worker, side="server", mechanisms="EXTERNAL", settings=str(self.folder / "4096"),
+                     tls=self.files(HOST))
+            port = to_tls(self.told(worker)["port"], self.authority.client(USER.name))
+            ours, told = side.log_in_by_frames(port, asked, User(name, "")), self.told(worker)
+            return Ending(ours, told == {"in": True, "user": subject, "acts_as": name or subject})
+
+        return login
+
+    def serve_external(self, user: User = USER, name: str = ""):
+        """A login of a client of Proton to our server over TLS, with a certificate of a user, to act as this name."""
+
+        def by(port: int) -> bool:
+            self.ask(self.worker(), side="client", port=port, mechanism="EXTERNAL", user=None, password=None,
+                     acts_as=name, tls=self.files(user.name))
+            return self.told(self.worker())["in"]
+
+        return lambda side: serve_external(side, self.authority, by)
 
     def serve(self, mechanism: str, user: User = USER, known: User = USER, mar=None):
         """A login of a client of Proton to our server, which knows one user."""
@@ -112,16 +151,40 @@ class QpidProton(Peer):
                 yield cell(f"count {count:,}", self.serve(mechanism, known=known), done)
             yield cell("our signature, altered on the way: it does not look", self.serve(mechanism, mar=marred), done)
 
+    def external(self, without: Ending) -> Iterator[Cell]:
+        """EXTERNAL over TLS, and how a login of our client without an initial response ends."""
+        if self.authority is None:
+            for ours in ("client", "server"):
+                yield none(ours, "EXTERNAL", "a login", "there is no TLS")
+            return
+
+        def cell(ours: str, what: str, login, ends: Ending) -> Cell:
+            return Cell(ours, "EXTERNAL", what, login, ends)
+
+        yield cell("client", "an empty initial response", self.log_in_external(EXTERNAL_AS), DONE)
+        yield cell("client", "another name as the initial response", self.log_in_external(EXTERNAL_AS, "bob"), DONE)
+        yield cell("client", "no initial response", self.log_in_external("EXTERNAL"), without)
+        done, comma = Ending("logged in: user", True), Ending("logged in: a,b=c", True)
+        yield cell("server", "an empty initial response", self.serve_external(), done)
+        yield cell("server", "a name with `,` and `=`", self.serve_external(COMMA), comma)
+        yield cell("server", "its name as the initial response", self.serve_external(name=USER.name), done)
+        yield cell("server", "another name as the initial response", self.serve_external(name="bob"), REFUSED)
+
+    def traced(self) -> Cell:
+        """ANONYMOUS of our client with trace information."""
+        login = self.log_in("ANONYMOUS", TRACE, asked=ANONYMOUS_AS)
+        return Cell("client", "ANONYMOUS", "trace information as the initial response", login, DONE)
+
     def cells(self) -> Iterator[Cell]:
         yield Cell("client", "ANONYMOUS", "a login", self.log_in("ANONYMOUS"), DONE, kept=USER)
+        yield self.traced()
         for mechanism in (*SCRAM, "PLAIN"):
             yield Cell("client", mechanism, "it offers only ANONYMOUS", self.log_in("ANONYMOUS", asked=mechanism),
                        Ending("not logged in: Connection: Not implemented", False))
         yield Cell("server", "ANONYMOUS", "a login", self.serve("ANONYMOUS"), Ending("logged in:", True), kept=USER)
         yield from self.our_servers("PLAIN")
+        yield from self.external(DONE)
         yield none("server", ", ".join(SCRAM), "a login", "Debian builds it without Cyrus SASL")
-        for ours in ("client", "server"):
-            yield none(ours, "EXTERNAL", "a login", "it takes the name from TLS, which our programs do not speak")
 
 
 class ProtonWithCyrus(QpidProton):
@@ -151,15 +214,33 @@ class ProtonWithCyrus(QpidProton):
 
     def cells(self) -> Iterator[Cell]:
         for mechanism in SCRAM:
+            yield from self.our_clients_by_challenge(mechanism)
             yield from self.our_scram_clients(mechanism)
             yield from self.our_servers(mechanism)
         yield from self.our_plain_clients()
         yield from self.our_servers("PLAIN")
+        # (without an initial response it sends an empty challenge)
+        yield from self.external(Ending("not logged in: Connection: Not implemented", False))
         yield Cell("client", "ANONYMOUS", "a login", self.log_in("ANONYMOUS"), DONE)
+        yield self.traced()
         yield Cell("server", "ANONYMOUS", "a login", self.serve("ANONYMOUS"), Ending("logged in:", True))
 
+    def our_clients_by_challenge(self, mechanism: str) -> Iterator[Cell]:
+        """It sends its signature by one more challenge, which our client accepts here."""
+
+        def cell(what: str, ends: Ending, user: User = USER, count: int = 4096, mar=None) -> Cell:
+            login = self.log_in(mechanism, user, count, more=(BY_CHALLENGE,), mar=mar)
+            return Cell("client", mechanism, f"signature by a challenge: {what}", login, ends)
+
+        yield cell("a login", DONE)
+        yield cell("a name with `,` and `=`", DONE, COMMA)
+        yield cell("count 100,000", DONE, count=100_000)
+        yield cell("wrong password", REFUSED, User("user", "pencils"))
+        yield cell("altered on the way", FORGED, mar=marred)
+        yield cell("an outcome in its place", FORGED, mar=unsigned)
+
     def our_scram_clients(self, mechanism: str) -> Iterator[Cell]:
-        """It sends its signature by one more challenge, which our client refuses."""
+        """It sends its signature by one more challenge, which our client rejects by default."""
         refused = "not logged in: Connection: Unexpected frame"
         for what, count in (("a login", 4096), ("count 100,000", 100_000)):
             yield Cell("client", mechanism, f"{what}: it sends its signature by a challenge",

@@ -1,4 +1,4 @@
-"""RabbitMQ with its plugin for AMQP 1.0, and its client of AMQP 1.0: PLAIN and ANONYMOUS over frames."""
+"""RabbitMQ with its plugins for AMQP 1.0 and EXTERNAL, and its client of AMQP 1.0, which has PLAIN and ANONYMOUS."""
 
 from __future__ import annotations
 
@@ -11,7 +11,9 @@ from pathlib import Path
 from typing import Iterator, Optional
 
 from cells import Cell, Peer, none
-from sides import COMMA, SCRAM, USER, Ending, Side, User, dialled, ended_after, free_port, unprivileged
+from sides import ANONYMOUS_AS, COMMA, EXTERNAL_AS, SCRAM, TRACE, USER
+from sides import Ending, Side, User, dialled, ended_after, free_port, unprivileged
+from tls import HOST, Authority, to_tls
 
 HOME = Path("/usr/lib/rabbitmq")
 SERVER = HOME / "bin" / "rabbitmq-server"
@@ -30,6 +32,8 @@ class RabbitMq(Peer):
     def __init__(self) -> None:
         self.started: list[subprocess.Popen] = []
         self.client: Optional[subprocess.Popen] = None
+        #: Of the certificates, unless this machine has none.
+        self.authority: Optional[Authority] = None
 
     def missing(self) -> bool:
         return not SERVER.exists() or shutil.which("epmd") is None or shutil.which("escript") is None
@@ -48,8 +52,13 @@ class RabbitMq(Peer):
         (folder / "definitions.json").write_text(json.dumps(definitions))
         settings = {"listeners.tcp.1": f"127.0.0.1:{self.port}", "load_definitions": folder / "definitions.json",
                     "loopback_users": "none", "amqp1_0.default_user": USER.name, "log.console": "false"}
+        owned = [folder, *(folder / name for name in ("rabbitmq.conf", "enabled", "definitions.json"))]
+        if shutil.which("openssl") is not None:
+            self.authority, self.tls_port = Authority(folder / "tls"), free_port()
+            settings |= self.tls_settings()
+            owned.append(self.authority.issue(HOST).key)
         (folder / "rabbitmq.conf").write_text("".join(f"{name} = {value}\n" for name, value in settings.items()))
-        (folder / "enabled").write_text("[rabbitmq_amqp1_0].\n")
+        (folder / "enabled").write_text("[rabbitmq_amqp1_0,rabbitmq_auth_mechanism_ssl].\n")
         environment = {
             "PATH": os.environ["PATH"], "HOME": str(folder), "ERL_EPMD_PORT": str(mapper), "LC_ALL": "C.UTF-8",
             "RABBITMQ_NODENAME": f"interop{self.port}@localhost", "RABBITMQ_DIST_PORT": str(free_port()),
@@ -57,7 +66,7 @@ class RabbitMq(Peer):
             "RABBITMQ_CONFIG_FILE": str(folder / "rabbitmq.conf"), "RABBITMQ_CONF_ENV_FILE": str(folder / "none"),
             "RABBITMQ_ENABLED_PLUGINS_FILE": str(folder / "enabled"), "RABBITMQ_PID_FILE": str(folder / "pid"),
         }
-        who = unprivileged(folder, folder / "rabbitmq.conf", folder / "enabled", folder / "definitions.json")
+        who = unprivileged(*owned)
         quiet = {"stdin": subprocess.DEVNULL, "stdout": subprocess.DEVNULL, "stderr": subprocess.DEVNULL,
                  "cwd": folder, "env": environment, **who}
         for words in (["epmd", "-port", str(mapper), "-address", "127.0.0.1"], [SERVER]):
@@ -69,20 +78,37 @@ class RabbitMq(Peer):
             env={"PATH": os.environ["PATH"], "HOME": str(folder), "LC_ALL": "C.UTF-8"}, **who,
         )
 
+    def tls_settings(self) -> dict[str, object]:
+        """Settings for EXTERNAL over TLS, where the user is the common name of the client's certificate."""
+        server = self.authority.issue(HOST)
+        return {"listeners.ssl.1": f"127.0.0.1:{self.tls_port}", "ssl_cert_login_from": "common_name",
+                "ssl_options.cacertfile": self.authority.pair.certificate, "ssl_options.certfile": server.certificate,
+                "ssl_options.keyfile": server.key, "ssl_options.verify": "verify_peer",
+                "ssl_options.fail_if_no_peer_cert": "false", "auth_mechanisms.1": "PLAIN",
+                "auth_mechanisms.2": "AMQPLAIN", "auth_mechanisms.3": "EXTERNAL"}
+
     def wait(self) -> None:
-        """Waits until the server answers the header of SASL."""
+        """Waits until the server answers the header of SASL on each of its ports."""
         until = time.monotonic() + START
         while time.monotonic() < until:
             try:
-                with dialled(self.port) as channel:
-                    channel.settimeout(5)
-                    channel.sendall(SASL_HEADER)
-                    if channel.recv(8) == SASL_HEADER:
-                        return
+                if all(self.answers(port) for port in self.ports()):
+                    return
             except OSError:
                 pass
             time.sleep(0.5)
         raise TimeoutError("RabbitMQ does not start")
+
+    def ports(self) -> list[int]:
+        """Its port, and one for TLS if there is TLS, where a relay speaks it."""
+        return [self.port] + ([] if self.authority is None else [to_tls(self.tls_port, self.authority.client(None))])
+
+    def answers(self, port: int) -> bool:
+        """Whether a port answers the header of SASL."""
+        with dialled(port) as channel:
+            channel.settimeout(5)
+            channel.sendall(SASL_HEADER)
+            return channel.recv(8) == SASL_HEADER
 
     def stop(self) -> None:
         if self.client is not None:
@@ -94,6 +120,30 @@ class RabbitMq(Peer):
     def log_in(self, mechanism: str, user: User = USER):
         """A login of our client. Whom the server takes for logged in cannot be seen."""
         return lambda side: Ending(side.log_in_by_frames(self.port, mechanism, user), None)
+
+    def log_in_external(self, certificate: Optional[str], name: str = "", asked: str = EXTERNAL_AS):
+        """A login of our client over TLS, with a certificate of this name or without one, to act as a name."""
+        context = self.authority.client(certificate)
+
+        def login(side: Side) -> Ending:
+            return Ending(side.log_in_by_frames(to_tls(self.tls_port, context), asked, User(name, "")), None)
+
+        return login
+
+    def external(self) -> Iterator[Cell]:
+        """EXTERNAL over TLS. It does not look at the initial response."""
+        if self.authority is None:
+            yield none("client", "EXTERNAL", "a login", "there is no TLS")
+            return
+        for what, certificate, name in (("an empty initial response", USER.name, ""),
+                                        ("another name as the initial response", USER.name, "bob"),
+                                        ("a name with `,` and `=`", COMMA.name, "")):
+            yield Cell("client", "EXTERNAL", what, self.log_in_external(certificate, name), DONE)
+        # (it lets one wait for three seconds)
+        for what, certificate in (("unknown user", "nobody"), ("no certificate", None)):
+            yield Cell("client", "EXTERNAL", what, self.log_in_external(certificate), REFUSED, at_once=True)
+        yield Cell("client", "EXTERNAL", "no initial response", self.log_in_external(USER.name, asked="EXTERNAL"),
+                   Ending("no connection", None), at_once=True)
 
     def serve(self, mechanism: str, user: User = USER, known: User = USER):
         """A login of its client to our server, which knows one user."""
@@ -120,8 +170,12 @@ class RabbitMq(Peer):
             kept = user if user.name == USER.name else None
             yield Cell("client", "PLAIN", what, self.log_in("PLAIN", user), REFUSED, kept=kept, at_once=True)
         yield cell("client", "ANONYMOUS", "a login", self.log_in("ANONYMOUS"), DONE, USER)
+        yield cell("client", "ANONYMOUS", "trace information as the initial response",
+                   self.log_in(ANONYMOUS_AS, TRACE), DONE)
+        yield from self.external()
         for mechanism in (*SCRAM, "EXTERNAL"):
-            yield cell("client", mechanism, "it does not offer it", self.log_in(mechanism),
+            what = "it does not offer it" + (" without TLS" if mechanism == "EXTERNAL" else "")
+            yield cell("client", mechanism, what, self.log_in(mechanism),
                        Ending("not logged in: Connection: Not implemented", None))
         refused = Ending("not logged in: Connection: The login was rejected", False)
         yield cell("server", "PLAIN", "a login", self.serve("PLAIN"), Ending("logged in: user", True), USER)

@@ -17,8 +17,14 @@ from typing import Callable, Iterator, NamedTuple, Optional
 PATIENCE = 60
 
 SCRAM = ("SCRAM-SHA-1", "SCRAM-SHA-256", "SCRAM-SHA-512")
+#: What our programs over frames call EXTERNAL and ANONYMOUS with the user's name as the initial response.
+EXTERNAL_AS, ANONYMOUS_AS = "EXTERNAL as", "ANONYMOUS as"
+#: The word with which our client over frames accepts the server's signature in a challenge.
+BY_CHALLENGE = "challenge"
 #: As long as the rows of stored vectors have it.
 SALT = b"a salt of thirty-two bytes, so!!"
+#: The frame of an outcome of code Ok without data.
+OUTCOME_OK = bytes.fromhex("0000001002010000005344c003015000")
 
 
 class Ending(NamedTuple):
@@ -40,6 +46,8 @@ class User(NamedTuple):
 
 USER = User("user", "pencil")
 COMMA = User("a,b=c", "pen,cil=")
+#: The trace information of an anonymous client.
+TRACE = User("trace@example.org", "")
 #: A non-ASCII password that SASLprep does not change.
 PAST = User("user", "p\u00e4ssw\u00f6rd")
 #: The first example of RFC 4013, section 3: the soft hyphen is prepared to nothing.
@@ -130,6 +138,11 @@ def marred(came: bytes) -> bytes:
         return came[: line.start()] + base64.b64encode(message) + came[line.end() :]
     field = re.search(rb"\xa0.(v=.*)", came, re.DOTALL)
     return came if field is None else came[: field.start(1)] + other_signature(field[1])
+
+
+def unsigned(came: bytes) -> bytes:
+    """What a server sent, with an outcome of code Ok in place of a challenge with its signature."""
+    return OUTCOME_OK if re.search(rb"\xa0.v=", came, re.DOTALL) else came
 
 
 class Tap:
@@ -231,13 +244,18 @@ class Side:
                 seen = peer(channel)
             return Ending(program.stdout.readline().strip(), seen)
 
-    def log_in_by_frames(self, port: int, mechanism: str, user: User) -> str:
-        """What our client over frames says of a login."""
-        words = [*self.frames_client, "127.0.0.1", str(self.tapped(port)), mechanism, user.name]
+    def log_in_by_frames(self, port: int, mechanism: str, user: User, *more: str, mar=None) -> str:
+        """What our client over frames says of a login, for which it has more words."""
+        words = [*self.frames_client, "127.0.0.1", str(self.tapped(port, mar)), mechanism, user.name, *more]
         done = subprocess.run(
             words, input=user.password + "\n", capture_output=True, text=True, timeout=PATIENCE, check=False
         )
         return done.stdout.strip() or f"status {done.returncode}"
+
+    def external_server(self, name: str) -> subprocess.Popen:
+        """Our server over frames for a login by EXTERNAL with this name. The first line that it prints is its port."""
+        words = [*self.frames_server, str(self.users({})), "1", "EXTERNAL", name]
+        return subprocess.Popen(words, stdout=subprocess.PIPE, text=True)
 
     def serve_frames(
         self, mechanism: str, records: dict[str, str], peer: Callable[[int], Optional[bool]], mar=None

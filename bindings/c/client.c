@@ -1,9 +1,12 @@
 /* Logs in to a server of AMQP 1.0 over TCP:
  *
- *     client HOST PORT MECHANISM USER
+ *     client HOST PORT MECHANISM USER [challenge]
  *
- * with the password on the first line of standard input. It says how the login ended, with the status 0 where the client
- * is logged in, 1 where it is not, and 2 where the words, the password or the connection are none. */
+ * with the password on the first line of standard input. `EXTERNAL as` and `ANONYMOUS as` send USER as the initial
+ * response, which can be empty. With `challenge` the client also accepts the server's signature in a challenge.
+ *
+ * It says how the login ended, with the status 0 where the client is logged in, 1 where it is not, and 2 where the
+ * words, the password or the connection are none. */
 #define _POSIX_C_SOURCE 200112L
 #include "fe2o3_sasl.h"
 
@@ -20,7 +23,7 @@ static const struct {
 } mechanisms[] = {
     {"SCRAM-SHA-1", FE2O3_SCRAM, FE2O3_SHA_1}, {"SCRAM-SHA-256", FE2O3_SCRAM, FE2O3_SHA_256},
     {"SCRAM-SHA-512", FE2O3_SCRAM, FE2O3_SHA_512}, {"PLAIN", FE2O3_PLAIN, 0}, {"ANONYMOUS", FE2O3_ANONYMOUS, 0},
-    {"EXTERNAL", FE2O3_EXTERNAL, 0},
+    {"EXTERNAL", FE2O3_EXTERNAL, 0}, {"EXTERNAL as", FE2O3_EXTERNAL_AS, 0}, {"ANONYMOUS as", FE2O3_ANONYMOUS_AS, 0},
 };
 
 /* The number of a mechanism in that list, or of its end. */
@@ -109,19 +112,23 @@ int main(int count, char **words)
     char password[1024];
     struct fe2o3_scram_keys no_keys = {0};
     struct fe2o3_sasl_client client = {0};
-    struct fe2o3_sasl_login login = {0, NULL, 0, {0, 0, 0, 4096, 1000000, NULL, 0, NULL, 0, NULL}};
-    size_t which = count == 5 ? known(words[3]) : known("");
+    struct fe2o3_sasl_login login = {0};
+    int by_challenge = count == 6 && strcmp(words[5], "challenge") == 0;
+    size_t which = count == 5 || by_challenge ? known(words[3]) : known("");
     int64_t answer;
     int channel;
     if (which == known("") || fgets(password, sizeof password, stdin) == NULL) {
-        fputs("client HOST PORT MECHANISM USER, with the password on standard input\n", stderr);
+        fputs("client HOST PORT MECHANISM USER [challenge], with the password on standard input\n", stderr);
         return 2;
     }
     password[strcspn(password, "\n")] = '\0';
     login.mechanism = mechanisms[which].mechanism;
+    login.signature_by_challenge = (uint32_t)by_challenge;
     login.hostname = (const uint8_t *)words[1];
     login.hostname_len = strlen(words[1]);
     login.login.version = mechanisms[which].version;
+    login.login.min_iterations = 4096;
+    login.login.max_iterations = 1000000;
     login.login.username = (const uint8_t *)words[4];
     login.login.username_len = strlen(words[4]);
     login.login.password = (const uint8_t *)password;

@@ -1,10 +1,10 @@
 /* Serves logins of AMQP 1.0 over TCP on the loopback, by SCRAM-SHA-512, SCRAM-SHA-256 and, as if under TLS, by PLAIN:
  *
- *     server USERS LOGINS [MECHANISM]
+ *     server USERS LOGINS [MECHANISM [PEER]]
  *
- * or by this mechanism alone. USERS is a file of users, a line for each (fe2o3_scram_line writes one). It prints the
- * port that it listens on, serves so many connections, one after another, and says of each who has logged in, or why
- * nobody. */
+ * or by this mechanism only, where EXTERNAL accepts the name PEER, as if the transport had authenticated it. USERS is a
+ * file of users, a line for each (fe2o3_scram_line writes one). It prints the port that it listens on, serves so many
+ * connections, one after another, and says of each who has logged in, or why nobody. */
 #define _POSIX_C_SOURCE 200112L
 #include "fe2o3_sasl.h"
 
@@ -18,6 +18,7 @@
 
 static const uint32_t versions[3] = {FE2O3_SHA_512, FE2O3_SHA_256, FE2O3_SHA_1};
 static uint32_t mechanisms = FE2O3_OFFER_SCRAM_SHA_512 | FE2O3_OFFER_SCRAM_SHA_256 | FE2O3_OFFER_PLAIN;
+static const char *peer = "";
 static uint8_t users[65536], secret[32];
 static size_t users_len;
 
@@ -28,7 +29,8 @@ static int offer_only(const char *name)
         const char *name;
         uint32_t offer;
     } known[] = {{"SCRAM-SHA-512", FE2O3_OFFER_SCRAM_SHA_512}, {"SCRAM-SHA-256", FE2O3_OFFER_SCRAM_SHA_256},
-        {"SCRAM-SHA-1", FE2O3_OFFER_SCRAM_SHA_1}, {"PLAIN", FE2O3_OFFER_PLAIN}, {"ANONYMOUS", FE2O3_OFFER_ANONYMOUS}};
+        {"SCRAM-SHA-1", FE2O3_OFFER_SCRAM_SHA_1}, {"PLAIN", FE2O3_OFFER_PLAIN}, {"ANONYMOUS", FE2O3_OFFER_ANONYMOUS},
+        {"EXTERNAL", FE2O3_OFFER_EXTERNAL}};
     size_t i;
     for (i = 0; i < sizeof known / sizeof *known; i++) {
         mechanisms = known[i].offer;
@@ -82,7 +84,8 @@ static int64_t serve(int channel, struct fe2o3_sasl_server *server)
     size_t len = 0, at = 0, taken = 0, out_len = 0, name_len = 0;
     while (server->connection.progress == FE2O3_IN_PROGRESS) {
         struct fe2o3_scram_record records[3] = {{0}};
-        struct fe2o3_sasl_server_config config = {mechanisms, 4096, name, 0, records, 3, FE2O3_NONE};
+        struct fe2o3_sasl_server_config config = {
+            mechanisms, 4096, name, 0, records, 3, (const uint8_t *)peer, strlen(peer)};
         uint32_t status;
         if (at == len) {
             ssize_t some = recv(channel, came, sizeof came, 0);
@@ -130,12 +133,14 @@ int main(int count, char **words)
 {
     struct sockaddr_in address;
     socklen_t size = sizeof address;
-    int listener, logins = count == 3 || (count == 4 && offer_only(words[3])) ? atoi(words[2]) : 0;
+    int alone = (count == 4 || count == 5) && offer_only(words[3]);
+    int listener, logins = count == 3 || alone ? atoi(words[2]) : 0;
     FILE *file = logins > 0 ? fopen(words[1], "rb") : NULL;
     if (file == NULL || !random_bytes(secret, sizeof secret)) {
-        fputs("server USERS LOGINS [MECHANISM]\n", stderr);
+        fputs("server USERS LOGINS [MECHANISM [PEER]]\n", stderr);
         return 2;
     }
+    peer = count == 5 ? words[4] : "";
     users_len = fread(users, 1, sizeof users, file);
     fclose(file);
     memset(&address, 0, sizeof address);

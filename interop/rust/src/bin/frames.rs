@@ -2,34 +2,42 @@
 //! `bindings/c/server.c` do in C.
 //!
 //! ```text
-//! frames client HOST PORT MECHANISM USER
-//! frames server USERS LOGINS MECHANISM
+//! frames client HOST PORT MECHANISM USER [challenge]
+//! frames server USERS LOGINS MECHANISM [PEER]
 //! ```
 //!
-//! The client takes the password from standard input. The server offers the mechanism alone.
+//! The client takes the password from standard input. `EXTERNAL as` and `ANONYMOUS as` send USER as the initial
+//! response, which can be empty. With `challenge` the client also accepts the server's signature in a challenge. The
+//! server offers this mechanism only, where EXTERNAL accepts the name PEER.
 
 use fe2o3_sasl_proved::{ClientNegotiation, Progress, SaslProfile, ScramClient, ScramVersion, ServerNegotiation};
 use interop::{password, told, version_of, Failure, Users};
 use std::io::{Read, Write};
 use std::net::{TcpListener, TcpStream};
 
-fn profile(mechanism: &str, user: &str) -> Result<SaslProfile, Failure> {
+fn profile(mechanism: &str, user: &str, by_challenge: bool) -> Result<SaslProfile, Failure> {
     Ok(match mechanism {
         "PLAIN" => SaslProfile::Plain { username: user.to_owned(), password: password()? },
         "ANONYMOUS" => SaslProfile::Anonymous,
         "EXTERNAL" => SaslProfile::External,
+        "EXTERNAL as" => SaslProfile::ExternalAs(user.to_owned()),
+        "ANONYMOUS as" => SaslProfile::AnonymousAs(user.to_owned()),
         _ => ScramClient::new(user, password()?, version_of(mechanism).ok_or("no such mechanism")?)
             .with_min_iterations(4096)
             .with_iteration_limit(1_000_000)
+            .signature_by_challenge(by_challenge)
             .into(),
     })
 }
+
+/// What the programs in C also say where the other side ends the connection first.
+const NO_CONNECTION: &str = "no connection";
 
 /// What came of the connection, and an error where the other side ends it first.
 fn came(channel: &mut TcpStream, room: &mut [u8]) -> Result<usize, Failure> {
     match channel.read(room) {
         Ok(len) if len > 0 => Ok(len),
-        _ => Err("the other side ended".into()),
+        _ => Err(NO_CONNECTION.into()),
     }
 }
 
@@ -54,18 +62,24 @@ fn log_in(host: &str, port: u16, profile: SaslProfile) -> Result<(), Failure> {
 }
 
 fn run_client(words: &[&str]) -> Result<i32, Failure> {
-    let profile = profile(words[2], words[3])?;
-    Ok(told("logged in", &log_in(words[0], words[1].parse()?, profile)))
+    let profile = profile(words[2], words[3], words.len() == 5)?;
+    match log_in(words[0], words[1].parse()?, profile) {
+        Err(why) if why.to_string() == NO_CONNECTION => {
+            println!("{NO_CONNECTION}");
+            Ok(2)
+        }
+        ended => Ok(told("logged in", &ended)),
+    }
 }
 
-fn serve(mut channel: TcpStream, users: Users, mechanism: &str) -> Result<String, Failure> {
+fn serve(mut channel: TcpStream, users: Users, mechanism: &str, peer: &str) -> Result<String, Failure> {
     let hashes: Vec<_> = version_of(mechanism).into_iter().collect();
     let server = users
         .server()
         .hashes(&hashes)
         .plain_under_tls(mechanism == "PLAIN")
         .anonymous(mechanism == "ANONYMOUS")
-        .external(if mechanism == "EXTERNAL" { "user" } else { "" });
+        .external(peer);
     let mut side = ServerNegotiation::new(server);
     let mut room = [0; 4096];
     while side.progress() == Progress::InProgress {
@@ -83,7 +97,7 @@ fn run_server(words: &[&str]) -> Result<i32, Failure> {
     println!("{}", listener.local_addr()?.port());
     for _ in 0..words[1].parse()? {
         let (channel, _) = listener.accept()?;
-        match serve(channel, Users::read(words[0], version)?, words[2]) {
+        match serve(channel, Users::read(words[0], version)?, words[2], words.get(3).copied().unwrap_or("")) {
             Ok(name) => println!("logged in: {name}"),
             Err(why) => println!("not logged in: {why}"),
         }
@@ -96,7 +110,8 @@ fn main() -> Result<(), Failure> {
     let words: Vec<&str> = words.iter().map(String::as_str).collect();
     let status = match (words.first().copied(), words.len()) {
         (Some("client"), 5) => run_client(&words[1..])?,
-        (Some("server"), 4) => run_server(&words[1..])?,
+        (Some("client"), 6) if words[5] == "challenge" => run_client(&words[1..])?,
+        (Some("server"), 4 | 5) => run_server(&words[1..])?,
         _ => 2,
     };
     std::process::exit(status)
