@@ -33,7 +33,7 @@ abbrev pub PlainOksLogIn : Type 0
 PlainOksLogIn = (server next : PlainState) (event : Given) (body : List ℕ)
     → AcceptorSteps plain_machine server event (Concluded outcomes.Ok body) next
     → (frame : SaslFrame) × (user : List ℕ) × SpellsBody event.body (Ok frame)
-    × PlainLogsIn server.passwords server.provider frame user × (next ≡ record server { user = Some user })
+    × PlainLogsIn server.provider frame user × (next ≡ record server { user = Some user })
 
 -- an outcome Ok with this data shows a SCRAM client in this state the signature that it waits for (RFC 5802, section 5);
 -- without data it may come only after a challenge that showed it (RFC 4422, section 5)
@@ -47,8 +47,8 @@ ReportedOksAreSigned = (hostname : Option (List ℕ)) (client : ClientSide) (eve
     (next : Profile) → ProfileSteps hostname (ScramProfile client) event (Reported outcomes.Ok more) next
     → SpellsBody event.body (Ok (frames.Outcome outcomes.Ok more)) × ShowsSignature client.state more
 
--- a SCRAM profile starts to wait for an outcome without data only by a challenge with the signature that it waits for,
--- and answers it by a response
+-- a SCRAM profile waits for an outcome without data only after a challenge with the signature that it waits for, which it
+-- answers by a response
 abbrev pub VerifiedOnSignature : Type 0
 VerifiedOnSignature = (hostname : Option (List ℕ)) (client next : ClientSide) (event : Given) (says : ClientSays)
     (keys : Option ClientKeys) → ProfileSteps hostname (ScramProfile client) event says (ScramProfile next)

@@ -1,4 +1,4 @@
--- When a SCRAM profile comes to wait for an outcome without data: `verified_on_signature`.
+-- When a SCRAM profile waits for an outcome without data: `verified_on_signature`.
 use Rattle.std.proofs.Common.{◌≡◌, ◌≢◌, ◌⊎◌, ℕ, Bool, true, false, Option, Some, None, List, [], refl, sym, ap, ◌∙◌, subst, inl, inr, Result, Ok, Err}
 use Rattle.std.specs.Prelude.{◌&&◌}
 use Rattle.fe2o3_sasl_wire.specs.declared.amqp_types.SaslCode.{SaslCode}
