@@ -120,8 +120,8 @@ fn after_init(
     scram: &ScramClient,
 ) -> Result<SaslProfile, Status>
     ensures sent { IfOk result (λ after. scram.now.state ≡ 1
-        → profile_of after ≡ after_init (profile_of profile.entry) (replicate 32 0)) }
-    ensures not_sent { IfOk result (λ after. scram.now.state ≢ 1 → profile_of after ≡ profile_of profile.entry) }
+        → profile_of after ≡ after_init (profile_of profile) (replicate 32 0)) }
+    ensures not_sent { IfOk result (λ after. scram.now.state ≢ 1 → profile_of after ≡ profile_of profile) }
     ensures err { IfErr result (λ status. status ≡ StatusOutOfMemory) }
 {
     if scram.state != 1 {
