@@ -371,13 +371,11 @@ impl ScramClient {
         ensures answer { ConcludesIn self.old.state self.old result self.new }
         ensures err { OnErr result (self.new ≡ self.old) }
     {
-        match &self.state {
-            ScramClientState::SignatureVerified => {
-                self.state = ScramClientState::Complete;
-                Ok(())
-            }
-            _ => Err(ScramErrorKind::ServerSignatureMismatch),
-        }
+        let ScramClientState::SignatureVerified = &self.state else {
+            return Err(ScramErrorKind::ServerSignatureMismatch);
+        };
+        self.state = ScramClientState::Complete;
+        Ok(())
     }
 
     /// Returns the keys that the client answered by, once the exchange has ended with a verified server, and `None`
