@@ -33,7 +33,7 @@ abbrev pub PlainOksLogIn : Type 0
 PlainOksLogIn = (server next : PlainState) (event : Given) (body : List ℕ)
     → AcceptorSteps plain_machine server event (Concluded outcomes.Ok body) next
     → (frame : SaslFrame) × (user : List ℕ) × SpellsBody event.body (Ok frame)
-    × PlainLogsIn server.provider frame user × (next ≡ record server { user = Some user })
+    × PlainLogsIn server.passwords server.provider frame user × (next ≡ record server { user = Some user })
 
 -- an outcome Ok with this data shows a SCRAM client in this state the signature that it waits for (RFC 5802, section 5);
 -- without data it may come only after a challenge that showed it (RFC 4422, section 5)
