@@ -8,7 +8,7 @@ use Rattle.fe2o3_sasl_wire.specs.SaslFrames as frames
 use Rattle.fe2o3_sasl_wire.specs.SaslFrames.{SaslFrame}
 use Rattle.fe2o3_scram.specs.declared.scram_messages.error.ScramErrorKind.{ScramErrorKind}
 use Rattle.fe2o3_scram.specs.Texts.{base64_text}
-use Rattle.fe2o3_sasl_core.specs.ClientHistory.{Answering, answer_at, says_answer, says_verified, MaySign, ReadsChallenge, ReadsOutcome, ReadsSigning, ClientAnswers, ClientAllocates, is_start, is_answer, ends_answer, NonceAt, IsDue, AnswersAt, OpenAnswer, SignsAt, VerifiedAnswer, ClientHistory}
+use Rattle.fe2o3_sasl_core.specs.ClientHistory.{Answering, answer_at, says_answer, ReadsChallenge, ReadsOutcome, ReadsSigning, ClientAnswers, ClientAllocates, is_start, is_answer, ends_answer, NonceAt, IsDue, AnswersAt, OpenAnswer, SignsAt, VerifiedAnswer, ClientHistory}
 use Rattle.fe2o3_sasl_core.specs.Events.{Given, Login, ClientSays, Refused, scram_fault}
 use Rattle.fe2o3_sasl_core.specs.Laws.{OneClientHistory}
 use Rattle.fe2o3_scram.specs.ServerFinal.{ReadsServerFinal}
