@@ -109,7 +109,7 @@ int main(int count, char **words)
     char password[1024];
     struct fe2o3_scram_keys no_keys = {0};
     struct fe2o3_sasl_client client = {0};
-    struct fe2o3_sasl_login login = {0, NULL, 0, {0, 0, 0, 4096, 1000000, NULL, 0, NULL, 0, NULL}};
+    struct fe2o3_sasl_login login = {0, NULL, 0, {0, 0, 0, 4096, 1000000, NULL, 0, NULL, 0, NULL, 0}};
     size_t which = count == 5 ? known(words[3]) : known("");
     int64_t answer;
     int channel;
