@@ -274,7 +274,7 @@ state_of user before other (inl two) verified (inl wide) =
     (ClientInitial, (other, (λ four. absurd (omega (arith, two, four))), λ is. wide))
 state_of user before other (inr none) (inl four) length =
     let keys = holds before.keys in (SignatureVerified keys.0, (four, keys.1))
-state_of user before other (inr none) (inr open) length = (ClientInitial, (other, open, λ is. absurd (none is)))
+state_of user before other (inr none) (inr unsigned) length = (ClientInitial, (other, unsigned, λ is. absurd (none is)))
 
 state_by : (user : List ℕ) (before : Struct) → before.state ≢ 1 → (state : ClientState) × IsState user before state
 state_by user before other = state_of user before other (equal_or before.state 2) (equal_or before.state 4)

@@ -39,11 +39,11 @@ pub nothing_sent : (user : List ℕ) (client : Struct) (state : ClientState)
     → ((signature : List ℕ) (keys : Option ClientKeys) → state ≢ ClientFinalSent signature keys)
     → is_complete state ≡ false → is_signature_verified state ≡ false → IsState user client ClientInitial
     → IsState user client state
-nothing_sent user client ClientInitial first final done open is = is
-nothing_sent user client (ClientFirstSent nonce bare) first final done open is = absurd (first nonce bare refl)
-nothing_sent user client (ClientFinalSent signature keys) first final done open is = absurd (final signature keys refl)
-nothing_sent user client (SignatureVerified keys) first final done open is = absurd (cc)
-nothing_sent user client (Complete keys) first final done open is = absurd (cc)
+nothing_sent user client ClientInitial first final done unsigned is = is
+nothing_sent user client (ClientFirstSent nonce bare) first final done unsigned is = absurd (first nonce bare refl)
+nothing_sent user client (ClientFinalSent signature keys) first final done unsigned is = absurd (final signature keys refl)
+nothing_sent user client (SignatureVerified keys) first final done unsigned is = absurd (cc)
+nothing_sent user client (Complete keys) first final done unsigned is = absurd (cc)
 
 -- a signature that was reached has room
 pub never_too_long : (user : List ℕ) (state : ClientState) (signature : List ℕ) (keys : Option ClientKeys)
@@ -129,12 +129,12 @@ pub nothing_written : (client : Struct) (state : ClientState)
     → ((signature : List ℕ) (keys : Option ClientKeys) → state ≢ ClientFinalSent signature keys)
     → is_complete state ≡ false → is_signature_verified state ≡ false → client ≡ fresh_client_struct
     → WritesClient client state
-nothing_written client ClientInitial first final done open same = same
-nothing_written client (ClientFirstSent nonce bare) first final done open same = absurd (first nonce bare refl)
-nothing_written client (ClientFinalSent signature keys) first final done open same =
+nothing_written client ClientInitial first final done unsigned same = same
+nothing_written client (ClientFirstSent nonce bare) first final done unsigned same = absurd (first nonce bare refl)
+nothing_written client (ClientFinalSent signature keys) first final done unsigned same =
     absurd (final signature keys refl)
-nothing_written client (SignatureVerified keys) first final done open same = absurd (cc)
-nothing_written client (Complete keys) first final done open same = absurd (cc)
+nothing_written client (SignatureVerified keys) first final done unsigned same = absurd (cc)
+nothing_written client (Complete keys) first final done unsigned same = absurd (cc)
 
 pub waiting_written : {A : Type 0} (view : A → ClientKeys) (found : Option A) (state : ClientState)
     (answer : Option Struct) (signature : List ℕ) (keys : Option ClientKeys) → state ≡ ClientFinalSent signature keys
@@ -149,15 +149,14 @@ waiting_written view found state (Some client) signature keys is given held =
     carried (WritesClient client) (ClientFinalSent signature (option_map view found)) state (sym moved) held
 
 -- what the struct of a client takes
-pub ruleset of_state =
-    (
-      first_sent,
-      completed,
-      verified,
-      nothing_sent,
-      never_too_long,
-      first_written,
-      completed_written,
-      verified_written,
-      nothing_written,
-    )
+pub ruleset of_state = (
+  first_sent,
+  completed,
+  verified,
+  nothing_sent,
+  never_too_long,
+  first_written,
+  completed_written,
+  verified_written,
+  nothing_written,
+)
