@@ -24,10 +24,11 @@ pub use fe2o3_scram::laws::{
 
 /// The headline theorem. Over every list of frame bodies, a SCRAM server answers Ok exactly when a response fits its
 /// open challenge and its proof meets the stored key, which closes the challenge; a SCRAM client reports Ok exactly on
-/// the signature of its open answered challenge, in the outcome or, if it accepts that, in the challenge before it; and
-/// if that verifier is one that a server issued, both agree on user name and client nonce, or their own differing
-/// AuthMessages share one HMAC value. If the init had two parts, or one side received no attribute of RFC 5802 in the
-/// place of an extension, they also agree on full nonce, salt and count, and in the second case on the header.
+/// the signature of its open answered challenge, in the outcome or, if it accepts that, in the challenge that it
+/// answered last; and if that verifier is one that a server issued, both agree on user name and client nonce, or their
+/// own differing AuthMessages share one HMAC value. If the init had two parts, or one side received no attribute of RFC
+/// 5802 in the place of an extension, they also agree on full nonce, salt and count, and in the second case on the
+/// header.
 pub fn headline()
     ensures server { EveryServer AnswersOkExactly }
     ensures client { EveryClient ReportsOkExactly }

@@ -1,6 +1,6 @@
 -- The headline theorem, over every list of frame bodies: what every history has. Every run of `scram_server_run` and of
 -- `scram_client_run` has it by contract. `headline` in `laws` of `fe2o3_sasl` states it of the definitions.
-use Rattle.std.specs.Prelude.{◌≡◌, ◌≢◌, ℕ, ◌<◌, Option, Some, None, List, slice_get, Ok}
+use Rattle.std.specs.Prelude.{◌≡◌, ◌≢◌, ℕ, ◌<◌, false, Option, Some, None, List, slice_get, Ok}
 use Rattle.fe2o3_sasl_wire.specs.declared.amqp_types.SaslCode.TheVariants as outcomes
 use Rattle.fe2o3_sasl_wire.specs.declared.sasl_frames.error.Error.TheVariants as faults
 use Rattle.fe2o3_sasl_wire.specs.SaslFrames as frames
@@ -41,6 +41,9 @@ pub record ReportsOkExactly (login : Login) (events : List Given) (replies : Lis
   -- Ok is reported only on the signature of the open answered challenge, however it came
   pub only : (m : ℕ) (more : Option (List ℕ)) → slice_get replies m ≡ Some (Reported outcomes.Ok more)
       → SignedAt login events replies m more
+  -- a client that does not accept the signature in a challenge reports Ok only with data
+  pub with_data : login.signature_by_challenge ≡ false → (m : ℕ) (more : Option (List ℕ))
+      → slice_get replies m ≡ Some (Reported outcomes.Ok more) → (text : List ℕ) × (more ≡ Some text)
   -- every such signature is reported, except if memory runs out
   pub wherever : (m : ℕ) (more : Option (List ℕ)) (says : ClientSays) → SignedAt login events replies m more
       → slice_get replies m ≡ Some says → says ≢ Refused OutOfMemory → says ≡ Reported outcomes.Ok more

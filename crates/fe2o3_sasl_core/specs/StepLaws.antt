@@ -47,8 +47,8 @@ ReportedOksAreSigned = (hostname : Option (List ℕ)) (client : ClientSide) (eve
     (next : Profile) → ProfileSteps hostname (ScramProfile client) event (Reported outcomes.Ok more) next
     → SpellsBody event.body (Ok (frames.Outcome outcomes.Ok more)) × ShowsSignature client.state more
 
--- a SCRAM profile comes to wait for an outcome without data only by a challenge with the signature that it waits for, and
--- answers it by a response
+-- a SCRAM profile starts to wait for an outcome without data only by a challenge with the signature that it waits for,
+-- and answers it by a response
 abbrev pub VerifiedOnSignature : Type 0
 VerifiedOnSignature = (hostname : Option (List ℕ)) (client next : ClientSide) (event : Given) (says : ClientSays)
     (keys : Option ClientKeys) → ProfileSteps hostname (ScramProfile client) event says (ScramProfile next)

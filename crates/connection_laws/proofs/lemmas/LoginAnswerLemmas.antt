@@ -1,5 +1,6 @@
 -- What a client and a server answer to the units of their login.
-use Rattle.std.proofs.Common.{◌≡◌, ℕ, ◌<◌, ◌^◌, Bool, true, false, ◌&&◌, Option, Some, List, [], ◌∷◌, ◌++◌, codes, refl, sym, ap, ◌∙◌, subst, arith, inl, inr, Result, Ok}
+use Rattle.std.proofs.Common.{◌≡◌, ℕ, ◌<◌, ◌^◌, Bool, true, false, Option, Some, List, [], ◌∷◌, ◌++◌, codes, refl, sym, ap, ◌∙◌, subst, arith, inl, inr, Ok}
+use Rattle.std.specs.Prelude.{◌&&◌}
 use Rattle.std.specs.Fmt.{decimal}
 use Rattle.std.specs.List.{Contains}
 use Rattle.std.specs.Str.{IsUtf8}
@@ -16,7 +17,7 @@ use Rattle.fe2o3_scram.specs.ClientFinal.{ReadsClientFinal, server_of}
 use Rattle.fe2o3_scram.specs.Credentials.{Provider}
 use Rattle.fe2o3_scram.specs.Exchanges.{Exchange, IsSound, nonce_in, bare_in, named_in, first_in, answer_in, final_in, record_in}
 use Rattle.fe2o3_scram.specs.Hmac.{mechanism_name}
-use Rattle.fe2o3_scram.specs.ScramClient.{ClientSide, ClientInitial, ClientFinalSent, Complete, expects_signature, started, with_state}
+use Rattle.fe2o3_scram.specs.ScramClient.{ClientSide, ClientInitial, ClientFinalSent, Complete, started, with_state}
 use Rattle.fe2o3_scram.specs.ScramServer.{Initial, ServerFirstSent, ServerFinalSent}
 use Rattle.fe2o3_scram.specs.ServerFinal.{ReadsServerFinal, server_final_of}
 use Rattle.fe2o3_scram.specs.ServerFirst.{ServerChallenge, challenge_of}
@@ -24,7 +25,6 @@ use Rattle.fe2o3_scram.specs.Texts.{base64_text}
 use Rattle.fe2o3_scram.proofs.lemmas.messages.ExchangeLemmas.{nonce_text}
 use Rattle.fe2o3_scram.proofs.lemmas.texts.AsciiLemmas.{IsUtf8-base64_text, IsUtf8-literal}
 use Rattle.fe2o3_sasl_core.specs.Events.{Login, Challenged, Concluded, Failed, Started, Answered, Reported, Refused, ServerSays, ClientSays}
-use Rattle.fe2o3_sasl_core.specs.declared.sasl_profile.error.ProfileError.{ProfileError}
 use Rattle.fe2o3_sasl_core.specs.declared.sasl_profile.error.ProfileError.TheVariants.{Frame as FrameFault}
 use Rattle.fe2o3_sasl_core.specs.Profiles.{Profile, ScramProfile, ChallengeReplies, scram_profile}
 use Rattle.fe2o3_sasl_core.specs.Runs.{SendsCanonical, AcceptorGives, ProfileReplies}
@@ -97,6 +97,11 @@ quiet progress turn = record { sent = []; progress = progress; expected = Frame 
 
 abbrev pub ends : List ℕ → SideOutput
 ends body = record { sent = framed body; progress = Authenticated; expected = Frame turns.Response }
+
+-- a client that has sent only its first message does not take a challenge as the signature
+never_signs : (accept : Bool) → (accept && false) ≡ false
+never_signs true = refl
+never_signs false = refl
 
 module _ (p : Premises) where
   abbrev login : Login
@@ -190,17 +195,6 @@ module _ (p : Premises) where
       names_body mine names (Started init_body) (waits init_body turns.Challenge)
       (spells_mechanisms login.version names_body (frame.names_sent p).1) tt starts (inl ((frame.init_sent p).2, refl))
 
-  -- a client that has sent its first message expects no signature
-  no_signature : (accepts : Bool) → accepts && false ≡ false
-  no_signature true = refl
-  no_signature false = refl
-
-  unexpected : {reply : Result SaslFrame ProfileError} {moved : Profile}
-      → ChallengeReplies false started_side (first_in exchange) reply moved
-      → ChallengeReplies (expects_signature started_side) started_side (first_in exchange) reply moved
-  unexpected {reply} {moved} replies = subst (λ (expects : Bool). ChallengeReplies expects started_side (first_in exchange)
-      reply moved) (sym (no_signature login.signature_by_challenge)) replies
-
   answers : (nonce : List ℕ) → ProfileReplies login.hostname (ScramProfile started_side) nonce
       (frames.Challenge (first_in exchange)) (Answered response_body) (ScramProfile answered_side)
   answers nonce = inr (
@@ -208,13 +202,14 @@ module _ (p : Premises) where
     ScramProfile answered_side,
     inr (
       first_text exchange (frame.sound p),
-      unexpected (
-        Ok message,
-        answered_side,
-        (answer_in exchange, (named_in exchange, (frame.meets p).server_first, refl), refl, refl),
-        refl,
-        refl,
-      ),
+      subst (λ (expects : Bool). ChallengeReplies expects started_side (first_in exchange) (Ok (frames.Response message))
+          (ScramProfile answered_side)) (sym (never_signs login.signature_by_challenge)) (
+            Ok message,
+            answered_side,
+            (answer_in exchange, (named_in exchange, (frame.meets p).server_first, refl), refl, refl),
+            refl,
+            refl,
+          ),
     ),
     sends_canonical (Refused (FrameFault faults.TooLarge)) (λ (b : List ℕ). Answered b)
         (canonical (frames.Response message)) response_body (ScramProfile started_side) (ScramProfile answered_side)

@@ -1,5 +1,5 @@
 -- What the bytes of two connections say of both.
-use Rattle.std.proofs.Common.{◌≡◌, ◌⊎◌, ℕ, zero, suc, ◌+◌, Option, Some, List, [], ◌∷◌, ◌++◌, length, replicate, codes, refl, sym, ap, ◌∙◌, subst, arith, ⊎_elim, inl, inr, Ok}
+use Rattle.std.proofs.Common.{◌≡◌, ◌⊎◌, ℕ, zero, suc, ◌<◌, ◌≤◌, ◌+◌, Option, Some, None, List, [], ◌∷◌, ◌++◌, length, replicate, codes, refl, sym, ap, ◌∙◌, subst, arith, ⊎_elim, inl, inr, Ok}
 use Rattle.std.specs.Prelude.{slice_get, flat_map}
 use Rattle.std.specs.List.{Contains}
 use Rattle.std.proofs.lemmas.List.{length-append}
@@ -15,7 +15,7 @@ use Rattle.fe2o3_scram.specs.ScramServer.{Initial}
 use Rattle.fe2o3_sasl_core.specs.Bodies.{SpellsBody}
 use Rattle.fe2o3_sasl_core.proofs.lemmas.frames.SpellingLemmas.{one_spelled_frame}
 use Rattle.fe2o3_sasl.proofs.lemmas.examples.ExampleTextLemmas.{length-base64_text}
-use Rattle.fe2o3_sasl_core.specs.Events.{Given, Login, IsRecord, Reported}
+use Rattle.fe2o3_sasl_core.specs.Events.{Given, Login, IsRecord, ClientSays, Reported}
 use Rattle.fe2o3_sasl_core.specs.Headline.{SignedAt}
 use Rattle.fe2o3_sasl_core.specs.Laws.{HoldsRecords}
 use Rattle.fe2o3_sasl_core.specs.Positions.{test_at}
@@ -23,7 +23,6 @@ use Rattle.fe2o3_sasl_core.specs.Profiles.{scram_profile}
 use Rattle.fe2o3_sasl_core.specs.SaslAcceptor.{ScramAcceptor, acceptor_machine}
 use Rattle.fe2o3_sasl_core.specs.ServerHistory.{Accepted, LoggedIn as UserLoggedIn, full_nonce, is_challenge, is_ok}
 use Rattle.fe2o3_sasl_core.specs.TwoSides.{Sides, OkAt}
-use Rattle.fe2o3_sasl_core.proofs.lemmas.histories.ReportedOkLemmas.{signature_of_ok}
 use Rattle.fe2o3_sasl_core.proofs.lemmas.histories.ServerLawLemmas.{accepted_response}
 use Rattle.fe2o3_sasl_core.proofs.lemmas.positions.PositionLemmas.{opens_here}
 use Rattle.fe2o3_sasl_core.proofs.lemmas.two_sides.EqualMessageLemmas.{accepts_open, is_challenging}
@@ -55,10 +54,29 @@ held sides n accepted records ok =
 
 -- ---- from the server to the client
 
+-- at most one frame for each turn
+pub frames_within : (pieces : List Piece) (limit at : ℕ) (turns : List FrameKind) (events : List Given)
+    → AreFrames pieces limit at turns events → length events ≤ length turns
+frames_within pieces limit at turns [] frames = omega arith
+frames_within pieces limit at [] (event ∷ events) frames = absurd frames
+frames_within pieces limit at (turn ∷ turns) (event ∷ events) frames =
+    let rest = frames_within pieces limit (at + (length event.body + 4)) turns events frames.3 in omega (arith, rest)
+
+-- an outcome without data is the fourth frame at least: after a start, an answer and a signature
+has_data : (login : Login) (events : List Given) (replies : List ClientSays) (m : ℕ) (more : Option (List ℕ)) → m < 3
+    → SignedAt login events replies m more
+    → (text : List ℕ) × (more ≡ Some text) × SignedAt login events replies m (Some text)
+has_data login events replies m (Some text) few signed = (text, refl, signed)
+has_data login events replies m None few signed =
+    let response = signed.4.1 in
+    let opened = signed.4.2.4.1 in
+    let started = opened.2.4.2 in
+    absurd (omega (arith, few, response.before, opened.1.before, started.1.before))
+
 -- the last reply of a client that has logged in
 pub reports_last : (login : Login) (client : ClientOf login) → client.last.progress ≡ Authenticated
-    → (m : ℕ) × (more : Option (List ℕ)) × (text : List ℕ) × ReportsLast client m more text
-    × SignedAt login client.connection.events client.connection.replies m more
+    → (m : ℕ) × (text : List ℕ) × ReportsLast client m text
+    × SignedAt login client.connection.events client.connection.replies m (Some text)
 reports_last login client logged =
     let logs = scram_clients_report login client.limit client.pieces client.taken client.sent client.last
     client.connection in
@@ -66,10 +84,12 @@ reports_last login client logged =
     ((clients_log_in login.hostname client.limit (scram_profile login) client.pieces client.taken client.sent client.last
     client.connection).0 logged) in
     let at = last.3 ∙ ap Some last.4.1 in
-    let signed = logs.exactly.only last.0 last.4.0 at in
-    let shown = signature_of_ok login client.connection.events client.connection.replies last.0 last.4.0 logs.history at
-    in
-    (last.0, last.4.0, shown.1, record { last = last.2; reported = at; verifier = shown.3 }, signed)
+    let count = frames_within client.pieces client.limit 8 (turns.Mechanisms ∷ turns.Challenge ∷ turns.Outcome ∷ [])
+    client.connection.events client.connection.frames in
+    let signed = has_data login client.connection.events client.connection.replies last.0 last.4.0
+    (omega (arith, count, last.2, logs.history.count)) (logs.exactly.only last.0 last.4.0 at) in
+    let reported = at ∙ ap (λ more. Some (Reported outcomes.Ok more)) signed.1 in
+    (last.0, signed.0, record { last = last.2; reported = reported }, signed.2)
 
 pub logged_in_clients_agree : LoggedInClientsAgree
 logged_in_clients_agree login provider client server records logged =
@@ -81,15 +101,14 @@ logged_in_clients_agree login provider client server records logged =
       last.0,
       last.1,
       last.2,
-      last.3,
       λ n accepted ok one. verifier_agrees (sides client server) last.0 n accepted
           (record { client = logs.history; server = serves.history })
           (held (sides client server) n accepted records ok)
           (record {
-            more = last.1;
-            text = last.2;
-            reported = last.3.reported;
-            verifier = last.3.verifier;
+            more = Some last.1;
+            text = last.1;
+            reported = last.2.reported;
+            verifier = refl;
             ok = ok;
             one = one;
           }),

@@ -1,14 +1,13 @@
 -- The frames and replies of SCRAM connections that have logged in.
-use Rattle.std.proofs.Common.{◌≡◌, ◌≢◌, ◌⊎◌, ℕ, zero, suc, ◌+◌, ◌<◌, ◌≤◌, ◌^◌, true, Option, Some, None, List, [], ◌∷◌, ◌++◌, length, drop, refl, sym, ap, ◌∙◌, subst, arith, inl, inr}
+use Rattle.std.proofs.Common.{◌≡◌, ◌≢◌, ◌⊎◌, ℕ, zero, suc, ◌+◌, ◌<◌, ◌≤◌, ◌^◌, true, Option, Some, List, [], ◌∷◌, ◌++◌, length, drop, refl, sym, ap, ◌∙◌, subst, arith, inl, inr}
 use Rattle.std.specs.Prelude.{slice_get}
 use Rattle.std.proofs.lemmas.List.{append-nil, length-append}
 use Rattle.std.proofs.lemmas.Option.{same_Some}
 use Rattle.fe2o3_sasl_wire.specs.declared.amqp_types.SaslCode.TheVariants as outcomes
 use Rattle.fe2o3_scram.specs.ScramServer.{Initial}
 use Rattle.fe2o3_scram.specs.Credentials.{Provider}
-use Rattle.fe2o3_sasl_core.specs.ClientHistory.{ClientHistory, is_start, is_answer}
+use Rattle.fe2o3_sasl_core.specs.ClientHistory.{is_start, is_answer}
 use Rattle.fe2o3_sasl_core.specs.Events.{Given, Login, ServerSays, Challenged, Concluded, Failed, ClientSays, Started, Answered, Reported, Refused}
-use Rattle.fe2o3_sasl_core.specs.Headline.{SignedAt}
 use Rattle.fe2o3_sasl_core.specs.Positions.{test_at}
 use Rattle.fe2o3_sasl_core.specs.Profiles.{scram_profile}
 use Rattle.fe2o3_sasl_core.specs.Runs.{AcceptorSteps, ProfileSteps}
@@ -25,14 +24,14 @@ use Rattle.fe2o3_sasl_negotiation.specs.declared.progress.FrameKind.{FrameKind}
 use Rattle.fe2o3_sasl_negotiation.specs.declared.progress.FrameKind.TheVariants as turns
 use Rattle.fe2o3_sasl_negotiation.specs.ClientNegotiation as of_client
 use Rattle.fe2o3_sasl_negotiation.specs.ServerNegotiation as of_server
-use Rattle.fe2o3_sasl_negotiation.specs.Connections.{Piece, AreFrames, ClientNegotiated, LeftOver, Negotiated, Replied, frames_of}
+use Rattle.fe2o3_sasl_negotiation.specs.Connections.{Piece, LeftOver, Negotiated, Replied, frames_of}
 use Rattle.fe2o3_sasl_negotiation.specs.Framing.{sasl_header, framed, size_of}
 use Rattle.fe2o3_sasl_negotiation.specs.Negotiations.{Side, SideOutput, Sends}
 use Rattle.fe2o3_sasl_negotiation.proofs.lemmas.KindLemmas.{progress_of}
 use Rattle.fe2o3_sasl_negotiation.proofs.lemmas.LoginLemmas.{scram_servers_serve, scram_clients_report}
 use Rattle.fe2o3_sasl_negotiation.proofs.lemmas.UnitLemmas.{size_of-framed, length-framed, body_of-framed}
 use Rattle.connection_laws.specs.Pairs.{ClientOf, ServerOf}
-use Rattle.connection_laws.proofs.lemmas.PairLemmas.{reports_last, logged_in_servers_accept, one_split}
+use Rattle.connection_laws.proofs.lemmas.PairLemmas.{frames_within, reports_last, logged_in_servers_accept, one_split}
 
 -- ---- frames one after the other
 
@@ -52,14 +51,6 @@ one_frame body more other behind small fits same =
     ) in
     let both = one_split (framed body) more (framed other) behind same ends in
     (sym (body_of-framed body) ∙ (ap (drop 4) both.0 ∙ body_of-framed other), both.1)
-
--- at most one frame for each turn
-frames_within : (pieces : List Piece) (limit at : ℕ) (turns : List FrameKind) (events : List Given)
-    → AreFrames pieces limit at turns events → length events ≤ length turns
-frames_within pieces limit at turns [] frames = omega arith
-frames_within pieces limit at [] (event ∷ events) frames = absurd frames
-frames_within pieces limit at (turn ∷ turns) (event ∷ events) frames =
-    let rest = frames_within pieces limit (at + (length event.body + 4)) turns events frames.3 in omega (arith, rest)
 
 -- ---- what is sent
 
@@ -267,55 +258,36 @@ pub record ClientShape {login : Login} (client : ClientOf login) : Type 0 where
 
 pub client_shape : (login : Login) (client : ClientOf login) → client.last.progress ≡ Authenticated → ClientShape client
 client_shape login client logged_in =
+    let n = client.connection in
+    let history = (scram_clients_report login client.limit client.pieces client.taken client.sent client.last n).history
+    in
     let reports = reports_last login client logged_in in
-    go {reports.0} reports.1 reports.3.last reports.3.reported reports.4
-  where
-    n : ClientNegotiated (ProfileSteps login.hostname) client.limit (scram_profile login) client.pieces client.taken
-        client.sent client.last
-    n = client.connection
-
-    history : ClientHistory login n.events n.replies
-    history = (scram_clients_report login client.limit client.pieces client.taken client.sent client.last n).history
-    few : length n.events ≤ 3
-    few = frames_within client.pieces client.limit 8 (turns.Mechanisms ∷ turns.Challenge ∷ turns.Outcome ∷ [])
-        n.events n.frames
-
-    go : {m : ℕ} (more : Option (List ℕ)) → suc m ≡ length n.replies
-        → slice_get n.replies m ≡ Some (Reported outcomes.Ok more) → SignedAt login n.events n.replies m more
-        → ClientShape client
-    -- a signature in a challenge takes four replies
-    go {m} None last reported signed =
-        let opened = signed.3.2.4.1 in
-        let due = opened.2.4.2 in
-        let b = signed.3.1.before in
-        let c = opened.1.before in
-        let d = due.1.before in
-        absurd (omega (arith, few, history.count, last, b, c, d))
-    go {m} (Some text) last reported signed =
-        let opened = signed.4 in
-        let expected = opened.2.4.2 in
-        let says = Reported outcomes.Ok (Some text) in
-        let all = three_replies n.replies m opened.0 expected.0 says (omega (arith, few, history.count)) last
-        reported opened.1.before expected.1.before opened.1.opened expected.1.opened in
-        let events = three_events n.events (sym history.count ∙ ap length all.2) in
-        let ends = nothing_left (ProfileSteps login.hostname) of_client.ClientOutputs
-        (turns.Mechanisms ∷ turns.Challenge ∷ turns.Outcome ∷ [])
-        client.limit (scram_profile login) client.pieces client.taken client.sent client.last n logged_in in
-        let sends = client_sends all.0 all.1 (Some text) n.answer
-        (subst (λ l. Replied of_client.ClientOutputs (turns.Mechanisms ∷ turns.Challenge ∷ turns.Outcome ∷ []) l n.answer)
-        all.2 n.replied) in
-        record {
-          offer = events.0;
-          challenge = events.1;
-          outcome = events.2;
-          init = all.0;
-          response = all.1;
-          text = text;
-          events = events.3;
-          replies = all.2;
-          small = (sends.0, sends.1);
-          sent = n.sends ∙ sends.2;
-          taken = n.carried ∙ (ap (λ tail. sasl_header ++ (frames_of n.events ++ tail)) ends.0
-              ∙ (ap (λ l. sasl_header ++ l) (append-nil (frames_of n.events))
-              ∙ ap (λ events. sasl_header ++ frames_of events) events.3));
-        }
+    let opened = reports.3.4 in
+    let expected = opened.2.4.2 in
+    let few = frames_within client.pieces client.limit 8 (turns.Mechanisms ∷ turns.Challenge ∷ turns.Outcome ∷ [])
+    n.events n.frames in
+    let says = Reported outcomes.Ok (Some reports.1) in
+    let all = three_replies n.replies reports.0 opened.0 expected.0 says (omega (arith, few, history.count)) reports.2.last
+    reports.2.reported opened.1.before expected.1.before opened.1.opened expected.1.opened in
+    let events = three_events n.events (sym history.count ∙ ap length all.2) in
+    let ends = nothing_left (ProfileSteps login.hostname) of_client.ClientOutputs
+    (turns.Mechanisms ∷ turns.Challenge ∷ turns.Outcome ∷ [])
+    client.limit (scram_profile login) client.pieces client.taken client.sent client.last n logged_in in
+    let sends = client_sends all.0 all.1 (Some reports.1) n.answer
+    (subst (λ l. Replied of_client.ClientOutputs (turns.Mechanisms ∷ turns.Challenge ∷ turns.Outcome ∷ []) l n.answer)
+    all.2 n.replied) in
+    record {
+      offer = events.0;
+      challenge = events.1;
+      outcome = events.2;
+      init = all.0;
+      response = all.1;
+      text = reports.1;
+      events = events.3;
+      replies = all.2;
+      small = (sends.0, sends.1);
+      sent = n.sends ∙ sends.2;
+      taken = n.carried ∙ (ap (λ tail. sasl_header ++ (frames_of n.events ++ tail)) ends.0
+          ∙ (ap (λ l. sasl_header ++ l) (append-nil (frames_of n.events))
+          ∙ ap (λ events. sasl_header ++ frames_of events) events.3));
+    }

@@ -1,5 +1,5 @@
 -- No reply of an unaltered login is too large, by the lengths of its texts.
-use Rattle.std.proofs.Common.{◌≡◌, ◌≢◌, ◌⊎◌, ◌≤◌, ◌<◌, ◌+◌, ◌^◌, ℕ, Bool, true, false, Option, Some, None, List, [], ◌∷◌, ◌++◌, codes, length, if◌then◌else◌, nat_lt, refl, sym, ap, ◌∙◌, subst, arith, inl, inr, Result, Ok, Err}
+use Rattle.std.proofs.Common.{◌≡◌, ◌≢◌, ◌⊎◌, ◌≤◌, ◌<◌, ◌+◌, ◌^◌, ℕ, Bool, true, false, Option, Some, None, List, [], ◌∷◌, ◌++◌, codes, length, if◌then◌else◌, nat_lt, refl, sym, ap, ◌∙◌, subst, arith, inl, inr, Result, Ok}
 use Rattle.std.specs.Prelude.{slice_get, replicate}
 use Rattle.std.specs.Fmt.{decimal}
 use Rattle.std.proofs.lemmas.Fmt.{length-decimal-le}
@@ -31,14 +31,14 @@ use Rattle.fe2o3_scram.specs.Texts.{alphabet, base64_text}
 use Rattle.fe2o3_scram.proofs.lemmas.hashes.DigestLemmas.{length-hmac_of}
 use Rattle.fe2o3_scram.proofs.lemmas.messages.ExchangeLemmas.{length-exclusive_or}
 use Rattle.fe2o3_sasl_core.specs.Bodies.{SpellsBody, carried}
-use Rattle.fe2o3_sasl_core.specs.ClientHistory.{Answering, answer_at, says_answer, says_verified, ReadsChallenge, ClientAnswers, ClientAllocates, ClientHistory, IsDue, OpenAnswer, VerifiedAnswer}
+use Rattle.fe2o3_sasl_core.specs.ClientHistory.{Answering, answer_at, ReadsChallenge, ClientAnswers, ClientAllocates, ClientHistory, IsDue, OpenAnswer, VerifiedAnswer}
 use Rattle.fe2o3_sasl_core.specs.Events.{Given, Login, ServerSays, Challenged, Concluded, Failed, ClientSays, Started, Answered, Reported, Refused, scram_fault}
 use Rattle.fe2o3_sasl_core.specs.ServerHistory.{Challenging, Accepted, FitsAsInit, Open, ServerAnswers, ServerAllocates, ServerHistory, first_message, final_message}
 use Rattle.fe2o3_sasl_core.proofs.lemmas.frames.SpellingLemmas.{one_spelling}
 use Rattle.fe2o3_sasl_core.proofs.lemmas.histories.OneServerHistoryLemmas.{one_fits}
-use Rattle.fe2o3_sasl_core.proofs.lemmas.unaltered.UnalteredReplyLemmas.{one_answering}
+use Rattle.fe2o3_sasl_core.proofs.lemmas.unaltered.UnalteredReplyLemmas.{NoneMaySign, one_answering}
 use Rattle.fe2o3_sasl_negotiation.specs.FrameSizes.{CanBeSent}
-use Rattle.fe2o3_sasl_negotiation.proofs.lemmas.FrameSizeLemmas.{outcomes_fit, texts_fit}
+use Rattle.fe2o3_sasl_negotiation.proofs.lemmas.FrameSizeLemmas.{outcomes_fit}
 use Rattle.fe2o3_sasl_core.specs.declared.sasl_profile.error.ProfileError.TheVariants.{NotImplemented, Frame, OutOfMemory}
 
 -- ---- lengths of texts
@@ -186,12 +186,6 @@ scram_is_small kinds.IllegalClientState large = cc
 scram_is_small kinds.ServerSignatureMismatch large = cc
 scram_is_small kinds.OutOfMemory large = cc
 
--- the empty response has a body
-verified_is_small : (says : ClientSays) → says ≡ says_verified → says ≢ Refused (Frame faults.TooLarge)
-verified_is_small says is = let sent = (texts_fit [] (omega arith)).1 in
-    carried_is_small (Refused (Frame faults.TooLarge)) (λ (b : List ℕ). Answered b) (canonical (frames.Response []))
-    sent.0 says (λ b same. cc) sent.1 is
-
 module _ (login : Login) (events : List Given) (replies : List ClientSays) (k : ℕ) (event : Given) (says : ClientSays)
     (history : ClientHistory login events replies) (at : slice_get events k ≡ Some event)
     (said : slice_get replies k ≡ Some says) where
@@ -222,26 +216,20 @@ module _ (login : Login) (events : List Given) (replies : List ClientSays) (k : 
       go (inr (inr row)) = none row.1
 
   pub answer_is_small : (text : List ℕ) (answer : Answering) → SpellsBody event.body (Ok (frames.Challenge text))
-      → ((nonce : List ℕ) → IsDue events replies k nonce → nonce ≡ answer.nonce)
+      → NoneMaySign login events replies k → ((nonce : List ℕ) → IsDue events replies k nonce → nonce ≡ answer.nonce)
       → ReadsChallenge login (IsDue events replies k) text (Ok answer)
       → CanBeSent (frames.Response (answer_at login answer).message) → says ≢ Refused (Frame faults.TooLarge)
-  answer_is_small text answer spells one reads sent large = go (client_row (frames.Challenge text) spells)
+  answer_is_small text answer spells none one reads sent large = go (client_row (frames.Challenge text) spells)
     where
       go : ClientRow (Ok (frames.Challenge text)) → ⊥
       go (inl wants) = client_memory says wants.1 large
-      go (inr (inl row)) = verified_is_small says row.1 large
-      go (inr (inr (inl row))) = scram_is_small row.0 (sym row.2 ∙ large)
-      go (inr (inr (inr row))) = table row.1
-        where
-          table : ((answer : Answering) × ReadsChallenge login (IsDue events replies k) text (Ok answer)
-              × (says ≡ says_answer login answer))
-              ⊎ ((kind : ScramErrorKind) × ReadsChallenge login (IsDue events replies k) text (Err kind)
-              × (says ≡ Refused (scram_fault kind))) → ⊥
-          table (inl row) = carried_is_small (Refused (Frame faults.TooLarge)) (λ (b : List ℕ). Answered b)
-              (canonical (frames.Response (answer_at login row.0).message)) sent.0 says (λ b same. cc)
-              (ap (λ (a : Answering). canonical (frames.Response (answer_at login a).message))
-              (one_answering login (IsDue events replies k) text answer row.0 one reads row.1) ∙ sent.1) row.2 large
-          table (inr row) = scram_is_small row.0 (sym row.2 ∙ large)
+      go (inr (inl row)) = none row.0.0 row.0.1
+      go (inr (inr (inl row))) = none row.1.0 row.1.1
+      go (inr (inr (inr (unsigned, inl row)))) = carried_is_small (Refused (Frame faults.TooLarge)) (λ (b : List ℕ). Answered b)
+          (canonical (frames.Response (answer_at login row.0).message)) sent.0 says (λ b same. cc)
+          (ap (λ (a : Answering). canonical (frames.Response (answer_at login a).message))
+          (one_answering login (IsDue events replies k) text answer row.0 one reads row.1) ∙ sent.1) row.2 large
+      go (inr (inr (inr (unsigned, inr row)))) = scram_is_small row.0 (sym row.2 ∙ large)
 
   pub report_is_small : (text : List ℕ) → SpellsBody event.body (Ok (frames.Outcome outcomes.Ok (Some text)))
       → says ≢ Refused (Frame faults.TooLarge)

@@ -28,7 +28,7 @@ use Rattle.fe2o3_sasl_core.proofs.lemmas.frames.SpellingLemmas.{spells_init, spe
 use Rattle.fe2o3_sasl_core.proofs.lemmas.machines.ClientMachineLemmas.{profile_runs_are_histories}
 use Rattle.fe2o3_sasl_core.proofs.lemmas.machines.ServerMachineLemmas.{acceptor_runs_are_histories}
 use Rattle.fe2o3_sasl_core.proofs.lemmas.positions.PositionLemmas.{opens_here}
-use Rattle.fe2o3_sasl_core.proofs.lemmas.unaltered.UnalteredReplyLemmas.{open_value}
+use Rattle.fe2o3_sasl_core.proofs.lemmas.unaltered.UnalteredReplyLemmas.{none_may_sign, open_value}
 use Rattle.fe2o3_sasl_core.proofs.lemmas.unaltered.UnalteredStepLemmas as step
 use Rattle.fe2o3_sasl_negotiation.specs.declared.progress.Expected.TheVariants.{Frame}
 use Rattle.fe2o3_sasl_negotiation.specs.declared.progress.Progress.TheVariants.{InProgress, Authenticated}
@@ -186,7 +186,8 @@ module _ (c : Case) where
           answer_is_small c.login next_events next_replies 1 (event challenge second.nonce) second.says
               (profile_runs_are_histories c.login next_events next_replies second.next next_run) refl refl
               (first_in exchange) (step.answering_in exchange)
-              (spells_challenge (first_in exchange) challenge sent_challenge) one_due challenge_read response_fits,
+              (spells_challenge (first_in exchange) challenge sent_challenge)
+              (none_may_sign c.login next_events next_replies init some_started) one_due challenge_read response_fits,
         )
 
         answers : (body : List ℕ) × (second.says ≡ Answered body)

@@ -243,8 +243,7 @@ module _ (login : Login) (events : List Given) (replies : List ClientSays)
         moved (suc i) next start shown shown' (taken ++ k.2.2 ∷ []) taken' k.0 k.1 k.2.5
         (report_here i start shown taken text k.2.0 k.2.1 k.2.2 at k.2.3 k.2.4 h)
     step (Reported outcomes.Ok None) at first here k h =
-        let signed = (reports_ok_exactly login events replies history).only i None at in
-        absurd (true≢false (sym signed.4.2.4.0 ∙ unsigned))
+        let is = ((reports_ok_exactly login events replies history).with_data unsigned i None at).1 in absurd (cc)
     step (Reported outcomes.Auth more) at first here k h =
         passed (Reported outcomes.Auth more) at refl refl (λ m e. cc) k h
     step (Reported outcomes.Sys more) at first here k h =

@@ -86,8 +86,7 @@ signature_of_ok login events replies m (Some given) history at =
     (reads.0, given, reads.1, refl, names_server_final (answer_at login reads.0).signature given tt reads.2)
 signature_of_ok login events replies m None history at =
     let reads = (reported_at login events replies m None history at).3 in
-    let signs = reads.1.2 in
-    (
+    let signs = reads.1.2 in (
       reads.0,
       signs.1,
       reads.1,

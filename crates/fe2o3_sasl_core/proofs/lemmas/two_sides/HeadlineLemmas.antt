@@ -1,7 +1,6 @@
 -- The headline theorem.
-use Rattle.std.proofs.Common.{◌≡◌, ◌≢◌, ◌⊎◌, ℕ, true≢false, Option, Some, None, List, refl, sym, ap, ◌∙◌, subst, arith, ⊎_elim, inl, inr, Result, Ok, Err}
+use Rattle.std.proofs.Common.{◌≡◌, ◌≢◌, ◌⊎◌, ℕ, false, true≢false, Option, Some, None, List, refl, sym, ap, ◌∙◌, subst, ⊎_elim, inl, inr, Result, Ok, Err}
 use Rattle.std.specs.Prelude.{slice_get}
-use Rattle.std.proofs.lemmas.Option.{slice_get_within}
 use Rattle.fe2o3_sasl_wire.specs.declared.amqp_types.SaslCode.TheVariants as outcomes
 use Rattle.fe2o3_sasl_wire.specs.declared.sasl_frames.error.Error.{Error}
 use Rattle.fe2o3_sasl_wire.specs.declared.sasl_frames.error.Error.TheVariants as faults
@@ -20,7 +19,6 @@ use Rattle.fe2o3_sasl_core.specs.TwoSides.{Sides, Histories, ReportedAnswer, Tak
 use Rattle.fe2o3_sasl_core.proofs.lemmas.histories.OneClientHistoryLemmas.{one_open_answer, one_reading_of_outcome}
 use Rattle.fe2o3_sasl_core.proofs.lemmas.histories.ReportedOkLemmas.{reported_at}
 use Rattle.fe2o3_sasl_core.proofs.lemmas.two_sides.MeetingSidesLemmas.{agree, met_taken, taken_signature}
-use Rattle.fe2o3_sasl_core.proofs.lemmas.positions.PositionLemmas.{some_at}
 use Rattle.fe2o3_sasl_core.proofs.lemmas.histories.OneServerHistoryLemmas.{one_response, one_challenge}
 use Rattle.fe2o3_sasl_core.proofs.lemmas.histories.ServerLawLemmas.{ok_accepts}
 use Rattle.fe2o3_sasl_core.proofs.lemmas.frames.SpellingLemmas.{one_spelling}
@@ -103,6 +101,13 @@ only_where_signed login events replies m more history at =
     let is = reported_at login events replies m more history at in
     signed login events replies m is.0 more is.1 is.2 is.3
 
+-- with data, where the signature may not come in a challenge
+signed_with_data : (login : Login) (events : List Given) (replies : List ClientSays) (m : ℕ)
+    (more : Option (List ℕ)) → login.signature_by_challenge ≡ false → SignedAt login events replies m more
+    → (text : List ℕ) × (more ≡ Some text)
+signed_with_data login events replies m None unsigned signed = absurd (true≢false (sym signed.4.2.4.0 ∙ unsigned))
+signed_with_data login events replies m (Some text) unsigned signed = (text, refl)
+
 -- where it is given, the outcome is read so
 reads_signed : (login : Login) (events : List Given) (replies : List ClientSays) (m : ℕ) (more : Option (List ℕ))
     → SignedAt login events replies m more → (event : Given) × (slice_get events m ≡ Some event)
@@ -141,6 +146,8 @@ wherever_signed login events replies m more says history is at memory =
 pub reports_ok_exactly : EveryClient ReportsOkExactly
 reports_ok_exactly login events replies history = record {
   only = λ m more. only_where_signed login events replies m more history;
+  with_data = λ unsigned m more at. signed_with_data login events replies m more unsigned
+      (only_where_signed login events replies m more history at);
   wherever = λ m more says. wherever_signed login events replies m more says history;
 }
 

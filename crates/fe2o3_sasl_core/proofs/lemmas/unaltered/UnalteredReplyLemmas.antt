@@ -1,5 +1,5 @@
 -- What is replied to a body that spells a frame, where memory does not run out and nothing is too large.
-use Rattle.std.proofs.Common.{◌≡◌, ◌≢◌, ◌⊎◌, ℕ, List, [], ◌∷◌, Option, Some, None, Bool, refl, sym, ap, ◌∙◌, subst, arith, Result, Ok, Err, inl, inr}
+use Rattle.std.proofs.Common.{◌≡◌, ◌≢◌, ◌⊎◌, ℕ, true≢false, List, [], ◌∷◌, Option, Some, None, Bool, refl, sym, ap, ◌∙◌, subst, arith, Result, Ok, Err, inl, inr}
 use Rattle.std.specs.Prelude.{slice_get}
 use Rattle.std.proofs.lemmas.Option.{slice_get_within}
 use Rattle.fe2o3_sasl_wire.specs.declared.amqp_types.SaslCode.TheVariants as outcomes
@@ -10,11 +10,11 @@ use Rattle.fe2o3_sasl_wire.specs.SaslFrames as frames
 use Rattle.fe2o3_scram.specs.declared.scram_messages.error.ScramErrorKind.{ScramErrorKind}
 use Rattle.fe2o3_scram.specs.Texts.{base64_text}
 use Rattle.fe2o3_scram.specs.ClientFirst.{client_first}
-use Rattle.fe2o3_sasl_core.specs.ClientHistory.{Answering, answer_at, MaySign, ReadsChallenge, ClientAnswers, ClientAllocates, ClientHistory, IsDue, OpenAnswer, VerifiedAnswer}
+use Rattle.fe2o3_sasl_core.specs.ClientHistory.{Answering, answer_at, MaySign, ReadsChallenge, ClientAnswers, ClientAllocates, ClientHistory, IsDue, OpenAnswer, VerifiedAnswer, is_answer}
 use Rattle.fe2o3_scram.specs.Credentials.{Provider}
 use Rattle.fe2o3_sasl_core.specs.Events.{Given, Login, ServerSays, Challenged, Concluded, Failed, ClientSays, Started, Answered, Reported, Refused}
 use Rattle.fe2o3_scram.specs.Hmac.{mechanism_name}
-use Rattle.fe2o3_sasl_core.specs.Positions.{IsLastOpen, OpenBy}
+use Rattle.fe2o3_sasl_core.specs.Positions.{test_at, IsLastOpen, OpenBy}
 use Rattle.fe2o3_scram.specs.ClientFinal.{ClientFinal, ReadsClientFinal}
 use Rattle.fe2o3_scram.specs.ServerFinal.{ReadsServerFinal}
 use Rattle.fe2o3_scram.specs.ServerFirst.{ServerFirst, ReadsServerFirst, client_of}
@@ -208,6 +208,15 @@ read_not_refused login Due text answer kind one reads (inr (inr x)) =
 abbrev pub NoneMaySign : Login → List Given → List ClientSays → ℕ → Type 0
 NoneMaySign login events replies k =
     (answer : Answering) → ¬ MaySign login (OpenAnswer login events replies k) answer
+
+-- so it is after a start
+pub none_may_sign : (login : Login) (events : List Given) (replies : List ClientSays) (body : List ℕ)
+    → slice_get replies 0 ≡ Some (Started body) → NoneMaySign login events replies 1
+none_may_sign login events replies body started answer may =
+    let place = may.1.1 in
+    let first : may.1.0 ≡ 0 = omega (arith, place.before) in
+    absurd (true≢false (sym place.opened ∙ (ap (λ (j : ℕ). test_at is_answer (slice_get replies j)) first
+    ∙ ap (test_at is_answer) started)))
 
 answer_row : (login : Login) (events : List Given) (replies : List ClientSays) (k : ℕ) (event : Given) (text : List ℕ)
     (answer : Answering) (says : ClientSays) (body : List ℕ) → NoneMaySign login events replies k

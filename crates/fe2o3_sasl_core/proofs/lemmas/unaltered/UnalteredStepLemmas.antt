@@ -1,5 +1,5 @@
 -- What each body of an unaltered login is answered, given what was said before it.
-use Rattle.std.proofs.Common.{Bool, true≢false, ◌≡◌, ◌<◌, ◌^◌, ℕ, Option, Some, List, [], ◌∷◌, ◌++◌, codes, refl, sym, ap, ◌∙◌, subst, arith, Result, Ok}
+use Rattle.std.proofs.Common.{Bool, ◌≡◌, ◌<◌, ◌^◌, ℕ, Option, Some, List, [], ◌∷◌, ◌++◌, codes, refl, sym, ap, ◌∙◌, subst, arith, Result, Ok}
 use Rattle.std.specs.Prelude.{slice_get}
 use Rattle.std.specs.Fmt.{decimal}
 use Rattle.std.specs.Str.{IsUtf8}
@@ -31,7 +31,7 @@ use Rattle.fe2o3_scram.proofs.lemmas.messages.ExchangeLemmas.{succeeds, nonce_te
 use Rattle.fe2o3_sasl_core.proofs.lemmas.positions.PositionLemmas.{opens_here}
 use Rattle.fe2o3_sasl_core.proofs.lemmas.histories.OneServerHistoryLemmas.{one_fits}
 use Rattle.fe2o3_sasl_core.proofs.lemmas.frames.SpellingLemmas.{one_spelling, spells_mechanisms, spells_init, spells_challenge, spells_response, spells_outcome}
-use Rattle.fe2o3_sasl_core.proofs.lemmas.unaltered.UnalteredReplyLemmas.{NoneMaySign, one_answering, open_value, client_starts, server_challenges, client_answers, server_accepts, client_reports}
+use Rattle.fe2o3_sasl_core.proofs.lemmas.unaltered.UnalteredReplyLemmas.{none_may_sign, one_answering, open_value, client_starts, server_challenges, client_answers, server_accepts, client_reports}
 
 -- ---- the exchange of a login
 
@@ -197,23 +197,14 @@ module _ (sides : Sides) (password salt : List ℕ) (count : ℕ) (offer init : 
     meets.server_first,
   )
 
-  -- no answer is open yet
-  none_may_sign : HasStarted → NoneMaySign sides.login sides.client_events sides.client_replies 1
-  none_may_sign has answer may =
-      let place = may.1.1 in
-      let first : may.1.0 ≡ 0 = omega (arith, place.before) in
-      absurd (true≢false (sym place.opened
-      ∙ (ap (λ (j : ℕ). test_at is_answer (slice_get sides.client_replies j)) first
-      ∙ ap (test_at is_answer) has.1.1)))
-
   pub answers : (challenge : Given) (body : List ℕ) → HasStarted → HasChallenge challenge
       → Arrives (client_body (slice_get sides.client_replies 1)) body
       → (slice_get sides.client_replies 1 ≡ Some (Answered body))
       × (canonical (frames.Response (answer_in exchange).message) ≡ Some body)
   answers challenge body started has arrives = client_answers sides.login sides.client_events sides.client_replies 1
       challenge (first_in exchange) (answering_in exchange) body histories.client has.0
-      (challenge_spelled challenge has) (none_may_sign started) (one_due started) (challenge_read started) fits.client
-      fits.client_small arrives
+      (challenge_spelled challenge has) (none_may_sign sides.login sides.client_events sides.client_replies started.1.0
+      started.1.1) (one_due started) (challenge_read started) fits.client fits.client_small arrives
 
   -- the server accepts
   pub response_spelled : (response : Given) → HasResponse response

@@ -1,4 +1,5 @@
-use Rattle.std.proofs.Common.{refl, true, Ok}
+use Rattle.std.proofs.Common.{ℕ, List, ap, refl, true, Ok}
+use Rattle.fe2o3_sasl_wire.specs.SaslFrames as frames
 use Rattle.fe2o3_sasl_core.proofs.lemmas.steps.ProfileReplyLemmas.{challenge_replied, signature_refused}
 use Rattle.fe2o3_sasl_core.proofs.sasl_profile.scram_frames.confirm.Goals as goal
 
@@ -8,7 +9,7 @@ returns-in-Ok-clause-answer c = λ hostname nonce.
       Ok tt,
       c.validate_signature_challenge.new.self,
       c.in-Ok.ensures.answer,
-      refl,
+      ap (λ (bytes : List ℕ). Ok (frames.Response bytes)) c.new.ensures.items,
       refl,
     )
 
