@@ -851,6 +851,7 @@ class Steps(Case):
 
         for _ in range(20_000):
             login.mechanism = bits.choice((0, 0, 0, bits.randrange(5)))
+            login.login.signature_by_challenge = bits.randrange(2)
             client, server = filled(fe2o3_sasl._ScramClientStruct), filled(fe2o3_sasl._ScramServerStruct)
             client.state, client.signature_len = bits.randrange(5), bits.choice((32, bits.randrange(66)))
             server.state, server.user_len = bits.randrange(4), 1
@@ -861,6 +862,7 @@ class Steps(Case):
             asked("fe2o3_sasl_client_step", login, client, bits.choice((
                 mechanisms_frame(MECHANISMS[SHA_256], "PLAIN")[4:],
                 body_of(CHALLENGE, short(0xA0, b"r=" + base64_of(bytes(client.nonce)) + b"x,s=AAAA,i=1")),
+                body_of(CHALLENGE, short(0xA0, b"v=" + signature)),
                 body_of(OUTCOME, b"\x50\0", short(0xA0, b"v=" + signature)),
                 body_of(OUTCOME, bytes([0x50, bits.randrange(5)])),
                 any_bytes,
