@@ -16,7 +16,7 @@ CPU ?= x86-64-v2
 KIT ?= $(abspath $(dir $(shell readlink -f "$$(command -v rt)"))/..)
 
 # The number of the shared object rises when a struct or the signature of an export changes.
-SONAME = libfe2o3_sasl.so.1
+SONAME = libfe2o3_sasl.so.2
 VERSION = $(shell sed -n 's/^\#\# \([0-9][0-9.]*\).*/\1/p' CHANGELOG.md | head -n 1)
 PROVED_ARCHIVE ?= crates/sasl_c/out/libsasl_c.a
 LIBRARY = build/libfe2o3_sasl.a build/libfe2o3_sasl.so build/fe2o3_sasl.pc

@@ -154,7 +154,9 @@ enum fe2o3_scram_client_state {
     /* The client has sent the client-final message, and expects the server's signature. */
     FE2O3_SCRAM_CLIENT_FINAL_SENT = 2,
     /* The login is complete, and the server authenticated. */
-    FE2O3_SCRAM_CLIENT_COMPLETE = 3
+    FE2O3_SCRAM_CLIENT_COMPLETE = 3,
+    /* The server was authenticated by a challenge, and the client expects an outcome without data. */
+    FE2O3_SCRAM_CLIENT_SIGNATURE_VERIFIED = 4
 };
 
 /* How far the exchange of a SCRAM server is. Other values count as FE2O3_SCRAM_SERVER_INITIAL. A challenge is open in
@@ -578,6 +580,11 @@ struct fe2o3_login {
     size_t password_len;
     /* The keys of an earlier login, or a struct of zeros. */
     const struct fe2o3_scram_keys *keys;
+    /* Whether the client accepts the server's signature in a challenge too, before an outcome without data (RFC 4422,
+     * section 5). 0 means that the signature has to come in the outcome. Any other value accepts it in both. Only
+     * `fe2o3_sasl_client_step` uses this field. A connection (`fe2o3_sasl_client_receive`) still closes at a second
+     * challenge as an unexpected frame, because connections do not support this exchange yet. */
+    uint32_t signature_by_challenge;
 };
 
 /* The state of a SCRAM client between calls. All zeros is a client that has sent nothing.
@@ -911,9 +918,10 @@ struct fe2o3_sasl_frame_view {
  * FE2O3_REFUSED_AUTH to FE2O3_REFUSED_SYS_TEMP if the outcome rejects it. Pass no body after that.
  *
  * This call is for programs that read frames themselves, reject those above 512 bytes, and limit their number. A
- * login takes three bodies of the server for SCRAM, and two for the other mechanisms. A server that may send more can
- * make the client hash again and again. For SCRAM, FE2O3_AUTHENTICATED means that the server is authenticated (RFC
- * 5802, section 5). The other mechanisms accept any outcome, even one before the init. */
+ * login takes three bodies of the server for SCRAM, four if the signature comes in a challenge
+ * (`signature_by_challenge`), and two for the other mechanisms. A server that may send more can make the client hash
+ * again and again. For SCRAM, FE2O3_AUTHENTICATED means that the server is authenticated (RFC 5802, section 5). The
+ * other mechanisms accept any outcome, even one before the init. */
 uint32_t fe2o3_sasl_client_step(
     const struct fe2o3_sasl_login *login,
     struct fe2o3_scram_client *client,

@@ -183,7 +183,7 @@ static void draw_client(struct fe2o3_scram_client *client)
     fill(client, sizeof *client);
     draw_keys(&client->keys);
     if (below(2)) {
-        client->state = below(4);
+        client->state = below(5);
         client->signature_len = ONE_OF(20, 32, 64, 65);
     }
 }
@@ -411,7 +411,7 @@ static void one_round(void)
     all = drawn;
     login = (struct fe2o3_login){.version = below(4) ? drawn.keys.version : ONE_OF(1, 2, 256, 512),
         .secret = below(2) ? 0 : below(4), .form = below(2) ? 0 : below(3), .min_iterations = below(3), .max_iterations = 5 + below(4),
-        .username = TEXT("user"), .password = TEXT("pencil"), .keys = &drawn.keys};
+        .username = TEXT("user"), .password = TEXT("pencil"), .keys = &drawn.keys, .signature_by_challenge = below(2)};
     with_a_client();
     with_a_server();
     with_a_record();

@@ -87,7 +87,7 @@ static int names_no_user(const struct fe2o3_scram_server *server)
 static struct fe2o3_sasl_login login_by(uint32_t mechanism, uint32_t version)
 {
     struct fe2o3_sasl_login login = {mechanism, TEXT("host"),
-        {version, FE2O3_BY_PASSWORD, FE2O3_TYPED, 4096, 100000, TEXT("user"), TEXT("pencil"), &no_keys}};
+        {version, FE2O3_BY_PASSWORD, FE2O3_TYPED, 4096, 100000, TEXT("user"), TEXT("pencil"), &no_keys, 0}};
     return login;
 }
 

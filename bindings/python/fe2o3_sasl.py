@@ -1,7 +1,7 @@
 """SCRAM (RFC 5802, RFC 7677), and the SASL layer of AMQP 1.0, by the library of `fe2o3_sasl.h`, called by `ctypes`.
 
 The module loads the library that the environment variable FE2O3_SASL_LIB names, otherwise the system's
-`libfe2o3_sasl.so.1`. Importing it fails if the structs of the library have other sizes than those below.
+`libfe2o3_sasl.so.2`. Importing it fails if the structs of the library have other sizes than those below.
 
 A client:
 
@@ -284,6 +284,7 @@ class _LoginStruct(ctypes.Structure):
         ("password", ctypes.c_char_p),
         ("password_len", ctypes.c_size_t),
         ("keys", ctypes.POINTER(_ScramKeysStruct)),
+        ("signature_by_challenge", ctypes.c_uint32),
     ]
 
 
@@ -758,7 +759,7 @@ def _load(name: str) -> ctypes.CDLL:
     return library
 
 
-_library = _load(os.environ.get("FE2O3_SASL_LIB") or "libfe2o3_sasl.so.1")
+_library = _load(os.environ.get("FE2O3_SASL_LIB") or "libfe2o3_sasl.so.2")
 
 
 def library_version() -> tuple[int, int, int]:
@@ -1070,9 +1071,13 @@ class Client:
         prepared: bool = False,
         min_iterations: int = 4096,
         max_iterations: int = 1_000_000,
+        signature_by_challenge: bool = False,
     ) -> None:
         """A client that has sent nothing. It rejects an iteration count below the minimum, with which a server could
-        guess the password sooner (RFC 7677 requires at least 4096), and one above the maximum, which costs time."""
+        guess the password sooner (RFC 7677 requires at least 4096), and one above the maximum, which costs time.
+
+        With `signature_by_challenge`, `ClientSteps` also accepts the server's signature in a challenge, before an outcome
+        without data (RFC 4422, section 5). `ClientConnection` does not support that exchange yet."""
         if password is None and keys is None:
             raise ValueError("a login takes a password, keys, or both")
         name, text = _text(username), b"" if password is None else _text(password)
@@ -1092,6 +1097,7 @@ class Client:
             password=text,
             password_len=len(text),
             keys=ctypes.pointer(held),
+            signature_by_challenge=int(signature_by_challenge),
         )
         self._struct = _ScramClientStruct()
         self._lock = threading.RLock()
@@ -1365,8 +1371,9 @@ class ClientSteps(_Steps, _ClientSide):
     """The client's side of one login over frame bodies, each from the data offset on, without the four bytes of the
     frame's size.
 
-    A login takes three bodies of the server: its mechanisms, for SCRAM a challenge, and the outcome. If you pass
-    more of them, the server can make the client hash again and again."""
+    A login takes three bodies of the server: its mechanisms, for SCRAM a challenge, and the outcome. A signature in a
+    challenge takes one more (`signature_by_challenge`). If you pass more of them, the server can make the client hash
+    again and again."""
 
     __slots__ = ("_progress",)
 

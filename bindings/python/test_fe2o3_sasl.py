@@ -628,7 +628,7 @@ class Connections(Case):
                 kept.expected = bits.randrange(7)
                 kept.held_len = bits.choice((0, bits.randrange(8), bits.randrange(520)))
                 kept.held[:4] = list(bits.choice((12, 300, 513)).to_bytes(4, "big"))
-                client.scram.state = bits.randrange(4)
+                client.scram.state = bits.randrange(5)
                 client.scram.signature_len = bits.randrange(66)
             login = fe2o3_sasl._SaslLoginStruct(
                 mechanism=bits.choice((0, 0, 0, bits.randrange(5))),
@@ -718,6 +718,35 @@ class Steps(Case):
                 stepped(side, Broker(known, mechanism))
                 self.closed(side, Status.REFUSED_AUTH)
                 self.refused(Status.CLIENT_ILLEGAL_CLIENT_STATE, side.keys)
+
+    def test_a_signature_in_a_challenge(self) -> None:
+        # RFC 7677, section 3: the server-final message, for a client that has sent its client-final message.
+        signature = base64.b64decode("6rriTRBi23WpRR/wtup+mMhMUZUn/dB5nLTJRsjl95G4=")
+        final = body_of(CHALLENGE, short(0xA0, b"v=6rriTRBi23WpRR/wtup+mMhMUZUn/dB5nLTJRsjl95G4="))
+        done, empty = body_of(OUTCOME, b"\x50\0"), body_of(RESPONSE, short(0xA0, b""))
+        side = ClientSteps(Client(SHA_256, "user", "pencil", signature_by_challenge=True))
+        side._struct.state, side._struct.signature_len = 2, len(signature)
+        side._struct.signature[: len(signature)] = list(signature)
+        self.refused(Status.CLIENT_SERVER_SIGNATURE_MISMATCH, side.on_frame, done)
+        self.assertEqual((side.on_frame(final), side._struct.state), (empty, 4))
+        self.assertEqual((side.on_frame(done), side.progress, side._struct.state), (b"", Progress.AUTHENTICATED, 3))
+        # A whole exchange of each hash. Without the option the challenge is rejected.
+        for version, mechanism in MECHANISMS.items():
+            broker = Broker(Secret(version, "pencil", SALT, 4096), mechanism)
+            for accept in (True, False):
+                side = ClientSteps(Client(version, "user", "pencil", signature_by_challenge=accept))
+                init = side.on_frame(mechanisms_frame(mechanism)[4:])
+                response = side.on_frame(broker.frame(*fields_of(sized(init)))[4:])
+                outcome = broker.frame(*fields_of(sized(response)))
+                final = body_of(CHALLENGE, short(0xA0, fields_of(outcome)[1][-1] or b""))
+                self.refused(Status.CLIENT_SERVER_SIGNATURE_MISMATCH, side.on_frame, done)
+                if not accept:
+                    self.refused(Status.CLIENT_ILLEGAL_CLIENT_STATE, side.on_frame, final)
+                    continue
+                self.assertEqual((side.on_frame(final), side.progress), (empty, Progress.IN_PROGRESS))
+                self.refused(Status.CLIENT_ILLEGAL_CLIENT_STATE, side.keys)
+                self.assertEqual((side.on_frame(done), side.progress), (b"", Progress.AUTHENTICATED))
+                self.assertEqual(side.keys().client_key, broker.secret.client_key)
 
     def test_clients_of_other_mechanisms(self) -> None:
         known = Secret(SHA_1, "pencil", SALT, 1)
@@ -913,8 +942,9 @@ class Steps(Case):
 
         for _ in range(20_000):
             login.mechanism = bits.choice((0, 0, 0, bits.randrange(5)))
+            login.login.signature_by_challenge = bits.randrange(2)
             client, server = filled(fe2o3_sasl._ScramClientStruct), filled(fe2o3_sasl._ScramServerStruct)
-            client.state, client.signature_len = bits.randrange(4), bits.choice((32, bits.randrange(66)))
+            client.state, client.signature_len = bits.randrange(5), bits.choice((32, bits.randrange(66)))
             server.state, server.user_len = bits.randrange(4), 1
             server.bare_len, server.nonce_len = bits.randrange(1026), bits.randrange(514)
             server.first_len, server.user[0] = bits.randrange(1026), ord("u")
@@ -923,6 +953,7 @@ class Steps(Case):
             asked("fe2o3_sasl_client_step", login, client, bits.choice((
                 mechanisms_frame(MECHANISMS[SHA_256], "PLAIN")[4:],
                 body_of(CHALLENGE, short(0xA0, b"r=" + base64_of(bytes(client.nonce)) + b"x,s=AAAA,i=1")),
+                body_of(CHALLENGE, short(0xA0, b"v=" + signature)),
                 body_of(OUTCOME, b"\x50\0", short(0xA0, b"v=" + signature)),
                 body_of(OUTCOME, bytes([0x50, bits.randrange(5)])),
                 any_bytes,

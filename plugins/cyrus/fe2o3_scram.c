@@ -168,7 +168,7 @@ static int client_answer(struct exchange *one, enum expected expected, const sas
     static const struct fe2o3_scram_keys no_keys;
     const struct fe2o3_login login = {one->mechanism->version, FE2O3_BY_PASSWORD,
         one->prepares ? FE2O3_PREPARED : FE2O3_TYPED, LEAST_ITERATIONS, MOST_ITERATIONS,
-        BYTES(who->authid, who->alen), BYTES(one->password, one->password_len), &no_keys};
+        BYTES(who->authid, who->alen), BYTES(one->password, one->password_len), &no_keys, 0};
     uint8_t nonce[32];
     switch (expected) {
     case FIRST:

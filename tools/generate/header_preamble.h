@@ -154,7 +154,9 @@ enum fe2o3_scram_client_state {
     /* The client has sent the client-final message, and expects the server's signature. */
     FE2O3_SCRAM_CLIENT_FINAL_SENT = 2,
     /* The login is complete, and the server authenticated. */
-    FE2O3_SCRAM_CLIENT_COMPLETE = 3
+    FE2O3_SCRAM_CLIENT_COMPLETE = 3,
+    /* The server was authenticated by a challenge, and the client expects an outcome without data. */
+    FE2O3_SCRAM_CLIENT_SIGNATURE_VERIFIED = 4
 };
 
 /* How far the exchange of a SCRAM server is. Other values count as FE2O3_SCRAM_SERVER_INITIAL. A challenge is open in

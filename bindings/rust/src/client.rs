@@ -20,6 +20,7 @@ pub(crate) struct Who {
     version: ScramVersion,
     min_iterations: u32,
     max_iterations: u32,
+    signature_by_challenge: bool,
 }
 
 /// A login struct of the library, whose pointers point to what is borrowed for `'a`.
@@ -38,7 +39,8 @@ impl Who {
         version: ScramVersion,
     ) -> Self {
         let (password, form) = (password.as_str().to_owned(), password.form());
-        Self { username, password, form, keys, secret, version, min_iterations: 4096, max_iterations: 1_000_000 }
+        let (min_iterations, max_iterations, signature_by_challenge) = (4096, 1_000_000, false);
+        Self { username, password, form, keys, secret, version, min_iterations, max_iterations, signature_by_challenge }
     }
 
     pub(crate) fn lend(&self) -> Lent<'_> {
@@ -53,6 +55,7 @@ impl Who {
             password: self.password.as_ptr(),
             password_len: self.password.len(),
             keys: &self.keys,
+            signature_by_challenge: self.signature_by_challenge.into(),
         };
         Lent { login, who: PhantomData }
     }
@@ -135,6 +138,13 @@ impl ScramClient {
     /// Sets the minimum iteration count that the client accepts. The default is 4096, the minimum of RFC 7677.
     pub fn with_min_iterations(mut self, min_iterations: u32) -> Self {
         self.who.min_iterations = min_iterations;
+        self
+    }
+
+    /// With `accept`, [`crate::ClientSteps`] also accepts the server's signature in a challenge, before an outcome
+    /// without data (RFC 4422, section 5). A [`crate::ClientNegotiation`] does not support that exchange yet.
+    pub fn signature_by_challenge(mut self, accept: bool) -> Self {
+        self.who.signature_by_challenge = accept;
         self
     }
 

@@ -57,8 +57,9 @@ fn stepped(mut call: impl FnMut(&mut u32, &mut [u8], &mut usize) -> u32) -> Resu
 /// The client's side of one login over frame bodies, each from the data offset on, without the four bytes of the
 /// frame's size.
 ///
-/// A login takes three bodies of the server: its mechanisms, for SCRAM a challenge, and the outcome. If you pass more
-/// of them, the server can make the client hash again and again.
+/// A login takes three bodies of the server: its mechanisms, for SCRAM a challenge, and the outcome. A signature in a
+/// challenge takes one more ([`crate::ScramClient::signature_by_challenge`]). If you pass more of them, the server can
+/// make the client hash again and again.
 ///
 /// ```no_run
 /// use fe2o3_sasl_proved::*;

@@ -343,6 +343,9 @@ pub const SCRAM_CLIENT_FINAL_SENT: u32 = 2;
 /// `scram_client_state`: The login is complete, and the server authenticated.
 pub const SCRAM_CLIENT_COMPLETE: u32 = 3;
 
+/// `scram_client_state`: The server was authenticated by a challenge, and the client expects an outcome without data.
+pub const SCRAM_CLIENT_SIGNATURE_VERIFIED: u32 = 4;
+
 /// `scram_server_state`: No challenge is open, and no user is authenticated.
 pub const SCRAM_SERVER_INITIAL: u32 = 0;
 
@@ -488,6 +491,11 @@ pub struct Login {
     pub password_len: usize,
     /// The keys of an earlier login, or a struct of zeros.
     pub keys: *const ScramKeys,
+    /// Whether the client accepts the server's signature in a challenge too, before an outcome without data (RFC 4422,
+    /// section 5). 0 means that the signature has to come in the outcome. Any other value accepts it in both. Only
+    /// `fe2o3_sasl_client_step` uses this field. A connection (`fe2o3_sasl_client_receive`) still closes at a second
+    /// challenge as an unexpected frame, because connections do not support this exchange yet.
+    pub signature_by_challenge: u32,
 }
 
 /// The state of a SCRAM client between calls. All zeros is a client that has sent nothing.
@@ -946,9 +954,10 @@ extern "C" {
     /// REFUSED_SYS_TEMP if the outcome rejects it. Pass no body after that.
     ///
     /// This call is for programs that read frames themselves, reject those above 512 bytes, and limit their number. A
-    /// login takes three bodies of the server for SCRAM, and two for the other mechanisms. A server that may send more
-    /// can make the client hash again and again. For SCRAM, AUTHENTICATED means that the server is authenticated (RFC
-    /// 5802, section 5). The other mechanisms accept any outcome, even one before the init.
+    /// login takes three bodies of the server for SCRAM, four if the signature comes in a challenge
+    /// (`signature_by_challenge`), and two for the other mechanisms. A server that may send more can make the client
+    /// hash again and again. For SCRAM, AUTHENTICATED means that the server is authenticated (RFC 5802, section 5). The
+    /// other mechanisms accept any outcome, even one before the init.
     pub fn fe2o3_sasl_client_step(
         login: *const SaslLogin,
         client: *mut ScramClient,

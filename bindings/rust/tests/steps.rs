@@ -140,6 +140,28 @@ fn each_body_of_a_login() {
 }
 
 #[test]
+fn a_signature_in_a_challenge() {
+    let both = format!("r={CLIENT_NONCE_TEXT}{SERVER_NONCE_TEXT}");
+    let bodies = [
+        (list_of(&["SCRAM-SHA-256"]), INIT),
+        (body(CHALLENGE, &[&binary(&format!("{both},s={SALT_TEXT},i=4096"))]), RESPONSE),
+        (body(CHALLENGE, &[&binary(&format!("v={SIGNATURE}"))]), RESPONSE),
+    ];
+    let client = ScramClient::new("user", "pencil", ScramVersion::Sha256).signature_by_challenge(true);
+    let mut client = ClientSteps::new(client, None);
+    let mut last = Vec::new();
+    for (received, code) in bodies {
+        let early = client.on_frame(&outcome(0)).unwrap_err();
+        assert_eq!(early.scram(), Some(ScramErrorKind::ServerSignatureMismatch));
+        last = client.on_frame_with(&received, &nonce(1)).unwrap().body;
+        assert_eq!((last[6], client.progress()), (code, Progress::InProgress));
+    }
+    assert_eq!(last, body(RESPONSE, &[&binary("")]));
+    assert_eq!(client.on_frame(&outcome(0)), Ok(Answered { body: Vec::new(), progress: Progress::Authenticated }));
+    assert!(client.keys().is_some());
+}
+
+#[test]
 fn a_client_that_could_bind_a_channel() {
     let client_first = binary(&format!("y,,n=user,r={CLIENT_NONCE_TEXT}"));
     let init = body(INIT, &[&symbol("SCRAM-SHA-256"), &client_first, NULL]);

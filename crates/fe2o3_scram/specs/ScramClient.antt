@@ -168,6 +168,11 @@ abbrev pub is_complete : ClientState → Bool
 is_complete (Complete keys) = true
 is_complete state = false
 
+-- whether the server was verified by a challenge, and the outcome is open (RFC 4422, section 5)
+abbrev pub is_signature_verified : ClientState → Bool
+is_signature_verified (SignatureVerified keys) = true
+is_signature_verified state = false
+
 -- the keys of an exchange that has ended with a verified server (RFC 5802, section 5), and of no other
 abbrev pub login_keys : ClientState → Option ClientKeys
 login_keys (Complete keys) = keys

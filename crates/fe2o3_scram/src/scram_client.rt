@@ -7,7 +7,7 @@ ghost use Rattle.fe2o3_scram.specs.ClientFirst.{client_first};
 ghost use Rattle.fe2o3_scram.specs.ClientKeys.{ClientKeys};
 ghost use Rattle.fe2o3_scram.specs.ClientSecret.{Password as ByPassword, IsOfVersion, kept_secret, secret_of};
 ghost use Rattle.fe2o3_scram.specs.Passwords.{Typed};
-ghost use Rattle.fe2o3_scram.specs.ScramClient.{ClientFirstSent, ClientFinalSent, SignatureVerified, AnswersIn, AnswerCostsIn, ChecksSignatureIn, ConcludesIn, VerifiesIn, ReachesSaltIn, ReachesVerifierIn, expects_signature, fresh_client, started, client_state_of, answer_keys, is_complete, login_keys, with_signature_by_challenge, with_state, with_limits};
+ghost use Rattle.fe2o3_scram.specs.ScramClient.{ClientFirstSent, ClientFinalSent, SignatureVerified, AnswersIn, AnswerCostsIn, ChecksSignatureIn, ConcludesIn, VerifiesIn, ReachesSaltIn, ReachesVerifierIn, expects_signature, fresh_client, started, client_state_of, answer_keys, is_complete, is_signature_verified, login_keys, with_signature_by_challenge, with_state, with_limits};
 ghost use Rattle.fe2o3_scram.specs.Readings.{Gives};
 
 use crate::OutOfMemory;
@@ -426,6 +426,17 @@ impl ScramClient {
                 ..
             } => Some(server_signature),
             _ => None,
+        }
+    }
+
+    /// Returns whether the server was verified by a challenge, and the client waits for an outcome without data. Restore
+    /// a client that is saved here by `restore_signature_verified`.
+    pub fn is_signature_verified(&self) -> bool
+        ensures { result ≡ is_signature_verified self.now.state }
+    {
+        match &self.state {
+            ScramClientState::SignatureVerified => true,
+            _ => false,
         }
     }
 

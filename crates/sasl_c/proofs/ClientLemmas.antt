@@ -16,7 +16,7 @@ use Rattle.fe2o3_scram.specs.ClientKeys.{ClientKeys}
 use Rattle.fe2o3_scram.specs.ClientSecret.{Secret}
 use Rattle.fe2o3_scram.specs.Hmac.{exclusive_or}
 use Rattle.fe2o3_scram.specs.Keys.{client_proof, client_signature, server_signature, stored_key, auth_message}
-use Rattle.fe2o3_scram.specs.ScramClient.{AnswersIn, VerifiesIn, ClientSide, ClientState, ClientInitial, ClientFirstSent, ClientFinalSent, Complete, with_state}
+use Rattle.fe2o3_scram.specs.ScramClient.{AnswersIn, VerifiesIn, ClientSide, ClientState, ClientInitial, ClientFirstSent, ClientFinalSent, SignatureVerified, Complete, ChecksSignatureIn, ConcludesIn, with_state}
 use Rattle.fe2o3_scram.specs.ServerFirst.{Client, NamesServerFirst, ReadsServerFirst, ServerFirst, client_of}
 use Rattle.fe2o3_scram.specs.ServerFinal.{ReadsServerFinal}
 use Rattle.fe2o3_scram.specs.ServerFirstAnswers.{AnswersServerFirst}
@@ -31,7 +31,7 @@ use Rattle.sasl_c.specs.declared.status.Status.{Status}
 use Rattle.sasl_c.specs.declared.status.Status.TheVariants as statuses
 use Rattle.sasl_c.specs.declared.login.Login.{Login}
 use Rattle.sasl_c.specs.declared.client.ScramClient.{ScramClient as Struct}
-use Rattle.sasl_c.specs.Client.{AnswersByMessage, AwaitsSignature, Verifies, HasSecret, Holds, IsAnswer, IsClientOf, IsTestedLogin, IsNoLogin, IsNoSecret, IsReached, IsSecretOf, IsSide, IsState, IsVerifyStatus, NotAnswered, Responds, WritesClient, complete_struct, name_tests}
+use Rattle.sasl_c.specs.Client.{AnswersByMessage, AwaitsSignature, Verifies, HasSecret, Holds, IsAnswer, IsClientOf, IsTestedLogin, IsNoLogin, IsNoSecret, IsReached, IsSecretOf, IsSide, IsState, IsVerifyStatus, NotAnswered, Responds, WritesClient, complete_struct, name_tests, is_set}
 use Rattle.sasl_c.specs.declared.keys.ScramKeys.{ScramKeys as KeysStruct}
 use Rattle.sasl_c.specs.Keys.{shown_keys}
 use Rattle.sasl_c.specs.Records.{IsVersion}
@@ -118,6 +118,7 @@ answer_fits (ClientFirstSent nonce bare) side next text message held =
     )
 answer_fits ClientInitial side next text message held = absurd held
 answer_fits (ClientFinalSent signature keys) side next text message held = absurd held
+answer_fits (SignatureVerified keys) side next text message held = absurd held
 answer_fits (Complete keys) side next text message held = absurd held
 
 -- the client is of the same login in another state
@@ -129,6 +130,7 @@ moved_login login side state is = record {
   secret = is.secret;
   least = is.least;
   most = is.most;
+  signed = is.signed;
 }
 
 -- and after an answer
@@ -138,6 +140,7 @@ answering_login login (ClientFirstSent nonce bare) side next text message held i
     rw held.3 (moved_login login side _ is)
 answering_login login ClientInitial side next text message held is = absurd held
 answering_login login (ClientFinalSent signature keys) side next text message held is = absurd held
+answering_login login (SignatureVerified keys) side next text message held is = absurd held
 answering_login login (Complete keys) side next text message held is = absurd held
 
 -- a client of a login that has sent its client-first message, as its struct shows it
@@ -150,6 +153,7 @@ first_side login before version secret = record {
   secret = secret;
   version = version;
   limits = limits_of login;
+  signature_by_challenge = is_set login.signature_by_challenge;
   state =
       ClientFirstSent (base64_text before.nonce) (client_first_bare login.username.now (base64_text before.nonce));
 }
@@ -164,6 +168,7 @@ is_first_side login before version secret known has sent = (
     secret = has;
     least = refl;
     most = refl;
+    signed = refl;
   },
   (sent, refl, refl),
 )
@@ -225,6 +230,7 @@ not_due_in : (user : List ℕ) (before : Struct) (state : ClientState) (side : C
 not_due_in user before ClientInitial side text is other = (refl, refl)
 not_due_in user before (ClientFirstSent nonce bare) side text is other = absurd (other is.0)
 not_due_in user before (ClientFinalSent signature keys) side text is other = (refl, refl)
+not_due_in user before (SignatureVerified keys) side text is other = (refl, refl)
 not_due_in user before (Complete keys) side text is other = (refl, refl)
 
 -- ---- that a login has a client, whatever its struct is
@@ -260,13 +266,21 @@ holds kept = held_by kept (known_of kept.version (equal_or kept.version 1) (equa
     (equal_or kept.version 512)) (cases_lt 128 kept.salt_len)
 
 -- the state of a struct that has not sent its client-first message last
-state_by : (user : List ℕ) (before : Struct) → before.state ≢ 1 → (before.state ≡ 2) ⊎ (before.state ≢ 2)
-    → (64 < before.signature_len) ⊎ (before.signature_len ≤ 64) → (state : ClientState) × IsState user before state
-state_by user before other (inl two) (inr few) =
+state_of : (user : List ℕ) (before : Struct) → before.state ≢ 1 → (before.state ≡ 2) ⊎ (before.state ≢ 2)
+    → (before.state ≡ 4) ⊎ (before.state ≢ 4) → (64 < before.signature_len) ⊎ (before.signature_len ≤ 64)
+    → (state : ClientState) × IsState user before state
+state_of user before other (inl two) verified (inr few) =
     let keys = holds before.keys in
     (ClientFinalSent (take before.signature_len before.signature) keys.0, (two, few, refl, keys.1))
-state_by user before other (inl two) (inl wide) = (ClientInitial, (other, λ is. wide))
-state_by user before other (inr none) length = (ClientInitial, (other, λ is. absurd (none is)))
+state_of user before other (inl two) verified (inl wide) =
+    (ClientInitial, (other, (λ four. absurd (omega (arith, two, four))), λ is. wide))
+state_of user before other (inr none) (inl four) length =
+    let keys = holds before.keys in (SignatureVerified keys.0, (four, keys.1))
+state_of user before other (inr none) (inr unsigned) length = (ClientInitial, (other, unsigned, λ is. absurd (none is)))
+
+state_by : (user : List ℕ) (before : Struct) → before.state ≢ 1 → (state : ClientState) × IsState user before state
+state_by user before other = state_of user before other (equal_or before.state 2) (equal_or before.state 4)
+    (cases_lt 64 before.signature_len)
 
 -- a client of the login in this state
 abbrev side_with : Login → ScramVersion → Secret → ClientState → ClientSide
@@ -275,6 +289,7 @@ side_with login version secret state = record {
   secret = secret;
   version = version;
   limits = limits_of login;
+  signature_by_challenge = is_set login.signature_by_challenge;
   state = state;
 }
 
@@ -288,6 +303,7 @@ is_side_with login before version secret state known has is = (
     secret = has;
     least = refl;
     most = refl;
+    signed = refl;
   },
   is,
 )
@@ -302,7 +318,7 @@ pub not_due : (login : Login) (before : Struct) (text : List ℕ) (version : Scr
 unfolding NotAnswered
 not_due login before text version known is other =
     let secret = secret_of_login login is.1 in
-    let state = state_by login.username.now before other (equal_or before.state 2) (cases_lt 64 before.signature_len) in
+    let state = state_by login.username.now before other in
     let side = side_with login version secret.0 state.0 in
     inr (
       IllegalClientState,
@@ -378,7 +394,29 @@ verifying_login login (ClientFinalSent signature keys) side next text held is =
     rw held.1 (moved_login login side _ is)
 verifying_login login ClientInitial side next text held is = absurd held
 verifying_login login (ClientFirstSent nonce bare) side next text held is = absurd held
+verifying_login login (SignatureVerified keys) side next text held is = absurd held
 verifying_login login (Complete keys) side next text held is = absurd held
+
+-- and after a signature in a challenge
+pub signing_login : (login : Login) (state : ClientState) (side next : ClientSide) (text : List ℕ)
+    (verified : Unit {0}) → ChecksSignatureIn state side text (Ok verified) next → IsClientOf login side
+    → IsClientOf login next
+signing_login login (ClientFinalSent signature keys) side next text verified held is =
+    rw held.1 (moved_login login side _ is)
+signing_login login ClientInitial side next text verified held is = absurd held
+signing_login login (ClientFirstSent nonce bare) side next text verified held is = absurd held
+signing_login login (SignatureVerified keys) side next text verified held is = absurd held
+signing_login login (Complete keys) side next text verified held is = absurd held
+
+-- and after the outcome without data
+pub concluding_login : (login : Login) (state : ClientState) (side next : ClientSide) (verified : Unit {0})
+    → ConcludesIn state side (Ok verified) next → IsClientOf login side → IsClientOf login next
+concluding_login login (SignatureVerified keys) side next verified held is =
+    rw held (moved_login login side _ is)
+concluding_login login ClientInitial side next verified held is = absurd held
+concluding_login login (ClientFirstSent nonce bare) side next verified held is = absurd held
+concluding_login login (ClientFinalSent signature keys) side next verified held is = absurd held
+concluding_login login (Complete keys) side next verified held is = absurd held
 
 done_state : (user other : List ℕ) (before after : Struct) (state : ClientState) (side next : ClientSide)
     (text : List ℕ) → IsState user before state → VerifiesIn state side text (Ok tt) next → after.state ≡ 3
@@ -389,6 +427,7 @@ done_state user other before after (ClientFinalSent signature keys) side next te
     carried (IsState other after) (Complete keys) next.state (sym moved) (done, kept)
 done_state user other before after ClientInitial side next text is held done same = absurd held
 done_state user other before after (ClientFirstSent nonce bare) side next text is held done same = absurd held
+done_state user other before after (SignatureVerified keys) side next text is held done same = absurd held
 done_state user other before after (Complete keys) side next text is held done same = absurd held
 
 pub verifies : (login : Login) (before after : Struct) (side next : ClientSide) (text : List ℕ) (verified : Unit {0})
@@ -472,14 +511,14 @@ not_waiting_in : (user : List ℕ) (before : Struct) (state : ClientState) (side
 not_waiting_in user before ClientInitial side text is other = (refl, refl)
 not_waiting_in user before (ClientFirstSent nonce bare) side text is other = (refl, refl)
 not_waiting_in user before (ClientFinalSent signature keys) side text is other = absurd (other (is.0, is.1))
+not_waiting_in user before (SignatureVerified keys) side text is other = (refl, refl)
 not_waiting_in user before (Complete keys) side text is other = (refl, refl)
 
 any_state : (user : List ℕ) (before : Struct) → (before.state ≡ 1) ⊎ (before.state ≢ 1)
     → (state : ClientState) × IsState user before state
 any_state user before (inl one) =
     (ClientFirstSent (base64_text before.nonce) (client_first_bare user (base64_text before.nonce)), (one, refl, refl))
-any_state user before (inr other) =
-    state_by user before other (equal_or before.state 2) (cases_lt 64 before.signature_len)
+any_state user before (inr other) = state_by user before other
 
 pub not_waiting : (login : Login) (before : Struct) (text : List ℕ) (version : ScramVersion)
     → IsVersion login.version version → IsTestedLogin login → ¬ AwaitsSignature before

@@ -1,5 +1,5 @@
 -- What a client of a connection reaches (AMQP 1.0, part 5, section 5.3.2).
-use Rattle.std.proofs.Common.{arith, refl, sym, ap, inl, inr, ◌∙◌, ◌≡◌, ◌≢◌, ◌≤◌, ◌<◌, ◌⊎◌, ◌+◌, ◌++◌, ℕ, List, [], length, IsTrue}
+use Rattle.std.proofs.Common.{arith, refl, sym, ap, inl, inr, ◌∙◌, ◌≡◌, ◌≢◌, ◌≤◌, ◌<◌, ◌⊎◌, ◌+◌, ◌++◌, ℕ, List, [], length, IsTrue, true}
 use Rattle.std.specs.Prelude.{Option, Some, None, Bool, true, false, ◌∷◌, replicate, IfSome, MatchOption, Result, Ok, Err, drop, nat_eq, if◌then◌else◌}
 use Rattle.std.proofs.lemmas.Bool.{cases_lt}
 use Rattle.fe2o3_sasl_wire.specs.declared.amqp_types.SaslCode.TheVariants as outcomes
@@ -10,11 +10,11 @@ use Rattle.fe2o3_sasl_wire.specs.SaslFrames.{SaslFrame, canonical}
 use Rattle.fe2o3_scram.specs.declared.scram_messages.error.ScramErrorKind.{ScramErrorKind}
 use Rattle.fe2o3_scram.specs.Readings.{IsFirst, NoneHolds}
 use Rattle.fe2o3_scram.specs.ScramClient as states
-use Rattle.fe2o3_scram.specs.ScramClient.{AnswersIn, VerifiesIn, ClientSide, ClientState, started}
+use Rattle.fe2o3_scram.specs.ScramClient.{AnswersIn, VerifiesIn, ClientSide, ClientState, started, ChecksSignatureIn, ConcludesIn, expects_signature}
 use Rattle.fe2o3_scram.proofs.lemmas.texts.DecisionLemmas.{same_number_or}
 use Rattle.fe2o3_sasl_core.specs.Bodies.{carried as sent_or_not}
 use Rattle.fe2o3_sasl_core.specs.Events.{Given, ClientSays, Started, Answered, Reported, Refused}
-use Rattle.fe2o3_sasl_core.specs.Profiles.{Profile, ScramProfile, PlainProfile, AnonymousProfile, ExternalProfile, MessageProfile, MessageMechanism, AnonymousMessage, ExternalMessage, after_init, answers_empty_challenge, is_scram, profile_machine}
+use Rattle.fe2o3_sasl_core.specs.Profiles.{Profile, ScramProfile, PlainProfile, AnonymousProfile, ExternalProfile, MessageProfile, MessageMechanism, AnonymousMessage, ExternalMessage, after_init, answers_empty_challenge, is_scram, profile_machine, ChallengeReplies}
 use Rattle.fe2o3_sasl_core.specs.Runs.{ProfileGives, Replies}
 use Rattle.fe2o3_sasl_negotiation.specs.declared.snapshot.Snapshot.{Snapshot}
 use Rattle.fe2o3_sasl_negotiation.specs.declared.progress.Expected.{Expected}
@@ -38,7 +38,7 @@ use Rattle.sasl_c.specs.declared.status.Status.TheVariants as statuses
 use Rattle.sasl_c.specs.Client.{IsNoLogin, IsReached, IsState, WritesClient, fresh_client_struct, started_struct}
 use Rattle.sasl_c.specs.Connection.{Keeps, KeepsNoPartOf, expected_number, side_tests, connection_struct}
 use Rattle.sasl_c.specs.SaslClient.{ProfileIsReached, HasNoHostname, HasNoClientWords, HasNoMessage, IsClient, IsDueIn, message_number, IsHostname, IsNoClient, IsNoProfile, IsProfile, ReadsClient, ReceivesAsClient, ClientIsReached, WritesProfile, WritesSide}
-use Rattle.sasl_c.proofs.ClientLemmas.{answer_fits, answering_login, verifying_login, moved_login}
+use Rattle.sasl_c.proofs.ClientLemmas.{answer_fits, answering_login, verifying_login, moved_login, concluding_login, signing_login}
 use Rattle.sasl_c.proofs.StateLemmas.{reached}
 use Rattle.sasl_c.proofs.StatusLemmas.{carried}
 use Rattle.fe2o3_sasl_core.specs.declared.sasl_profile.error.ProfileError.{ProfileError}
@@ -63,7 +63,55 @@ answered_stands words (states.ClientFirstSent nonce bare) client after text (Err
     same_stands words client after is.1 stands
 answered_stands words (states.ClientFinalSent signature keys) client after text (Err fault) is stands =
     same_stands words client after is.1 stands
+answered_stands words (states.SignatureVerified keys) client after text (Err fault) is stands =
+    same_stands words client after is.1 stands
 answered_stands words (states.Complete keys) client after text (Err fault) is stands =
+    same_stands words client after is.1 stands
+
+-- a signature in a challenge, and an outcome without data (RFC 4422, section 5)
+signed_stands : (words : Words) (state : ClientState) (client after : ClientSide) (text : List ℕ)
+    (answer : Result (Unit {0}) ScramErrorKind) → ChecksSignatureIn state client text answer after
+    → ClientIsReached words client → ClientIsReached words after
+signed_stands words (states.ClientFinalSent signature keys) client after text (Ok verified) is stands = (
+  signing_login words (states.ClientFinalSent signature keys) client after text verified is stands.0,
+  carried (IsReached after.user) (states.SignatureVerified keys) after.state
+      (sym (ap (λ (side : ClientSide). side.state) is.1)) tt,
+)
+signed_stands words states.ClientInitial client after text (Ok verified) is stands = absurd is
+signed_stands words (states.ClientFirstSent nonce bare) client after text (Ok verified) is stands = absurd is
+signed_stands words (states.SignatureVerified keys) client after text (Ok verified) is stands = absurd is
+signed_stands words (states.Complete keys) client after text (Ok verified) is stands = absurd is
+signed_stands words states.ClientInitial client after text (Err fault) is stands =
+    same_stands words client after is.1 stands
+signed_stands words (states.ClientFirstSent nonce bare) client after text (Err fault) is stands =
+    same_stands words client after is.1 stands
+signed_stands words (states.ClientFinalSent signature keys) client after text (Err fault) is stands =
+    same_stands words client after is.1 stands
+signed_stands words (states.SignatureVerified keys) client after text (Err fault) is stands =
+    same_stands words client after is.1 stands
+signed_stands words (states.Complete keys) client after text (Err fault) is stands =
+    same_stands words client after is.1 stands
+
+concluded_stands : (words : Words) (state : ClientState) (client after : ClientSide)
+    (answer : Result (Unit {0}) ScramErrorKind) → ConcludesIn state client answer after
+    → ClientIsReached words client → ClientIsReached words after
+concluded_stands words (states.SignatureVerified keys) client after (Ok verified) is stands = (
+  concluding_login words (states.SignatureVerified keys) client after verified is stands.0,
+  carried (IsReached after.user) (states.Complete keys) after.state
+      (sym (ap (λ (side : ClientSide). side.state) is)) tt,
+)
+concluded_stands words states.ClientInitial client after (Ok verified) is stands = absurd is
+concluded_stands words (states.ClientFirstSent nonce bare) client after (Ok verified) is stands = absurd is
+concluded_stands words (states.ClientFinalSent signature keys) client after (Ok verified) is stands = absurd is
+concluded_stands words (states.Complete keys) client after (Ok verified) is stands = absurd is
+concluded_stands words (states.SignatureVerified keys) client after (Err fault) is stands = absurd is
+concluded_stands words states.ClientInitial client after (Err fault) is stands =
+    same_stands words client after is.1 stands
+concluded_stands words (states.ClientFirstSent nonce bare) client after (Err fault) is stands =
+    same_stands words client after is.1 stands
+concluded_stands words (states.ClientFinalSent signature keys) client after (Err fault) is stands =
+    same_stands words client after is.1 stands
+concluded_stands words (states.Complete keys) client after (Err fault) is stands =
     same_stands words client after is.1 stands
 
 verified_stands : (words : Words) (state : ClientState) (client after : ClientSide) (text : List ℕ)
@@ -76,6 +124,7 @@ verified_stands words (states.ClientFinalSent signature keys) client after text 
 )
 verified_stands words states.ClientInitial client after text (Ok verified) is stands = absurd is
 verified_stands words (states.ClientFirstSent nonce bare) client after text (Ok verified) is stands = absurd is
+verified_stands words (states.SignatureVerified keys) client after text (Ok verified) is stands = absurd is
 verified_stands words (states.Complete keys) client after text (Ok verified) is stands = absurd is
 verified_stands words states.ClientInitial client after text (Err fault) is stands =
     same_stands words client after is.1 stands
@@ -83,12 +132,22 @@ verified_stands words (states.ClientFirstSent nonce bare) client after text (Err
     same_stands words client after is.1 stands
 verified_stands words (states.ClientFinalSent signature keys) client after text (Err fault) is stands =
     same_stands words client after is.1 stands
+verified_stands words (states.SignatureVerified keys) client after text (Err fault) is stands =
+    same_stands words client after is.1 stands
 verified_stands words (states.Complete keys) client after text (Err fault) is stands =
     same_stands words client after is.1 stands
 
 -- a profile of SCRAM whose client is of these words
 abbrev Moves : Words → Profile → Type 0
 Moves words next = (side : ClientSide) × (next ≡ ScramProfile side) × ClientIsReached words side
+
+challenge_moves : (words : Words) (client : ClientSide) (by_signature : Bool) (text : List ℕ)
+    (reply : Result SaslFrame ProfileError) (moved : Profile) → ChallengeReplies by_signature client text reply moved
+    → ClientIsReached words client → Moves words moved
+challenge_moves words client false text reply moved turn stands =
+    (turn.1, turn.4, answered_stands words client.state client turn.1 text turn.0 turn.2 stands)
+challenge_moves words client true text reply moved turn stands =
+    (turn.1, turn.4, signed_stands words client.state client turn.1 text turn.0 turn.2 stands)
 
 scram_moves : (words : Words) (client : ClientSide) (hostname : Option (List ℕ)) (nonce : List ℕ) (frame : SaslFrame)
     (reply : Result SaslFrame ProfileError) (moved : Profile)
@@ -98,10 +157,10 @@ scram_moves words client hostname nonce (frames.Mechanisms names) reply moved (i
     (started client nonce, is.2, (moved_login words client _ stands.0, refl))
 scram_moves words client hostname nonce (frames.Mechanisms names) reply moved (inr is) stands = (client, is.2, stands)
 scram_moves words client hostname nonce (frames.Challenge text) reply moved (inl is) stands = (client, is.2, stands)
-scram_moves words client hostname nonce (frames.Challenge text) reply moved (inr is) stands = let turn = is.1 in
-    (turn.1, turn.4, answered_stands words client.state client turn.1 text turn.0 turn.2 stands)
+scram_moves words client hostname nonce (frames.Challenge text) reply moved (inr is) stands =
+    challenge_moves words client (expects_signature client) text reply moved is.1 stands
 scram_moves words client hostname nonce (frames.Outcome outcomes.Ok None) reply moved is stands =
-    (client, is.1, stands)
+    (is.1, is.4, concluded_stands words client.state client is.1 is.0 is.2 stands)
 scram_moves words client hostname nonce (frames.Outcome outcomes.Ok (Some text)) reply moved is stands =
     (is.1, is.4, verified_stands words client.state client is.1 text is.0 is.2 stands)
 scram_moves words client hostname nonce (frames.Outcome code more) reply moved is stands = (client, is.1, stands)

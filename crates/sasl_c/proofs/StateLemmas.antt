@@ -3,10 +3,10 @@ use Rattle.std.proofs.Common.{arith, refl, sym, ap, ◌∙◌, ◌≡◌, ◌≢
 use Rattle.std.specs.Prelude.{Option, Some, None, IfSome, MatchOption, option_map, true, false}
 use Rattle.std.proofs.lemmas.List.{length-take}
 use Rattle.fe2o3_scram.specs.ClientKeys.{ClientKeys}
-use Rattle.fe2o3_scram.specs.ScramClient.{ClientState, ClientInitial, ClientFirstSent, ClientFinalSent, Complete, answer_keys, is_complete, login_keys}
+use Rattle.fe2o3_scram.specs.ScramClient.{ClientState, ClientInitial, ClientFirstSent, ClientFinalSent, SignatureVerified, Complete, answer_keys, is_complete, is_signature_verified, login_keys}
 use Rattle.fe2o3_scram.specs.Texts.{base64_text}
 use Rattle.sasl_c.specs.declared.client.ScramClient.{ScramClient as Struct}
-use Rattle.sasl_c.specs.Client.{Holds, IsReached, IsState, WritesClient, complete_struct, fresh_client_struct, started_struct}
+use Rattle.sasl_c.specs.Client.{Holds, IsReached, IsState, WritesClient, complete_struct, fresh_client_struct, started_struct, verified_struct}
 use Rattle.sasl_c.specs.Keys.{WritesKeys}
 use Rattle.sasl_c.proofs.StatusLemmas.{carried}
 
@@ -24,15 +24,26 @@ completed user client (Complete keys) is sent holds = (sent, holds)
 completed user client ClientInitial is sent holds = absurd (cc)
 completed user client (ClientFirstSent nonce bare) is sent holds = absurd (cc)
 completed user client (ClientFinalSent signature keys) is sent holds = absurd (cc)
+completed user client (SignatureVerified keys) is sent holds = absurd (cc)
+
+pub verified : (user : List ℕ) (client : Struct) (state : ClientState) → is_signature_verified state ≡ true
+    → client.state ≡ 4 → Holds client.keys (answer_keys state) → IsState user client state
+verified user client (SignatureVerified keys) is sent holds = (sent, holds)
+verified user client ClientInitial is sent holds = absurd (cc)
+verified user client (ClientFirstSent nonce bare) is sent holds = absurd (cc)
+verified user client (ClientFinalSent signature keys) is sent holds = absurd (cc)
+verified user client (Complete keys) is sent holds = absurd (cc)
 
 pub nothing_sent : (user : List ℕ) (client : Struct) (state : ClientState)
     → ((nonce bare : List ℕ) → state ≢ ClientFirstSent nonce bare)
     → ((signature : List ℕ) (keys : Option ClientKeys) → state ≢ ClientFinalSent signature keys)
-    → is_complete state ≡ false → IsState user client ClientInitial → IsState user client state
-nothing_sent user client ClientInitial first final done is = is
-nothing_sent user client (ClientFirstSent nonce bare) first final done is = absurd (first nonce bare refl)
-nothing_sent user client (ClientFinalSent signature keys) first final done is = absurd (final signature keys refl)
-nothing_sent user client (Complete keys) first final done is = absurd (cc)
+    → is_complete state ≡ false → is_signature_verified state ≡ false → IsState user client ClientInitial
+    → IsState user client state
+nothing_sent user client ClientInitial first final done unsigned is = is
+nothing_sent user client (ClientFirstSent nonce bare) first final done unsigned is = absurd (first nonce bare refl)
+nothing_sent user client (ClientFinalSent signature keys) first final done unsigned is = absurd (final signature keys refl)
+nothing_sent user client (SignatureVerified keys) first final done unsigned is = absurd (cc)
+nothing_sent user client (Complete keys) first final done unsigned is = absurd (cc)
 
 -- a signature that was reached has room
 pub never_too_long : (user : List ℕ) (state : ClientState) (signature : List ℕ) (keys : Option ClientKeys)
@@ -87,6 +98,7 @@ reached user client ClientInitial is = tt
 reached user client (ClientFirstSent nonce bare) is = is.2
 reached user client (ClientFinalSent signature keys) is =
     omega (arith, is.1, ap length is.2, length-take client.signature_len client.signature)
+reached user client (SignatureVerified keys) is = tt
 reached user client (Complete keys) is = tt
 
 -- ---- the struct that is written for a client in a state
@@ -102,15 +114,27 @@ completed_written client (Complete keys) is written same = (client.keys, written
 completed_written client ClientInitial is written same = absurd (cc)
 completed_written client (ClientFirstSent nonce bare) is written same = absurd (cc)
 completed_written client (ClientFinalSent signature keys) is written same = absurd (cc)
+completed_written client (SignatureVerified keys) is written same = absurd (cc)
+
+pub verified_written : (client : Struct) (state : ClientState) → is_signature_verified state ≡ true
+    → WritesKeys client.keys (answer_keys state) → client ≡ verified_struct client.keys → WritesClient client state
+verified_written client (SignatureVerified keys) is written same = (client.keys, written, same)
+verified_written client ClientInitial is written same = absurd (cc)
+verified_written client (ClientFirstSent nonce bare) is written same = absurd (cc)
+verified_written client (ClientFinalSent signature keys) is written same = absurd (cc)
+verified_written client (Complete keys) is written same = absurd (cc)
 
 pub nothing_written : (client : Struct) (state : ClientState)
     → ((nonce bare : List ℕ) → state ≢ ClientFirstSent nonce bare)
     → ((signature : List ℕ) (keys : Option ClientKeys) → state ≢ ClientFinalSent signature keys)
-    → is_complete state ≡ false → client ≡ fresh_client_struct → WritesClient client state
-nothing_written client ClientInitial first final done same = same
-nothing_written client (ClientFirstSent nonce bare) first final done same = absurd (first nonce bare refl)
-nothing_written client (ClientFinalSent signature keys) first final done same = absurd (final signature keys refl)
-nothing_written client (Complete keys) first final done same = absurd (cc)
+    → is_complete state ≡ false → is_signature_verified state ≡ false → client ≡ fresh_client_struct
+    → WritesClient client state
+nothing_written client ClientInitial first final done unsigned same = same
+nothing_written client (ClientFirstSent nonce bare) first final done unsigned same = absurd (first nonce bare refl)
+nothing_written client (ClientFinalSent signature keys) first final done unsigned same =
+    absurd (final signature keys refl)
+nothing_written client (SignatureVerified keys) first final done unsigned same = absurd (cc)
+nothing_written client (Complete keys) first final done unsigned same = absurd (cc)
 
 pub waiting_written : {A : Type 0} (view : A → ClientKeys) (found : Option A) (state : ClientState)
     (answer : Option Struct) (signature : List ℕ) (keys : Option ClientKeys) → state ≡ ClientFinalSent signature keys
@@ -125,4 +149,14 @@ waiting_written view found state (Some client) signature keys is given held =
     carried (WritesClient client) (ClientFinalSent signature (option_map view found)) state (sym moved) held
 
 -- what the struct of a client takes
-pub ruleset of_state = (first_sent, completed, nothing_sent, never_too_long, first_written, completed_written, nothing_written)
+pub ruleset of_state = (
+  first_sent,
+  completed,
+  verified,
+  nothing_sent,
+  never_too_long,
+  first_written,
+  completed_written,
+  verified_written,
+  nothing_written,
+)

@@ -1,5 +1,5 @@
 -- A SCRAM client that is kept in structs of C between its calls (RFC 5802, sections 3 and 5).
-use Rattle.std.specs.Prelude.{◌≡◌, ◌≢◌, ◌<◌, ◌≤◌, ◌⊎◌, ℕ, List, [], ◌∷◌, length, replicate, take, Option, Some, None, Result, Ok, Err}
+use Rattle.std.specs.Prelude.{◌≡◌, ◌≢◌, ◌<◌, ◌≤◌, ◌⊎◌, ℕ, Bool, true, false, nat_eq, if◌then◌else◌, List, [], ◌∷◌, length, replicate, take, Option, Some, None, Result, Ok, Err}
 use Rattle.std.specs.Str.{IsUtf8}
 use Rattle.fe2o3_scram.specs.declared.hmac.ScramVersion.{ScramVersion}
 use Rattle.fe2o3_scram.specs.declared.scram_messages.error.ScramErrorKind.{ScramErrorKind}
@@ -8,7 +8,7 @@ use Rattle.fe2o3_scram.specs.ClientFinal.{Answer}
 use Rattle.fe2o3_scram.specs.ClientFirst.{client_first, client_first_bare}
 use Rattle.fe2o3_scram.specs.ClientKeys.{ClientKeys}
 use Rattle.fe2o3_scram.specs.ClientSecret.{Secret, Password, Keys, Both}
-use Rattle.fe2o3_scram.specs.ScramClient.{AnswersIn, VerifiesIn, ClientSide, ClientState, ClientInitial, ClientFirstSent, ClientFinalSent, Complete, started}
+use Rattle.fe2o3_scram.specs.ScramClient.{AnswersIn, VerifiesIn, ClientSide, ClientState, ClientInitial, ClientFirstSent, ClientFinalSent, SignatureVerified, Complete, started}
 use Rattle.fe2o3_scram.specs.Hmac.{zero_filled}
 use Rattle.fe2o3_scram.specs.Readings.{IsFirst, NoneHolds}
 use Rattle.fe2o3_scram.specs.ServerFinal.{ReachesVerifier}
@@ -33,6 +33,10 @@ IsSecretOf login (Keys keys) = (login.secret ≡ 1) × ShowsKeys login.keys.now 
 IsSecretOf login (Both password keys) = (login.secret ≡ 2) × IsPassword login.form login.password.now password
     × ShowsKeys login.keys.now keys
 
+-- whether a flag is set: every number but zero sets it
+abbrev pub is_set : ℕ → Bool
+is_set flag = if nat_eq flag 0 then false else true
+
 -- a client of this login
 pub record IsClientOf (login : Login) (side : ClientSide) : Type 0 where
   pub version : IsVersion login.version side.version
@@ -40,6 +44,7 @@ pub record IsClientOf (login : Login) (side : ClientSide) : Type 0 where
   pub secret : IsSecretOf login side.secret
   pub least : side.limits.min_iterations ≡ login.min_iterations
   pub most : side.limits.max_iterations ≡ login.max_iterations
+  pub signed : side.signature_by_challenge ≡ is_set login.signature_by_challenge
 
 -- the tests of the keys of a login, in their order
 abbrev pub keys_tests : Login → List (Status × Type 0)
@@ -81,13 +86,16 @@ Holds kept None = HoldsNone kept
 Holds kept (Some keys) = ShowsKeys kept keys ⊎ (¬ KeysHaveRoom keys × HoldsNone kept)
 
 -- the struct of a client of this user in this state: what was sent last, 1 for the client-first message and 2 for the
--- client-final message; 3 is a login whose server was authenticated, and every other number a client that has sent nothing
+-- client-final message; 3 is a login whose server was authenticated, 4 one whose server was authenticated by a challenge
+-- and whose outcome is open, and every other number a client that has sent nothing
 abbrev pub IsState : List ℕ → Struct → ClientState → Type 0
-IsState user client ClientInitial = (client.state ≢ 1) × (client.state ≡ 2 → 64 < client.signature_len)
+IsState user client ClientInitial = (client.state ≢ 1) × (client.state ≢ 4)
+    × (client.state ≡ 2 → 64 < client.signature_len)
 IsState user client (ClientFirstSent nonce bare) = (client.state ≡ 1) × (nonce ≡ base64_text client.nonce)
     × (bare ≡ client_first_bare user nonce)
 IsState user client (ClientFinalSent signature keys) = (client.state ≡ 2) × (client.signature_len ≤ 64)
     × (signature ≡ take client.signature_len client.signature) × Holds client.keys keys
+IsState user client (SignatureVerified keys) = (client.state ≡ 4) × Holds client.keys keys
 IsState user client (Complete keys) = (client.state ≡ 3) × Holds client.keys keys
 
 -- the struct expects a signature
@@ -147,6 +155,16 @@ complete_struct keys = record {
   keys = keys;
 }
 
+-- of one whose server was authenticated by a challenge, and whose outcome is open
+abbrev pub verified_struct : KeysStruct → Struct
+verified_struct keys = record {
+  state = 4;
+  signature_len = 0;
+  nonce = replicate 32 0;
+  signature = replicate 64 0;
+  keys = keys;
+}
+
 -- the struct that a call writes for a client in this state
 abbrev pub WritesClient : Struct → ClientState → Type 0
 WritesClient written ClientInitial = written ≡ fresh_client_struct
@@ -154,6 +172,8 @@ WritesClient written (ClientFirstSent nonce bare) = (bytes : List ℕ) × (nonce
     × (written ≡ started_struct bytes)
 WritesClient written (ClientFinalSent signature keys) = (kept : KeysStruct) × WritesKeys kept keys
     × (written ≡ waiting_struct signature kept)
+WritesClient written (SignatureVerified keys) = (kept : KeysStruct) × WritesKeys kept keys
+    × (written ≡ verified_struct kept)
 WritesClient written (Complete keys) = (kept : KeysStruct) × WritesKeys kept keys × (written ≡ complete_struct kept)
 
 -- ---- what the calls return (RFC 5802, section 5), and the struct after them

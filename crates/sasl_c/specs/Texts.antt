@@ -112,7 +112,7 @@ abbrev pub connection_size : ℕ
 connection_size = 4 * word + 512
 
 abbrev pub login_size : ℕ
-login_size = (5 * word + 4) + slice + slice + 8
+login_size = (5 * word + 4) + slice + slice + 8 + (word + 4)
 
 abbrev pub sasl_login_size : ℕ
 sasl_login_size = (word + 4) + slice + login_size

@@ -116,6 +116,15 @@ impl ScramClient {
                 keys: held(machine.keys()),
             });
         }
+        if machine.is_signature_verified() {
+            return Some(ScramClient {
+                state: 4,
+                signature_len: 0,
+                nonce: [0; 32],
+                signature: [0; 64],
+                keys: held(machine.answer_keys()),
+            });
+        }
         match machine.server_signature() {
             Some(_) => ScramClient::waiting(machine),
             None => Some(ScramClient::fresh()),
@@ -194,6 +203,7 @@ impl ScramClient {
         match self.state {
             1 => self.after_first(alloc, login),
             2 => self.after_final(alloc, login),
+            4 => self.after_signature(alloc, login),
             _ => login.client(alloc),
         }
     }
@@ -234,6 +244,23 @@ impl ScramClient {
         let keys = shown(alloc, &self.keys)?;
         match login.client(alloc) {
             Ok(machine) => Ok(machine.restore_client_final_sent(signature, keys)),
+            Err(status) => Err(status),
+        }
+    }
+
+    /// Restores a client whose server was verified by a challenge, and which waits for an outcome without data.
+    fn after_signature(&self, alloc: Global, login: &Login<'_>) -> Result<Machine, Status>
+        ensures ok { IfOk result (λ side. self.now.state ≡ 4 → IsSide login.now self.now side) }
+        ensures err { IfErr result (λ status. status ≢ StatusOutOfMemory → IsNoLogin login.now status) }
+        ensures memory { AsksWhere (IsTestedLogin login.now) result }
+    {
+        // The login is tested before memory is asked for.
+        if let Err(status) = login.tested() {
+            return Err(status);
+        }
+        let keys = shown(alloc, &self.keys)?;
+        match login.client(alloc) {
+            Ok(machine) => Ok(machine.restore_signature_verified(keys)),
             Err(status) => Err(status),
         }
     }

@@ -159,9 +159,10 @@ fn step(
 /// FE2O3_REFUSED_AUTH to FE2O3_REFUSED_SYS_TEMP if the outcome rejects it. Pass no body after that.
 ///
 /// This call is for programs that read frames themselves, reject those above 512 bytes, and limit their number. A
-/// login takes three bodies of the server for SCRAM, and two for the other mechanisms. A server that may send more can
-/// make the client hash again and again. For SCRAM, FE2O3_AUTHENTICATED means that the server is authenticated (RFC
-/// 5802, section 5). The other mechanisms accept any outcome, even one before the init.
+/// login takes three bodies of the server for SCRAM, four if the signature comes in a challenge
+/// (`signature_by_challenge`), and two for the other mechanisms. A server that may send more can make the client hash
+/// again and again. For SCRAM, FE2O3_AUTHENTICATED means that the server is authenticated (RFC 5802, section 5). The
+/// other mechanisms accept any outcome, even one before the init.
 #[unsafe(no_mangle)]
 pub extern "C" fn fe2o3_sasl_client_step(
     alloc: Global,

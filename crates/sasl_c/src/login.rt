@@ -7,7 +7,7 @@ ghost use Rattle.fe2o3_scram.specs.ClientSecret.{IsOfVersion, secret_of};
 ghost use Rattle.fe2o3_scram.specs.ScramClient.{ClientInitial};
 ghost use Rattle.fe2o3_scram.specs.Readings.{IsFirst, NoneHolds, Reads};
 ghost use Rattle.sasl_c.specs.Records.{IsVersion};
-ghost use Rattle.sasl_c.specs.Client.{HasSecret, HoldsNone, IsClientOf, IsTestedLogin, IsNoLogin, IsNoSecret, IsSecretOf, keys_tests, name_tests};
+ghost use Rattle.sasl_c.specs.Client.{HasSecret, HoldsNone, IsClientOf, IsTestedLogin, IsNoLogin, IsNoSecret, IsSecretOf, is_set, keys_tests, name_tests};
 ghost use Rattle.sasl_c.specs.Keys.{ShowsKeys, ShowsSomeKeys};
 ghost use Rattle.sasl_c.specs.Status.{AsksWhere};
 ghost use Rattle.sasl_c.specs.declared.status.Status.TheVariants.{OutOfMemory as StatusOutOfMemory, NotUtf8 as StatusNotUtf8};
@@ -47,6 +47,12 @@ pub struct Login<'a> {
 
     /// The keys of an earlier login, or a struct of zeros.
     pub keys: &'a ScramKeys,
+
+    /// Whether the client accepts the server's signature in a challenge too, before an outcome without data (RFC 4422,
+    /// section 5). 0 means that the signature has to come in the outcome. Any other value accepts it in both. Only
+    /// `fe2o3_sasl_client_step` uses this field. A connection (`fe2o3_sasl_client_receive`) still closes at a second
+    /// challenge as an unexpected frame, because connections do not support this exchange yet.
+    pub signature_by_challenge: u32,
 }
 
 /// Returns the keys that a struct holds, if it holds some. `OutOfMemory` is the only error.
@@ -102,6 +108,16 @@ impl Login<'_> {
         IterationLimits {
             min_iterations: self.min_iterations,
             max_iterations: self.max_iterations,
+        }
+    }
+
+    /// Returns whether the client accepts the server's signature in a challenge too.
+    fn accepts_signature(&self) -> bool
+        ensures { result ≡ is_set self.now.signature_by_challenge }
+    {
+        match self.signature_by_challenge {
+            0 => false,
+            _ => true,
         }
     }
 
@@ -244,7 +260,8 @@ impl Login<'_> {
             Ok(client) => Ok(
                 client
                     .with_min_iterations(self.min_iterations)
-                    .with_iteration_limit(self.max_iterations),
+                    .with_iteration_limit(self.max_iterations)
+                    .signature_by_challenge(self.accepts_signature()),
             ),
             Err(status) => Err(status),
         }

@@ -10,9 +10,11 @@ returns-in-Some-server_signature-clause-state c = λ user reached.
 pub returns-in-None-clause-state : goal.returns-in-None-clause-state
 returns-in-None-clause-state c = λ user reached.
     nothing_sent user c.fresh.result c.args.machine.now.state c.in_default.ensures c.in-None.ensures
-    (sym c.is_complete.ensures ∙ c.if-is_complete.false) (c.fresh.ensures.state user)
+    (sym c.is_complete.ensures ∙ c.if-is_complete.false)
+    (sym c.is_signature_verified.ensures ∙ c.if-is_signature_verified.false) (c.fresh.ensures.state user)
 
 pub returns-in-None-clause-writes : goal.returns-in-None-clause-writes
 returns-in-None-clause-writes c =
     nothing_written c.fresh.result c.args.machine.now.state c.in_default.ensures c.in-None.ensures
-    (sym c.is_complete.ensures ∙ c.if-is_complete.false) c.fresh.ensures.writes
+    (sym c.is_complete.ensures ∙ c.if-is_complete.false)
+    (sym c.is_signature_verified.ensures ∙ c.if-is_signature_verified.false) c.fresh.ensures.writes
