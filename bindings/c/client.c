@@ -123,7 +123,7 @@ int main(int count, char **words)
     }
     password[strcspn(password, "\n")] = '\0';
     login.mechanism = mechanisms[which].mechanism;
-    login.signature_by_challenge = (uint32_t)by_challenge;
+    login.login.signature_by_challenge = (uint32_t)by_challenge;
     login.hostname = (const uint8_t *)words[1];
     login.hostname_len = strlen(words[1]);
     login.login.version = mechanisms[which].version;
