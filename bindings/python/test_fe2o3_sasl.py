@@ -631,7 +631,7 @@ class Connections(Case):
                 client.scram.state = bits.randrange(5)
                 client.scram.signature_len = bits.randrange(66)
             login = fe2o3_sasl._SaslLoginStruct(
-                mechanism=bits.choice((0, 0, 0, bits.randrange(5))),
+                mechanism=bits.choice((0, 0, 0, bits.randrange(7))),
                 hostname=b"",
                 login=fe2o3_sasl._LoginStruct(
                     version=256, max_iterations=2, username=b"u", username_len=1, password=b"p", password_len=1,
@@ -721,8 +721,8 @@ class Steps(Case):
 
     def test_a_signature_in_a_challenge(self) -> None:
         # RFC 7677, section 3: the server-final message, for a client that has sent its client-final message.
-        signature = base64.b64decode("6rriTRBi23WpRR/wtup+mMhMUZUn/dB5nLTJRsjl95G4=")
-        final = body_of(CHALLENGE, short(0xA0, b"v=6rriTRBi23WpRR/wtup+mMhMUZUn/dB5nLTJRsjl95G4="))
+        signature = base64.b64decode("6rriTRBi23WpRR/wtup+mMhUZUn/dB5nLTJRsjl95G4=")
+        final = body_of(CHALLENGE, short(0xA0, b"v=6rriTRBi23WpRR/wtup+mMhUZUn/dB5nLTJRsjl95G4="))
         done, empty = body_of(OUTCOME, b"\x50\0"), body_of(RESPONSE, short(0xA0, b""))
         side = ClientSteps(Client(SHA_256, "user", "pencil", signature_by_challenge=True))
         side._struct.state, side._struct.signature_len = 2, len(signature)
