@@ -7,6 +7,7 @@ pub mod Complete
 pub mod SaslAcceptor
 pub mod AnyMechanism
 pub mod RestrictMechanisms
+pub mod ExtraChallenges
 pub mod AnyMechanismSides
 pub mod ExternalServer
 pub mod PasswordServer
@@ -25,6 +26,8 @@ pub mod Laws
 pub mod MechanismLaws
 pub mod AnyMechanismLaws
 pub mod AnyMechanismUsers
+pub mod ExtraChallengeLaws
+pub mod ChallengeCounts
 pub mod StepLaws
 pub mod CostLaws
 pub mod UnknownUsers

@@ -7,7 +7,7 @@ use Rattle.fe2o3_scram.specs.declared.hmac.ScramVersion.TheVariants.{Sha1, Sha25
 use Rattle.fe2o3_scram.specs.Credentials.{Provider, Record, Store, kept, serving}
 use Rattle.fe2o3_scram.specs.Mixed.{MultiRecords, is_version, provider_for}
 use Rattle.fe2o3_scram.specs.MockSettings.{MockSettings, mocking}
-use Rattle.fe2o3_scram.specs.ScramServer.{ServerState, Initial, ServerFirstSent, challenge_kept, open_challenge, served_by, state_in}
+use Rattle.fe2o3_scram.specs.ScramServer.{ServerState, Initial, ServerFirstSent, ServerFinalSent, challenge_kept, open_challenge, served_by, state_in}
 use Rattle.fe2o3_scram.specs.ServerFirst.{ServerChallenge}
 use Rattle.fe2o3_scram.specs.declared.scram_server.ScramAuthenticator.{ScramAuthenticator}
 use Rattle.fe2o3_scram.specs.declared.scram_server.open_challenge.OpenChallenge.{OpenChallenge}
@@ -23,6 +23,8 @@ use Rattle.fe2o3_sasl_core.specs.declared.any_mechanism.Selected.TheVariants.{Fi
 use Rattle.fe2o3_sasl_core.specs.declared.plain_server.passwords.PlainPasswords.{PlainPasswords}
 use Rattle.fe2o3_sasl_core.specs.declared.password_server.Mock.{Mock}
 use Rattle.fe2o3_sasl_core.specs.declared.password_server.Restored.{Restored}
+use Rattle.fe2o3_sasl_core.specs.declared.password_server.RestoredState.{RestoredState}
+use Rattle.fe2o3_sasl_core.specs.declared.password_server.RestoredState.TheVariants as states
 use Rattle.fe2o3_sasl_core.specs.declared.password_server.PasswordServer.{PasswordServer as Server}
 use Rattle.fe2o3_sasl_core.specs.declared.password_server.PasswordServerBuilder.{PasswordServerBuilder}
 use Rattle.fe2o3_sasl_core.specs.declared.password_server.ScramHashes.{ScramHashes}
@@ -175,16 +177,15 @@ pub record MockChoice : Type 0 where
   pub salt_len : ℕ
   pub count : ℕ
 
--- an open challenge: the hash of its mechanism, and the record that it was made with
-pub record OpenExchange : Type 0 where
+-- an exchange of SCRAM: its hash, and what the server sent last in it
+pub record SavedExchange : Type 0 where
   pub version : ScramVersion
-  pub challenge : ServerChallenge
-  pub stored : Record
+  pub state : ServerState
 
 -- what a server offers and knows: the records; the settings of mock authentication, if any; the hashes of SCRAM, and
 -- whether the GS2 flag `y` is accepted; whether PLAIN is offered, the hash of its records, the iteration count for an
 -- unknown user, if one is set, and the form of its passwords; whether ANONYMOUS is; the name of EXTERNAL, which is not
--- offered if the name is empty; and the open challenge, if any
+-- offered if the name is empty; and the exchange of SCRAM that the server continues, if any
 pub record PasswordSettings : Type 0 where
   pub records : MultiRecords
   pub mock : Option MockChoice
@@ -196,7 +197,7 @@ pub record PasswordSettings : Type 0 where
   pub plain_passwords : PlainPasswords
   pub anonymous : Bool
   pub external : List ℕ
-  pub restored : Option OpenExchange
+  pub restored : Option SavedExchange
 
 -- those settings for one hash
 abbrev pub mock_for : ScramVersion → MockChoice → MockSettings
@@ -286,9 +287,9 @@ names_for settings = name_where settings.hashes.sha_512 (codes "SCRAM-SHA-512")
     ∷ external_mechanism settings.external
     ∷ []
 
--- the hash of the open challenge
-abbrev pub asked_of : Option OpenExchange → Option ScramVersion
-asked_of restored = option_map (λ (exchange : OpenExchange). exchange.version) restored
+-- the hash of the exchange that is continued
+abbrev pub asked_of : Option SavedExchange → Option ScramVersion
+asked_of restored = option_map (λ (exchange : SavedExchange). exchange.version) restored
 
 -- the acceptors of the settings, with SCRAM in this state
 abbrev pub offering_for : {S : Type 0} → PasswordSettings → S → Offering (BothStates S OtherStates)
@@ -313,16 +314,16 @@ password_server_in settings states part selected weaker = record {
   allowed = names_for settings;
 }
 
--- the states of SCRAM: the open challenge in that of its hash
-abbrev pub opened_where : Bool → OpenExchange → ServerState
-opened_where true exchange = ServerFirstSent exchange.challenge exchange.stored
+-- the states of SCRAM: that of the exchange at its hash
+abbrev pub opened_where : Bool → SavedExchange → ServerState
+opened_where true exchange = exchange.state
 opened_where false exchange = Initial
 
-abbrev pub opened : Option OpenExchange → ScramVersion → ServerState
+abbrev pub opened : Option SavedExchange → ScramVersion → ServerState
 opened None version = Initial
 opened (Some exchange) version = opened_where (is_version exchange.version version) exchange
 
--- the server before a login, or with its open challenge
+-- the server before a login, or in the exchange that it continues
 abbrev pub password_server : PasswordSettings → PasswordState
 password_server settings = password_server_in settings (opened settings.restored)
     (option_map (λ (version : ScramVersion). First) (asked_of settings.restored)) (first_asked (asked_of settings.restored))
@@ -358,12 +359,12 @@ challenge_with shown = (shown.0, challenge_kept shown.1)
 abbrev pub mock_held : Mock → MockChoice
 mock_held mock = record { secret = mock.secret.now; salt_len = mock.salt_len; count = mock.iterations }
 
-abbrev pub restored_held : Restored → OpenExchange
-restored_held held = record {
-  version = held.version;
-  challenge = challenge_kept held.challenge.now;
-  stored = kept held.stored.now;
-}
+abbrev pub state_held : RestoredState → ServerState
+state_held (states.Challenge challenge stored) = ServerFirstSent (challenge_kept challenge.now) (kept stored.now)
+state_held (states.Authenticated user) = ServerFinalSent user.now
+
+abbrev pub restored_held : Restored → SavedExchange
+restored_held held = record { version = held.version; state = state_held held.state }
 
 -- the settings that a builder holds
 abbrev pub settings_of : PasswordServerBuilder → PasswordSettings

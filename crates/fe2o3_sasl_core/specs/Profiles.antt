@@ -69,6 +69,11 @@ abbrev pub answers_empty_challenge : Profile → Bool
 answers_empty_challenge (MessageProfile mechanism message is_due) = is_due
 answers_empty_challenge profile = false
 
+-- whether a profile takes the server's signature in a challenge too (RFC 4422, section 5). No step changes it
+abbrev pub accepts_signature_by_challenge : Profile → Bool
+accepts_signature_by_challenge (ScramProfile client) = client.signature_by_challenge
+accepts_signature_by_challenge profile = false
+
 -- the frame of a SCRAM client's answer, or its error
 abbrev pub client_frame : {A : Type 0} → (A → SaslFrame) → Result A ScramErrorKind → Result SaslFrame ProfileError
 client_frame frame (Ok answer) = Ok (frame answer)

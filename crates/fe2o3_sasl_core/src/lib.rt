@@ -9,6 +9,7 @@ pub mod any_mechanism;
 pub mod client_policy;
 pub mod events;
 pub mod external_server;
+pub mod extra_challenges;
 mod mechanism_names;
 pub mod password_server;
 pub mod plain_server;
@@ -22,6 +23,8 @@ pub use crate::any_mechanism::{AnyMechanism, HasMechanism, Selected};
 pub use crate::client_policy::{ChoiceError, ClientPolicy, Mechanism, select_mechanism};
 pub use crate::events::{ClientReply, Event, EventError, ServerReply};
 pub use crate::external_server::{ExternalServer, NoExternalIdentity};
+pub use crate::extra_challenges::phase::ChallengePhase;
+pub use crate::extra_challenges::{ExtraChallenges, WithExtraChallenges};
 pub use crate::password_server::{BuildError, PasswordServer, PasswordServerBuilder, ScramHashes};
 pub use crate::plain_server::{MAX_PASSWORD_LEN, PlainPasswords, PlainServer};
 pub use crate::restrict_mechanisms::{OfferError, RestrictMechanisms};
@@ -38,7 +41,8 @@ pub use crate::steps::{
     profile_step,
 };
 pub use crate::whole_runs::{
-    run_acceptor, run_profile, scram_client_run, scram_client_run_limited, scram_server_run,
+    run_acceptor, run_profile, scram_client_run, scram_client_run_limited,
+    scram_client_run_with_signature_by_challenge, scram_server_run,
     scram_server_run_with_cbind_flag_y,
 };
 pub use std::alloc::AllocError as OutOfMemory;

@@ -4,14 +4,14 @@ ghost use Rattle.std.specs.Prelude.{◌≡◌, ◌≢◌, ◌↔◌, [], true, f
 ghost use Rattle.std.proofs.Common.{ap};
 ghost use Rattle.fe2o3_scram.specs.Mixed.{provider_for};
 ghost use Rattle.fe2o3_sasl_core.specs.ExternalServer.{external_of};
-ghost use Rattle.fe2o3_sasl_core.specs.PasswordServer.{HasLongSalts, OffersNothing, PasswordState, asked_of, challenge_with, count_of_unknown, external_mechanism, external_name, first_asked, name_where, names_for, offering_for, restored_held, opened, others_names, others_of, others_state, password_allocates, password_hmacs, password_machine, password_names, password_open, password_server, password_state, password_user, scram_provider, scram_state, scrams_in, scrams_open, scrams_state, second_asked, settings_of, weaker_open};
+ghost use Rattle.fe2o3_sasl_core.specs.PasswordServer.{HasLongSalts, OffersNothing, PasswordState, asked_of, challenge_with, count_of_unknown, external_mechanism, external_name, first_asked, name_where, names_for, offering_for, restored_held, opened, others_names, others_of, others_state, password_allocates, password_hmacs, password_machine, password_names, password_open, password_server, password_state, password_user, scram_provider, scram_state, scrams_in, scrams_open, scrams_state, second_asked, settings_of, state_held, weaker_open};
 ghost use Rattle.fe2o3_sasl_core.specs.AnyMechanism.{both_names};
 ghost use Rattle.fe2o3_sasl_core.specs.AnyMechanismSides.{both_states};
 ghost use Rattle.fe2o3_sasl_core.specs.RestrictMechanisms.{offering_names, offering_of};
 ghost use Rattle.fe2o3_scram.specs.Credentials.{kept, serving};
 ghost use Rattle.fe2o3_scram.specs.MockSettings.{mocking};
 ghost use Rattle.fe2o3_scram.specs.Mixed.{is_version};
-ghost use Rattle.fe2o3_scram.specs.ScramServer.{Initial, challenge_kept};
+ghost use Rattle.fe2o3_scram.specs.ScramServer.{Initial, ServerFinalSent, ServerFirstSent, challenge_kept, served_by};
 ghost use Rattle.fe2o3_scram.specs.declared.hmac.ScramVersion.TheVariants.{Sha256};
 ghost use Rattle.fe2o3_sasl_core.specs.SaslAcceptor.{AnonymousAcceptor, ScramAcceptor};
 ghost use Rattle.fe2o3_sasl_core.specs.declared.plain_server.passwords.PlainPasswords.TheVariants.{Typed as FormTyped};
@@ -89,12 +89,39 @@ struct Mock<'a> {
     iterations: u32,
 }
 
-/// An open challenge, with the hash of its mechanism and the record that it was made with.
+/// What SCRAM sent last in the exchange that a server continues.
+#[derive(Clone, Copy)]
+enum RestoredState<'a> {
+    /// This challenge, which was made with this record.
+    Challenge {
+        challenge: &'a OpenChallenge<'a>,
+        stored: &'a StoredPassword<'a>,
+    },
+
+    /// The end of the login of this user.
+    Authenticated(&'a str),
+}
+
+impl RestoredState<'_> {
+    /// Returns SCRAM in this state.
+    fn restore(self, alloc: Global, scram: Scram) -> Result<Scram, OutOfMemory>
+        ensures { IfOk result (λ restored. scram_state restored
+            ≡ ScramAcceptor (served_by (λ store. store) scram) (state_held self.entry)) }
+    {
+        match self {
+            RestoredState::Challenge { challenge, stored } => {
+                scram.restore_challenge(alloc, challenge, stored)
+            }
+            RestoredState::Authenticated(user) => scram.restore_authenticated(alloc, user),
+        }
+    }
+}
+
+/// The exchange that a server continues, with the hash of its mechanism.
 #[derive(Clone, Copy)]
 struct Restored<'a> {
     version: ScramVersion,
-    challenge: &'a OpenChallenge<'a>,
-    stored: &'a StoredPassword<'a>,
+    state: RestoredState<'a>,
 }
 
 /// The hashes that SCRAM is offered with.
@@ -277,16 +304,30 @@ impl<'a> PasswordServerBuilder<'a> {
         ensures { settings_of result ≡ record (settings_of self.entry) {
           restored = Some (record {
             version = version;
-            challenge = challenge_kept challenge.now;
-            stored = kept stored.now;
+            state = ServerFirstSent (challenge_kept challenge.now) (kept stored.now);
           });
         } }
     {
         let mut builder = self;
         builder.restored = Some(Restored {
             version,
-            challenge,
-            stored,
+            state: RestoredState::Challenge { challenge, stored },
+        });
+        builder
+    }
+
+    /// Returns this builder, whose server has authenticated this user by SCRAM with this hash
+    /// (`ScramAuthenticator::restore_authenticated`). The caller vouches for the name. It replaces an open challenge of
+    /// this builder.
+    pub fn authenticated(self, version: ScramVersion, username: &'a str) -> Self
+        ensures { settings_of result ≡ record (settings_of self.entry) {
+          restored = Some (record { version = version; state = ServerFinalSent username.now });
+        } }
+    {
+        let mut builder = self;
+        builder.restored = Some(Restored {
+            version,
+            state: RestoredState::Authenticated(username),
         });
         builder
     }
@@ -377,7 +418,7 @@ impl<'a> PasswordServerBuilder<'a> {
         Ok(self.records.for_version(version).clone()?)
     }
 
-    /// Returns the hash of the open challenge.
+    /// Returns the hash of the exchange that is continued.
     fn asked(&self) -> Option<ScramVersion>
         ensures { result ≡ asked_of (settings_of self.now).restored }
     {
@@ -413,7 +454,7 @@ impl<'a> PasswordServerBuilder<'a> {
         Ok(AnyMechanism::with_selected(first, second, second_asked(self.asked())))
     }
 
-    /// Returns the server of SCRAM by this hash, with the open challenge if it is of this hash.
+    /// Returns the server of SCRAM by this hash, in the exchange that is continued if it is of this hash.
     fn scram(&self, alloc: Global, version: ScramVersion) -> Result<Scram, BuildError>
         ensures ok { IfOk result (λ scram. scram_state scram
             ≡ ScramAcceptor (scram_provider (settings_of self.now) version) (opened (settings_of self.now).restored version)) }
@@ -423,7 +464,7 @@ impl<'a> PasswordServerBuilder<'a> {
         let fresh = self.fresh(alloc, version)?;
         match &self.restored {
             Some(restored) if is_version(restored.version, version) => {
-                Ok(fresh.restore_challenge(alloc, restored.challenge, restored.stored)?)
+                Ok(restored.state.restore(alloc, fresh)?)
             }
             _ => Ok(fresh),
         }

@@ -11,9 +11,9 @@ ghost use Rattle.fe2o3_scram.specs.ClientKeys.{ClientKeys};
 ghost use Rattle.fe2o3_scram.specs.ScramClient.{ClientInitial, ClientFirstSent, ClientFinalSent, SignatureVerified, answer_keys, login_keys};
 ghost use Rattle.fe2o3_scram.specs.Texts.{base64_text};
 ghost use Rattle.fe2o3_sasl_core.specs.Costs.{ProfileCosts};
-ghost use Rattle.fe2o3_sasl_core.specs.Profiles.{ScramProfile, PlainProfile, MessageProfile, AnonymousMessage, ExternalMessage, answers_empty_challenge, scram_profile, profile_name, is_scram, profile_state, in_state, initial_response, after_init, FrameAllocates, ViewAllocates, StepAllocates, ProfileAnswers};
+ghost use Rattle.fe2o3_sasl_core.specs.Profiles.{ScramProfile, PlainProfile, MessageProfile, AnonymousMessage, ExternalMessage, accepts_signature_by_challenge, answers_empty_challenge, scram_profile, profile_name, is_scram, profile_state, in_state, initial_response, after_init, FrameAllocates, ViewAllocates, StepAllocates, ProfileAnswers};
 ghost use Rattle.fe2o3_sasl_core.specs.ProfileFaults.{answered};
-ghost use Rattle.fe2o3_sasl_core.specs.Runs.{login_of};
+ghost use Rattle.fe2o3_sasl_core.specs.Runs.{accepting, login_of};
 ghost use Rattle.fe2o3_sasl_core.specs.SaslProfile.{RefusesUrl, HasCredentials, negotiated_frame, profile_of, variant_version};
 ghost use Rattle.fe2o3_sasl_core.specs.private.Writing.{AnswersAlways, RefusesAlways};
 
@@ -137,18 +137,19 @@ impl SaslProfile {
     }
 
     /// Returns a SCRAM profile of this version that has sent nothing, and rejects an iteration count above the limit.
+    /// With `signature_by_challenge` it accepts the server's signature in a challenge too.
     pub(crate) fn scram(
         username: String,
         password: String,
         version: ScramVersion,
         limit: u32,
+        signature_by_challenge: bool,
     ) -> SaslProfile
-        ensures { profile_of result ≡ scram_profile (login_of version (string_bytes username)
-            (string_bytes password) limit) }
+        ensures { profile_of result ≡ scram_profile (accepting signature_by_challenge
+            (login_of version (string_bytes username) (string_bytes password) limit)) }
     {
-        SaslProfile::scram_of(ScramClient::new(username, password, version).with_iteration_limit(
-            limit,
-        ))
+        let client = ScramClient::new(username, password, version).with_iteration_limit(limit);
+        SaslProfile::scram_of(client.signature_by_challenge(signature_by_challenge))
     }
 
     /// Returns the client of a SCRAM profile, and `None` of another profile. The variant of the profile names the
@@ -171,8 +172,8 @@ impl SaslProfile {
     }
 
     /// Returns the keys of the SCRAM login, once it has ended with a verified server, and `None` before that and for
-    /// another profile. The next login by them takes two HMAC values, as long as the server keeps its salt and iteration count
-    /// (RFC 5802, section 3).
+    /// another profile. The next login by them takes two HMAC values, as long as the server keeps its salt and
+    /// iteration count (RFC 5802, section 3).
     pub fn keys(&self) -> Option<&CachedKeys>
         ensures { MatchOption result (login_keys (profile_state (profile_of self.now)) ≡ None)
             (λ keys. login_keys (profile_state (profile_of self.now)) ≡ Some keys.now) }
@@ -203,7 +204,8 @@ impl SaslProfile {
     }
 
     /// Returns the keys of the answer of a SCRAM client, while it waits for a signature or for the outcome after it. Use
-    /// them only to save the client: until the server is verified anybody may have named their salt, so do not keep them for another login.
+    /// them only to save the client: until the server is verified anybody may have named their salt, so do not keep
+    /// them for another login.
     pub fn answer_keys(&self) -> Option<&CachedKeys>
         ensures { MatchOption result (answer_keys (profile_state (profile_of self.now)) ≡ None)
             (λ keys. answer_keys (profile_state (profile_of self.now)) ≡ Some keys.now) }
@@ -264,6 +266,17 @@ impl SaslProfile {
                 SaslProfile::ScramSha512(SaslScramSha512::of(client))
             }
             profile => profile,
+        }
+    }
+
+    /// Returns whether the server's signature is accepted in a challenge too, by the option
+    /// [`ScramClient::signature_by_challenge`] of a SCRAM profile.
+    pub fn accepts_signature_by_challenge(&self) -> bool
+        ensures { result ≡ accepts_signature_by_challenge (profile_of self.now) }
+    {
+        match self.scram_client() {
+            Some(client) => client.accepts_signature_by_challenge(),
+            None => false,
         }
     }
 

@@ -11,7 +11,7 @@ ghost use Rattle.fe2o3_sasl_core.specs.ServerHistory.{ServerHistory};
 ghost use Rattle.fe2o3_sasl_core.specs.Headline.{AnswersOkExactly, ReportsOkExactly, TakenVerifiersAgree};
 ghost use Rattle.fe2o3_sasl_core.specs.UnalteredRuns.{ClientLogsIn, ServerLogsIn};
 ghost use Rattle.fe2o3_sasl_core.specs.SaslProfile.{profile_of};
-ghost use Rattle.fe2o3_sasl_core.specs.Runs.{AcceptorSteps, ProfileSteps, Runs, StartsAs, given, server_answer, client_answer, login_of};
+ghost use Rattle.fe2o3_sasl_core.specs.Runs.{AcceptorSteps, ProfileSteps, Runs, StartsAs, given, server_answer, client_answer, accepting, login_of};
 
 use crate::OutOfMemory;
 use crate::events::{ClientReply, Event, ServerReply};
@@ -155,9 +155,41 @@ pub fn scram_client_run_limited(
     ensures unaltered { IfOk result (λ replies. ClientLogsIn (login_of version user.now password.now limit)
         (map given events.now) (map client_answer replies.items)) }
 {
+    scram_client_run_with_signature_by_challenge(
+        alloc, user, password, version, limit, false, events,
+    )
+}
+
+/// Like `scram_client_run_limited`, but with `signature_by_challenge` the client accepts the server's signature in a
+/// challenge too, which it answers by an empty response. It then reports an Ok without data
+/// (`ScramClient::signature_by_challenge`; RFC 4422, section 5).
+pub fn scram_client_run_with_signature_by_challenge(
+    alloc: Global,
+    user: &str,
+    password: &str,
+    version: ScramVersion,
+    limit: u32,
+    signature_by_challenge: bool,
+    events: &[Event],
+) -> Result<Vec<Result<ClientReply, ProfileError>>, OutOfMemory>
+    ensures history { IfOk result (λ replies. ClientHistory (accepting signature_by_challenge
+        (login_of version user.now password.now limit)) (map given events.now) (map client_answer replies.items)) }
+    ensures exactly { IfOk result (λ replies. ReportsOkExactly (accepting signature_by_challenge
+        (login_of version user.now password.now limit)) (map given events.now) (map client_answer replies.items)) }
+    ensures agreement { IfOk result (λ replies. TakenVerifiersAgree (accepting signature_by_challenge
+        (login_of version user.now password.now limit)) (map given events.now) (map client_answer replies.items)) }
+    ensures unaltered { IfOk result (λ replies. ClientLogsIn (accepting signature_by_challenge
+        (login_of version user.now password.now limit)) (map given events.now) (map client_answer replies.items)) }
+{
     let username = String::from_str(alloc, user)?;
     let password = String::from_str(alloc, password)?;
-    let mut profile = SaslProfile::scram(username, password, version, limit);
+    let mut profile = SaslProfile::scram(
+        username,
+        password,
+        version,
+        limit,
+        signature_by_challenge,
+    );
     run_profile(alloc, &mut profile, events, None)
 }
 

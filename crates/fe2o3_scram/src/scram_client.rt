@@ -212,6 +212,13 @@ impl ScramClient {
         }
     }
 
+    /// Returns whether this client accepts the server's signature in a challenge too.
+    pub fn accepts_signature_by_challenge(&self) -> bool
+        ensures { result ≡ self.now.signature_by_challenge }
+    {
+        self.signature_by_challenge
+    }
+
     /// Returns the version, which names the client's mechanism (RFC 5802, section 4).
     pub fn version(&self) -> ScramVersion
         ensures { result ≡ self.now.version }
@@ -379,8 +386,8 @@ impl ScramClient {
     }
 
     /// Returns the keys that the client answered by, once the exchange has ended with a verified server, and `None`
-    /// before that. The next login by them takes two HMAC values, as long as the server keeps its salt and iteration count (RFC 5802, section
-    /// 3).
+    /// before that. The next login by them takes two HMAC values, as long as the server keeps its salt and iteration
+    /// count (RFC 5802, section 3).
     pub fn keys(&self) -> Option<&CachedKeys>
         ensures { MatchOption result (login_keys self.now.state ≡ None)
             (λ keys. login_keys self.now.state ≡ Some keys.now) }

@@ -16,3 +16,8 @@ pub mod AnyMechanismUserLemmas
 pub mod UnknownUserLemmas
 pub mod RestrictMechanismsLemmas
 pub mod ScramInAnyMechanismLemmas
+pub mod ExtraChallengeLemmas
+pub mod ExtraChallengeRunLemmas
+pub mod WithoutExtraChallengeLemmas
+pub mod ChallengeCountLemmas
+pub mod ExtraChallengeReplyLemmas
