@@ -6,7 +6,9 @@ pub mod RefusalLemmas
 pub mod CutLemmas
 pub mod UnitLemmas
 pub mod KindLemmas
+pub mod ChallengeLemmas
 pub mod PieceLemmas
+pub mod SignatureFlagLemmas
 pub mod ConnectionLemmas
 pub mod ServerConnectionLemmas
 pub mod ClientConnectionLemmas
@@ -14,9 +16,11 @@ pub mod LoginLemmas
 pub mod NamedUserLemmas
 pub mod ContinueLemmas
 pub mod CostLemmas
+pub mod AnsweredProfileLemmas
 pub mod ServerCostLemmas
 pub mod ClientCostLemmas
 pub mod BoundLemmas
+pub mod ServerBoundLemmas
 pub mod CompletedLemmas
 pub mod KeptLemmas
 pub mod ClientKeptLemmas

@@ -1,12 +1,12 @@
 -- The client's side of a connection (AMQP 1.0, part 5, section 5.3.2).
-use Rattle.std.specs.Prelude.{◌≡◌, ◌≢◌, ◌⊎◌, ℕ, Option, List, [], drop, Result, Ok}
+use Rattle.std.specs.Prelude.{◌≡◌, ◌≢◌, ◌⊎◌, ℕ, Bool, true, Option, List, [], drop, Result, Ok}
 use Rattle.fe2o3_sasl_wire.specs.declared.amqp_types.SaslCode.TheVariants as outcomes
 use Rattle.fe2o3_sasl_wire.specs.declared.sasl_frames.error.Error.{Error}
 use Rattle.fe2o3_sasl_wire.specs.SaslFrames.{SaslFrame}
 use Rattle.fe2o3_sasl_core.specs.Bodies.{SpellsBody}
 use Rattle.fe2o3_sasl_core.specs.Costs.{ProfileStepCosts}
 use Rattle.fe2o3_sasl_core.specs.Events.{Given, ClientSays, Started, Answered, Reported, Refused as ClientRefused}
-use Rattle.fe2o3_sasl_core.specs.Profiles.{Profile}
+use Rattle.fe2o3_sasl_core.specs.Profiles.{Profile, accepts_signature_by_challenge}
 use Rattle.fe2o3_sasl_core.specs.Runs.{ProfileSteps}
 use Rattle.fe2o3_sasl_core.specs.declared.events.ClientReply.{ClientReply}
 use Rattle.fe2o3_sasl_core.specs.declared.sasl_profile.error.ProfileError.{ProfileError}
@@ -26,22 +26,35 @@ ClientOpens header answer =
     ((header ≢ sasl_header) × (answer ≡ closes ProtocolHeaderMismatch Header))
     ⊎ ((header ≡ sasl_header) × (answer ≡ record { sent = []; progress = InProgress; expected = Frame turns.Mechanisms }))
 
+-- the frame that is expected after a client's answer to one of this turn, by whether it accepts the server's signature in
+-- a challenge: after its init a challenge, after its response that signature, or only an outcome, and then an outcome
+abbrev pub client_follows : Bool → FrameKind → FrameKind
+client_follows signs turns.Mechanisms = turns.Challenge
+client_follows true turns.Challenge = turns.SignatureChallenge
+client_follows signs turn = turns.Outcome
+
 -- what a client sends for its profile's reply: an init to a list of mechanisms, a response to a challenge, and nothing
 -- after an outcome or an error, which end the negotiation
-abbrev pub ClientOutputs : ClientSays → FrameKind → SideOutput → Type 0
-ClientOutputs (Started body) turns.Mechanisms answer = Sends body InProgress (Frame turns.Challenge) answer
-ClientOutputs (Started body) turn answer = answer ≡ closes UnexpectedFrame (Frame turn)
-ClientOutputs (Answered body) turns.Challenge answer = Sends body InProgress (Frame turns.Outcome) answer
-ClientOutputs (Answered body) turn answer = answer ≡ closes UnexpectedFrame (Frame turn)
-ClientOutputs (Reported outcomes.Ok more) turn answer = answer ≡ record { sent = []; progress = Authenticated; expected = Frame turn }
-ClientOutputs (Reported code more) turn answer = answer ≡ closes (Refused code) (Frame turn)
-ClientOutputs (ClientRefused OutOfMemory) turn answer = ⊥
-ClientOutputs (ClientRefused fault) turn answer = answer ≡ closes (ProfileRefused fault) (Frame turn)
+abbrev pub ClientOutputs : Bool → ClientSays → FrameKind → SideOutput → Type 0
+ClientOutputs signs (Started body) turns.Mechanisms answer =
+    Sends body InProgress (Frame (client_follows signs turns.Mechanisms)) answer
+ClientOutputs signs (Started body) turn answer = answer ≡ closes UnexpectedFrame (Frame turn)
+ClientOutputs signs (Answered body) turns.Challenge answer =
+    Sends body InProgress (Frame (client_follows signs turns.Challenge)) answer
+ClientOutputs signs (Answered body) turns.SignatureChallenge answer =
+    Sends body InProgress (Frame (client_follows signs turns.SignatureChallenge)) answer
+ClientOutputs signs (Answered body) turn answer = answer ≡ closes UnexpectedFrame (Frame turn)
+ClientOutputs signs (Reported outcomes.Ok more) turn answer =
+    answer ≡ record { sent = []; progress = Authenticated; expected = Frame turn }
+ClientOutputs signs (Reported code more) turn answer = answer ≡ closes (Refused code) (Frame turn)
+ClientOutputs signs (ClientRefused OutOfMemory) turn answer = ⊥
+ClientOutputs signs (ClientRefused fault) turn answer = answer ≡ closes (ProfileRefused fault) (Frame turn)
 
 -- a client asks its profile, by a step over the body
 abbrev pub AsksProfile : Option (List ℕ) → FrameKind → Profile → Given → SideOutput → Profile → Type 0
-AsksProfile hostname turn profile event answer next =
-    (says : ClientSays) × ProfileSteps hostname profile event says next × ClientOutputs says turn answer
+AsksProfile hostname turn profile event answer next = (says : ClientSays)
+    × ProfileSteps hostname profile event says next
+    × ClientOutputs (accepts_signature_by_challenge profile) says turn answer
 
 -- what a client answers to the body of a frame
 abbrev pub ClientReplies : Option (List ℕ) → FrameKind → Profile → Given → SideOutput → Profile → Type 0

@@ -6,6 +6,7 @@ use Rattle.fe2o3_sasl_wire.specs.declared.sasl_frames.error.Error.{Error}
 use Rattle.fe2o3_sasl_wire.specs.SaslFrames.{SaslFrame, IsBytes}
 use Rattle.fe2o3_sasl_core.specs.Bodies.{SpellsBody}
 use Rattle.fe2o3_sasl_core.specs.Events.{Given, ServerSays, Concluded, ClientSays, Reported}
+use Rattle.fe2o3_sasl_core.specs.Profiles.{Profile, accepts_signature_by_challenge}
 use Rattle.fe2o3_sasl_core.specs.Runs.{Runs, AcceptorSteps}
 use Rattle.fe2o3_sasl_negotiation.specs.declared.progress.CloseReason.{CloseReason}
 use Rattle.fe2o3_sasl_negotiation.specs.declared.progress.CloseReason.TheVariants.{FrameSize, ProtocolHeaderMismatch, UnexpectedFrame, ReplyTooLarge, MalformedFrame}
@@ -45,14 +46,14 @@ frames_of events = flat_map (λ (event : Given). framed event.body) events
 abbrev pub SpellsTurn : FrameKind → List ℕ → Type 0
 SpellsTurn turn body = (frame : SaslFrame) × SpellsBody body (Ok frame) × IsInTurn turn frame
 
--- one body for each of the first turns, in order, the first after `at` bytes of the stream: each frame has an allowed
--- size and is of its turn, and its nonce is that of the piece in which its last byte arrives
-abbrev pub AreFrames : List Piece → ℕ → ℕ → List FrameKind → List Given → Type 0
-AreFrames pieces limit at turns [] = Unit {0}
-AreFrames pieces limit at [] (event ∷ events) = ⊥
-AreFrames pieces limit at (turn ∷ turns) (event ∷ events) = let size = length event.body + 4 in
+-- bodies of frames, in order, the first of this turn and after `at` bytes of the stream, and each later one of the turn
+-- that follows: each frame has an allowed size and is of its turn, and its nonce is that of the piece in which its last
+-- byte arrives
+abbrev pub AreFrames : List Piece → ℕ → ℕ → (FrameKind → FrameKind) → FrameKind → List Given → Type 0
+AreFrames pieces limit at follows turn [] = Unit {0}
+AreFrames pieces limit at follows turn (event ∷ events) = let size = length event.body + 4 in
     Fits limit size × SpellsTurn turn event.body × PieceNonceAt pieces (at + (length event.body + 3)) event.nonce
-    × AreFrames pieces limit (at + size) turns events
+    × AreFrames pieces limit (at + size) follows (follows turn) events
 
 -- why a body is not answered where a frame of this turn is expected: it is malformed, or its frame is out of turn
 abbrev pub Unanswered : FrameKind → Result SaslFrame Error → CloseReason → Type 0
@@ -70,52 +71,57 @@ LeftOver turn limit tail progress =
 
 -- ---- what is sent
 
--- what a side sends with these replies, one for each of the first turns, and how the last reply leaves it. `Says` gives
--- that for one reply. Before the first reply the side waits for a frame of the first turn, and every reply but the last
--- is sent and leaves it waiting
-abbrev pub Replied : {A : Type 0} → (A → FrameKind → SideOutput → Type 0) → List FrameKind → List A → SideOutput → Type 0
-Replied Says [] replies answer = ⊥
-Replied Says (turn ∷ turns) [] answer = answer ≡ record { sent = []; progress = InProgress; expected = Frame turn }
-Replied Says (turn ∷ turns) (says ∷ []) answer = Says says turn answer
-Replied Says (turn ∷ turns) (says ∷ next ∷ replies) answer =
+-- what a side sends with these replies, the first in this turn, and each later one in the turn that follows, and how the
+-- last reply leaves it. `Says` gives that for one reply. Before the first reply the side waits for a frame of this turn,
+-- and every reply but the last is sent and leaves it waiting
+abbrev pub Replied : {A : Type 0} → (A → FrameKind → SideOutput → Type 0) → (FrameKind → FrameKind) → FrameKind → List A
+    → SideOutput → Type 0
+Replied Says follows turn [] answer = answer ≡ record { sent = []; progress = InProgress; expected = Frame turn }
+Replied Says follows turn (says ∷ []) answer = Says says turn answer
+Replied Says follows turn (says ∷ next ∷ replies) answer =
     (first : SideOutput) × (rest : SideOutput) × Says says turn first × (first.progress ≡ InProgress)
-    × Replied Says turns (next ∷ replies) rest × (answer ≡ record rest { sent = first.sent ++ rest.sent })
+    × Replied Says follows (follows turn) (next ∷ replies) rest × (answer ≡ record rest { sent = first.sent ++ rest.sent })
 
 -- a side after the header of the other side, over all bytes that it has taken: every frame up to the one that ended the
--- negotiation is answered, in a run over the bodies
+-- negotiation is answered, in a run over the bodies. The first frame is of this turn, and `follows` has the turn after
+-- each
 pub record Negotiated {S A : Type 0} (Steps : S → Given → A → S → Type 0) (Says : A → FrameKind → SideOutput → Type 0)
-    (turns : List FrameKind) (limit : ℕ) (state : S) (pieces : List Piece) (taken sent : List ℕ) (last : Side S) : Type 0
+    (follows : FrameKind → FrameKind) (turn : FrameKind) (limit : ℕ) (state : S) (pieces : List Piece)
+    (taken sent : List ℕ) (last : Side S) : Type 0
   where
     pub events : List Given
     pub replies : List A
     pub answer : SideOutput
     pub tail : List ℕ
     pub carried : taken ≡ sasl_header ++ (frames_of events ++ tail)
-    pub frames : AreFrames pieces limit 8 turns events
+    pub frames : AreFrames pieces limit 8 follows turn events
     pub run : Runs Steps state events replies last.state
-    pub replied : Replied Says turns replies answer
+    pub replied : Replied Says follows turn replies answer
     pub sends : sent ≡ answer.sent
     -- the last reply leaves the side waiting for a frame, or has ended it, and then nothing after that frame is taken
-    pub ends : ((turn : FrameKind) × (answer.progress ≡ InProgress) × (answer.expected ≡ Frame turn)
-        × LeftOver turn limit tail last.progress)
+    pub ends : ((next : FrameKind) × (answer.progress ≡ InProgress) × (answer.expected ≡ Frame next)
+        × LeftOver next limit tail last.progress)
         ⊎ ((answer.progress ≢ InProgress) × (last.progress ≡ answer.progress) × (tail ≡ []))
     -- while the side waits it holds the part of a frame that has arrived
     pub waits : last.progress ≡ InProgress → last
         ≡ record { progress = InProgress; expected = answer.expected; limit = limit; held = tail; state = last.state }
 
--- a server after the client's header: an init is expected, and after one challenge a response
+-- a server after the client's header: an init is expected, and after each challenge a response
 abbrev pub ServerNegotiated : {S : Type 0} → (S → List ℕ → SaslFrame → SaslFrame → S → Type 0) → ℕ → S → List Piece
     → List ℕ → List ℕ → Side S → Type 0
 ServerNegotiated machine limit state pieces taken sent last =
-    Negotiated (AcceptorSteps machine) of_server.ServerOutputs (turns.Init ∷ turns.Response ∷ []) limit state pieces taken sent last
+    Negotiated (AcceptorSteps machine) of_server.ServerOutputs of_server.server_follows turns.Init limit state pieces taken
+    sent last
 
 -- a client after the server's header: a list of mechanisms is expected, then a challenge or at once an outcome, and
--- after a challenge an outcome
-abbrev pub ClientNegotiated : {S : Type 0} → (S → Given → ClientSays → S → Type 0) → ℕ → S → List Piece → List ℕ
-    → List ℕ → Side S → Type 0
-ClientNegotiated Steps limit state pieces taken sent last =
-    Negotiated Steps of_client.ClientOutputs (turns.Mechanisms ∷ turns.Challenge ∷ turns.Outcome ∷ []) limit state pieces
-    taken sent last
+-- after the answer to a challenge an outcome. Before that outcome a client that accepts it may receive the server's
+-- signature in a challenge
+abbrev pub ClientNegotiated : (Profile → Given → ClientSays → Profile → Type 0) → ℕ → Profile → List Piece → List ℕ
+    → List ℕ → Side Profile → Type 0
+ClientNegotiated Steps limit profile pieces taken sent last =
+    Negotiated Steps (of_client.ClientOutputs (accepts_signature_by_challenge profile))
+    (of_client.client_follows (accepts_signature_by_challenge profile)) turns.Mechanisms limit profile pieces taken sent
+    last
 
 -- ---- from the first byte
 
@@ -151,12 +157,12 @@ ServerConnection names machine limit state pieces taken sent last =
 
 -- a client's side, from a new one whose profile takes these steps and is in this state: what it sends follows its own
 -- header, and nothing is sent for the server's
-abbrev pub ClientConnection : {S : Type 0} → (S → Given → ClientSays → S → Type 0) → ℕ → S → List Piece → List ℕ
-    → List ℕ → Side S → Type 0
-ClientConnection Steps limit state pieces taken sent last =
-    IsHeaderPart limit state taken sent last
-    ⊎ (IsOtherHeader state taken last × (sent ≡ []))
-    ⊎ ClientNegotiated Steps limit state pieces taken sent last
+abbrev pub ClientConnection : (Profile → Given → ClientSays → Profile → Type 0) → ℕ → Profile → List Piece → List ℕ
+    → List ℕ → Side Profile → Type 0
+ClientConnection Steps limit profile pieces taken sent last =
+    IsHeaderPart limit profile taken sent last
+    ⊎ (IsOtherHeader profile taken last × (sent ≡ []))
+    ⊎ ClientNegotiated Steps limit profile pieces taken sent last
 
 -- ---- the laws
 
@@ -179,13 +185,13 @@ ServersConnect {S} names machine OneCall = (limit : ℕ) (state : S) (calls : Li
 
 -- every client, of any profile, hostname, limit, calls and bytes. The contract of `ClientNegotiation::receive` says
 -- what one call does
-abbrev pub ClientsConnect : {S : Type 0} → (Option (List ℕ) → S → Given → ClientSays → S → Type 0)
-    → (Option (List ℕ) → Receiving S) → Type 0
-ClientsConnect {S} Steps OneCall = (hostname : Option (List ℕ)) (limit : ℕ) (state : S) (calls : List Call)
-    (stream sent rest : List ℕ) (last : Side S) → IsBytes stream
-    → Calls (OneCall hostname) (fresh limit state) calls stream sent last rest
+abbrev pub ClientsConnect : (Option (List ℕ) → Profile → Given → ClientSays → Profile → Type 0)
+    → (Option (List ℕ) → Receiving Profile) → Type 0
+ClientsConnect Steps OneCall = (hostname : Option (List ℕ)) (limit : ℕ) (profile : Profile) (calls : List Call)
+    (stream sent rest : List ℕ) (last : Side Profile) → IsBytes stream
+    → Calls (OneCall hostname) (fresh limit profile) calls stream sent last rest
     → (pieces : List Piece) × ArePieces calls pieces × (stream ≡ bytes_of pieces ++ rest)
-    × ClientConnection (Steps hostname) limit state pieces (bytes_of pieces) sent last
+    × ClientConnection (Steps hostname) limit profile pieces (bytes_of pieces) sent last
 
 -- this holds of the last of the replies
 abbrev pub LastReply : {A : Type 0} → (A → Type 0) → List A → Type 0
@@ -208,8 +214,8 @@ ServerConnectionsLogIn {S} machine = (limit : ℕ) (state : S) (pieces : List Pi
     → (last.progress ≡ Authenticated) ↔ LastReply IsOkSent negotiated.replies
 
 -- a client has logged in exactly if its last reply reports an Ok
-abbrev pub ClientConnectionsLogIn : {S : Type 0} → (Option (List ℕ) → S → Given → ClientSays → S → Type 0) → Type 0
-ClientConnectionsLogIn {S} Steps = (hostname : Option (List ℕ)) (limit : ℕ) (state : S) (pieces : List Piece)
-    (taken sent : List ℕ) (last : Side S)
-    (negotiated : ClientNegotiated (Steps hostname) limit state pieces taken sent last)
+abbrev pub ClientConnectionsLogIn : (Option (List ℕ) → Profile → Given → ClientSays → Profile → Type 0) → Type 0
+ClientConnectionsLogIn Steps = (hostname : Option (List ℕ)) (limit : ℕ) (profile : Profile) (pieces : List Piece)
+    (taken sent : List ℕ) (last : Side Profile)
+    (negotiated : ClientNegotiated (Steps hostname) limit profile pieces taken sent last)
     → (last.progress ≡ Authenticated) ↔ LastReply IsOkReported negotiated.replies

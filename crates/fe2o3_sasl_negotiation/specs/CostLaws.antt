@@ -1,11 +1,14 @@
 -- What a connection costs, sends and holds, for any bytes and any calls. Each is the contract of a clause of
 -- `laws::costs` or of `laws::bounds`.
-use Rattle.std.specs.Prelude.{◌≡◌, ◌⊎◌, ◌<◌, ◌≤◌, ◌+◌, ◌*◌, ℕ, Option, List, [], ◌∷◌, length, take, drop}
+use Rattle.std.specs.Prelude.{◌≡◌, ◌⊎◌, ◌<◌, ◌≤◌, ◌+◌, ◌*◌, ℕ, Bool, true, false, Option, List, [], ◌∷◌, length, take, drop}
 use Rattle.fe2o3_scram.specs.Credentials.{Provider}
 use Rattle.fe2o3_scram.specs.ScramClient.{ClientSide}
 use Rattle.fe2o3_scram.specs.ScramServer.{ServerState}
+use Rattle.fe2o3_sasl_core.specs.AnyMechanismLaws.{Machine}
+use Rattle.fe2o3_sasl_core.specs.ChallengeCounts.{BoundsChallenges, one_if}
 use Rattle.fe2o3_sasl_core.specs.Costs.{acceptor_hmacs}
-use Rattle.fe2o3_sasl_core.specs.Profiles.{Profile, ScramProfile}
+use Rattle.fe2o3_sasl_core.specs.ExtraChallenges.{Extended, extended_machine}
+use Rattle.fe2o3_sasl_core.specs.Profiles.{Profile, ScramProfile, accepts_signature_by_challenge}
 use Rattle.fe2o3_sasl_core.specs.SaslAcceptor.{Acceptor, ScramAcceptor, acceptor_names, acceptor_machine}
 use Rattle.fe2o3_sasl_negotiation.specs.declared.progress.Expected.{Expected}
 use Rattle.fe2o3_sasl_negotiation.specs.ClientNegotiation.{ClientSideAnswers, ClientReceives, ClientCosts}
@@ -44,17 +47,44 @@ ClientsCost = (hostname : Option (List ℕ)) (client : ClientSide) (limit : ℕ)
 abbrev pub Bounded : {S : Type 0} → ℕ → ℕ → List ℕ → Side S → Type 0
 Bounded most limit sent last = (length sent ≤ most) × ((length last.held < 8) ⊎ (length last.held < limit))
 
--- a server sends its header, its mechanisms, one challenge and one outcome at most, each frame of at most 512 bytes
--- (part 5, section 5.3.1)
+-- a server of an acceptor with these names and this machine, by any bound on its challenges: it sends its header, its
+-- mechanisms, a challenge to the init, as many more as are left after it, and one outcome at most, each frame of at most
+-- 512 bytes (part 5, section 5.3.1)
+abbrev pub ServersOfAreBounded : {S : Type 0} → (S → List (List ℕ)) → Machine S → Type 0
+ServersOfAreBounded {S} names machine = (left most : S → ℕ) → BoundsChallenges machine left most
+    → (state : S) (limit : ℕ) (calls : List Call) (stream sent rest : List ℕ) (last : Side S)
+    → Calls (ServerReceives names machine) (fresh limit state) calls stream sent last rest
+    → Bounded (8 + (most state + 3) * 512) limit sent last
+
+-- a server of SCRAM, PLAIN or ANONYMOUS sends its header, its mechanisms, one challenge and one outcome at most, each
+-- frame of at most 512 bytes
 abbrev pub ServersAreBounded : Type 0
 ServersAreBounded = (acceptor : Acceptor) (limit : ℕ) (calls : List Call) (stream sent rest : List ℕ)
     (last : Side Acceptor)
     → Calls (ServerReceives acceptor_names acceptor_machine) (fresh limit acceptor) calls stream sent last rest
     → Bounded (8 + 3 * 512) limit sent last
 
--- a client sends, after its header, at most one init and one response
+-- the names of the acceptor around which extra challenges are sent
+abbrev pub extended_names : Extended Acceptor → List (List ℕ)
+extended_names server = acceptor_names server.inner
+
+-- a server of SCRAM, PLAIN or ANONYMOUS with extra challenges sends one frame more for each (RFC 4422, section 5)
+abbrev pub ExtendedServersAreBounded : Type 0
+ExtendedServersAreBounded = (server : Extended Acceptor) (limit : ℕ) (calls : List Call) (stream sent rest : List ℕ)
+    (last : Side (Extended Acceptor))
+    → Calls (ServerReceives extended_names (extended_machine acceptor_names acceptor_machine)) (fresh limit server) calls
+    stream sent last rest
+    → Bounded (8 + (one_if server.extra.initial_response + one_if server.extra.signature + 3) * 512) limit sent last
+
+-- how many frames a client sends at most, by whether it accepts the server's signature in a challenge
+abbrev pub client_frames : Bool → ℕ
+client_frames false = 2
+client_frames true = 3
+
+-- a client sends, after its header, at most one init and one response, and one more response if it accepts the server's
+-- signature in a challenge
 abbrev pub ClientsAreBounded : Type 0
 ClientsAreBounded = (hostname : Option (List ℕ)) (profile : Profile) (limit : ℕ) (calls : List Call)
     (stream sent rest : List ℕ) (last : Side Profile)
     → Calls (ClientReceives hostname) (fresh limit profile) calls stream sent last rest
-    → Bounded (2 * 512) limit sent last
+    → Bounded (client_frames (accepts_signature_by_challenge profile) * 512) limit sent last

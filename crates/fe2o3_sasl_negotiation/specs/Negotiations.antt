@@ -43,7 +43,8 @@ Sends body progress expected answer =
     ((length body + 4 ≤ 512) × (answer ≡ record { sent = framed body; progress = progress; expected = expected }))
     ⊎ ((512 < length body + 4) × (answer ≡ closes ReplyTooLarge expected))
 
--- the frame is the expected one: to an init a server may answer by a challenge, or at once by an outcome
+-- the frame is the expected one: to an init a server may answer by a challenge, or at once by an outcome, and to a
+-- response by its signature in a challenge, where the client accepts that, or by an outcome
 abbrev pub IsInTurn : FrameKind → SaslFrame → Type 0
 IsInTurn turns.Mechanisms (frames.Mechanisms names) = Unit {0}
 IsInTurn turns.Init (frames.Init mechanism response hostname) = Unit {0}
@@ -51,6 +52,8 @@ IsInTurn turns.Challenge (frames.Challenge text) = Unit {0}
 IsInTurn turns.Challenge (frames.Outcome code more) = Unit {0}
 IsInTurn turns.Response (frames.Response text) = Unit {0}
 IsInTurn turns.Outcome (frames.Outcome code more) = Unit {0}
+IsInTurn turns.SignatureChallenge (frames.Challenge text) = Unit {0}
+IsInTurn turns.SignatureChallenge (frames.Outcome code more) = Unit {0}
 IsInTurn turn frame = ⊥
 
 -- what a side answers to a body that spells this: no frame, and a frame out of turn, close it before the machine is

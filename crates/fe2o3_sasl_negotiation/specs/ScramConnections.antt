@@ -7,6 +7,7 @@ use Rattle.fe2o3_scram.specs.Credentials.{Provider}
 use Rattle.fe2o3_sasl_core.specs.ClientHistory.{ClientHistory}
 use Rattle.fe2o3_sasl_core.specs.Events.{Given, Login, ServerSays, ClientSays}
 use Rattle.fe2o3_sasl_core.specs.Headline.{AnswersOkExactly, ReportsOkExactly, TakenVerifiersAgree}
+use Rattle.fe2o3_sasl_core.specs.Profiles.{Profile}
 use Rattle.fe2o3_sasl_core.specs.ServerHistory.{ServerHistory, LoggedIn}
 use Rattle.fe2o3_sasl_negotiation.specs.Connections.{Piece, ServerNegotiated, ClientNegotiated}
 use Rattle.fe2o3_sasl_negotiation.specs.Negotiations.{Side}
@@ -35,8 +36,9 @@ ScramServersServe {S} machine start named = (provider : Provider) (limit : ℕ) 
     → ScramServes provider negotiated.events negotiated.replies (named last.state)
 
 -- every client of these steps
-abbrev pub ScramClientsReport : {S : Type 0} → (Option (List ℕ) → S → Given → ClientSays → S → Type 0) → (Login → S)
+abbrev pub ScramClientsReport : (Option (List ℕ) → Profile → Given → ClientSays → Profile → Type 0) → (Login → Profile)
     → Type 0
-ScramClientsReport {S} Steps start = (login : Login) (limit : ℕ) (pieces : List Piece) (taken sent : List ℕ)
-    (last : Side S) (negotiated : ClientNegotiated (Steps login.hostname) limit (start login) pieces taken sent last)
+ScramClientsReport Steps start = (login : Login) (limit : ℕ) (pieces : List Piece) (taken sent : List ℕ)
+    (last : Side Profile)
+    (negotiated : ClientNegotiated (Steps login.hostname) limit (start login) pieces taken sent last)
     → ScramReports login negotiated.events negotiated.replies

@@ -10,7 +10,7 @@ use Rattle.fe2o3_sasl_core.specs.Costs.{AcceptorStepCosts}
 use Rattle.fe2o3_sasl_core.specs.Events.{Given, ServerSays, Challenged, Concluded, Failed}
 use Rattle.fe2o3_sasl_core.specs.Runs.{AcceptorSteps}
 use Rattle.fe2o3_sasl_core.specs.SaslAcceptor.{offered}
-use Rattle.fe2o3_sasl_negotiation.specs.declared.progress.CloseReason.TheVariants.{ProtocolHeaderMismatch, UnexpectedFrame, ReplyTooLarge, Refused, MalformedFrame}
+use Rattle.fe2o3_sasl_negotiation.specs.declared.progress.CloseReason.TheVariants.{ProtocolHeaderMismatch, ReplyTooLarge, Refused, MalformedFrame}
 use Rattle.fe2o3_sasl_negotiation.specs.declared.progress.Expected.{Expected}
 use Rattle.fe2o3_sasl_negotiation.specs.declared.progress.Expected.TheVariants.{Header, Frame}
 use Rattle.fe2o3_sasl_negotiation.specs.declared.progress.FrameKind.{FrameKind}
@@ -38,10 +38,13 @@ ServerOpens names header answer =
     ((header ≢ sasl_header) × (answer ≡ behind_header (closes ProtocolHeaderMismatch Header)))
     ⊎ ((header ≡ sasl_header) × ((first : SideOutput) × Offers (offer_body names) first × (answer ≡ behind_header first)))
 
--- what a server sends for its acceptor's reply: one challenge, and one outcome, which ends the negotiation
+-- the frame that a server expects after its answer to one of this turn: a response, in any number (RFC 4422, section 5)
+abbrev pub server_follows : FrameKind → FrameKind
+server_follows turn = turns.Response
+
+-- what a server sends for its acceptor's reply: a challenge, or an outcome, which ends the negotiation
 abbrev pub ServerOutputs : ServerSays → FrameKind → SideOutput → Type 0
-ServerOutputs (Challenged body) turns.Init answer = Sends body InProgress (Frame turns.Response) answer
-ServerOutputs (Challenged body) turn answer = answer ≡ closes UnexpectedFrame (Frame turn)
+ServerOutputs (Challenged body) turn answer = Sends body InProgress (Frame (server_follows turn)) answer
 ServerOutputs (Concluded outcomes.Ok body) turn answer = Sends body Authenticated (Frame turn) answer
 ServerOutputs (Concluded code body) turn answer = Sends body (HasFailed (Refused code)) (Frame turn) answer
 ServerOutputs (Failed faults.OutOfMemory) turn answer = ⊥

@@ -52,6 +52,7 @@ abbrev pub client_awaits : Expected → Bool
 client_awaits (Frame turns.Mechanisms) = true
 client_awaits (Frame turns.Challenge) = true
 client_awaits (Frame turns.Outcome) = true
+client_awaits (Frame turns.SignatureChallenge) = true
 client_awaits expected = false
 
 -- the server's header, or a frame, is expected by a client
@@ -63,6 +64,7 @@ client_due expected = client_awaits expected
 abbrev pub outcome_due : Expected → Bool
 outcome_due (Frame turns.Challenge) = true
 outcome_due (Frame turns.Outcome) = true
+outcome_due (Frame turns.SignatureChallenge) = true
 outcome_due expected = false
 
 -- a client with this progress can expect this. One that waits can expect anything; another header closes it at the

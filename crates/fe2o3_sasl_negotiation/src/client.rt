@@ -1,12 +1,12 @@
 //! The client's side of a connection (AMQP 1.0, part 5, section 5.3.2).
 
-ghost use Rattle.std.specs.Prelude.{◌≡◌, ◌≢◌, ◌≤◌, ◌^◌, ◌++◌, ℕ, List, Option, [], IfOk, IfErr, OnOk, OnErr, option_map, string_bytes, length, drop, min, refl};
+ghost use Rattle.std.specs.Prelude.{◌≡◌, ◌≢◌, ◌≤◌, ◌^◌, ◌++◌, ℕ, Bool, List, Option, [], IfOk, IfErr, OnOk, OnErr, option_map, string_bytes, length, drop, min, refl};
 ghost use Rattle.std.proofs.Common.{inl};
 ghost use Rattle.fe2o3_sasl_core.specs.Profiles.{Profile};
 ghost use Rattle.fe2o3_sasl_core.specs.Runs.{client_reply};
 ghost use Rattle.fe2o3_sasl_core.specs.SaslProfile.{profile_of};
 ghost use Rattle.fe2o3_sasl_negotiation.specs.Framing.{sasl_header};
-ghost use Rattle.fe2o3_sasl_negotiation.specs.ClientNegotiation.{ClientOpens, ClientOutputs, ClientReplies, ClientSideAnswers, ClientReplyCosts, ClientCosts};
+ghost use Rattle.fe2o3_sasl_negotiation.specs.ClientNegotiation.{ClientOpens, ClientOutputs, client_follows, ClientReplies, ClientSideAnswers, ClientReplyCosts, ClientCosts};
 ghost use Rattle.fe2o3_sasl_negotiation.specs.Connections.{SpellsTurn};
 ghost use Rattle.fe2o3_sasl_negotiation.specs.Memory.{ClientAsks};
 ghost use Rattle.fe2o3_sasl_negotiation.specs.Snapshot.{IsClientKept, client_fits, side_of};
@@ -59,29 +59,33 @@ fn open(header: &[u8]) -> Step
     }
 }
 
+/// Returns the frame that a client expects after its answer to one of this turn.
+fn following(signs: bool, turn: FrameKind) -> FrameKind
+    ensures { result ≡ client_follows signs turn }
+{
+    match turn {
+        FrameKind::Mechanisms => FrameKind::Challenge,
+        FrameKind::Challenge if signs => FrameKind::SignatureChallenge,
+        _ => FrameKind::Outcome,
+    }
+}
+
 /// Sends the profile's reply.
-fn send_reply(out: &mut BytesMut, turn: FrameKind, reply: ClientReply) -> Step
+fn send_reply(out: &mut BytesMut, signs: bool, turn: FrameKind, reply: ClientReply) -> Step
     requires { 512 ≤ out.old.spare }
-    ensures { Appends (ClientOutputs (client_reply reply) turn) out.old.items out.new.items result }
+    ensures { Appends (ClientOutputs signs (client_reply reply) turn) out.old.items out.new.items result }
 {
     let expected = Expected::Frame(turn);
+    let next = Expected::Frame(following(signs, turn));
     match reply {
         ClientReply::Init { body } => match turn {
-            FrameKind::Mechanisms => send(
-                out,
-                &body,
-                Progress::InProgress,
-                Expected::Frame(FrameKind::Challenge),
-            ),
+            FrameKind::Mechanisms => send(out, &body, Progress::InProgress, next),
             _ => Step::closed(CloseReason::UnexpectedFrame, expected),
         },
         ClientReply::Response { body } => match turn {
-            FrameKind::Challenge => send(
-                out,
-                &body,
-                Progress::InProgress,
-                Expected::Frame(FrameKind::Outcome),
-            ),
+            FrameKind::Challenge | FrameKind::SignatureChallenge => {
+                send(out, &body, Progress::InProgress, next)
+            }
             _ => Step::closed(CloseReason::UnexpectedFrame, expected),
         },
         ClientReply::Outcome(outcome) => concluded(turn, outcome.code),
@@ -90,7 +94,8 @@ fn send_reply(out: &mut BytesMut, turn: FrameKind, reply: ClientReply) -> Step
 
 /// Returns the progress of a client after an outcome that its profile reports.
 fn concluded(turn: FrameKind, code: SaslCode) -> Step
-    ensures { (out : List ℕ) (more : Option (List ℕ)) → Appends (ClientOutputs (Reported code more) turn) out out result }
+    ensures { (out : List ℕ) (signs : Bool) (more : Option (List ℕ))
+        → Appends (ClientOutputs signs (Reported code more) turn) out out result }
 {
     match code {
         SaslCode::Ok => Step {
@@ -103,8 +108,8 @@ fn concluded(turn: FrameKind, code: SaslCode) -> Step
 
 /// Fails with an error of the profile other than `OutOfMemory`.
 fn refuse(turn: FrameKind, fault: ProfileError) -> Result<Step, OutOfMemory>
-    ensures ok { IfOk result (λ step. (out : List ℕ)
-        → Appends (ClientOutputs (Refused fault) turn) out out step) }
+    ensures ok { IfOk result (λ step. (out : List ℕ) (signs : Bool)
+        → Appends (ClientOutputs signs (Refused fault) turn) out out step) }
     ensures err { OnErr result (fault ≡ ProfileWantsMemory) }
 {
     match fault {
@@ -145,8 +150,9 @@ fn reply(
         Err(why) => return Ok(Step::closed(why, Expected::Frame(turn))),
     };
     out.reserve(MAX_FRAME)?;
+    let signs = profile.accepts_signature_by_challenge();
     match profile_frame_step(alloc, profile, view, nonce, hostname, meter) {
-        Ok(reply) => Ok(send_reply(out, turn, reply)),
+        Ok(reply) => Ok(send_reply(out, signs, turn, reply)),
         Err(fault) => refuse(turn, fault),
     }
 }

@@ -190,8 +190,8 @@ fn is_in_turn(turn: FrameKind, view: &FrameView<'_>) -> bool
     match (turn, view) {
         (FrameKind::Mechanisms, FrameView::Mechanisms(_)) => true,
         (FrameKind::Init, FrameView::Init { .. }) => true,
-        (FrameKind::Challenge, FrameView::Challenge(_)) => true,
-        (FrameKind::Challenge, FrameView::Outcome { .. }) => true,
+        (FrameKind::Challenge | FrameKind::SignatureChallenge, FrameView::Challenge(_)) => true,
+        (FrameKind::Challenge | FrameKind::SignatureChallenge, FrameView::Outcome { .. }) => true,
         (FrameKind::Response, FrameView::Response(_)) => true,
         (FrameKind::Outcome, FrameView::Outcome { .. }) => true,
         _ => false,

@@ -19,8 +19,8 @@ pub enum CloseReason {
     #[error("The frame cannot be parsed")]
     MalformedFrame(Error),
 
-    /// The frame is not the expected one (AMQP 1.0, part 5, section 5.3.2), such as a second init, a second challenge
-    /// or a second list of mechanisms. A server also fails with it if its acceptor would send a second challenge.
+    /// The frame is not the expected one (AMQP 1.0, part 5, section 5.3.2), such as a second init or a second list of
+    /// mechanisms, and for a client that does not accept the server's signature in a challenge a second challenge.
     #[error("Unexpected frame")]
     UnexpectedFrame,
 
@@ -78,6 +78,10 @@ pub enum FrameKind {
 
     /// The server's outcome.
     Outcome,
+
+    /// The server's signature in a challenge, or its outcome in place of one (RFC 4422, section 5): only for a client
+    /// that accepts that ([`SaslProfile::accepts_signature_by_challenge`](fe2o3_sasl_core::SaslProfile)).
+    SignatureChallenge,
 }
 
 /// The next expected header or frame.

@@ -87,15 +87,12 @@ fn send_reply(out: &mut BytesMut, turn: FrameKind, reply: ServerReply) -> Step
 {
     let expected = Expected::Frame(turn);
     match reply {
-        ServerReply::Challenge { body } => match turn {
-            FrameKind::Init => send(
-                out,
-                &body,
-                Progress::InProgress,
-                Expected::Frame(FrameKind::Response),
-            ),
-            _ => Step::closed(CloseReason::UnexpectedFrame, expected),
-        },
+        ServerReply::Challenge { body } => send(
+            out,
+            &body,
+            Progress::InProgress,
+            Expected::Frame(FrameKind::Response),
+        ),
         ServerReply::Outcome {
             code: SaslCode::Ok,
             body,

@@ -185,7 +185,7 @@ fn is_client_at(progress: Progress, expected: Expected) -> bool
 {
     let is_outcome = matches!(
         expected,
-        Expected::Frame(FrameKind::Challenge | FrameKind::Outcome)
+        Expected::Frame(FrameKind::Challenge | FrameKind::SignatureChallenge | FrameKind::Outcome)
     );
     let is_frame = matches!(expected, Expected::Frame(FrameKind::Mechanisms)) || is_outcome;
     match progress {

@@ -1,8 +1,8 @@
 -- What a client answers.
-use Rattle.std.proofs.Common.{◌≡◌, ℕ, Option, List, drop, refl, sym, ap, subst, inl, inr, Result, Ok, Err, IfOk}
+use Rattle.std.proofs.Common.{◌≡◌, ℕ, Bool, Option, List, drop, refl, sym, ap, subst, inl, inr, Result, Ok, Err, IfOk}
 use Rattle.fe2o3_sasl_core.specs.Costs.{ProfileStepCosts}
 use Rattle.fe2o3_sasl_core.specs.Events.{Given, ClientSays, Refused}
-use Rattle.fe2o3_sasl_core.specs.Profiles.{Profile}
+use Rattle.fe2o3_sasl_core.specs.Profiles.{Profile, accepts_signature_by_challenge}
 use Rattle.fe2o3_sasl_core.specs.Runs.{ProfileSteps}
 use Rattle.fe2o3_sasl_core.specs.declared.events.ClientReply.{ClientReply}
 use Rattle.fe2o3_sasl_core.specs.declared.sasl_profile.error.ProfileError.{ProfileError}
@@ -28,7 +28,8 @@ screened hostname turn state event why (inr (frame, spells, out, is)) =
 -- what the profile says
 pub asked : (hostname : Option (List ℕ)) (turn : FrameKind) (state next : Profile)
     (event : Given) (says : ClientSays) (old new : List ℕ) (step : Step) → SpellsTurn turn event.body
-    → ProfileSteps hostname state event says next → Appends (ClientOutputs says turn) old new step
+    → ProfileSteps hostname state event says next
+    → Appends (ClientOutputs (accepts_signature_by_challenge state) says turn) old new step
     → Appends (λ answer. ClientReplies hostname turn state event answer next) old new step
 asked hostname turn state next event says old new step (frame, spells, in_turn) steps (sent, appended, holds) =
     (sent, appended, (Ok frame, spells, inr (in_turn, (says, steps, holds))))
@@ -37,10 +38,12 @@ asked hostname turn state next event says old new step (frame, spells, in_turn) 
 pub asked_in_vain : {E : Type 0} (hostname : Option (List ℕ)) (turn : FrameKind)
     (state next : Profile) (event : Given) (fault : ProfileError) (old : List ℕ) (result : Result Step E)
     → SpellsTurn turn event.body → ProfileSteps hostname state event (Refused fault) next
-    → IfOk result (λ step. (out : List ℕ) → Appends (ClientOutputs (Refused fault) turn) out out step)
+    → IfOk result (λ step. (out : List ℕ) (signs : Bool)
+    → Appends (ClientOutputs signs (Refused fault) turn) out out step)
     → IfOk result (λ step. Appends (λ answer. ClientReplies hostname turn state event answer next) old old step)
 asked_in_vain hostname turn state next event fault old (Ok step) screens steps says =
-    asked hostname turn state next event (Refused fault) old old step screens steps (says old)
+    asked hostname turn state next event (Refused fault) old old step screens steps
+    (says old (accepts_signature_by_challenge state))
 asked_in_vain hostname turn state next event fault old (Err failed) screens steps says = tt
 
 -- what the profile's step costs

@@ -1,5 +1,5 @@
 -- A client's progress and what is expected to it, after an answer to a unit.
-use Rattle.std.proofs.Common.{◌≡◌, ◌≢◌, ℕ, Option, Some, None, List, [], drop, IsTrue, refl, sym, ◌∙◌, subst, inl, inr, Result, Ok, Err, IfOk}
+use Rattle.std.proofs.Common.{◌≡◌, ◌≢◌, ℕ, Bool, true, false, Option, Some, None, List, [], drop, IsTrue, refl, sym, ◌∙◌, subst, inl, inr, Result, Ok, Err, IfOk}
 use Rattle.fe2o3_sasl_wire.specs.declared.amqp_types.SaslCode.{SaslCode}
 use Rattle.fe2o3_sasl_wire.specs.declared.amqp_types.SaslCode.TheVariants as outcomes
 use Rattle.fe2o3_sasl_wire.specs.declared.sasl_frames.error.Error.{Error}
@@ -8,7 +8,7 @@ use Rattle.fe2o3_sasl_wire.specs.SaslFrames.{SaslFrame, canonical}
 use Rattle.fe2o3_sasl_wire.specs.SaslFrames as frames
 use Rattle.fe2o3_sasl_core.specs.Bodies.{SpellsBody, carried}
 use Rattle.fe2o3_sasl_core.specs.Events.{Given, ClientSays, Started, Answered, Reported, Refused as ClientRefused}
-use Rattle.fe2o3_sasl_core.specs.Profiles.{Profile}
+use Rattle.fe2o3_sasl_core.specs.Profiles.{Profile, accepts_signature_by_challenge}
 use Rattle.fe2o3_sasl_core.specs.Runs.{ProfileSteps, ProfileGives, Replies as ProfileSays}
 use Rattle.fe2o3_sasl_core.specs.declared.sasl_profile.error.ProfileError.{ProfileError}
 use Rattle.fe2o3_sasl_core.proofs.lemmas.frames.SpellingLemmas.{one_spelling}
@@ -84,6 +84,7 @@ after_mechanisms : (hostname : Option (List ℕ)) (turn : FrameKind) (profile ne
     → ProfileSteps hostname profile event (Reported code more) next → IsTrue (outcome_due (Frame turn))
 after_mechanisms hostname turns.Challenge profile next event frame code more unit spells in_turn steps = refl
 after_mechanisms hostname turns.Outcome profile next event frame code more unit spells in_turn steps = refl
+after_mechanisms hostname turns.SignatureChallenge profile next event frame code more unit spells in_turn steps = refl
 after_mechanisms hostname turns.Init profile next event frame code more unit spells in_turn steps = absurd (cc)
 after_mechanisms hostname turns.Response profile next event frame code more unit spells in_turn steps = absurd (cc)
 after_mechanisms hostname turns.Mechanisms profile next event (frames.Mechanisms names) code more unit spells in_turn
@@ -97,48 +98,68 @@ after_mechanisms hostname turns.Mechanisms profile next event (frames.Response t
 after_mechanisms hostname turns.Mechanisms profile next event (frames.Outcome other extra) code more unit spells in_turn
     steps = absurd in_turn
 
-refused_at_client : (fault : ProfileError) (turn : FrameKind) (answer : SideOutput) → IsTrue (client_due (Frame turn))
-    → ClientOutputs (ClientRefused fault) turn answer → IsTrue (client_fits answer.progress answer.expected)
-refused_at_client OutOfMemory turn answer unit says = absurd says
-refused_at_client NotImplemented turn answer unit is =
+refused_at_client : (signs : Bool) (fault : ProfileError) (turn : FrameKind) (answer : SideOutput)
+    → IsTrue (client_due (Frame turn)) → ClientOutputs signs (ClientRefused fault) turn answer
+    → IsTrue (client_fits answer.progress answer.expected)
+refused_at_client signs OutOfMemory turn answer unit says = absurd says
+refused_at_client signs NotImplemented turn answer unit is =
     at_client answer (closes (ProfileRefused NotImplemented) (Frame turn)) is unit
-refused_at_client (Scram why) turn answer unit is =
+refused_at_client signs (Scram why) turn answer unit is =
     at_client answer (closes (ProfileRefused (Scram why)) (Frame turn)) is unit
-refused_at_client StaleKeys turn answer unit is =
+refused_at_client signs StaleKeys turn answer unit is =
     at_client answer (closes (ProfileRefused StaleKeys) (Frame turn)) is unit
-refused_at_client (FrameFault fault) turn answer unit is =
+refused_at_client signs (FrameFault fault) turn answer unit is =
     at_client answer (closes (ProfileRefused (FrameFault fault)) (Frame turn)) is unit
 
-says_at_client : (says : ClientSays) (turn : FrameKind) (answer : SideOutput) → IsTrue (client_due (Frame turn))
-    → ((code : SaslCode) (more : Option (List ℕ)) → says ≡ Reported code more → IsTrue (outcome_due (Frame turn)))
-    → ClientOutputs says turn answer → IsTrue (client_fits answer.progress answer.expected)
-says_at_client (Started body) turns.Mechanisms answer unit reports says =
+started_at_client : (signs : Bool) (body : List ℕ) (turn : FrameKind) (answer : SideOutput)
+    → IsTrue (client_due (Frame turn)) → ClientOutputs signs (Started body) turn answer
+    → IsTrue (client_fits answer.progress answer.expected)
+started_at_client signs body turns.Mechanisms answer unit says =
     sent_at_client body (Frame turns.Challenge) answer refl refl says
-says_at_client (Started body) turns.Challenge answer unit reports says =
+started_at_client signs body turns.Challenge answer unit says =
     at_client answer (closes UnexpectedFrame (Frame turns.Challenge)) says refl
-says_at_client (Started body) turns.Outcome answer unit reports says =
+started_at_client signs body turns.SignatureChallenge answer unit says =
+    at_client answer (closes UnexpectedFrame (Frame turns.SignatureChallenge)) says refl
+started_at_client signs body turns.Outcome answer unit says =
     at_client answer (closes UnexpectedFrame (Frame turns.Outcome)) says refl
-says_at_client (Started body) turns.Init answer unit reports says = absurd (cc)
-says_at_client (Started body) turns.Response answer unit reports says = absurd (cc)
-says_at_client (Answered body) turns.Challenge answer unit reports says =
+started_at_client signs body turns.Init answer unit says = absurd (cc)
+started_at_client signs body turns.Response answer unit says = absurd (cc)
+
+answered_says_at_client : (signs : Bool) (body : List ℕ) (turn : FrameKind) (answer : SideOutput)
+    → IsTrue (client_due (Frame turn)) → ClientOutputs signs (Answered body) turn answer
+    → IsTrue (client_fits answer.progress answer.expected)
+answered_says_at_client true body turns.Challenge answer unit says =
+    sent_at_client body (Frame turns.SignatureChallenge) answer refl refl says
+answered_says_at_client false body turns.Challenge answer unit says =
     sent_at_client body (Frame turns.Outcome) answer refl refl says
-says_at_client (Answered body) turns.Mechanisms answer unit reports says =
+answered_says_at_client signs body turns.SignatureChallenge answer unit says =
+    sent_at_client body (Frame turns.Outcome) answer refl refl says
+answered_says_at_client signs body turns.Mechanisms answer unit says =
     at_client answer (closes UnexpectedFrame (Frame turns.Mechanisms)) says refl
-says_at_client (Answered body) turns.Outcome answer unit reports says =
+answered_says_at_client signs body turns.Outcome answer unit says =
     at_client answer (closes UnexpectedFrame (Frame turns.Outcome)) says refl
-says_at_client (Answered body) turns.Init answer unit reports says = absurd (cc)
-says_at_client (Answered body) turns.Response answer unit reports says = absurd (cc)
-says_at_client (Reported outcomes.Ok more) turn answer unit reports says =
+answered_says_at_client signs body turns.Init answer unit says = absurd (cc)
+answered_says_at_client signs body turns.Response answer unit says = absurd (cc)
+
+says_at_client : (signs : Bool) (says : ClientSays) (turn : FrameKind) (answer : SideOutput)
+    → IsTrue (client_due (Frame turn))
+    → ((code : SaslCode) (more : Option (List ℕ)) → says ≡ Reported code more → IsTrue (outcome_due (Frame turn)))
+    → ClientOutputs signs says turn answer → IsTrue (client_fits answer.progress answer.expected)
+says_at_client signs (Started body) turn answer unit reports says = started_at_client signs body turn answer unit says
+says_at_client signs (Answered body) turn answer unit reports says =
+    answered_says_at_client signs body turn answer unit says
+says_at_client signs (Reported outcomes.Ok more) turn answer unit reports says =
     at_client answer (record { sent = []; progress = Authenticated; expected = Frame turn }) says (reports outcomes.Ok more refl)
-says_at_client (Reported outcomes.Auth more) turn answer unit reports says =
+says_at_client signs (Reported outcomes.Auth more) turn answer unit reports says =
     at_client answer (closes (Refused outcomes.Auth) (Frame turn)) says (reports outcomes.Auth more refl)
-says_at_client (Reported outcomes.Sys more) turn answer unit reports says =
+says_at_client signs (Reported outcomes.Sys more) turn answer unit reports says =
     at_client answer (closes (Refused outcomes.Sys) (Frame turn)) says (reports outcomes.Sys more refl)
-says_at_client (Reported outcomes.SysPerm more) turn answer unit reports says =
+says_at_client signs (Reported outcomes.SysPerm more) turn answer unit reports says =
     at_client answer (closes (Refused outcomes.SysPerm) (Frame turn)) says (reports outcomes.SysPerm more refl)
-says_at_client (Reported outcomes.SysTemp more) turn answer unit reports says =
+says_at_client signs (Reported outcomes.SysTemp more) turn answer unit reports says =
     at_client answer (closes (Refused outcomes.SysTemp) (Frame turn)) says (reports outcomes.SysTemp more refl)
-says_at_client (ClientRefused fault) turn answer unit reports says = refused_at_client fault turn answer unit says
+says_at_client signs (ClientRefused fault) turn answer unit reports says =
+    refused_at_client signs fault turn answer unit says
 
 module _ (hostname : Option (List ℕ)) where
   replied_at_client : (turn : FrameKind) (profile next : Profile) (event : Given) (answer : SideOutput)
@@ -150,7 +171,7 @@ module _ (hostname : Option (List ℕ)) where
   replied_at_client turn profile next event answer unit (Ok frame, spells, inl (out, is, same)) =
       at_client answer (closes UnexpectedFrame (Frame turn)) is unit
   replied_at_client turn profile next event answer unit (Ok frame, spells, inr (in_turn, (says, steps, holds))) =
-      says_at_client says turn answer unit
+      says_at_client (accepts_signature_by_challenge profile) says turn answer unit
       (λ code more is. after_mechanisms hostname turn profile next event frame code more unit spells in_turn
       (subst (λ (s : ClientSays). ProfileSteps hostname profile event s next) is steps)) holds
 

@@ -1,6 +1,5 @@
 -- One call more of a side that has seen the header of SASL: its frames so far, and those that the call completes.
-use Rattle.std.proofs.Common.{◌≡◌, ◌≢◌, ◌⊎◌, ℕ, ◌+◌, ◌-◌, ◌<◌, ◌≤◌, Some, List, [], ◌∷◌, ◌++◌, length, take, drop, refl, sym, ap, ◌∙◌, subst, inl, inr, append_assoc, arith, length-append, Result, Ok, Err}
-use Rattle.std.specs.Prelude.{slice_get}
+use Rattle.std.proofs.Common.{◌≡◌, ◌≢◌, ◌⊎◌, ℕ, ◌+◌, ◌-◌, ◌<◌, ◌≤◌, List, [], ◌∷◌, ◌++◌, length, take, drop, refl, sym, ap, ◌∙◌, subst, inl, inr, append_assoc, arith, length-append, Result, Ok, Err}
 use Rattle.std.proofs.lemmas.Grind.{flat_map-append}
 use Rattle.std.proofs.lemmas.List.{append-nil, length-take, length-take-le, take-take, take_all, take-append-drop, drop_at}
 use Rattle.bytes.proofs.Ranges.{take-append_past}
@@ -24,7 +23,7 @@ use Rattle.fe2o3_sasl_negotiation.specs.Negotiations.{Side, SideOutput, AnswersT
 use Rattle.fe2o3_sasl_negotiation.specs.private.Pieces.{NextNonces}
 use Rattle.fe2o3_sasl_negotiation.proofs.lemmas.CutLemmas.{nothing_is_part, refused_long, whole_long}
 use Rattle.fe2o3_sasl_negotiation.proofs.lemmas.FramingLemmas.{size_of-append, part_is_shorter, refused_is_short}
-use Rattle.fe2o3_sasl_negotiation.proofs.lemmas.PieceLemmas.{nonce_of_piece, is_framed, frames_of-more, frames_of_more, one_frame_more, IsChain, due_after, one_reply_more, as_many, one_step_more}
+use Rattle.fe2o3_sasl_negotiation.proofs.lemmas.PieceLemmas.{nonce_of_piece, is_framed, frames_of-more, frames_of_more, turn_after, one_frame_more, IsChain, due_after, one_reply_more, as_many, one_step_more}
 
 -- the three progresses are three
 pub authenticated_is_not_in_progress : Authenticated ≢ InProgress
@@ -46,20 +45,24 @@ abbrev pub first_body : List ℕ → List ℕ
 first_body come = drop 4 (take (size_of come) come)
 
 module _ {S A : Type 0} (Answers : Expected → S → List ℕ → List ℕ → SideOutput → S → Type 0) (Steps : S → Given → A → S → Type 0)
-    (Says : A → FrameKind → SideOutput → Type 0) (turns : List FrameKind) (chain : IsChain Says turns)
+    (Says : A → FrameKind → SideOutput → Type 0) (follows : FrameKind → FrameKind) (opening : FrameKind)
+    (Kept : S → Type 0)
+    (keeps : (state next : S) (event : Given) (says : A) → Kept state → Steps state event says next → Kept next)
+    (chain : IsChain Says follows)
     (asks : (turn : FrameKind) (state next : S) (nonce unit : List ℕ) (answer : SideOutput)
-    → Answers (Frame turn) state nonce unit answer next
+    → Kept state → Answers (Frame turn) state nonce unit answer next
     → (spelled : Result SaslFrame Error) × SpellsBody (drop 4 unit) spelled
     × AnswersTo (λ (a : SideOutput) (s : S). (says : A) × Steps state (record { body = drop 4 unit; nonce = nonce }) says s
     × Says says turn a) turn state spelled answer next) where
   module _ (limit : ℕ) (state mid : S) (pieces : List Piece) (taken sent tail : List ℕ) (events : List Given)
       (replies : List A) (before : SideOutput) (turn : FrameKind)
-      (carried : taken ≡ sasl_header ++ (frames_of events ++ tail)) (frames : AreFrames pieces limit 8 turns events)
-      (run : Runs Steps state events replies mid) (replied : Replied Says turns replies before)
+      (kept : Kept mid) (carried : taken ≡ sasl_header ++ (frames_of events ++ tail))
+      (frames : AreFrames pieces limit 8 follows opening events)
+      (run : Runs Steps state events replies mid) (replied : Replied Says follows opening replies before)
       (sends : sent ≡ before.sent) (wants : before.progress ≡ InProgress) (expected : before.expected ≡ Frame turn)
       (part : IsPart (Frame turn) limit tail) where
     abbrev Goes : List ℕ → List ℕ → Side S → Type 0
-    Goes more first next = Negotiated Steps Says turns limit state pieces (taken ++ more) (sent ++ first) next
+    Goes more first next = Negotiated Steps Says follows opening limit state pieces (taken ++ more) (sent ++ first) next
 
     -- nothing more is answered
     stays : (more : List ℕ) (next : Side S) → LeftOver turn limit (tail ++ more) next.progress → next.state ≡ mid
@@ -222,7 +225,7 @@ module _ {S A : Type 0} (Answers : Expected → S → List ℕ → List ℕ → 
             ∙ ap (λ l. sasl_header ++ l) (append_assoc (frames_of events) tail (take k bytes)
             ∙ (ap (λ l. frames_of events ++ l) (come ∙ is)
             ∙ (sym (frames_of-more events event) ∙ sym (append-nil (frames_of (events ++ event ∷ [])))))));
-        frames = one_frame_more pieces limit 8 turns events turn event frames at fits in_turn nonce_is;
+        frames = one_frame_more pieces limit 8 follows opening events turn event frames at fits in_turn nonce_is;
         run = subst (λ (s : S). Runs Steps state (events ++ event ∷ []) (replies ++ says ∷ []) s)
             (sym (ap (λ (s : Side S). s.state) ends.2))
             (one_step_more Steps state events replies mid event says moved run steps);
@@ -242,15 +245,15 @@ module _ {S A : Type 0} (Answers : Expected → S → List ℕ → List ℕ → 
           after : SideOutput
           after = record answer { sent = before.sent ++ answer.sent }
 
-          more : Replied Says turns (replies ++ says ∷ []) (record answer { sent = before.sent ++ answer.sent })
-          more = one_reply_more Says turns replies before answer turn says chain replied wants expected said
+          more : Replied Says follows opening (replies ++ says ∷ []) (record answer { sent = before.sent ++ answer.sent })
+          more = one_reply_more Says follows opening replies before answer turn says chain replied wants expected said
 
-          at : slice_get turns (length events) ≡ Some turn
+          at : turn_after follows opening (length events) ≡ turn
           at =
-              let (other, same, here) = due_after Says turns replies before chain replied wants in
-              let one : other ≡ turn = (let two : Frame other ≡ Frame turn = sym same ∙ expected in cc) in
-              subst (λ (n : ℕ). slice_get turns n ≡ Some turn) (as_many Steps state mid events replies run)
-              (subst (λ (t : FrameKind). slice_get turns (length replies) ≡ Some t) one here)
+              let two : Frame (turn_after follows opening (length replies)) ≡ Frame turn =
+              sym (due_after Says follows opening replies before chain replied wants) ∙ expected in
+              let one : turn_after follows opening (length replies) ≡ turn = (let three = two in cc) in
+              subst (λ (n : ℕ). turn_after follows opening n ≡ turn) (as_many Steps state mid events replies run) one
 
           progress_is : next.progress ≡ answer.progress
           progress_is = ap (λ (s : Side S). s.progress) ends.2
@@ -260,7 +263,8 @@ module _ {S A : Type 0} (Answers : Expected → S → List ℕ → List ℕ → 
               × LeftOver turn limit [] next.progress)
               ⊎ ((answer.progress ≢ InProgress) × (next.progress ≡ answer.progress) × (◌≡◌ {A = List ℕ} [] []))
           go InProgress w =
-              let (other, same, here) = due_after Says turns (replies ++ says ∷ [])
+              let other = turn_after follows opening (length (replies ++ says ∷ [])) in
+              let same = due_after Says follows opening (replies ++ says ∷ [])
               (record answer { sent = before.sent ++ answer.sent }) chain more w in
               inl (other, w, same, inl (nothing_is_part (Frame other) limit, progress_is ∙ w))
           go Authenticated w = inr ((λ waits. authenticated_is_not_in_progress (sym w ∙ waits)), progress_is, refl)
@@ -275,7 +279,7 @@ module _ {S A : Type 0} (Answers : Expected → S → List ℕ → List ℕ → 
     one_call bytes nonce first k next are_bytes nonces (inr (inl (refused, ends))) =
         refused_call bytes first k next refused ends
     one_call bytes nonce first k next are_bytes nonces (inr (inr (answer, moved, whole, answers, ends))) =
-        go (asks turn mid moved nonce (take (size_of (tail ++ bytes)) (tail ++ bytes)) answer answers)
+        go (asks turn mid moved nonce (take (size_of (tail ++ bytes)) (tail ++ bytes)) answer kept answers)
       where
         go : (spelled : Result SaslFrame Error) × SpellsBody (first_body (tail ++ bytes)) spelled
             × AnswersTo (λ (a : SideOutput) (s : S). (says : A)
@@ -292,31 +296,38 @@ module _ {S A : Type 0} (Answers : Expected → S → List ℕ → List ℕ → 
             (frame, spells, asked.0) asked.1.1 asked.1.2
 
   -- a side that waits for a header has seen the one of SASL
-  pub opened : (limit : ℕ) (state : S) (pieces : List Piece) (taken : List ℕ) (turn : FrameKind) (others : List FrameKind)
-      (next : Side S) → turns ≡ turn ∷ others → taken ≡ sasl_header → next ≡ holding turn limit [] state
-      → Negotiated Steps Says turns limit state pieces taken [] next
-  opened limit state pieces taken turn others next are header same = record {
+  pub opened : (limit : ℕ) (state : S) (pieces : List Piece) (taken : List ℕ) (next : Side S) → taken ≡ sasl_header
+      → next ≡ holding opening limit [] state
+      → Negotiated Steps Says follows opening limit state pieces taken [] next
+  opened limit state pieces taken next header same = record {
     events = [];
     replies = [];
-    answer = record { sent = []; progress = InProgress; expected = Frame turn };
+    answer = record { sent = []; progress = InProgress; expected = Frame opening };
     tail = [];
     carried = header;
     frames = tt;
     run = (refl, ap (λ (s : Side S). s.state) same);
-    replied = subst (λ (t : List FrameKind). Replied Says t [] (record { sent = []; progress = InProgress; expected = Frame turn }))
-        (sym are) refl;
+    replied = refl;
     sends = refl;
-    ends = inl (turn, refl, refl, inl (nothing_is_part (Frame turn) limit, ap (λ (s : Side S). s.progress) same));
-    waits = λ _. subst (λ (s : Side S). s ≡ holding turn limit [] s.state) (sym same) refl;
+    ends = inl (opening, refl, refl, inl (nothing_is_part (Frame opening) limit, ap (λ (s : Side S). s.progress) same));
+    waits = λ _. subst (λ (s : Side S). s ≡ holding opening limit [] s.state) (sym same) refl;
   }
+
+  -- what a step keeps, a run keeps
+  kept_over : (state last : S) (events : List Given) (replies : List A) → Kept state → Runs Steps state events replies last
+      → Kept last
+  kept_over state last [] replies kept run = subst Kept (sym run.1) kept
+  kept_over state last (event ∷ events) replies kept (says, next, others, step, is, run) =
+      kept_over next last events others (keeps state next event says kept step) run
 
   -- a call to a side that has seen it
   pub negotiated_call : (limit : ℕ) (state : S) (pieces : List Piece) (taken sent : List ℕ) (side next : Side S)
-      (bytes nonce first : List ℕ) (k : ℕ) → Negotiated Steps Says turns limit state pieces taken sent side
+      (bytes nonce first : List ℕ) (k : ℕ) → Kept state
+      → Negotiated Steps Says follows opening limit state pieces taken sent side
       → side.progress ≡ InProgress → IsBytes (taken ++ bytes) → NextNonces pieces (length taken) k nonce
       → ReceivesAt InProgress Answers side bytes nonce k first next
-      → Negotiated Steps Says turns limit state pieces (taken ++ take k bytes) (sent ++ first) next
-  negotiated_call limit state pieces taken sent side next bytes nonce first k n waits are_bytes nonces receives =
+      → Negotiated Steps Says follows opening limit state pieces (taken ++ take k bytes) (sent ++ first) next
+  negotiated_call limit state pieces taken sent side next bytes nonce first k kept n waits are_bytes nonces receives =
       go n.ends
     where
       left_bytes : IsBytes (n.tail ++ bytes)
@@ -339,10 +350,11 @@ module _ {S A : Type 0} (Answers : Expected → S → List ℕ → List ℕ → 
 
       left : (turn : FrameKind) → n.answer.progress ≡ InProgress → n.answer.expected ≡ Frame turn
           → LeftOver turn limit n.tail side.progress
-          → Negotiated Steps Says turns limit state pieces (taken ++ take k bytes) (sent ++ first) next
+          → Negotiated Steps Says follows opening limit state pieces (taken ++ take k bytes) (sent ++ first) next
       left turn wants expected (inl part) =
-          one_call limit state side.state pieces taken sent n.tail n.events n.replies n.answer turn n.carried n.frames
-          n.run n.replied n.sends wants expected part.0 bytes nonce first k next left_bytes nonces
+          one_call limit state side.state pieces taken sent n.tail n.events n.replies n.answer turn
+          (kept_over state side.state n.events n.replies kept n.run) n.carried n.frames n.run n.replied n.sends wants
+          expected part.0 bytes nonce first k next left_bytes nonces
           (subst (λ (s : Side S). ReceivesAt InProgress Answers s bytes nonce k first next) (at turn expected) receives)
       left turn wants expected (inr (inl size)) = absurd (failed_is_not_in_progress FrameSize (sym size.2 ∙ waits))
       left turn wants expected (inr (inr frame)) = absurd (failed_is_not_in_progress frame.2 (sym frame.7 ∙ waits))
@@ -350,21 +362,21 @@ module _ {S A : Type 0} (Answers : Expected → S → List ℕ → List ℕ → 
       go : ((turn : FrameKind) × (n.answer.progress ≡ InProgress) × (n.answer.expected ≡ Frame turn)
           × LeftOver turn limit n.tail side.progress)
           ⊎ ((n.answer.progress ≢ InProgress) × (side.progress ≡ n.answer.progress) × (n.tail ≡ []))
-          → Negotiated Steps Says turns limit state pieces (taken ++ take k bytes) (sent ++ first) next
+          → Negotiated Steps Says follows opening limit state pieces (taken ++ take k bytes) (sent ++ first) next
       go (inl waiting) = left waiting.0 waiting.1 waiting.2 waiting.3
       go (inr ended) = absurd (ended.0 (sym ended.1 ∙ waits))
 
   -- the nonces stay where more pieces follow
   pub negotiated_more : (limit : ℕ) (state : S) (pieces more : List Piece) (taken sent : List ℕ) (side : Side S)
-      → Negotiated Steps Says turns limit state pieces taken sent side
-      → Negotiated Steps Says turns limit state (pieces ++ more) taken sent side
+      → Negotiated Steps Says follows opening limit state pieces taken sent side
+      → Negotiated Steps Says follows opening limit state (pieces ++ more) taken sent side
   negotiated_more limit state pieces more taken sent side n = record {
     events = n.events;
     replies = n.replies;
     answer = n.answer;
     tail = n.tail;
     carried = n.carried;
-    frames = frames_of_more pieces more limit 8 turns n.events n.frames;
+    frames = frames_of_more pieces more limit 8 follows opening n.events n.frames;
     run = n.run;
     replied = n.replied;
     sends = n.sends;

@@ -55,13 +55,8 @@ unread_at_server faults.OutOfMemory turn other unit = absurd (other refl)
 
 says_at_server : (says : ServerSays) (turn : FrameKind) (answer : SideOutput) → IsTrue (server_due (Frame turn))
     → ServerOutputs says turn answer → IsTrue (server_fits answer.progress answer.expected)
-says_at_server (Challenged body) turns.Init answer unit says =
+says_at_server (Challenged body) turn answer unit says =
     sent_at_server body InProgress (Frame turns.Response) answer refl refl says
-says_at_server (Challenged body) turns.Response answer unit says =
-    at_server answer (closes UnexpectedFrame (Frame turns.Response)) says refl
-says_at_server (Challenged body) turns.Mechanisms answer unit says = absurd (cc)
-says_at_server (Challenged body) turns.Challenge answer unit says = absurd (cc)
-says_at_server (Challenged body) turns.Outcome answer unit says = absurd (cc)
 says_at_server (Concluded outcomes.Ok body) turn answer unit says =
     sent_at_server body Authenticated (Frame turn) answer unit unit says
 says_at_server (Concluded outcomes.Auth body) turn answer unit says =

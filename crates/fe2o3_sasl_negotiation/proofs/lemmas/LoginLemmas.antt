@@ -1,12 +1,12 @@
 -- A side has logged in exactly where its last reply is an Ok.
-use Rattle.std.proofs.Common.{◌≡◌, ◌≢◌, ◌↔◌, ◌⊎◌, ℕ, ◌+◌, ◌<◌, ◌≤◌, List, [], ◌∷◌, length, sym, ap, ◌∙◌, refl, inl, inr, arith}
+use Rattle.std.proofs.Common.{◌≡◌, ◌≢◌, ◌↔◌, ◌⊎◌, ℕ, Bool, ◌+◌, ◌<◌, ◌≤◌, List, [], ◌∷◌, length, sym, ap, ◌∙◌, refl, inl, inr, arith}
 use Rattle.fe2o3_sasl_wire.specs.declared.amqp_types.SaslCode.TheVariants as outcomes
 use Rattle.fe2o3_sasl_wire.specs.declared.sasl_frames.error.Error.{Error}
 use Rattle.fe2o3_sasl_wire.specs.declared.sasl_frames.error.Error.TheVariants as faults
 use Rattle.fe2o3_sasl_wire.specs.SaslFrames.{SaslFrame}
 use Rattle.fe2o3_scram.specs.ScramServer.{Initial}
 use Rattle.fe2o3_sasl_core.specs.Events.{Given, ServerSays, Challenged, Concluded, Failed, ClientSays, Started, Answered, Reported, Refused as ClientRefused}
-use Rattle.fe2o3_sasl_core.specs.Profiles.{scram_profile}
+use Rattle.fe2o3_sasl_core.specs.Profiles.{accepts_signature_by_challenge, scram_profile}
 use Rattle.fe2o3_sasl_core.specs.Runs.{AcceptorSteps, ProfileSteps}
 use Rattle.fe2o3_sasl_core.specs.SaslAcceptor.{ScramAcceptor, acceptor_machine, acceptor_user}
 use Rattle.fe2o3_sasl_core.proofs.lemmas.two_sides.HeadlineLemmas.{answers_ok_exactly, reports_ok_exactly, taken_verifiers_agree}
@@ -62,18 +62,10 @@ challenge_is_no_ok body (other, same, fits) = cc
 fault_is_no_ok : (fault : Error) → ¬ IsOkSent (Failed fault)
 fault_is_no_ok fault (other, same, fits) = cc
 
-challenge_kind : (body : List ℕ) (turn : FrameKind) (answer : SideOutput) → of_server.ServerOutputs (Challenged body) turn answer
-    → Kind (IsOkSent (Challenged body)) answer
-challenge_kind body turns.Init answer sends =
-    sends_kind body InProgress (Frame turns.Response) answer _ in_progress_is_not_authenticated (challenge_is_no_ok body) sends
-challenge_kind body turns.Mechanisms answer is = closes_kind UnexpectedFrame _ answer _ (challenge_is_no_ok body) is
-challenge_kind body turns.Challenge answer is = closes_kind UnexpectedFrame _ answer _ (challenge_is_no_ok body) is
-challenge_kind body turns.Response answer is = closes_kind UnexpectedFrame _ answer _ (challenge_is_no_ok body) is
-challenge_kind body turns.Outcome answer is = closes_kind UnexpectedFrame _ answer _ (challenge_is_no_ok body) is
-
 server_kind : (says : ServerSays) (turn : FrameKind) (answer : SideOutput) → of_server.ServerOutputs says turn answer
     → Kind (IsOkSent says) answer
-server_kind (Challenged body) turn answer said = challenge_kind body turn answer said
+server_kind (Challenged body) turn answer sends =
+    sends_kind body InProgress (Frame turns.Response) answer _ in_progress_is_not_authenticated (challenge_is_no_ok body) sends
 server_kind (Concluded outcomes.Ok body) turn answer (inl (fits, same)) =
     inl (progress_of answer _ same, (body, refl, fits))
 server_kind (Concluded outcomes.Ok body) turn answer (inr (long, same)) =
@@ -113,82 +105,89 @@ answered_is_no_ok body (more, same) = cc
 refused_is_no_ok : (fault : ProfileError) → ¬ IsOkReported (ClientRefused fault)
 refused_is_no_ok fault (more, same) = cc
 
-started_kind : (body : List ℕ) (turn : FrameKind) (answer : SideOutput) → of_client.ClientOutputs (Started body) turn answer
-    → Kind (IsOkReported (Started body)) answer
-started_kind body turns.Mechanisms answer sends =
+started_kind : (signs : Bool) (body : List ℕ) (turn : FrameKind) (answer : SideOutput)
+    → of_client.ClientOutputs signs (Started body) turn answer → Kind (IsOkReported (Started body)) answer
+started_kind signs body turns.Mechanisms answer sends =
     sends_kind body InProgress (Frame turns.Challenge) answer _ in_progress_is_not_authenticated (started_is_no_ok body) sends
-started_kind body turns.Init answer is = closes_kind UnexpectedFrame _ answer _ (started_is_no_ok body) is
-started_kind body turns.Challenge answer is = closes_kind UnexpectedFrame _ answer _ (started_is_no_ok body) is
-started_kind body turns.Response answer is = closes_kind UnexpectedFrame _ answer _ (started_is_no_ok body) is
-started_kind body turns.Outcome answer is = closes_kind UnexpectedFrame _ answer _ (started_is_no_ok body) is
+started_kind signs body turns.Init answer is = closes_kind UnexpectedFrame _ answer _ (started_is_no_ok body) is
+started_kind signs body turns.Challenge answer is = closes_kind UnexpectedFrame _ answer _ (started_is_no_ok body) is
+started_kind signs body turns.Response answer is = closes_kind UnexpectedFrame _ answer _ (started_is_no_ok body) is
+started_kind signs body turns.Outcome answer is = closes_kind UnexpectedFrame _ answer _ (started_is_no_ok body) is
+started_kind signs body turns.SignatureChallenge answer is =
+    closes_kind UnexpectedFrame _ answer _ (started_is_no_ok body) is
 
-answered_kind : (body : List ℕ) (turn : FrameKind) (answer : SideOutput) → of_client.ClientOutputs (Answered body) turn answer
-    → Kind (IsOkReported (Answered body)) answer
-answered_kind body turns.Challenge answer sends =
-    sends_kind body InProgress (Frame turns.Outcome) answer _ in_progress_is_not_authenticated (answered_is_no_ok body) sends
-answered_kind body turns.Mechanisms answer is = closes_kind UnexpectedFrame _ answer _ (answered_is_no_ok body) is
-answered_kind body turns.Init answer is = closes_kind UnexpectedFrame _ answer _ (answered_is_no_ok body) is
-answered_kind body turns.Response answer is = closes_kind UnexpectedFrame _ answer _ (answered_is_no_ok body) is
-answered_kind body turns.Outcome answer is = closes_kind UnexpectedFrame _ answer _ (answered_is_no_ok body) is
+answered_kind : (signs : Bool) (body : List ℕ) (turn : FrameKind) (answer : SideOutput)
+    → of_client.ClientOutputs signs (Answered body) turn answer → Kind (IsOkReported (Answered body)) answer
+answered_kind signs body turns.Challenge answer sends =
+    sends_kind body InProgress (Frame (of_client.client_follows signs turns.Challenge)) answer _
+    in_progress_is_not_authenticated (answered_is_no_ok body) sends
+answered_kind signs body turns.SignatureChallenge answer sends =
+    sends_kind body InProgress (Frame (of_client.client_follows signs turns.SignatureChallenge)) answer _
+    in_progress_is_not_authenticated (answered_is_no_ok body) sends
+answered_kind signs body turns.Mechanisms answer is = closes_kind UnexpectedFrame _ answer _ (answered_is_no_ok body) is
+answered_kind signs body turns.Init answer is = closes_kind UnexpectedFrame _ answer _ (answered_is_no_ok body) is
+answered_kind signs body turns.Response answer is = closes_kind UnexpectedFrame _ answer _ (answered_is_no_ok body) is
+answered_kind signs body turns.Outcome answer is = closes_kind UnexpectedFrame _ answer _ (answered_is_no_ok body) is
 
-client_kind : (says : ClientSays) (turn : FrameKind) (answer : SideOutput) → of_client.ClientOutputs says turn answer
-    → Kind (IsOkReported says) answer
-client_kind (Started body) turn answer said = started_kind body turn answer said
-client_kind (Answered body) turn answer said = answered_kind body turn answer said
-client_kind (Reported outcomes.Ok more) turn answer same = inl (progress_of answer _ same, (more, refl))
-client_kind (Reported outcomes.Auth more) turn answer same =
+client_kind : (signs : Bool) (says : ClientSays) (turn : FrameKind) (answer : SideOutput)
+    → of_client.ClientOutputs signs says turn answer → Kind (IsOkReported says) answer
+client_kind signs (Started body) turn answer said = started_kind signs body turn answer said
+client_kind signs (Answered body) turn answer said = answered_kind signs body turn answer said
+client_kind signs (Reported outcomes.Ok more) turn answer same = inl (progress_of answer _ same, (more, refl))
+client_kind signs (Reported outcomes.Auth more) turn answer same =
     closes_kind (Refused outcomes.Auth) _ answer _ (λ ok. let apart = ok.1 in absurd (cc)) same
-client_kind (Reported outcomes.Sys more) turn answer same =
+client_kind signs (Reported outcomes.Sys more) turn answer same =
     closes_kind (Refused outcomes.Sys) _ answer _ (λ ok. let apart = ok.1 in absurd (cc)) same
-client_kind (Reported outcomes.SysPerm more) turn answer same =
+client_kind signs (Reported outcomes.SysPerm more) turn answer same =
     closes_kind (Refused outcomes.SysPerm) _ answer _ (λ ok. let apart = ok.1 in absurd (cc)) same
-client_kind (Reported outcomes.SysTemp more) turn answer same =
+client_kind signs (Reported outcomes.SysTemp more) turn answer same =
     closes_kind (Refused outcomes.SysTemp) _ answer _ (λ ok. let apart = ok.1 in absurd (cc)) same
-client_kind (ClientRefused OutOfMemory) turn answer never = absurd never
-client_kind (ClientRefused NotImplemented) turn answer closed =
+client_kind signs (ClientRefused OutOfMemory) turn answer never = absurd never
+client_kind signs (ClientRefused NotImplemented) turn answer closed =
     closes_kind _ _ answer _ (refused_is_no_ok NotImplemented) closed
-client_kind (ClientRefused (Scram fault)) turn answer closed =
+client_kind signs (ClientRefused (Scram fault)) turn answer closed =
     closes_kind _ _ answer _ (refused_is_no_ok (Scram fault)) closed
-client_kind (ClientRefused StaleKeys) turn answer closed = closes_kind _ _ answer _ (refused_is_no_ok StaleKeys) closed
-client_kind (ClientRefused (FrameFault fault)) turn answer closed =
+client_kind signs (ClientRefused StaleKeys) turn answer closed =
+    closes_kind _ _ answer _ (refused_is_no_ok StaleKeys) closed
+client_kind signs (ClientRefused (FrameFault fault)) turn answer closed =
     closes_kind _ _ answer _ (refused_is_no_ok (FrameFault fault)) closed
 
 -- ---- negotiations
 
 module _ {S A : Type 0} (Steps : S → Given → A → S → Type 0) (Says : A → FrameKind → SideOutput → Type 0) (Is : A → Type 0)
     (kind : (says : A) (turn : FrameKind) (answer : SideOutput) → Says says turn answer → Kind (Is says) answer) where
-  by_last : (turns : List FrameKind) (replies : List A) (answer : SideOutput) → Replied Says turns replies answer
-      → (answer.progress ≡ Authenticated) ↔ LastReply Is replies
-  by_last [] replies answer replied = absurd replied
-  by_last (turn ∷ turns) [] answer replied = (
+  by_last : (follows : FrameKind → FrameKind) (turn : FrameKind) (replies : List A) (answer : SideOutput)
+      → Replied Says follows turn replies answer → (answer.progress ≡ Authenticated) ↔ LastReply Is replies
+  by_last follows turn [] answer replied = (
     (λ logged. in_progress_is_not_authenticated (sym (ap (λ (a : SideOutput). a.progress) replied) ∙ logged)),
     (λ none. absurd none),
   )
-  by_last (turn ∷ turns) (says ∷ []) answer said = go (kind says turn answer said)
+  by_last follows turn (says ∷ []) answer said = go (kind says turn answer said)
     where
       go : Kind (Is says) answer → (answer.progress ≡ Authenticated) ↔ Is says
       go (inl both) = ((λ _. both.1), (λ _. both.0))
       go (inr neither) = ((λ logged. absurd (neither.0 logged)), (λ ok. absurd (neither.1 ok)))
-  by_last (turn ∷ turns) (says ∷ next ∷ replies) answer (first, rest, said, went, replied, is) =
-      let others = by_last turns (next ∷ replies) rest replied in
+  by_last follows turn (says ∷ next ∷ replies) answer (first, rest, said, went, replied, is) =
+      let others = by_last follows (follows turn) (next ∷ replies) rest replied in
       let at : answer.progress ≡ rest.progress = ap (λ (a : SideOutput). a.progress) is in
       ((λ logged. others.0 (sym at ∙ logged)), (λ ok. at ∙ others.1 ok))
 
-  logs_in : (turns : List FrameKind) (limit : ℕ) (state : S) (pieces : List Piece) (taken sent : List ℕ) (last : Side S)
-      (n : Negotiated Steps Says turns limit state pieces taken sent last)
+  logs_in : (follows : FrameKind → FrameKind) (turn : FrameKind) (limit : ℕ) (state : S) (pieces : List Piece)
+      (taken sent : List ℕ) (last : Side S)
+      (n : Negotiated Steps Says follows turn limit state pieces taken sent last)
       → (last.progress ≡ Authenticated) ↔ LastReply Is n.replies
-  logs_in turns limit state pieces taken sent last n = go n.ends
+  logs_in follows turn limit state pieces taken sent last n = go n.ends
     where
       both : (n.answer.progress ≡ Authenticated) ↔ LastReply Is n.replies
-      both = by_last turns n.replies n.answer n.replied
+      both = by_last follows turn n.replies n.answer n.replied
 
-      out : (turn : FrameKind) → LeftOver turn limit n.tail last.progress → last.progress ≢ Authenticated
-      out turn (inl part) logged = in_progress_is_not_authenticated (sym part.1 ∙ logged)
-      out turn (inr (inl size)) logged = closed_is_not_logged_in FrameSize (sym size.2 ∙ logged)
-      out turn (inr (inr frame)) logged = closed_is_not_logged_in frame.2 (sym frame.7 ∙ logged)
+      out : (due : FrameKind) → LeftOver due limit n.tail last.progress → last.progress ≢ Authenticated
+      out due (inl part) logged = in_progress_is_not_authenticated (sym part.1 ∙ logged)
+      out due (inr (inl size)) logged = closed_is_not_logged_in FrameSize (sym size.2 ∙ logged)
+      out due (inr (inr frame)) logged = closed_is_not_logged_in frame.2 (sym frame.7 ∙ logged)
 
-      go : ((turn : FrameKind) × (n.answer.progress ≡ InProgress) × (n.answer.expected ≡ Frame turn)
-          × LeftOver turn limit n.tail last.progress)
+      go : ((due : FrameKind) × (n.answer.progress ≡ InProgress) × (n.answer.expected ≡ Frame due)
+          × LeftOver due limit n.tail last.progress)
           ⊎ ((n.answer.progress ≢ InProgress) × (last.progress ≡ n.answer.progress) × (n.tail ≡ []))
           → (last.progress ≡ Authenticated) ↔ LastReply Is n.replies
       go (inl waiting) = (
@@ -199,13 +198,14 @@ module _ {S A : Type 0} (Steps : S → Given → A → S → Type 0) (Says : A �
 
 pub servers_log_in : {S : Type 0} (machine : S → List ℕ → SaslFrame → SaslFrame → S → Type 0) → ServerConnectionsLogIn machine
 servers_log_in machine limit state pieces taken sent last n =
-    logs_in (AcceptorSteps machine) of_server.ServerOutputs IsOkSent server_kind (turns.Init ∷ turns.Response ∷ []) limit state
+    logs_in (AcceptorSteps machine) of_server.ServerOutputs IsOkSent server_kind of_server.server_follows turns.Init limit state
     pieces taken sent last n
 
 pub clients_log_in : ClientConnectionsLogIn ProfileSteps
 clients_log_in hostname limit profile pieces taken sent last n =
-    logs_in (ProfileSteps hostname) of_client.ClientOutputs IsOkReported client_kind
-    (turns.Mechanisms ∷ turns.Challenge ∷ turns.Outcome ∷ []) limit profile pieces taken sent last n
+    let signs = accepts_signature_by_challenge profile in
+    logs_in (ProfileSteps hostname) (of_client.ClientOutputs signs) IsOkReported (client_kind signs)
+    (of_client.client_follows signs) turns.Mechanisms limit profile pieces taken sent last n
 
 pub scram_servers_serve : ScramServersServe acceptor_machine (λ provider. ScramAcceptor provider Initial) acceptor_user
 scram_servers_serve provider limit pieces taken sent last n =

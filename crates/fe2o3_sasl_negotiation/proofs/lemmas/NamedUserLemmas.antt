@@ -1,12 +1,12 @@
 -- Who a server of two acceptors has logged in.
-use Rattle.std.proofs.Common.{◌≡◌, ℕ, Option, Some, None, List, [], ◌∷◌, refl, sym, ap, ◌∙◌, subst, inl, inr, Ok, Err}
+use Rattle.std.proofs.Common.{◌≡◌, ℕ, ◌+◌, Option, Some, None, List, [], ◌∷◌, ◌++◌, length, refl, sym, ap, ◌∙◌, subst, inl, inr, Ok, Err}
 use Rattle.fe2o3_sasl_wire.specs.declared.amqp_types.SaslCode.TheVariants as outcomes
 use Rattle.fe2o3_sasl_wire.specs.declared.sasl_frames.error.Error.{Error}
 use Rattle.fe2o3_sasl_wire.specs.declared.sasl_frames.error.Error.TheVariants as faults
 use Rattle.fe2o3_sasl_wire.specs.SaslFrames as frames
 use Rattle.fe2o3_sasl_wire.specs.SaslFrames.{SaslFrame, canonical}
 use Rattle.fe2o3_sasl_core.specs.Bodies.{SpellsBody, carried, server_says}
-use Rattle.fe2o3_sasl_core.specs.Events.{Given, ServerSays, Challenged, Concluded, Failed}
+use Rattle.fe2o3_sasl_core.specs.Events.{Given, ServerSays, Concluded, Failed}
 use Rattle.fe2o3_sasl_core.specs.AnyMechanism.{BothStates, PartReplies, part_for, part_with, any_mechanism_machine}
 use Rattle.fe2o3_sasl_core.specs.AnyMechanismLaws.{IsRefusal}
 use Rattle.fe2o3_sasl_core.specs.Runs.{Runs, AcceptorSteps, AcceptorAnswers}
@@ -14,16 +14,14 @@ use Rattle.fe2o3_sasl_core.specs.SaslAcceptor.{ends_with}
 use Rattle.fe2o3_sasl_core.specs.declared.any_mechanism.Selected.{Selected}
 use Rattle.fe2o3_sasl_core.specs.declared.any_mechanism.Selected.TheVariants.{First, Second}
 use Rattle.fe2o3_sasl_core.proofs.lemmas.frames.SpellingLemmas.{one_spelling}
-use Rattle.fe2o3_sasl_negotiation.specs.declared.progress.CloseReason.TheVariants.{Refused}
-use Rattle.fe2o3_sasl_negotiation.specs.declared.progress.Expected.TheVariants.{Frame}
 use Rattle.fe2o3_sasl_negotiation.specs.declared.progress.Progress.TheVariants.{InProgress}
+use Rattle.fe2o3_sasl_negotiation.specs.declared.progress.FrameKind.{FrameKind}
 use Rattle.fe2o3_sasl_negotiation.specs.declared.progress.FrameKind.TheVariants as turns
 use Rattle.fe2o3_sasl_negotiation.specs.Connections.{Piece, SpellsTurn, AreFrames, Replied, LastReply, IsOkSent}
 use Rattle.fe2o3_sasl_negotiation.specs.NamedUsers.{PartSteps, AnyMechanismLogsIn, AnyMechanismServersLogIn, AnyMechanismStepsLogIn}
 use Rattle.fe2o3_sasl_negotiation.specs.Negotiations.{SideOutput}
-use Rattle.fe2o3_sasl_negotiation.specs.ServerNegotiation.{ServerOutputs}
-use Rattle.fe2o3_sasl_negotiation.proofs.lemmas.ConnectionLemmas.{failed_is_not_in_progress}
-use Rattle.fe2o3_sasl_negotiation.proofs.lemmas.KindLemmas.{closes_waits_not, sends_ends}
+use Rattle.fe2o3_sasl_negotiation.specs.ServerNegotiation.{server_follows, ServerOutputs}
+use Rattle.fe2o3_sasl_negotiation.proofs.lemmas.ChallengeLemmas.{waits_after_challenge}
 use Rattle.fe2o3_sasl_negotiation.proofs.lemmas.LoginLemmas.{servers_log_in}
 
 -- Auth and an error are rejections, in any body
@@ -57,19 +55,10 @@ response_of body frame (frames.Challenge text, spells, in_turn) spelled = absurd
 response_of body frame (frames.Outcome code more, spells, in_turn) spelled = absurd in_turn
 
 -- what leaves a server waiting is no rejection
-goes_on_is_no_refusal : (says : ServerSays) (answer : SideOutput) → ServerOutputs says turns.Init answer
+goes_on_is_no_refusal : (says : ServerSays) (turn : FrameKind) (answer : SideOutput) → ServerOutputs says turn answer
     → answer.progress ≡ InProgress → ¬ IsRefusal says
-goes_on_is_no_refusal (Challenged body) answer said waits refused = refused
-goes_on_is_no_refusal (Concluded outcomes.Auth body) answer sends waits refused =
-    sends_ends body _ (Frame turns.Init) answer (failed_is_not_in_progress (Refused outcomes.Auth)) sends waits
-goes_on_is_no_refusal (Concluded outcomes.Ok body) answer said waits refused = refused
-goes_on_is_no_refusal (Concluded outcomes.Sys body) answer said waits refused = refused
-goes_on_is_no_refusal (Concluded outcomes.SysPerm body) answer said waits refused = refused
-goes_on_is_no_refusal (Concluded outcomes.SysTemp body) answer said waits refused = refused
-goes_on_is_no_refusal (Failed faults.OutOfMemory) answer never waits refused = never
-goes_on_is_no_refusal (Failed faults.DecodeError) answer is waits refused = closes_waits_not _ _ answer is waits
-goes_on_is_no_refusal (Failed faults.NotImplemented) answer is waits refused = closes_waits_not _ _ answer is waits
-goes_on_is_no_refusal (Failed faults.TooLarge) answer is waits refused = closes_waits_not _ _ answer is waits
+goes_on_is_no_refusal says turn answer said waits refused =
+    let (body, is, sends) = waits_after_challenge says turn answer said waits in subst IsRefusal is refused
 
 module _ {S T : Type 0} (names : S → List (List ℕ)) (others : T → List (List ℕ))
     (machine : S → List ℕ → SaslFrame → SaslFrame → S → Type 0)
@@ -215,22 +204,107 @@ module _ {S T : Type 0} (names : S → List (List ℕ)) (others : T → List (Li
         steps,
       )
 
-  by_frames : (pieces : List Piece) (limit : ℕ) (events : List Given) (replies : List ServerSays) (answer : SideOutput)
-      (state last : BothStates S T) → AreFrames pieces limit 8 (turns.Init ∷ turns.Response ∷ []) events
-      → Runs Steps state events replies last → Replied ServerOutputs (turns.Init ∷ turns.Response ∷ []) replies answer
-      → LastReply IsOkSent replies → AnyMechanismLogsIn names others machine other events state last
-  by_frames pieces limit [] replies answer state last frames run replied ok =
-      absurd (subst (λ (l : List ServerSays). LastReply IsOkSent l) run.0 ok)
-  by_frames pieces limit (event ∷ []) replies answer state last frames
-      (says, next, none, step, is, (empty, end)) replied ok =
+  -- a response goes to the part of the last init
+  part_of_response : (part : Selected) (parts next : BothStates S T) (event : Given) (says : ServerSays)
+      → parts.selected ≡ Some part → SpellsTurn turns.Response event.body → Kept parts event says next
+      → (next.selected ≡ Some part) × PartSteps machine other part parts event says next
+  part_of_response part parts next event says asked in_turn (frame, spells, (part_then, goes, asked_then, steps)) =
+      let (text, response_is) = response_of event.body frame in_turn spells in
+      let one : part_then ≡ part =
+      same_part (sym goes ∙ (ap (part_for names others parts) response_is ∙ asked)) in (
+        asked_then ∙ ap (λ (p : Selected). Some p) one,
+        subst (λ (p : Selected). PartSteps machine other p parts event says next) one steps,
+      )
+    where
+      same_part : Some part_then ≡ Some part → part_then ≡ part
+      same_part same = cc
+
+  -- the last of these events, which this part answers Ok
+  record EndsBy (part : Selected) (events : List Given) (last : BothStates S T) : Type 0 where
+    before : BothStates S T
+    event : Given
+    ended : (earlier : List Given) × (events ≡ earlier ++ event ∷ [])
+    body : List ℕ
+    answers : PartSteps machine other part before event (Concluded outcomes.Ok body) last
+    named : last.selected ≡ Some part
+
+  -- one event more before them
+  one_before : (part : Selected) (first : Given) (events : List Given) (last : BothStates S T) → EndsBy part events last
+      → EndsBy part (first ∷ events) last
+  one_before part first events last e = record {
+    before = e.before;
+    event = e.event;
+    ended = (first ∷ e.ended.0, ap (λ (l : List Given). first ∷ l) e.ended.1);
+    body = e.body;
+    answers = e.answers;
+    named = e.named;
+  }
+
+  -- a run of one event that answers Ok
+  last_step : (state last : BothStates S T) (event : Given) (replies : List ServerSays)
+      → Runs Steps state (event ∷ []) replies last → LastReply IsOkSent replies
+      → (body : List ℕ) × Kept state event (Concluded outcomes.Ok body) last
+  last_step state last event replies (says, next, none, step, is, (empty, end)) ok =
       let all : replies ≡ says ∷ [] = is ∙ ap (λ (l : List ServerSays). says ∷ l) empty in
       let (body, same, fits) = subst (λ (l : List ServerSays). LastReply IsOkSent l) all ok in
       let now : Steps state event (Concluded outcomes.Ok body) last =
       subst (λ (s : ServerSays). Steps state event s last) same
       (subst (λ (p : BothStates S T). Steps state event says p) (sym end) step) in
+      (body, one_step state last event (Concluded outcomes.Ok body) (λ never. never) now)
+
+  -- the first step of a run of more events, and the run of the others
+  abbrev FirstStep : FrameKind → BothStates S T → Given → List Given → BothStates S T → Type 0
+  FirstStep turn state event events last = (says : ServerSays) × (next : BothStates S T) × (others : List ServerSays)
+      × (rest : SideOutput) × Kept state event says next × Runs Steps next events others last
+      × Replied ServerOutputs server_follows (server_follows turn) others rest × LastReply IsOkSent others
+
+  first_step : (turn : FrameKind) (state last : BothStates S T) (event second : Given) (events : List Given)
+      (replies : List ServerSays) (answer : SideOutput) → Runs Steps state (event ∷ second ∷ events) replies last
+      → Replied ServerOutputs server_follows turn replies answer → LastReply IsOkSent replies
+      → FirstStep turn state event (second ∷ events) last
+  first_step turn state last event second events replies answer
+      (says, mid, more, step, is, (then_says, next, others, step_then, is_then, run)) replied ok =
+      let all : replies ≡ says ∷ then_says ∷ others = is ∙ ap (λ (l : List ServerSays). says ∷ l) is_then in
+      let (first, rest, said, waits, later, _) =
+      subst (λ (l : List ServerSays). Replied ServerOutputs server_follows turn l answer) all replied in (
+        says,
+        mid,
+        then_says ∷ others,
+        rest,
+        one_step state mid event says (goes_on_is_no_refusal says turn first said waits) step,
+        (then_says, next, others, step_then, refl, run),
+        later,
+        subst (λ (l : List ServerSays). LastReply IsOkSent l) all ok,
+      )
+
+  by_responses : (pieces : List Piece) (limit at : ℕ) (part : Selected) (event : Given) (events : List Given)
+      (replies : List ServerSays) (answer : SideOutput) (state last : BothStates S T) → state.selected ≡ Some part
+      → AreFrames pieces limit at server_follows turns.Response (event ∷ events)
+      → Runs Steps state (event ∷ events) replies last
+      → Replied ServerOutputs server_follows turns.Response replies answer
+      → LastReply IsOkSent replies → EndsBy part (event ∷ events) last
+  by_responses pieces limit at part event [] replies answer state last asked frames run replied ok =
+      let (body, kept) = last_step state last event replies run ok in
+      let (named, steps) = part_of_response part state last event (Concluded outcomes.Ok body) asked frames.1 kept in
+      record { before = state; event = event; ended = ([], refl); body = body; answers = steps; named = named }
+  by_responses pieces limit at part event (second ∷ events) replies answer state last asked frames run replied ok =
+      let (says, next, others_said, rest, kept, later, replied_later, ok_later) =
+      first_step turns.Response state last event second events replies answer run replied ok in
+      let (asked_next, steps) = part_of_response part state next event says asked frames.1 kept in
+      one_before part event (second ∷ events) last
+      (by_responses pieces limit (at + (length event.body + 4)) part second events others_said rest next last asked_next
+      frames.3 later replied_later ok_later)
+
+  by_frames : (pieces : List Piece) (limit : ℕ) (events : List Given) (replies : List ServerSays) (answer : SideOutput)
+      (state last : BothStates S T) → AreFrames pieces limit 8 server_follows turns.Init events
+      → Runs Steps state events replies last → Replied ServerOutputs server_follows turns.Init replies answer
+      → LastReply IsOkSent replies → AnyMechanismLogsIn names others machine other events state last
+  by_frames pieces limit [] replies answer state last frames run replied ok =
+      absurd (subst (λ (l : List ServerSays). LastReply IsOkSent l) run.0 ok)
+  by_frames pieces limit (event ∷ []) replies answer state last frames run replied ok =
+      let (body, kept) = last_step state last event replies run ok in
       let (mechanism, response, hostname, part, spells, has, asked, steps) =
-      part_of_init state last event (Concluded outcomes.Ok body) frames.1
-      (one_step state last event (Concluded outcomes.Ok body) (λ never. never) now) in
+      part_of_init state last event (Concluded outcomes.Ok body) frames.1 kept in
       record {
         mechanism = mechanism;
         part = part;
@@ -243,42 +317,26 @@ module _ {S T : Type 0} (names : S → List (List ℕ)) (others : T → List (Li
         answers = steps;
         named = asked;
       }
-  by_frames pieces limit (event ∷ second ∷ []) replies answer state last frames
-      (says, mid, more, step, is, (then, next, none, step_then, is_then, (empty, end))) replied ok =
-      let all : replies ≡ says ∷ then ∷ [] =
-      is ∙ ap (λ (l : List ServerSays). says ∷ l) (is_then ∙ ap (λ (l : List ServerSays). then ∷ l) empty) in
-      let (body, same, fits) = subst (λ (l : List ServerSays). LastReply IsOkSent l) all ok in
-      let (first, rest, said, waits, _, _) =
-      subst (λ (l : List ServerSays). Replied ServerOutputs (turns.Init ∷ turns.Response ∷ []) l answer) all replied in
+  by_frames pieces limit (event ∷ second ∷ events) replies answer state last frames run replied ok =
+      let (says, next, others_said, rest, kept, later, replied_later, ok_later) =
+      first_step turns.Init state last event second events replies answer run replied ok in
       let (mechanism, response, hostname, part, spells, has, asked, steps) =
-      part_of_init state mid event says frames.1
-      (one_step state mid event says (goes_on_is_no_refusal says first said waits) step) in
-      let now : Steps mid second (Concluded outcomes.Ok body) last =
-      subst (λ (s : ServerSays). Steps mid second s last) same
-      (subst (λ (p : BothStates S T). Steps mid second then p) (sym end) step_then) in
-      let (frame, spelled, (part_then, goes, asked_then, steps_then)) =
-      one_step mid last second (Concluded outcomes.Ok body) (λ never. never) now in
-      let (text, response_is) = response_of second.body frame frames.3.1 spelled in
-      let one : part_then ≡ part =
-      same_part part_then part (sym goes ∙ (ap (part_for names others mid) response_is ∙ asked)) in
+      part_of_init state next event says frames.1 kept in
+      let e = one_before part event (second ∷ events) last
+      (by_responses pieces limit (8 + (length event.body + 4)) part second events others_said rest next last asked frames.3
+      later replied_later ok_later) in
       record {
         mechanism = mechanism;
         part = part;
-        selected = (event, second ∷ [], response, hostname, refl, spells);
+        selected = (event, second ∷ events, response, hostname, refl, spells);
         has = has;
-        before = mid;
-        event = second;
-        ended = (event ∷ [], refl);
-        body = body;
-        answers = subst (λ (p : Selected). PartSteps machine other p mid second (Concluded outcomes.Ok body) last) one
-            steps_then;
-        named = asked_then ∙ ap (λ (p : Selected). Some p) one;
+        before = e.before;
+        event = e.event;
+        ended = e.ended;
+        body = e.body;
+        answers = e.answers;
+        named = e.named;
       }
-    where
-      same_part : (one two : Selected) → Some one ≡ Some two → one ≡ two
-      same_part one two same = cc
-  by_frames pieces limit (event ∷ second ∷ third ∷ events) replies answer state last frames run replied ok =
-      absurd frames.3.3
 
   pub any_mechanism_servers_log_in : AnyMechanismServersLogIn names others machine other
   any_mechanism_servers_log_in limit state pieces taken sent last n logged =

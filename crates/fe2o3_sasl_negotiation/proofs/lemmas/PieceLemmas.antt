@@ -1,5 +1,5 @@
 -- Bytes that arrive in pieces: frames, their nonces and replies, one more at a time.
-use Rattle.std.proofs.Common.{◌≡◌, ◌≢◌, ℕ, zero, suc, ◌+◌, ◌<◌, ◌≤◌, Some, List, [], ◌∷◌, ◌++◌, length, take, drop, refl, sym, ap, ◌∙◌, subst, append_assoc, arith, length-append}
+use Rattle.std.proofs.Common.{◌≡◌, ℕ, zero, suc, ◌+◌, ◌<◌, ◌≤◌, Some, List, [], ◌∷◌, ◌++◌, length, take, drop, refl, sym, ap, ◌∙◌, subst, append_assoc, arith, length-append}
 use Rattle.std.specs.Prelude.{slice_get, replicate, flat_map}
 use Rattle.std.specs.Int.{w32, to_be_bytes}
 use Rattle.std.proofs.lemmas.Grind.{flat_map-append}
@@ -111,43 +111,43 @@ frames_of-more events event =
     flat_map-append (λ (e : Given). framed e.body) events (event ∷ [])
     ∙ ap (λ l. frames_of events ++ l) (append-nil (framed event.body))
 
+-- the turn after n answers, the first in this turn
+abbrev pub turn_after : (FrameKind → FrameKind) → FrameKind → ℕ → FrameKind
+turn_after follows turn zero = turn
+turn_after follows turn (suc n) = turn_after follows (follows turn) n
+
 -- frames of more pieces
-pub frames_of_more : (pieces more : List Piece) (limit at : ℕ) (turns : List FrameKind) (events : List Given)
-    → AreFrames pieces limit at turns events → AreFrames (pieces ++ more) limit at turns events
-frames_of_more pieces more limit at turns [] are = tt
-frames_of_more pieces more limit at [] (event ∷ events) are = are
-frames_of_more pieces more limit at (turn ∷ turns) (event ∷ events) (fits, spells, nonce, others) = (
+pub frames_of_more : (pieces more : List Piece) (limit at : ℕ) (follows : FrameKind → FrameKind) (turn : FrameKind)
+    (events : List Given) → AreFrames pieces limit at follows turn events
+    → AreFrames (pieces ++ more) limit at follows turn events
+frames_of_more pieces more limit at follows turn [] are = tt
+frames_of_more pieces more limit at follows turn (event ∷ events) (fits, spells, nonce, others) = (
   fits,
   spells,
   nonce_of_more pieces more (at + (length event.body + 3)) event.nonce nonce,
-  frames_of_more pieces more limit (at + (length event.body + 4)) turns events others,
+  frames_of_more pieces more limit (at + (length event.body + 4)) follows (follows turn) events others,
 )
 
 -- one frame more
-pub one_frame_more : (pieces : List Piece) (limit at : ℕ) (turns : List FrameKind) (events : List Given) (turn : FrameKind)
-    (event : Given) → AreFrames pieces limit at turns events → slice_get turns (length events) ≡ Some turn
+pub one_frame_more : (pieces : List Piece) (limit at : ℕ) (follows : FrameKind → FrameKind) (first : FrameKind)
+    (events : List Given) (turn : FrameKind) (event : Given) → AreFrames pieces limit at follows first events
+    → turn_after follows first (length events) ≡ turn
     → Fits limit (length event.body + 4) → SpellsTurn turn event.body
     → PieceNonceAt pieces (at + (length (frames_of events) + (length event.body + 3))) event.nonce
-    → AreFrames pieces limit at turns (events ++ event ∷ [])
-one_frame_more pieces limit at [] [] turn event are expected fits spells nonce = absurd (none expected)
-  where
-    none : slice_get {X = FrameKind} [] 0 ≡ Some turn → ⊥
-    none expected = cc
-one_frame_more pieces limit at [] (first ∷ events) turn event are expected fits spells nonce = are
-one_frame_more pieces limit at (first ∷ turns) [] turn event are expected fits spells nonce =
-    let same : turn ≡ first = cc in (
-      fits,
-      subst (λ (t : FrameKind). SpellsTurn t event.body) same spells,
-      subst (λ n. PieceNonceAt pieces n event.nonce) (omega arith) nonce,
-      tt,
-    )
-one_frame_more pieces limit at (first ∷ turns) (other ∷ events) turn event (fits_first, spells_first, nonce_first, others)
+    → AreFrames pieces limit at follows first (events ++ event ∷ [])
+one_frame_more pieces limit at follows first [] turn event are expected fits spells nonce = (
+  fits,
+  subst (λ (t : FrameKind). SpellsTurn t event.body) (sym expected) spells,
+  subst (λ n. PieceNonceAt pieces n event.nonce) (omega arith) nonce,
+  tt,
+)
+one_frame_more pieces limit at follows first (other ∷ events) turn event (fits_first, spells_first, nonce_first, others)
     expected fits spells nonce = (
       fits_first,
       spells_first,
       nonce_first,
-      one_frame_more pieces limit (at + (length other.body + 4)) turns events turn event others expected fits spells
-          (subst (λ n. PieceNonceAt pieces n event.nonce) (place (length-frames_of other events)) nonce),
+      one_frame_more pieces limit (at + (length other.body + 4)) follows (follows first) events turn event others expected
+          fits spells (subst (λ n. PieceNonceAt pieces n event.nonce) (place (length-frames_of other events)) nonce),
     )
   where
     place : length (frames_of (other ∷ events)) ≡ (length other.body + 4) + length (frames_of events)
@@ -157,58 +157,46 @@ one_frame_more pieces limit at (first ∷ turns) (other ∷ events) turn event (
 
 -- ---- replies
 
--- what a reply leaves expected is the next turn
-abbrev pub IsChain : {A : Type 0} → (A → FrameKind → SideOutput → Type 0) → List FrameKind → Type 0
-IsChain Says [] = Unit {0}
-IsChain {A} Says (turn ∷ []) = (says : A) (answer : SideOutput) → Says says turn answer → answer.progress ≢ InProgress
-IsChain {A} Says (turn ∷ next ∷ turns) =
-    ((says : A) (answer : SideOutput) → Says says turn answer → answer.progress ≡ InProgress → answer.expected ≡ Frame next)
-    × IsChain Says (next ∷ turns)
+-- what a reply leaves expected is the turn that follows
+abbrev pub IsChain : {A : Type 0} → (A → FrameKind → SideOutput → Type 0) → (FrameKind → FrameKind) → Type 0
+IsChain {A} Says follows = (turn : FrameKind) (says : A) (answer : SideOutput) → Says says turn answer
+    → answer.progress ≡ InProgress → answer.expected ≡ Frame (follows turn)
 
 frame_turn : (turn other : FrameKind) (expected : Expected) → expected ≡ Frame turn → expected ≡ Frame other → turn ≡ other
 frame_turn turn other expected one two = let same : Frame turn ≡ Frame other = sym one ∙ two in cc
 
-module _ {A : Type 0} (Says : A → FrameKind → SideOutput → Type 0) where
-  -- where a side waits after its replies, a turn is expected
-  pub due_after : (turns : List FrameKind) (replies : List A) (answer : SideOutput) → IsChain Says turns
-      → Replied Says turns replies answer → answer.progress ≡ InProgress
-      → (turn : FrameKind) × (answer.expected ≡ Frame turn) × (slice_get turns (length replies) ≡ Some turn)
-  due_after [] replies answer chain replied waits = absurd replied
-  due_after (turn ∷ turns) [] answer chain replied waits = (turn, ap (λ (a : SideOutput). a.expected) replied, refl)
-  due_after (turn ∷ []) (says ∷ []) answer chain replied waits = absurd (chain says answer replied waits)
-  due_after (turn ∷ next ∷ turns) (says ∷ []) answer chain replied waits =
-      (next, chain.0 says answer replied waits, refl)
-  due_after (turn ∷ []) (says ∷ more ∷ replies) answer chain (first, rest, _, _, replied, _) waits = absurd replied
-  due_after (turn ∷ next ∷ turns) (says ∷ more ∷ replies) answer chain (first, rest, _, _, replied, is) waits =
-      let (expected, same, at) = due_after (next ∷ turns) (more ∷ replies) rest chain.1 replied
-      (sym (ap (λ (a : SideOutput). a.progress) is) ∙ waits) in
-      (expected, ap (λ (a : SideOutput). a.expected) is ∙ same, at)
+module _ {A : Type 0} (Says : A → FrameKind → SideOutput → Type 0) (follows : FrameKind → FrameKind) where
+  -- where a side waits after its replies, the turn after them is expected
+  pub due_after : (first : FrameKind) (replies : List A) (answer : SideOutput) → IsChain Says follows
+      → Replied Says follows first replies answer → answer.progress ≡ InProgress
+      → answer.expected ≡ Frame (turn_after follows first (length replies))
+  due_after first [] answer chain replied waits = ap (λ (a : SideOutput). a.expected) replied
+  due_after first (says ∷ []) answer chain replied waits = chain first says answer replied waits
+  due_after first (says ∷ more ∷ replies) answer chain (start, rest, _, _, replied, is) waits =
+      ap (λ (a : SideOutput). a.expected) is ∙ due_after (follows first) (more ∷ replies) rest chain replied
+      (sym (ap (λ (a : SideOutput). a.progress) is) ∙ waits)
 
   -- one reply more
-  pub one_reply_more : (turns : List FrameKind) (replies : List A) (before after : SideOutput) (turn : FrameKind) (says : A)
-      → IsChain Says turns → Replied Says turns replies before → before.progress ≡ InProgress → before.expected ≡ Frame turn
-      → Says says turn after
-      → Replied Says turns (replies ++ says ∷ []) (record after { sent = before.sent ++ after.sent })
-  one_reply_more [] replies before after turn says chain replied waits expected more = absurd replied
-  one_reply_more (first ∷ turns) [] before after turn says chain replied waits expected more =
+  pub one_reply_more : (first : FrameKind) (replies : List A) (before after : SideOutput) (turn : FrameKind) (says : A)
+      → IsChain Says follows → Replied Says follows first replies before → before.progress ≡ InProgress
+      → before.expected ≡ Frame turn → Says says turn after
+      → Replied Says follows first (replies ++ says ∷ []) (record after { sent = before.sent ++ after.sent })
+  one_reply_more first [] before after turn says chain replied waits expected more =
       let same : turn ≡ first = frame_turn turn first before.expected expected (ap (λ (a : SideOutput). a.expected) replied) in
       let nothing : before.sent ≡ [] = ap (λ (a : SideOutput). a.sent) replied in
       subst (λ (l : List ℕ). Says says first (record after { sent = l ++ after.sent })) (sym nothing)
       (subst (λ (t : FrameKind). Says says t after) same more)
-  one_reply_more (first ∷ []) (one ∷ []) before after turn says chain replied waits expected more =
-      absurd (chain one before replied waits)
-  one_reply_more (first ∷ next ∷ turns) (one ∷ []) before after turn says chain replied waits expected more =
-      let same : turn ≡ next = frame_turn turn next before.expected expected (chain.0 one before replied waits) in
+  one_reply_more first (one ∷ []) before after turn says chain replied waits expected more =
+      let same : turn ≡ follows first =
+      frame_turn turn (follows first) before.expected expected (chain first one before replied waits) in
       (before, after, replied, waits, subst (λ (t : FrameKind). Says says t after) same more, refl)
-  one_reply_more (first ∷ []) (one ∷ other ∷ replies) before after turn says chain (start, rest, _, _, replied, _) waits expected
-      more = absurd replied
-  one_reply_more (first ∷ next ∷ turns) (one ∷ other ∷ replies) before after turn says chain
-      (start, rest, said, went, replied, is) waits expected more = (
+  one_reply_more first (one ∷ other ∷ replies) before after turn says chain (start, rest, said, went, replied, is) waits
+      expected more = (
         start,
         record after { sent = rest.sent ++ after.sent },
         said,
         went,
-        one_reply_more (next ∷ turns) (other ∷ replies) rest after turn says chain.1 replied
+        one_reply_more (follows first) (other ∷ replies) rest after turn says chain replied
             (sym (ap (λ (a : SideOutput). a.progress) is) ∙ waits) (sym (ap (λ (a : SideOutput). a.expected) is) ∙ expected) more,
         ap (λ (l : List ℕ). record after { sent = l })
             (ap (λ (a : SideOutput). a.sent ++ after.sent) is ∙ append_assoc start.sent rest.sent after.sent),

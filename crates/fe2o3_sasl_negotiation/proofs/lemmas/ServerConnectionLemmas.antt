@@ -1,13 +1,11 @@
 -- Every connection of a server is a run of its acceptor over the bodies of its frames.
-use Rattle.std.proofs.Common.{◌≡◌, ◌≢◌, ℕ, ◌+◌, ◌-◌, ◌<◌, ◌≤◌, Option, Some, None, List, [], ◌∷◌, ◌++◌, length, take, refl, sym, ap, ◌∙◌, subst, inl, inr, append_assoc, arith}
+use Rattle.std.proofs.Common.{◌≡◌, ◌≢◌, ℕ, ◌+◌, ◌-◌, ◌<◌, ◌≤◌, Option, Some, None, List, [], ◌++◌, length, take, refl, sym, ap, ◌∙◌, subst, inl, inr, append_assoc, arith}
 use Rattle.std.proofs.lemmas.List.{append-nil, length-take-le, take_all}
 use Rattle.bytes.proofs.Ranges.{take-append_past}
-use Rattle.fe2o3_sasl_wire.specs.declared.amqp_types.SaslCode.TheVariants as outcomes
-use Rattle.fe2o3_sasl_wire.specs.declared.sasl_frames.error.Error.TheVariants as faults
 use Rattle.fe2o3_sasl_wire.specs.SaslFrames.{SaslFrame, IsBytes}
-use Rattle.fe2o3_sasl_core.specs.Events.{ServerSays, Challenged, Concluded, Failed}
+use Rattle.fe2o3_sasl_core.specs.Events.{Given, ServerSays}
 use Rattle.fe2o3_sasl_core.specs.Runs.{AcceptorSteps}
-use Rattle.fe2o3_sasl_negotiation.specs.declared.progress.CloseReason.TheVariants.{ProtocolHeaderMismatch, ReplyTooLarge, Refused}
+use Rattle.fe2o3_sasl_negotiation.specs.declared.progress.CloseReason.TheVariants.{ProtocolHeaderMismatch, ReplyTooLarge}
 use Rattle.fe2o3_sasl_negotiation.specs.declared.progress.Expected.{Expected}
 use Rattle.fe2o3_sasl_negotiation.specs.declared.progress.Expected.TheVariants.{Header, Frame}
 use Rattle.fe2o3_sasl_negotiation.specs.declared.progress.Progress.{Progress}
@@ -17,54 +15,35 @@ use Rattle.fe2o3_sasl_negotiation.specs.declared.progress.FrameKind.TheVariants 
 use Rattle.fe2o3_sasl_negotiation.specs.Connections.{Piece, OffersNone, ServerConnection, ServersConnect, fresh}
 use Rattle.fe2o3_sasl_negotiation.specs.Framing.{sasl_header, framed}
 use Rattle.fe2o3_sasl_negotiation.specs.Negotiations.{Side, SideOutput, Receives, ReceivesAt}
-use Rattle.fe2o3_sasl_negotiation.specs.ServerNegotiation.{offer_body, Offers, ServerOpens, ServerOutputs, ServerSideAnswers, ServerReceives}
+use Rattle.fe2o3_sasl_negotiation.specs.ServerNegotiation.{offer_body, Offers, ServerOpens, server_follows, ServerOutputs, ServerSideAnswers, ServerReceives}
 use Rattle.fe2o3_sasl_negotiation.specs.private.Pieces.{NextNonces}
-use Rattle.fe2o3_sasl_negotiation.proofs.lemmas.ConnectionLemmas.{failed_is_not_in_progress, authenticated_is_not_in_progress, opened, negotiated_call, negotiated_more, rests_there, connected}
-use Rattle.fe2o3_sasl_negotiation.proofs.lemmas.KindLemmas.{progress_of, closes_waits_not, sends_goes_on, sends_ends}
+use Rattle.fe2o3_sasl_negotiation.proofs.lemmas.ChallengeLemmas.{waits_after_challenge}
+use Rattle.fe2o3_sasl_negotiation.proofs.lemmas.ConnectionLemmas.{failed_is_not_in_progress, opened, negotiated_call, negotiated_more, rests_there, connected}
+use Rattle.fe2o3_sasl_negotiation.proofs.lemmas.KindLemmas.{progress_of, sends_goes_on}
+use Rattle.fe2o3_sasl_negotiation.proofs.lemmas.PieceLemmas.{IsChain}
 
--- a challenge leaves a server waiting for a response, and no other reply leaves it waiting
-says_next : (says : ServerSays) (answer : SideOutput) → ServerOutputs says turns.Init answer → answer.progress ≡ InProgress
-    → answer.expected ≡ Frame turns.Response
-says_next (Challenged body) answer sends waits = sends_goes_on body turns.Response answer sends waits
-says_next (Concluded outcomes.Ok body) answer sends waits =
-    absurd (sends_ends body Authenticated (Frame turns.Init) answer authenticated_is_not_in_progress sends waits)
-says_next (Concluded outcomes.Auth body) answer sends waits =
-    absurd (sends_ends body _ (Frame turns.Init) answer (failed_is_not_in_progress (Refused outcomes.Auth)) sends waits)
-says_next (Concluded outcomes.Sys body) answer sends waits =
-    absurd (sends_ends body _ (Frame turns.Init) answer (failed_is_not_in_progress (Refused outcomes.Sys)) sends waits)
-says_next (Concluded outcomes.SysPerm body) answer sends waits =
-    absurd (sends_ends body _ (Frame turns.Init) answer (failed_is_not_in_progress (Refused outcomes.SysPerm)) sends waits)
-says_next (Concluded outcomes.SysTemp body) answer sends waits =
-    absurd (sends_ends body _ (Frame turns.Init) answer (failed_is_not_in_progress (Refused outcomes.SysTemp)) sends waits)
-says_next (Failed faults.OutOfMemory) answer never waits = absurd never
-says_next (Failed faults.DecodeError) answer is waits = absurd (closes_waits_not _ _ answer is waits)
-says_next (Failed faults.NotImplemented) answer is waits = absurd (closes_waits_not _ _ answer is waits)
-says_next (Failed faults.TooLarge) answer is waits = absurd (closes_waits_not _ _ answer is waits)
-
-says_last : (says : ServerSays) (answer : SideOutput) → ServerOutputs says turns.Response answer → answer.progress ≢ InProgress
-says_last (Challenged body) answer is waits = closes_waits_not _ _ answer is waits
-says_last (Concluded outcomes.Ok body) answer sends waits =
-    sends_ends body Authenticated (Frame turns.Response) answer authenticated_is_not_in_progress sends waits
-says_last (Concluded outcomes.Auth body) answer sends waits =
-    sends_ends body _ (Frame turns.Response) answer (failed_is_not_in_progress (Refused outcomes.Auth)) sends waits
-says_last (Concluded outcomes.Sys body) answer sends waits =
-    sends_ends body _ (Frame turns.Response) answer (failed_is_not_in_progress (Refused outcomes.Sys)) sends waits
-says_last (Concluded outcomes.SysPerm body) answer sends waits =
-    sends_ends body _ (Frame turns.Response) answer (failed_is_not_in_progress (Refused outcomes.SysPerm)) sends waits
-says_last (Concluded outcomes.SysTemp body) answer sends waits =
-    sends_ends body _ (Frame turns.Response) answer (failed_is_not_in_progress (Refused outcomes.SysTemp)) sends waits
-says_last (Failed faults.OutOfMemory) answer never waits = never
-says_last (Failed faults.DecodeError) answer is waits = closes_waits_not _ _ answer is waits
-says_last (Failed faults.NotImplemented) answer is waits = closes_waits_not _ _ answer is waits
-says_last (Failed faults.TooLarge) answer is waits = closes_waits_not _ _ answer is waits
+-- a server waits for a response
+server_chain : IsChain ServerOutputs server_follows
+server_chain turn says answer said waits =
+    let (body, is, sends) = waits_after_challenge says turn answer said waits in
+    sends_goes_on body turns.Response answer sends waits
 
 module _ {S : Type 0} (names : S → List (List ℕ)) (machine : S → List ℕ → SaslFrame → SaslFrame → S → Type 0)
     (limit : ℕ) (state : S) (pieces : List Piece) where
   abbrev Is : List ℕ → List ℕ → Side S → Type 0
   Is taken sent last = ServerConnection names machine limit state pieces taken sent last
 
-  abbrev seen : List FrameKind
-  seen = turns.Init ∷ turns.Response ∷ []
+  -- a server's state is of no kind that has to stay
+  abbrev Any : S → Type 0
+  Any at = Unit {0}
+
+  any_stays : (one next : S) (event : Given) (says : ServerSays) → Any one → AcceptorSteps machine one event says next → Any next
+  any_stays one next event says any steps = tt
+
+  asks : (turn : FrameKind) (one next : S) (nonce unit : List ℕ) (answer : SideOutput) → Any one
+      → ServerSideAnswers names machine (Frame turn) one nonce unit answer next
+      → ServerSideAnswers names machine (Frame turn) one nonce unit answer next
+  asks turn one next nonce unit answer any answers = answers
 
   -- ---- the header
 
@@ -127,9 +106,8 @@ module _ {S : Type 0} (names : S → List (List ℕ)) (machine : S → List ℕ 
           is,
           fits,
           sends ∙ (ap (λ (a : SideOutput). a.sent) here ∙ ap (λ l. sasl_header ++ l) (sym (append-nil (framed body)))),
-          opened (ServerSideAnswers names machine) (AcceptorSteps machine) ServerOutputs seen (says_next, says_last)
-              (λ turn s n nonce unit a h. h) limit state pieces (taken ++ take k bytes) turns.Init (turns.Response ∷ [])
-              next refl (come ∙ header)
+          opened (ServerSideAnswers names machine) (AcceptorSteps machine) ServerOutputs server_follows turns.Init Any
+              any_stays server_chain asks limit state pieces (taken ++ take k bytes) next (come ∙ header)
               (same ∙ (ap (λ (a : SideOutput). record {
                 progress = a.progress;
                 expected = a.expected;
@@ -195,8 +173,8 @@ module _ {S : Type 0} (names : S → List (List ℕ)) (machine : S → List ℕ 
         fits,
         ap (λ l. l ++ first) all ∙ (append_assoc sasl_header (framed offer ++ out) first
             ∙ ap (λ l. sasl_header ++ l) (append_assoc (framed offer) out first)),
-        negotiated_call (ServerSideAnswers names machine) (AcceptorSteps machine) ServerOutputs seen (says_next, says_last)
-            (λ turn s n nonce unit a h. h) limit state pieces taken out side next bytes nonce first k negotiated at
+        negotiated_call (ServerSideAnswers names machine) (AcceptorSteps machine) ServerOutputs server_follows turns.Init
+            Any any_stays server_chain asks limit state pieces taken out side next bytes nonce first k tt negotiated at
             are_bytes nonces receives,
       )))
 
@@ -221,8 +199,8 @@ module _ {S : Type 0} (names : S → List (List ℕ)) (machine : S → List ℕ 
     is,
     fits,
     all,
-    negotiated_more (ServerSideAnswers names machine) (AcceptorSteps machine) ServerOutputs seen (says_next, says_last)
-        (λ turn s n nonce unit a h. h) limit state pieces more taken out side negotiated,
+    negotiated_more (ServerSideAnswers names machine) (AcceptorSteps machine) ServerOutputs server_follows turns.Init Any
+        any_stays server_chain asks limit state pieces more taken out side negotiated,
   )))
 
 pub servers_connect : {S : Type 0} (names : S → List (List ℕ)) (machine : S → List ℕ → SaslFrame → SaslFrame → S → Type 0)

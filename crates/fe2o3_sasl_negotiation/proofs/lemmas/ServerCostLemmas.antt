@@ -1,6 +1,5 @@
 -- What a connection of a SCRAM server costs: a response is the last body that is answered.
-use Rattle.std.proofs.Common.{◌≡◌, ◌⊎◌, ℕ, ◌+◌, ◌≤◌, Option, List, [], ◌∷◌, ◌++◌, drop, take, refl, ap, ◌∙◌, subst, sym, inl, inr, Result, Ok, Err, arith}
-use Rattle.fe2o3_sasl_wire.specs.declared.amqp_types.SaslCode.TheVariants as outcomes
+use Rattle.std.proofs.Common.{◌≡◌, ◌⊎◌, ℕ, ◌+◌, ◌<◌, ◌≤◌, Option, List, [], ◌∷◌, ◌++◌, drop, take, refl, ap, ◌∙◌, subst, sym, inl, inr, Result, Ok, Err, arith}
 use Rattle.fe2o3_sasl_wire.specs.declared.sasl_frames.error.Error.{Error}
 use Rattle.fe2o3_sasl_wire.specs.declared.sasl_frames.error.Error.TheVariants as faults
 use Rattle.fe2o3_sasl_wire.specs.SaslFrames as frames
@@ -9,13 +8,12 @@ use Rattle.fe2o3_scram.specs.Credentials.{Provider}
 use Rattle.fe2o3_scram.specs.ScramServer.{ServerState}
 use Rattle.fe2o3_sasl_core.specs.Bodies.{SpellsBody}
 use Rattle.fe2o3_sasl_core.specs.Costs.{acceptor_hmacs, CostsAtMost, AcceptorCostsOf, AcceptorStepCosts}
-use Rattle.fe2o3_sasl_core.specs.Events.{Given, ServerSays, Challenged, Concluded, Failed}
+use Rattle.fe2o3_sasl_core.specs.Events.{Given, ServerSays, Failed}
 use Rattle.fe2o3_sasl_core.specs.Runs.{AcceptorSteps}
 use Rattle.fe2o3_sasl_core.specs.SaslAcceptor.{Acceptor, ScramAcceptor, acceptor_names, acceptor_machine}
 use Rattle.fe2o3_sasl_core.proofs.lemmas.frames.SpellingLemmas.{one_spelling}
 use Rattle.fe2o3_sasl_core.proofs.lemmas.machines.RunCostLemmas.{server_runs_cost}
 use Rattle.fe2o3_sasl_core.proofs.lemmas.machines.ServerMachineLemmas.{gives_back}
-use Rattle.fe2o3_sasl_negotiation.specs.declared.progress.CloseReason.{CloseReason}
 use Rattle.fe2o3_sasl_negotiation.specs.declared.progress.Expected.{Expected}
 use Rattle.fe2o3_sasl_negotiation.specs.declared.progress.Expected.TheVariants.{Header, Frame}
 use Rattle.fe2o3_sasl_negotiation.specs.declared.progress.Progress.{Progress}
@@ -25,12 +23,13 @@ use Rattle.fe2o3_sasl_negotiation.specs.declared.progress.FrameKind.TheVariants 
 use Rattle.fe2o3_sasl_negotiation.specs.CostLaws.{ServersCost}
 use Rattle.fe2o3_sasl_negotiation.specs.Connections.{fresh}
 use Rattle.fe2o3_sasl_negotiation.specs.Framing.{size_of}
-use Rattle.fe2o3_sasl_negotiation.specs.Negotiations.{Side, SideOutput, Completes, Sends, IsInTurn, Receives}
-use Rattle.fe2o3_sasl_negotiation.specs.ServerNegotiation.{ServerOutputs, ServerSideAnswers, ServerCosts}
+use Rattle.fe2o3_sasl_negotiation.specs.Negotiations.{Side, SideOutput, Completes, IsInTurn, Receives}
+use Rattle.fe2o3_sasl_negotiation.specs.ServerNegotiation.{ServerSideAnswers, ServerCosts}
 use Rattle.fe2o3_sasl_negotiation.specs.Retries.{ServersRetry}
+use Rattle.fe2o3_sasl_negotiation.proofs.lemmas.ChallengeLemmas.{challenge_of_answer, one_challenge}
 use Rattle.fe2o3_sasl_negotiation.proofs.lemmas.CostLemmas.{none, same_of, paid_calls, rests, Left, leaves, answers_whole}
 use Rattle.fe2o3_sasl_negotiation.proofs.lemmas.RetryLemmas.{paid_retried}
-use Rattle.fe2o3_sasl_negotiation.proofs.lemmas.KindLemmas.{closes_waits_not, progress_of, sends_ends, sends_goes_on}
+use Rattle.fe2o3_sasl_negotiation.proofs.lemmas.KindLemmas.{sends_goes_on}
 
 -- the acceptor is of SCRAM still, over the same records
 abbrev pub IsScram : Provider → Acceptor → Type 0
@@ -68,70 +67,24 @@ keeps provider side next bytes nonce early (inr (inl closed)) = (early.0, closed
 keeps provider side next bytes nonce early (inr (inr whole)) =
     answer_keeps provider side.expected side.state next.state nonce whole.1 whole.0 early whole.2
 
--- the progress after an answer to a response: it ends
-closed_ends : (why : CloseReason) (progress : Progress) → progress ≡ HasFailed why → progress ≡ InProgress → ⊥
-closed_ends why progress closed wants = let apart = sym closed ∙ wants in absurd (cc)
-
-logged_ends : (progress : Progress) → progress ≡ Authenticated → progress ≡ InProgress → ⊥
-logged_ends progress logged wants = let apart = sym logged ∙ wants in absurd (cc)
-
-sends_closed : (why : CloseReason) (body : List ℕ) (expected : Expected) (answer : SideOutput)
-    → Sends body (HasFailed why) expected answer → answer.progress ≡ InProgress → ⊥
-sends_closed why body expected answer (inl (fits, same)) = closed_ends _ answer.progress (progress_of answer _ same)
-sends_closed why body expected answer (inr (long, same)) = closed_ends _ answer.progress (progress_of answer _ same)
-
-said_ends : (says : ServerSays) (answer : SideOutput) → ServerOutputs says turns.Response answer → answer.progress ≡ InProgress → ⊥
-said_ends (Challenged body) answer is = closed_ends _ answer.progress (progress_of answer _ is)
-said_ends (Concluded outcomes.Ok body) answer (inl (fits, same)) =
-    logged_ends answer.progress (progress_of answer _ same)
-said_ends (Concluded outcomes.Ok body) answer (inr (long, same)) =
-    closed_ends _ answer.progress (progress_of answer _ same)
-said_ends (Concluded outcomes.Auth body) answer sends = sends_closed _ body _ answer sends
-said_ends (Concluded outcomes.Sys body) answer sends = sends_closed _ body _ answer sends
-said_ends (Concluded outcomes.SysPerm body) answer sends = sends_closed _ body _ answer sends
-said_ends (Concluded outcomes.SysTemp body) answer sends = sends_closed _ body _ answer sends
-said_ends (Failed faults.OutOfMemory) answer never = absurd never
-said_ends (Failed faults.DecodeError) answer is = closed_ends _ answer.progress (progress_of answer _ is)
-said_ends (Failed faults.NotImplemented) answer is = closed_ends _ answer.progress (progress_of answer _ is)
-said_ends (Failed faults.TooLarge) answer is = closed_ends _ answer.progress (progress_of answer _ is)
-
+-- the answer to a response is the last
 response_ends : (acceptor next : Acceptor) (nonce unit : List ℕ) (answer : SideOutput)
     → ServerSideAnswers acceptor_names acceptor_machine (Frame turns.Response) acceptor nonce unit answer next
     → answer.progress ≡ InProgress → ⊥
-response_ends acceptor next nonce unit answer (Err fault, spells, closed) =
-    closed_ends _ answer.progress (progress_of answer _ closed.0)
-response_ends acceptor next nonce unit answer (Ok frame, spells, inl out) =
-    closed_ends _ answer.progress (progress_of answer _ out.1)
-response_ends acceptor next nonce unit answer (Ok frame, spells, inr asks) = said_ends asks.1.0 answer asks.1.2
+response_ends acceptor next nonce unit answer answers waits =
+    let (in_turn, (body, steps, sends)) =
+    challenge_of_answer acceptor_machine acceptor_names turns.Response acceptor next nonce unit answer answers waits in
+    let fewer : 0 < 0 = one_challenge.more acceptor next (record { body = drop 4 unit; nonce = nonce }) body in_turn steps in
+    omega (arith, fewer)
 
 -- an answer to an init goes on only by a challenge, and then a response is expected
-said_goes_on : (says : ServerSays) (answer : SideOutput) → ServerOutputs says turns.Init answer
-    → answer.progress ≡ InProgress → answer.expected ≡ Frame turns.Response
-said_goes_on (Challenged body) answer is wants = sends_goes_on body turns.Response answer is wants
-said_goes_on (Concluded outcomes.Ok body) answer is wants =
-    absurd (sends_ends body _ _ answer (λ e. absurd (cc)) is wants)
-said_goes_on (Concluded outcomes.Auth body) answer is wants =
-    absurd (sends_ends body _ _ answer (λ e. absurd (cc)) is wants)
-said_goes_on (Concluded outcomes.Sys body) answer is wants =
-    absurd (sends_ends body _ _ answer (λ e. absurd (cc)) is wants)
-said_goes_on (Concluded outcomes.SysPerm body) answer is wants =
-    absurd (sends_ends body _ _ answer (λ e. absurd (cc)) is wants)
-said_goes_on (Concluded outcomes.SysTemp body) answer is wants =
-    absurd (sends_ends body _ _ answer (λ e. absurd (cc)) is wants)
-said_goes_on (Failed faults.OutOfMemory) answer is wants = absurd is
-said_goes_on (Failed faults.DecodeError) answer is wants = absurd (closes_waits_not _ _ answer is wants)
-said_goes_on (Failed faults.NotImplemented) answer is wants = absurd (closes_waits_not _ _ answer is wants)
-said_goes_on (Failed faults.TooLarge) answer is wants = absurd (closes_waits_not _ _ answer is wants)
-
 init_goes_on : (acceptor next : Acceptor) (nonce unit : List ℕ) (answer : SideOutput)
     → ServerSideAnswers acceptor_names acceptor_machine (Frame turns.Init) acceptor nonce unit answer next
     → answer.progress ≡ InProgress → answer.expected ≡ Frame turns.Response
-init_goes_on acceptor next nonce unit answer (Err fault, spells, closed) wants =
-    absurd (closes_waits_not _ _ answer closed.0 wants)
-init_goes_on acceptor next nonce unit answer (Ok frame, spells, inl out) wants =
-    absurd (closes_waits_not _ _ answer out.1 wants)
-init_goes_on acceptor next nonce unit answer (Ok frame, spells, inr asks) wants =
-    said_goes_on asks.1.0 answer asks.1.2 wants
+init_goes_on acceptor next nonce unit answer answers waits =
+    let (in_turn, (body, steps, sends)) =
+    challenge_of_answer acceptor_machine acceptor_names turns.Init acceptor next nonce unit answer answers waits in
+    sends_goes_on body turns.Response answer sends waits
 
 -- what a frame costs in its turn: an init the look-up at most, a response two, and all others none
 abbrev TurnCosts : Provider → FrameKind → ℕ → ℕ → Type 0
@@ -195,6 +148,8 @@ in_turn_costs provider state turns.Challenge event (frames.Init mechanism respon
     costs = absurd in_turn
 in_turn_costs provider state turns.Outcome event (frames.Init mechanism response host) before after spells in_turn
     costs = absurd in_turn
+in_turn_costs provider state turns.SignatureChallenge event (frames.Init mechanism response host) before after spells
+    in_turn costs = absurd in_turn
 in_turn_costs provider state turns.Response event (frames.Response text) before after spells in_turn costs =
     inr (inr (refl, two provider state event text before after spells costs))
 in_turn_costs provider state turns.Mechanisms event (frames.Response text) before after spells in_turn costs =
@@ -203,6 +158,8 @@ in_turn_costs provider state turns.Init event (frames.Response text) before afte
 in_turn_costs provider state turns.Challenge event (frames.Response text) before after spells in_turn costs =
     absurd in_turn
 in_turn_costs provider state turns.Outcome event (frames.Response text) before after spells in_turn costs =
+    absurd in_turn
+in_turn_costs provider state turns.SignatureChallenge event (frames.Response text) before after spells in_turn costs =
     absurd in_turn
 
 step_costs : (provider : Provider) (acceptor : Acceptor) (turn : FrameKind) (event : Given) (frame : SaslFrame)

@@ -29,7 +29,7 @@ returns-in-Ok-profile_frame_step-clause-ok c =
     event (client_reply c.in-Ok-profile_frame_step.reply) c.args.out.now.items c.send_reply.new.out.items
     c.send_reply.result (frame, spells.0, spells.1)
     (Ok frame, spells.0, rw c.in-Ok-profile_frame_step.is at c.profile_frame_step.ensures.answer)
-    (rw c.in_ok-reserve.ensures.items at c.send_reply.ensures)
+    (rw (c.in_ok-reserve.ensures.items, c.accepts_signature_by_challenge-signs.ensures) at c.send_reply.ensures)
 
 pub returns-in-Ok-profile_frame_step-clause-cost : goal.returns-in-Ok-profile_frame_step-clause-cost
 returns-in-Ok-profile_frame_step-clause-cost c =
