@@ -1,9 +1,10 @@
+pub mod FramesLemmas
 pub mod ServerLemmas
 pub mod OneFrameLemmas
 pub mod ActsAsLemmas
 pub mod StayLemmas
 pub mod PairLemmas
-pub mod ShapeLemmas
+pub mod ExchangedLemmas
 pub mod UnalteredPairLemmas
 pub mod CutLemmas
 pub mod CutStepLemmas

@@ -1,6 +1,6 @@
 -- Connections that do not exist. Each definition is what a wrong implementation would do, or what a weak reading of the
 -- laws of connections would allow (AMQP 1.0, part 5, section 5.3.2). `hostile::none` states that there are none.
-use Rattle.std.specs.Prelude.{◌≡◌, ◌≢◌, ℕ, ◌+◌, ◌<◌, ◌≤◌, ◌^◌, true, Option, Some, None, List, [], ◌∷◌, ◌++◌, length, flat_map, slice_get, Ok}
+use Rattle.std.specs.Prelude.{◌≡◌, ◌≢◌, ℕ, ◌+◌, ◌<◌, ◌≤◌, ◌^◌, true, Option, Some, None, List, [], ◌∷◌, ◌++◌, length, flat_map, Ok}
 use Rattle.std.specs.List.{AllByRecursion}
 use Rattle.fe2o3_sasl_wire.specs.SaslFrames as frames
 use Rattle.fe2o3_sasl_core.specs.declared.any_mechanism.Selected.{Selected}
@@ -52,8 +52,9 @@ AnswersHeader machine = (served : ServedOver machine []) × (served.negotiated.e
 
 -- an answered frame has a body of less than 4 bytes: a reading in which an empty body is a frame
 abbrev pub HasShortFrame : Type 0
-HasShortFrame = (pieces : List Piece) × (limit : ℕ) × (at : ℕ) × (expected : List FrameKind) × (event : Given)
-    × (events : List Given) × AreFrames pieces limit at expected (event ∷ events) × (length event.body < 4)
+HasShortFrame = (pieces : List Piece) × (limit : ℕ) × (at : ℕ) × (follows : FrameKind → FrameKind) × (turn : FrameKind)
+    × (event : Given) × (events : List Given) × AreFrames pieces limit at follows turn (event ∷ events)
+    × (length event.body < 4)
 
 -- ---- where frames go
 
@@ -110,10 +111,9 @@ said (Challenged body ∷ replies) = body ∷ said replies
 said (Concluded code body ∷ replies) = body ∷ said replies
 said (Failed fault ∷ replies) = said replies
 
--- each reply fits in a frame, the second is no challenge, which would be out of turn, and what is sent is not exactly the
--- frames of the replies: a server that sends a reply twice, not at all, or what it never said
+-- each reply fits in a frame, and what is sent is not exactly the frames of the replies: a server that sends a reply
+-- twice, not at all, or what it never said
 abbrev pub SendsOther : {S : Type 0} → Machine S → Type 0
 SendsOther machine = (bytes : List ℕ) × (served : ServedOver machine bytes)
     × AllByRecursion (λ body. length body + 4 ≤ 512) (said served.negotiated.replies)
-    × ((body : List ℕ) → slice_get served.negotiated.replies 1 ≢ Some (Challenged body))
     × (served.sent ≢ flat_map framed (said served.negotiated.replies))

@@ -1,6 +1,6 @@
 -- What the bytes of two connections say of both (RFC 5802, sections 3 and 5; AMQP 1.0, part 5, section 5.3). Each law
 -- is the contract of a clause in `pairs`.
-use Rattle.std.specs.Prelude.{◌≡◌, ◌≢◌, ℕ, suc, ◌+◌, ◌≤◌, Some, List, ◌++◌, length, slice_get, Ok}
+use Rattle.std.specs.Prelude.{◌≡◌, ◌≢◌, ℕ, suc, ◌+◌, ◌≤◌, false, Option, Some, List, ◌++◌, length, slice_get, Ok}
 use Rattle.std.specs.List.{Contains}
 use Rattle.fe2o3_sasl_wire.specs.declared.amqp_types.SaslCode.TheVariants as outcomes
 use Rattle.fe2o3_sasl_wire.specs.SaslFrames as frames
@@ -18,7 +18,7 @@ use Rattle.fe2o3_sasl_core.specs.Profiles.{Profile, scram_profile}
 use Rattle.fe2o3_sasl_core.specs.Runs.{ProfileSteps}
 use Rattle.fe2o3_sasl_core.specs.SaslAcceptor.{ScramAcceptor, acceptor_names, acceptor_machine, acceptor_user}
 use Rattle.fe2o3_sasl_core.specs.ServerHistory.{Accepted, AcceptsAt, final_message, is_challenge, is_ok}
-use Rattle.fe2o3_sasl_core.specs.TwoSides.{Sides, sides_of, OkAt, ReportedAnswer, Takes, Shows, Agree, client_message, server_message}
+use Rattle.fe2o3_sasl_core.specs.TwoSides.{Sides, sides_of, OkAt, VerifierText, ReportedAnswer, Takes, Shows, Agree, client_message, server_message}
 use Rattle.fe2o3_sasl_core.specs.UnalteredRuns.{HoldsLogin}
 use Rattle.fe2o3_sasl_core.specs.Verdicts.{Verdict, JudgesProof}
 use Rattle.fe2o3_sasl_negotiation.specs.declared.progress.Progress.TheVariants.{Authenticated}
@@ -48,14 +48,18 @@ sides {login} {provider} client server = sides_of login client.connection.events
 
 -- ---- from the server to the client
 
--- the client's last reply is at m, and reports an Ok with this data
+-- the client's last reply is at m, and reports an Ok on the server-final message in this text: the data of the outcome,
+-- or without data the challenge that the client answered last. Only a login that accepts that reports Ok without data
 pub record ReportsLast {login : Login} (client : ClientOf login) (m : ℕ) (text : List ℕ) : Type 0 where
+  pub more : Option (List ℕ)
   pub last : suc m ≡ length client.connection.replies
-  pub reported : slice_get client.connection.replies m ≡ Some (Reported outcomes.Ok (Some text))
+  pub reported : slice_get client.connection.replies m ≡ Some (Reported outcomes.Ok more)
+  pub verifier : VerifierText client.connection.events client.connection.replies m more text
+  pub with_data : login.signature_by_challenge ≡ false → more ≡ Some text
 
--- a client that has logged in did so on the data of one outcome Ok. If the first part of this data, the verifier
--- (RFC 5802, section 7), is the server-final message of an Ok of the server, both agree, or their own differing
--- AuthMessages share one HMAC value. Unaltered connections meet the premises: `TakesEqually`
+-- a client that has logged in did so on the text of one outcome Ok or of one challenge. If the first part of this text,
+-- the verifier (RFC 5802, section 7), is the server-final message of an Ok of the server, both agree, or their own
+-- differing AuthMessages share one HMAC value. Unaltered connections meet the premises: `TakesEqually`
 abbrev pub LoggedInClientsAgree : Type 0
 LoggedInClientsAgree = (login : Login) (provider : Provider) (client : ClientOf login) (server : ServerOf provider)
     → HoldsRecords provider → client.last.progress ≡ Authenticated

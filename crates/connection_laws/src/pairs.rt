@@ -2,9 +2,10 @@
 
 ghost use Rattle.connection_laws.specs.Pairs.{LoggedInClientsAgree, LoggedInServersAccept, AcceptedProofsAreJudged, RepeatedResponsesMeanOneNonce, ReplaysAreRejected, UnalteredConnectionsAgree};
 
-/// States what the login of a SCRAM client says of a SCRAM server, each over any bytes. The client logged in on the
-/// data of one outcome Ok. If the verifier in that data is one that the server's connection issued, both agree on
-/// user name and client nonce, or their own differing AuthMessages share one HMAC value.
+/// States what the login of a SCRAM client says of a SCRAM server, each over any bytes. The client logged in on one
+/// server-final message: the data of an outcome Ok, or a challenge if the login accepts the signature there. If the
+/// verifier in that message is one that the server's connection issued, both agree on user name and client nonce, or
+/// their own differing AuthMessages share one HMAC value.
 pub fn verifiers()
     ensures { LoggedInClientsAgree }
 {}

@@ -2,8 +2,9 @@
 
 ghost use Rattle.connection_laws.specs.Unaltered.{UnalteredSidesLogIn, NegotiationsAgree};
 
-/// A SCRAM client and a SCRAM server that are joined both log in, in whatever pieces their bytes arrive. Each premise can
-/// be tested before the first byte is sent:
+/// A SCRAM client and a SCRAM server that are joined both log in, in whatever pieces their bytes arrive, and whether or
+/// not the client accepts the server's signature in a challenge. Each premise can be tested before the first byte is
+/// sent:
 /// - the server holds a record that the client's secret opens, with a count from 1 on and within the client's limits;
 /// - the escaped user name and the hostname have at most 412 bytes together, and the salt has at most 285;
 /// - each side takes frames of 512 bytes, and the nonce of each call has 32 bytes.

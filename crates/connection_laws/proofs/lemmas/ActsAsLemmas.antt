@@ -1,5 +1,5 @@
 -- A server of several mechanisms that has logged its client in did so as one of its acceptors.
-use Rattle.std.proofs.Common.{◌≡◌, ℕ, suc, Bool, true, false, Option, Some, None, List, [], ◌∷◌, length, refl, sym, ap, ◌∙◌, subst, inl, inr, Ok, Err}
+use Rattle.std.proofs.Common.{◌≡◌, ℕ, suc, ◌+◌, Bool, true, false, Option, Some, None, List, [], ◌∷◌, length, refl, sym, ap, ◌∙◌, subst, inl, inr, Ok, Err}
 use Rattle.std.specs.List.{AllByRecursion}
 use Rattle.std.specs.Prelude.{not}
 use Rattle.fe2o3_sasl_wire.specs.declared.amqp_types.SaslCode.TheVariants as outcomes
@@ -8,7 +8,7 @@ use Rattle.fe2o3_sasl_wire.specs.declared.sasl_frames.error.Error.TheVariants as
 use Rattle.fe2o3_sasl_wire.specs.SaslFrames as frames
 use Rattle.fe2o3_sasl_wire.specs.SaslFrames.{SaslFrame, canonical}
 use Rattle.fe2o3_sasl_core.specs.Bodies.{SpellsBody, carried, server_says}
-use Rattle.fe2o3_sasl_core.specs.Events.{Given, ServerSays, Challenged, Concluded, Failed}
+use Rattle.fe2o3_sasl_core.specs.Events.{Given, ServerSays, Failed}
 use Rattle.fe2o3_sasl_core.specs.RestrictMechanisms.{Offering, offering_machine}
 use Rattle.fe2o3_sasl_core.specs.AnyMechanism.{BothStates, PartReplies, part_for, any_mechanism_machine}
 use Rattle.fe2o3_sasl_core.specs.AnyMechanismLaws.{Machine, IsRefusal, those}
@@ -19,35 +19,23 @@ use Rattle.fe2o3_sasl_core.specs.declared.any_mechanism.Selected.TheVariants.{Fi
 use Rattle.fe2o3_sasl_core.proofs.lemmas.frames.SpellingLemmas.{one_spelled_frame}
 use Rattle.fe2o3_sasl_core.proofs.lemmas.machines.RestrictMechanismsLemmas.{offering_runs}
 use Rattle.fe2o3_sasl_core.proofs.lemmas.machines.AnyMechanismLemmas.{Goes, auth_is_refusal, one_goes}
-use Rattle.fe2o3_sasl_negotiation.specs.declared.progress.CloseReason.TheVariants.{Refused}
-use Rattle.fe2o3_sasl_negotiation.specs.declared.progress.Expected.TheVariants.{Frame}
 use Rattle.fe2o3_sasl_negotiation.specs.declared.progress.Progress.TheVariants.{InProgress}
+use Rattle.fe2o3_sasl_negotiation.specs.declared.progress.FrameKind.{FrameKind}
 use Rattle.fe2o3_sasl_negotiation.specs.declared.progress.FrameKind.TheVariants as turns
 use Rattle.fe2o3_sasl_negotiation.specs.Connections.{Piece, AreFrames, Replied, LastReply, IsOkSent}
 use Rattle.fe2o3_sasl_negotiation.specs.Negotiations.{Side, SideOutput}
-use Rattle.fe2o3_sasl_negotiation.specs.ServerNegotiation.{ServerOutputs}
-use Rattle.fe2o3_sasl_negotiation.proofs.lemmas.ConnectionLemmas.{failed_is_not_in_progress}
-use Rattle.fe2o3_sasl_negotiation.proofs.lemmas.KindLemmas.{closes_waits_not, sends_ends}
+use Rattle.fe2o3_sasl_negotiation.specs.ServerNegotiation.{ServerOutputs, server_follows}
 use Rattle.fe2o3_sasl_negotiation.proofs.lemmas.LoginLemmas.{servers_log_in}
 use Rattle.connection_laws.specs.Servers.{ServerBy, side_with, NegotiatesAs, PartNegotiates, AnyMechanismServersActAsPart, OfferingServersActAsInner}
-use Rattle.connection_laws.proofs.lemmas.OneFrameLemmas.{response_of}
+use Rattle.connection_laws.proofs.lemmas.ServerLemmas.{response_of, server_waits}
 
 -- ---- replies
 
 -- a reply that leaves a server waiting is no rejection
-goes_on_is_no_refusal : (says : ServerSays) (answer : SideOutput) → ServerOutputs says turns.Init answer
+goes_on_is_no_refusal : (says : ServerSays) (turn : FrameKind) (answer : SideOutput) → ServerOutputs says turn answer
     → answer.progress ≡ InProgress → ¬ IsRefusal says
-goes_on_is_no_refusal (Challenged body) answer said waits refused = refused
-goes_on_is_no_refusal (Concluded outcomes.Auth body) answer sends waits refused =
-    sends_ends body _ (Frame turns.Init) answer (failed_is_not_in_progress (Refused outcomes.Auth)) sends waits
-goes_on_is_no_refusal (Concluded outcomes.Ok body) answer said waits refused = refused
-goes_on_is_no_refusal (Concluded outcomes.Sys body) answer said waits refused = refused
-goes_on_is_no_refusal (Concluded outcomes.SysPerm body) answer said waits refused = refused
-goes_on_is_no_refusal (Concluded outcomes.SysTemp body) answer said waits refused = refused
-goes_on_is_no_refusal (Failed faults.OutOfMemory) answer never waits refused = never
-goes_on_is_no_refusal (Failed faults.DecodeError) answer is waits refused = closes_waits_not _ _ answer is waits
-goes_on_is_no_refusal (Failed faults.NotImplemented) answer is waits refused = closes_waits_not _ _ answer is waits
-goes_on_is_no_refusal (Failed faults.TooLarge) answer is waits refused = closes_waits_not _ _ answer is waits
+goes_on_is_no_refusal says turn answer said waits refused =
+    let (body, same, small, is) = server_waits says turn answer said waits in subst IsRefusal same refused
 
 ok_is_no_refusal : (says : ServerSays) → IsOkSent says → ¬ IsRefusal says
 ok_is_no_refusal says (body, same, fits) refused = subst IsRefusal same refused
@@ -56,13 +44,14 @@ ok_is_no_refusal says (body, same, fits) refused = subst IsRefusal same refused
 abbrev NoneRefuses : List ServerSays → Type 0
 NoneRefuses replies = AllByRecursion (λ (says : ServerSays). ¬ IsRefusal says) replies
 
-none_refuses : (replies : List ServerSays) (answer : SideOutput)
-    → Replied ServerOutputs (turns.Init ∷ turns.Response ∷ []) replies answer → LastReply IsOkSent replies → NoneRefuses replies
-none_refuses [] answer replied ok = tt
-none_refuses (says ∷ []) answer replied ok = (ok_is_no_refusal says ok, tt)
-none_refuses (says ∷ then ∷ []) answer (first, rest, said, waits, more, is) ok =
-    (goes_on_is_no_refusal says first said waits, (ok_is_no_refusal then ok, tt))
-none_refuses (says ∷ then ∷ third ∷ replies) answer (first, rest, said, waits, more, is) ok = absurd more.4
+none_refuses : (turn : FrameKind) (replies : List ServerSays) (answer : SideOutput)
+    → Replied ServerOutputs server_follows turn replies answer → LastReply IsOkSent replies → NoneRefuses replies
+none_refuses turn [] answer replied ok = tt
+none_refuses turn (says ∷ []) answer replied ok = (ok_is_no_refusal says ok, tt)
+none_refuses turn (says ∷ then ∷ replies) answer (first, rest, said, waits, more, is) ok = (
+  goes_on_is_no_refusal says turn first said waits,
+  none_refuses (server_follows turn) (then ∷ replies) rest more ok,
+)
 
 -- a run of another machine over the events of a negotiation makes it one of that machine
 negotiates_as : {S T : Type 0} (whole : Machine S) (state : S) (server : ServerBy whole state) (machine : Machine T)
@@ -185,49 +174,48 @@ module _ {S T : Type 0} (names : S → List (List ℕ)) (others : T → List (Li
   same_part : (one two : Selected) → ◌≡◌ {A = Option Selected} (Some one) (Some two) → one ≡ two
   same_part one two same = cc
 
-  acts_as : (pieces : List Piece) (limit : ℕ) (events : List Given) (replies : List ServerSays) (answer : SideOutput)
-      (state last : BothStates S T) → AreFrames pieces limit 8 (turns.Init ∷ turns.Response ∷ []) events
-      → Runs (AcceptorSteps whole) state events replies last
-      → Replied ServerOutputs (turns.Init ∷ turns.Response ∷ []) replies answer → LastReply IsOkSent replies
+  -- the part that was asked is asked on by responses
+  acts_on : (part : Selected) (pieces : List Piece) (limit at : ℕ) (events : List Given) (replies : List ServerSays)
+      (state last : BothStates S T) → AreFrames pieces limit at server_follows turns.Response events
+      → Runs (AcceptorSteps whole) state events replies last → NoneRefuses replies → state.selected ≡ Some part
+      → (last.selected ≡ Some part) × PartRuns part state events replies last
+  acts_on part pieces limit at [] replies state last are run kept asked =
+      (ap (λ (p : BothStates S T). p.selected) run.1 ∙ asked, run_ends part state last replies run.0 run.1)
+  acts_on part pieces limit at (event ∷ events) replies state last are
+      (says, next, rest, step, is, run) all_kept asked =
+      let kept = subst NoneRefuses is all_kept in
+      let (frame, spells, (part_then, goes_to, asked_then, goes)) = acts state next event says kept.0 step in
+      let (text, response) = response_of event.body are.1 in
+      let one : part_then ≡ part = same_part part_then part (sym goes_to ∙ (ap (part_for names others state)
+      (one_spelled_frame event.body frame (frames.Response text) spells response) ∙ asked)) in
+      let (asked_last, runs) = acts_on part pieces limit (at + (length event.body + 4)) events rest next last are.3 run
+      kept.1 (asked_then ∙ ap (λ (p : Selected). Some p) one) in (
+        asked_last,
+        run_more part state next last event events says replies rest
+            (subst (λ (p : Selected). Goes machine other state (Some p) event says next) one goes) is runs,
+      )
+
+  acts_as : (pieces : List Piece) (limit : ℕ) (events : List Given) (replies : List ServerSays)
+      (state last : BothStates S T) → AreFrames pieces limit 8 server_follows turns.Init events
+      → Runs (AcceptorSteps whole) state events replies last → NoneRefuses replies → LastReply IsOkSent replies
       → ActsAs state events replies last
-  acts_as pieces limit [] replies answer state last expected run replied ok =
+  acts_as pieces limit [] replies state last are run kept ok =
       absurd (subst (λ (l : List ServerSays). LastReply IsOkSent l) run.0 ok)
-  acts_as pieces limit (event ∷ []) replies answer state last expected (says, next, none, step, is, (empty, end)) replied
-      ok =
-      let all : replies ≡ says ∷ [] = is ∙ ap (λ (l : List ServerSays). says ∷ l) empty in
-      let kept = subst NoneRefuses all (none_refuses replies answer replied ok) in
-      let (frame, spells, (part, goes_to, asked, goes)) = acts state next event says kept.0 step in (
-        part,
-        ap (λ (p : BothStates S T). p.selected) end ∙ asked,
-        run_more part state next last event [] says replies none goes is (run_ends part next last none empty end),
-      )
-  acts_as pieces limit (event ∷ second ∷ []) replies answer state last expected
-      (says, mid, more, step, is, (then, next, none, step_then, is_then, (empty, end))) replied ok =
-      let all : replies ≡ says ∷ then ∷ [] =
-      is ∙ ap (λ (l : List ServerSays). says ∷ l) (is_then ∙ ap (λ (l : List ServerSays). then ∷ l) empty) in
-      let kept = subst NoneRefuses all (none_refuses replies answer replied ok) in
-      let (frame, spells, (part, goes_to, asked, goes)) = acts state mid event says kept.0 step in
-      let (frame_then, spells_then, (part_then, goes_then_to, asked_then, goes_then)) =
-      acts mid next second then kept.1.0 step_then in
-      let (text, response) = response_of second.body expected.3.1 in
-      let one : part_then ≡ part = same_part part_then part (sym goes_then_to ∙ (ap (part_for names others mid)
-      (one_spelled_frame second.body frame_then (frames.Response text) spells_then response) ∙ asked)) in (
-        part,
-        ap (λ (p : BothStates S T). p.selected) end ∙ (asked_then ∙ ap (λ (p : Selected). Some p) one),
-        run_more part state mid last event (second ∷ []) says replies more goes is
-            (run_more part mid next last second [] then more none
-            (subst (λ (p : Selected). Goes machine other mid (Some p) second then next) one goes_then) is_then
-            (run_ends part next last none empty end)),
-      )
-  acts_as pieces limit (event ∷ second ∷ third ∷ events) replies answer state last expected run replied ok =
-      absurd expected.3.3
+  acts_as pieces limit (event ∷ events) replies state last are (says, next, rest, step, is, run) all_kept ok =
+      let kept = subst NoneRefuses is all_kept in
+      let (frame, spells, (part, goes_to, asked, goes)) = acts state next event says kept.0 step in
+      let (asked_last, runs) = acts_on part pieces limit (8 + (length event.body + 4)) events rest next last are.3 run
+      kept.1 asked in
+      (part, asked_last, run_more part state next last event events says replies rest goes is runs)
 
   pub any_mechanism_servers_act_as_part : AnyMechanismServersActAsPart names others machine other
   any_mechanism_servers_act_as_part state server logged =
       let n = server.connection in
-      let (part, asked, run) = acts_as server.pieces server.limit n.events n.replies n.answer state server.last.state
-      n.frames n.run n.replied
-      ((servers_log_in whole server.limit state server.pieces server.taken server.sent server.last n).0 logged) in
+      let ok = (servers_log_in whole server.limit state server.pieces server.taken server.sent server.last n).0
+      logged in
+      let (part, asked, run) = acts_as server.pieces server.limit n.events n.replies state server.last.state n.frames
+      n.run
+      (none_refuses turns.Init n.replies n.answer n.replied ok) ok in
       (part, asked, go part run)
     where
       go : (part : Selected)
@@ -271,7 +259,7 @@ offering_servers_act_as_inner {S} names machine state server logged =
     let (marks, on) = offering_runs names machine state server.last.state n.events n.replies n.run in
     let (all, said) = all_passed marks n.events n.replies on.marked.count
     (run_count (AcceptorSteps whole) state server.last.state n.events n.replies n.run)
-    (none_refuses n.replies n.answer n.replied ok) on.rest in
+    (none_refuses turns.Init n.replies n.answer n.replied ok) on.rest in
     negotiates_as whole state server machine state.inner end
     (subst (λ (events : List Given). Runs (AcceptorSteps machine) state.inner events n.replies end) all
     (subst (λ (replies : List ServerSays). Runs (AcceptorSteps machine) state.inner (those (λ mark. mark) marks n.events)

@@ -23,7 +23,7 @@ use Rattle.fe2o3_sasl_negotiation.proofs.lemmas.PieceLemmas.{nonce_of_piece}
 use Rattle.fe2o3_sasl_negotiation.proofs.lemmas.ServerConnectionLemmas.{server_call, server_fresh}
 use Rattle.connection_laws.specs.Cuts.{HaveOneNonceEach, EndsFrame, EndEqually, CallsOver, taken_pieces, pieces_of, HaveFinished, HaveOneResult, FunctionCallsEndEqually, ServerCallsEndEqually, ClientCallsEndEqually}
 use Rattle.connection_laws.proofs.lemmas.CutConnectionLemmas.{functions_end_equally, clients_end_equally}
-use Rattle.connection_laws.proofs.lemmas.PairLemmas.{one_split}
+use Rattle.connection_laws.proofs.lemmas.FramesLemmas.{one_split}
 use Rattle.connection_laws.proofs.lemmas.RestLemmas.{bytes_of-more, taken_within, waited}
 
 module _ {S : Type 0} (Answers : Expected → S → List ℕ → List ℕ → SideOutput → S → Type 0) where

@@ -18,10 +18,10 @@ use Rattle.fe2o3_sasl_negotiation.specs.declared.progress.FrameKind.{FrameKind}
 use Rattle.fe2o3_sasl_negotiation.specs.Connections.{Piece, PieceNonceAt, frames_of, SpellsTurn, AreFrames, LeftOver, Unanswered, Replied, Negotiated}
 use Rattle.fe2o3_sasl_negotiation.specs.Framing.{sasl_header, framed, size_of, Fits, IsPart}
 use Rattle.fe2o3_sasl_negotiation.specs.Negotiations.{Side, SideOutput, IsInTurn}
+use Rattle.fe2o3_sasl_negotiation.proofs.lemmas.PieceLemmas.{IsChain}
 use Rattle.fe2o3_sasl_negotiation.proofs.lemmas.UnitLemmas.{size_of-framed, length-framed}
 use Rattle.connection_laws.specs.Cuts.{HaveOneNonceEach, EndEqually}
-use Rattle.connection_laws.proofs.lemmas.PairLemmas.{one_split}
-use Rattle.connection_laws.proofs.lemmas.ShapeLemmas.{one_frame}
+use Rattle.connection_laws.proofs.lemmas.FramesLemmas.{one_split, one_frame}
 
 one_turn : (turn other : FrameKind) (expected : Expected) → expected ≡ Frame turn → expected ≡ Frame other → turn ≡ other
 one_turn turn other expected one two = let same : Frame turn ≡ Frame other = sym one ∙ two in cc
@@ -142,17 +142,17 @@ module _ (limit : ℕ) (small : limit < 2 ^ 32) where
 
   -- ---- nonces
 
-  pair_nonces : (turns : List FrameKind) (pieces others : List Piece) (at : ℕ) (bodies : List (List ℕ))
+  pair_nonces : (follows : FrameKind → FrameKind) (turn : FrameKind) (pieces others : List Piece) (at : ℕ)
+      (bodies : List (List ℕ))
       (events more : List Given) (stream tail rest : List ℕ) → HaveOneNonceEach pieces others stream
       → at ≡ 8 + length (flat_map framed bodies)
       → stream ≡ sasl_header ++ (flat_map framed bodies ++ (frames_of events ++ tail))
-      → AreFrames pieces limit at turns events → AreFrames others limit at turns more
+      → AreFrames pieces limit at follows turn events → AreFrames others limit at follows turn more
       → frames_of events ++ tail ≡ frames_of more ++ rest → PairNonces events more
-  pair_nonces turns pieces others at bodies [] more stream tail rest one place is frames also same = tt
-  pair_nonces turns pieces others at bodies (event ∷ events) [] stream tail rest one place is frames also same = tt
-  pair_nonces [] pieces others at bodies (event ∷ events) (other ∷ more) stream tail rest one place is frames also same =
-      absurd frames
-  pair_nonces (turn ∷ turns) pieces others at bodies (event ∷ events) (other ∷ more) stream tail rest one place is frames
+  pair_nonces follows turn pieces others at bodies [] more stream tail rest one place is frames also same = tt
+  pair_nonces follows turn pieces others at bodies (event ∷ events) [] stream tail rest one place is frames also
+      same = tt
+  pair_nonces follows turn pieces others at bodies (event ∷ events) (other ∷ more) stream tail rest one place is frames
       also same =
       let start : stream ≡ sasl_header
       ++ (flat_map framed bodies ++ (framed event.body ++ (frames_of events ++ tail))) =
@@ -174,8 +174,9 @@ module _ (limit : ℕ) (small : limit < 2 ^ 32) where
               (length event.body) place,
         ) frames.2
             (subst (λ (b : List ℕ). PieceNonceAt others (at + (length b + 3)) other.nonce) (sym both.0) also.2),
-        pair_nonces turns pieces others (at + (length event.body + 4)) (bodies ++ event.body ∷ []) events more stream tail
-            rest one
+        pair_nonces follows (follows turn) pieces others (at + (length event.body + 4))
+            (bodies ++ event.body ∷ []) events
+            more stream tail rest one
             (next_place at (length (flat_map framed bodies)) (length event.body) place
             ∙ ap (λ n. 8 + n) (sym (ap length longer ∙ (length-append (flat_map framed bodies) (framed event.body)
             ∙ ap (λ n. length (flat_map framed bodies) + n) (length-framed event.body)))))
@@ -183,7 +184,8 @@ module _ (limit : ℕ) (small : limit < 2 ^ 32) where
             (sym (append_assoc (flat_map framed bodies) (framed event.body) (frames_of events ++ tail))
             ∙ ap (λ l. l ++ (frames_of events ++ tail)) (sym longer)))
             frames.3
-            (subst (λ (b : List ℕ). AreFrames others limit (at + (length b + 4)) turns more) (sym both.0) also.3)
+            (subst (λ (b : List ℕ). AreFrames others limit (at + (length b + 4)) follows (follows turn) more)
+            (sym both.0) also.3)
             both.1,
       )
     where
@@ -198,48 +200,41 @@ module _ (limit : ℕ) (small : limit < 2 ^ 32) where
   module _ {S A : Type 0} (Steps : S → Given → A → S → Type 0) (Says : A → FrameKind → SideOutput → Type 0)
       (one_step : (turn : FrameKind) (state : S) (event : Given) (says other : A) (answer reply : SideOutput) (next end : S)
       → Steps state event says next → Says says turn answer → Steps state event other end → Says other turn reply
-      → (says ≡ other) × (next ≡ end) × (answer ≡ reply)) where
-    -- what a reply leaves expected is the next turn
-    abbrev pub Follow : List FrameKind → Type 0
-    Follow [] = Unit {0}
-    Follow (turn ∷ []) = Unit {0}
-    Follow (turn ∷ next ∷ turns) =
-        ((says : A) (answer : SideOutput) → Says says turn answer → answer.progress ≡ InProgress → answer.expected ≡ Frame next)
-        × Follow (next ∷ turns)
-
+      → (says ≡ other) × (next ≡ end) × (answer ≡ reply))
+      (follows : FrameKind → FrameKind) (chain : IsChain Says follows) where
     -- one event
     abbrev Single : FrameKind → S → Given → List A → SideOutput → S → Type 0
     Single turn state event replies answer last = (says : A) × (next : S) × Steps state event says next
         × (replies ≡ says ∷ []) × (last ≡ next) × Says says turn answer
 
-    single : (turn : FrameKind) (turns : List FrameKind) (state : S) (event : Given) (replies : List A) (answer : SideOutput) (last : S)
-        → Runs Steps state (event ∷ []) replies last → Replied Says (turn ∷ turns) replies answer
+    single : (turn : FrameKind) (state : S) (event : Given) (replies : List A) (answer : SideOutput) (last : S)
+        → Runs Steps state (event ∷ []) replies last → Replied Says follows turn replies answer
         → Single turn state event replies answer last
-    single turn turns state event replies answer last (says, next, others, step, is, (empty, ended)) replied =
+    single turn state event replies answer last (says, next, others, step, is, (empty, ended)) replied =
         let all : replies ≡ says ∷ [] = is ∙ ap (λ (l : List A). says ∷ l) empty in (
           says,
           next,
           step,
           all,
           ended,
-          subst (λ (l : List A). Replied Says (turn ∷ turns) l answer) all replied,
+          subst (λ (l : List A). Replied Says follows turn l answer) all replied,
         )
 
     -- and more of them
-    abbrev More : FrameKind → List FrameKind → S → Given → List Given → List A → SideOutput → S → Type 0
-    More turn turns state event events replies answer last = (says : A) × (next : S) × (others : List A)
+    abbrev More : FrameKind → S → Given → List Given → List A → SideOutput → S → Type 0
+    More turn state event events replies answer last = (says : A) × (next : S) × (others : List A)
         × (first : SideOutput) × (left : SideOutput) × Steps state event says next × (replies ≡ says ∷ others)
         × Runs Steps next events others last × Says says turn first × (first.progress ≡ InProgress)
-        × Replied Says turns others left × (answer ≡ record left { sent = first.sent ++ left.sent })
+        × Replied Says follows (follows turn) others left × (answer ≡ record left { sent = first.sent ++ left.sent })
 
-    more_of : (turn : FrameKind) (turns : List FrameKind) (state : S) (event second : Given) (events : List Given)
+    more_of : (turn : FrameKind) (state : S) (event second : Given) (events : List Given)
         (replies : List A) (answer : SideOutput) (last : S) → Runs Steps state (event ∷ second ∷ events) replies last
-        → Replied Says (turn ∷ turns) replies answer → More turn turns state event (second ∷ events) replies answer last
-    more_of turn turns state event second events replies answer last
+        → Replied Says follows turn replies answer → More turn state event (second ∷ events) replies answer last
+    more_of turn state event second events replies answer last
         (says, next, others, step, is, (then, mid, rest, step_then, is_then, run)) replied =
         let all : replies ≡ says ∷ then ∷ rest = is ∙ ap (λ (l : List A). says ∷ l) is_then in
         let (first, left, said, waits, replied_then, sum) =
-        subst (λ (l : List A). Replied Says (turn ∷ turns) l answer) all replied in (
+        subst (λ (l : List A). Replied Says follows turn l answer) all replied in (
           says,
           next,
           then ∷ rest,
@@ -258,44 +253,42 @@ module _ (limit : ℕ) (small : limit < 2 ^ 32) where
     Same events others replies again answer reply tail rest last end = (events ≡ others) × (replies ≡ again)
         × (answer ≡ reply) × (tail ≡ rest) × (last ≡ end)
 
-    none : (turn : FrameKind) (turns : List FrameKind) (state : S) (replies : List A) (answer : SideOutput) (last : S)
-        → Runs Steps state [] replies last → Replied Says (turn ∷ turns) replies answer
+    none : (turn : FrameKind) (state : S) (replies : List A) (answer : SideOutput) (last : S)
+        → Runs Steps state [] replies last → Replied Says follows turn replies answer
         → answer ≡ record { sent = []; progress = InProgress; expected = Frame turn }
-    none turn turns state replies answer last run replied =
-        subst (λ (l : List A). Replied Says (turn ∷ turns) l answer) run.0 replied
+    none turn state replies answer last run replied =
+        subst (λ (l : List A). Replied Says follows turn l answer) run.0 replied
 
     -- one side has no frame, and the other side has one
-    none_and_some : (turn : FrameKind) (turns : List FrameKind) (pieces : List Piece) (at : ℕ) (state : S) (event : Given)
+    none_and_some : (turn : FrameKind) (pieces : List Piece) (at : ℕ) (state : S) (event : Given)
         (events : List Given) (replies : List A) (answer : SideOutput) (last : S) (tail rest : List ℕ) (progress : Progress)
-        → AreFrames pieces limit at (turn ∷ turns) (event ∷ events) → tail ≡ frames_of (event ∷ events) ++ rest
-        → Runs Steps state [] replies last → Replied Says (turn ∷ turns) replies answer → EndsIn answer tail progress → ⊥
-    none_and_some turn turns pieces at state event events replies answer last tail rest progress frames same run replied
+        → AreFrames pieces limit at follows turn (event ∷ events) → tail ≡ frames_of (event ∷ events) ++ rest
+        → Runs Steps state [] replies last → Replied Says follows turn replies answer → EndsIn answer tail progress → ⊥
+    none_and_some turn pieces at state event events replies answer last tail rest progress frames same run replied
         ends =
-        let is = none turn turns state replies answer last run replied in
+        let is = none turn state replies answer last run replied in
         no_frame_after turn answer tail event.body (frames_of events ++ rest) progress
         (ap (λ (a : SideOutput). a.progress) is) (ap (λ (a : SideOutput). a.expected) is) ends
         (same ∙ append_assoc (framed event.body) (frames_of events) rest) frames.0 frames.1
 
     -- one side has no frame after its first reply, and the other side has one
-    one_and_more : (turn : FrameKind) (turns : List FrameKind) (pieces : List Piece) (at : ℕ) (state : S) (event second : Given)
-        (events : List Given) (says : A) (answer : SideOutput) (tail rest : List ℕ) (progress : Progress)
-        → Follow (turn ∷ turns) → AreFrames pieces limit at turns (second ∷ events)
-        → tail ≡ frames_of (second ∷ events) ++ rest → Says says turn answer → answer.progress ≡ InProgress
-        → EndsIn answer tail progress → ⊥
-    one_and_more turn [] pieces at state event second events says answer tail rest progress follow frames same said waits
-        ends = frames
-    one_and_more turn (next ∷ turns) pieces at state event second events says answer tail rest progress follow frames same
-        said waits ends =
-        no_frame_after next answer tail second.body (frames_of events ++ rest) progress waits
-        (follow.0 says answer said waits) ends (same ∙ append_assoc (framed second.body) (frames_of events) rest) frames.0
+    one_and_more : (turn : FrameKind) (pieces : List Piece) (at : ℕ) (second : Given) (events : List Given) (says : A)
+        (answer : SideOutput) (tail rest : List ℕ) (progress : Progress)
+        → AreFrames pieces limit at follows (follows turn) (second ∷ events)
+        → tail ≡ frames_of (second ∷ events) ++ rest
+        → Says says turn answer → answer.progress ≡ InProgress → EndsIn answer tail progress → ⊥
+    one_and_more turn pieces at second events says answer tail rest progress frames same said waits ends =
+        no_frame_after (follows turn) answer tail second.body (frames_of events ++ rest) progress waits
+        (chain turn says answer said waits) ends (same ∙ append_assoc (framed second.body) (frames_of events) rest)
+        frames.0
         frames.1
 
-    first_frame : (turn : FrameKind) (turns : List FrameKind) (pieces others : List Piece) (at from : ℕ) (event other : Given)
-        (events more : List Given) (tail rest : List ℕ) → AreFrames pieces limit at (turn ∷ turns) (event ∷ events)
-        → AreFrames others limit from (turn ∷ turns) (other ∷ more)
+    first_frame : (turn : FrameKind) (pieces others : List Piece) (at from : ℕ) (event other : Given)
+        (events more : List Given) (tail rest : List ℕ) → AreFrames pieces limit at follows turn (event ∷ events)
+        → AreFrames others limit from follows turn (other ∷ more)
         → frames_of (event ∷ events) ++ tail ≡ frames_of (other ∷ more) ++ rest → event.nonce ≡ other.nonce
         → (event ≡ other) × (frames_of events ++ tail ≡ frames_of more ++ rest)
-    first_frame turn turns pieces others at from event other events more tail rest frames also same nonce =
+    first_frame turn pieces others at from event other events more tail rest frames also same nonce =
         let both = one_frame event.body (frames_of events ++ tail) other.body (frames_of more ++ rest)
         (fits_small (length event.body + 4) frames.0) (fits_small (length other.body + 4) also.0)
         (sym (append_assoc (framed event.body) (frames_of events) tail)
@@ -303,37 +296,36 @@ module _ (limit : ℕ) (small : limit < 2 ^ 32) where
         (λ i. record { body = both.0 i; nonce = nonce i }, both.1)
 
     -- all frames and replies
-    same : (turns : List FrameKind) (pieces others : List Piece) (at from : ℕ) (state : S) (events more : List Given)
+    same : (turn : FrameKind) (pieces others : List Piece) (at from : ℕ) (state : S) (events more : List Given)
         (replies again : List A) (answer reply : SideOutput) (tail rest : List ℕ) (last end : S) (progress stood : Progress)
-        → Follow turns → AreFrames pieces limit at turns events → AreFrames others limit from turns more
+        → AreFrames pieces limit at follows turn events → AreFrames others limit from follows turn more
         → PairNonces events more → frames_of events ++ tail ≡ frames_of more ++ rest
-        → Runs Steps state events replies last → Runs Steps state more again end → Replied Says turns replies answer
-        → Replied Says turns again reply → EndsIn answer tail progress → EndsIn reply rest stood
+        → Runs Steps state events replies last → Runs Steps state more again end
+        → Replied Says follows turn replies answer
+        → Replied Says follows turn again reply → EndsIn answer tail progress → EndsIn reply rest stood
         → Same events more replies again answer reply tail rest last end
-    same [] pieces others at from state events more replies again answer reply tail rest last end progress stood follow
-        frames also nonces carried run ran replied too ends finishes = absurd replied
-    same (turn ∷ turns) pieces others at from state [] [] replies again answer reply tail rest last end progress stood
-        follow frames also nonces carried run ran replied too ends finishes = (
+    same turn pieces others at from state [] [] replies again answer reply tail rest last end progress stood
+        frames also nonces carried run ran replied too ends finishes = (
           refl,
           run.0 ∙ sym ran.0,
-          none turn turns state replies answer last run replied ∙ sym (none turn turns state again reply end ran too),
+          none turn state replies answer last run replied ∙ sym (none turn state again reply end ran too),
           carried,
           run.1 ∙ sym ran.1,
         )
-    same (turn ∷ turns) pieces others at from state [] (other ∷ more) replies again answer reply tail rest last end
-        progress stood follow frames also nonces carried run ran replied too ends finishes =
-        absurd (none_and_some turn turns others from state other more replies answer last tail rest progress also carried
+    same turn pieces others at from state [] (other ∷ more) replies again answer reply tail rest last end
+        progress stood frames also nonces carried run ran replied too ends finishes =
+        absurd (none_and_some turn others from state other more replies answer last tail rest progress also carried
         run replied ends)
-    same (turn ∷ turns) pieces others at from state (event ∷ events) [] replies again answer reply tail rest last end
-        progress stood follow frames also nonces carried run ran replied too ends finishes =
-        absurd (none_and_some turn turns pieces at state event events again reply end rest tail stood frames (sym carried)
+    same turn pieces others at from state (event ∷ events) [] replies again answer reply tail rest last end
+        progress stood frames also nonces carried run ran replied too ends finishes =
+        absurd (none_and_some turn pieces at state event events again reply end rest tail stood frames (sym carried)
         ran too finishes)
-    same (turn ∷ turns) pieces others at from state (event ∷ []) (other ∷ []) replies again answer reply tail rest last
-        end progress stood follow frames also nonces carried run ran replied too ends finishes =
-        let (one, later) = first_frame turn turns pieces others at from event other [] [] tail rest frames also carried
+    same turn pieces others at from state (event ∷ []) (other ∷ []) replies again answer reply tail rest last
+        end progress stood frames also nonces carried run ran replied too ends finishes =
+        let (one, later) = first_frame turn pieces others at from event other [] [] tail rest frames also carried
         nonces.0 in
-        let (says, next, step, all, ended, said) = single turn turns state event replies answer last run replied in
-        let (also_says, mid, went, every, stopped, told) = single turn turns state other again reply end ran too in
+        let (says, next, step, all, ended, said) = single turn state event replies answer last run replied in
+        let (also_says, mid, went, every, stopped, told) = single turn state other again reply end ran too in
         let (reply_is, state_is, answer_is) = one_step turn state other says also_says answer reply next mid
         (subst (λ (e : Given). Steps state e says next) one step) said went told in (
           ap (λ (e : Given). e ∷ []) one,
@@ -342,44 +334,45 @@ module _ (limit : ℕ) (small : limit < 2 ^ 32) where
           later,
           ended ∙ (state_is ∙ sym stopped),
         )
-    same (turn ∷ turns) pieces others at from state (event ∷ []) (other ∷ second ∷ more) replies again answer reply tail
-        rest last end progress stood follow frames also nonces carried run ran replied too ends finishes =
-        let (one, later) = first_frame turn turns pieces others at from event other [] (second ∷ more) tail rest frames
+    same turn pieces others at from state (event ∷ []) (other ∷ second ∷ more) replies again answer reply tail
+        rest last end progress stood frames also nonces carried run ran replied too ends finishes =
+        let (one, later) = first_frame turn pieces others at from event other [] (second ∷ more) tail rest frames
         also carried nonces.0 in
-        let (says, next, step, all, ended, said) = single turn turns state event replies answer last run replied in
+        let (says, next, step, all, ended, said) = single turn state event replies answer last run replied in
         let (also_says, mid, left, first, rest_answer, went, every, goes, told, waits, then, sum) =
-        more_of turn turns state other second more again reply end ran too in
+        more_of turn state other second more again reply end ran too in
         let (reply_is, state_is, answer_is) = one_step turn state other says also_says answer first next mid
         (subst (λ (e : Given). Steps state e says next) one step) said went told in
-        absurd (one_and_more turn turns others (from + (length other.body + 4)) state other second more says answer tail
-        rest progress follow also.3 later said (ap (λ (a : SideOutput). a.progress) answer_is ∙ waits) ends)
-    same (turn ∷ turns) pieces others at from state (event ∷ second ∷ events) (other ∷ []) replies again answer reply tail
-        rest last end progress stood follow frames also nonces carried run ran replied too ends finishes =
-        let (one, later) = first_frame turn turns pieces others at from event other (second ∷ events) [] tail rest frames
+        absurd (one_and_more turn others (from + (length other.body + 4)) second more says answer tail rest progress
+        also.3
+        later said (ap (λ (a : SideOutput). a.progress) answer_is ∙ waits) ends)
+    same turn pieces others at from state (event ∷ second ∷ events) (other ∷ []) replies again answer reply tail
+        rest last end progress stood frames also nonces carried run ran replied too ends finishes =
+        let (one, later) = first_frame turn pieces others at from event other (second ∷ events) [] tail rest frames
         also carried nonces.0 in
         let (says, next, left, first, rest_answer, step, all, goes, said, waits, then, sum) =
-        more_of turn turns state event second events replies answer last run replied in
-        let (also_says, mid, went, every, stopped, told) = single turn turns state other again reply end ran too in
+        more_of turn state event second events replies answer last run replied in
+        let (also_says, mid, went, every, stopped, told) = single turn state other again reply end ran too in
         let (reply_is, state_is, answer_is) = one_step turn state other says also_says first reply next mid
         (subst (λ (e : Given). Steps state e says next) one step) said went told in
-        absurd (one_and_more turn turns pieces (at + (length event.body + 4)) state event second events also_says reply
-        rest tail stood follow frames.3 (sym later) told (sym (ap (λ (a : SideOutput). a.progress) answer_is) ∙ waits)
-        finishes)
-    same (turn ∷ turns) pieces others at from state (event ∷ second ∷ events) (other ∷ third ∷ more) replies again answer
-        reply tail rest last end progress stood follow frames also nonces carried run ran replied too ends finishes =
-        let (one, later) = first_frame turn turns pieces others at from event other (second ∷ events) (third ∷ more) tail
+        absurd (one_and_more turn pieces (at + (length event.body + 4)) second events also_says reply rest tail stood
+        frames.3 (sym later) told (sym (ap (λ (a : SideOutput). a.progress) answer_is) ∙ waits) finishes)
+    same turn pieces others at from state (event ∷ second ∷ events) (other ∷ third ∷ more) replies again answer
+        reply tail rest last end progress stood frames also nonces carried run ran replied too ends finishes =
+        let (one, later) = first_frame turn pieces others at from event other (second ∷ events) (third ∷ more) tail
         rest frames also carried nonces.0 in
         let (says, next, left, first, rest_answer, step, all, goes, said, waits, then, sum) =
-        more_of turn turns state event second events replies answer last run replied in
-        let (also_says, mid, over, start, last_answer, went, every, runs, told, wants, follows, total) =
-        more_of turn turns state other third more again reply end ran too in
+        more_of turn state event second events replies answer last run replied in
+        let (also_says, mid, over, start, last_answer, went, every, runs, told, wants, also_then, total) =
+        more_of turn state other third more again reply end ran too in
         let (reply_is, state_is, answer_is) = one_step turn state other says also_says first start next mid
         (subst (λ (e : Given). Steps state e says next) one step) said went told in
         let (events_are, replies_are, answers_are, tails_are, ends_are) =
-        same turns pieces others (at + (length event.body + 4)) (from + (length other.body + 4)) mid (second ∷ events)
-        (third ∷ more) left over rest_answer last_answer tail rest last end progress stood (follow_on turns frames.3 follow)
-        frames.3 also.3 nonces.1 later (subst (λ (s : S). Runs Steps s (second ∷ events) left last) state_is goes) runs
-        then follows (subst (λ (a : SideOutput). EndsIn a tail progress) sum ends)
+        same (follows turn) pieces others (at + (length event.body + 4)) (from + (length other.body + 4)) mid
+        (second ∷ events) (third ∷ more) left over rest_answer last_answer tail rest last end progress stood frames.3
+        also.3
+        nonces.1 later (subst (λ (s : S). Runs Steps s (second ∷ events) left last) state_is goes) runs
+        then also_then (subst (λ (a : SideOutput). EndsIn a tail progress) sum ends)
         (subst (λ (a : SideOutput). EndsIn a rest stood) total finishes) in (
           (λ i. one i ∷ events_are i),
           all ∙ ((λ i. reply_is i ∷ replies_are i) ∙ sym every),
@@ -387,28 +380,24 @@ module _ (limit : ℕ) (small : limit < 2 ^ 32) where
           tails_are,
           ends_are,
         )
-      where
-        follow_on : (turns : List FrameKind) → AreFrames pieces limit (at + (length event.body + 4)) turns (second ∷ events)
-            → Follow (turn ∷ turns) → Follow turns
-        follow_on [] none is = absurd none
-        follow_on (next ∷ turns) some is = is.1
 
     -- two negotiations over the same bytes
-    pub one_result : (turns : List FrameKind) (state : S) (pieces others : List Piece) (taken sent out : List ℕ)
-        (last end : Side S) → Follow turns
-        → (first : Negotiated Steps Says turns limit state pieces taken sent last)
-        (second : Negotiated Steps Says turns limit state others taken out end)
+    pub one_result : (turn : FrameKind) (state : S) (pieces others : List Piece) (taken sent out : List ℕ)
+        (last end : Side S)
+        → (first : Negotiated Steps Says follows turn limit state pieces taken sent last)
+        (second : Negotiated Steps Says follows turn limit state others taken out end)
         → HaveOneNonceEach pieces others taken
         → (first.events ≡ second.events) × (first.replies ≡ second.replies) × EndEqually sent out last end
-    one_result turns state pieces others taken sent out last end follow first second nonces =
+    one_result turn state pieces others taken sent out last end first second nonces =
         let later : frames_of first.events ++ first.tail ≡ frames_of second.events ++ second.tail =
         (one_split sasl_header (frames_of first.events ++ first.tail) sasl_header (frames_of second.events ++ second.tail)
         (sym first.carried ∙ second.carried) (same_length (sym first.carried ∙ second.carried))).1 in
-        let paired = pair_nonces turns pieces others 8 [] first.events second.events taken first.tail second.tail nonces
+        let paired = pair_nonces follows turn pieces others 8 [] first.events second.events taken first.tail second.tail
+        nonces
         refl first.carried first.frames second.frames later in
         let (events_are, replies_are, answers_are, tails_are, states_are) =
-        same turns pieces others 8 8 state first.events second.events first.replies second.replies first.answer
-        second.answer first.tail second.tail last.state end.state last.progress end.progress follow first.frames
+        same turn pieces others 8 8 state first.events second.events first.replies second.replies first.answer
+        second.answer first.tail second.tail last.state end.state last.progress end.progress first.frames
         second.frames paired later first.run second.run first.replied second.replied first.ends second.ends in
         let progresses_are : last.progress ≡ end.progress =
         one_end second.answer second.tail last.progress end.progress

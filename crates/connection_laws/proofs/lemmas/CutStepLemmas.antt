@@ -1,5 +1,5 @@
 -- Steps of servers and clients whose machines are functions, and the connections that are made of them.
-use Rattle.std.proofs.Common.{◌≡◌, ◌≢◌, ℕ, Option, List, [], ◌∷◌, sym, ap, ◌∙◌, subst, inl, inr, arith, Result, Ok, Err}
+use Rattle.std.proofs.Common.{◌≡◌, ◌≢◌, ℕ, Bool, Option, List, sym, ap, ◌∙◌, subst, inl, inr, arith, Result, Ok, Err}
 use Rattle.fe2o3_sasl_wire.specs.declared.amqp_types.SaslCode.TheVariants as outcomes
 use Rattle.fe2o3_sasl_wire.specs.declared.sasl_frames.error.Error.{Error}
 use Rattle.fe2o3_sasl_wire.specs.declared.sasl_frames.error.Error.TheVariants as faults
@@ -8,26 +8,23 @@ use Rattle.fe2o3_sasl_wire.specs.SaslFrames as frames
 use Rattle.fe2o3_sasl_core.specs.Bodies.{carried, server_says}
 use Rattle.fe2o3_sasl_core.specs.Events.{Given, ServerSays, Challenged, Concluded, Failed, ClientSays, Started, Answered, Reported, Refused as ClientRefused}
 use Rattle.fe2o3_sasl_core.specs.AnyMechanismLaws.{Machine}
-use Rattle.fe2o3_sasl_core.specs.Profiles.{Profile}
+use Rattle.fe2o3_sasl_core.specs.Profiles.{Profile, accepts_signature_by_challenge}
 use Rattle.fe2o3_sasl_core.specs.Runs.{AcceptorAnswers, AcceptorGives, AcceptorSteps, ProfileGives, ProfileReplies, ProfileSteps, Replies}
 use Rattle.fe2o3_sasl_core.specs.SaslAcceptor.{acceptor_machine}
 use Rattle.fe2o3_sasl_core.specs.declared.sasl_profile.error.ProfileError.{ProfileError}
 use Rattle.fe2o3_sasl_core.proofs.lemmas.frames.SpellingLemmas.{one_spelling}
 use Rattle.fe2o3_sasl_core.proofs.lemmas.machines.OneReplyLemmas.{one_acceptor_reply, one_profile_reply}
-use Rattle.fe2o3_sasl_negotiation.specs.declared.progress.CloseReason.TheVariants.{Refused}
 use Rattle.fe2o3_sasl_negotiation.specs.declared.progress.Expected.{Expected}
-use Rattle.fe2o3_sasl_negotiation.specs.declared.progress.Expected.TheVariants.{Frame}
 use Rattle.fe2o3_sasl_negotiation.specs.declared.progress.Progress.{Progress}
-use Rattle.fe2o3_sasl_negotiation.specs.declared.progress.Progress.TheVariants.{InProgress, Authenticated}
 use Rattle.fe2o3_sasl_negotiation.specs.declared.progress.FrameKind.{FrameKind}
 use Rattle.fe2o3_sasl_negotiation.specs.declared.progress.FrameKind.TheVariants as turns
 use Rattle.fe2o3_sasl_negotiation.specs.ClientNegotiation as of_client
 use Rattle.fe2o3_sasl_negotiation.specs.ServerNegotiation as of_server
 use Rattle.fe2o3_sasl_negotiation.specs.Negotiations.{SideOutput, Sends}
-use Rattle.fe2o3_sasl_negotiation.proofs.lemmas.ConnectionLemmas.{failed_is_not_in_progress, authenticated_is_not_in_progress}
-use Rattle.fe2o3_sasl_negotiation.proofs.lemmas.KindLemmas.{progress_of, closes_waits_not, sends_goes_on, sends_ends}
 use Rattle.connection_laws.specs.Cuts.{IsFunction, ServersNegotiateEqually, FunctionsNegotiateEqually, ClientsNegotiateEqually}
+use Rattle.fe2o3_sasl_negotiation.proofs.lemmas.ClientConnectionLemmas.{client_chain}
 use Rattle.connection_laws.proofs.lemmas.CutLemmas.{one_result}
+use Rattle.connection_laws.proofs.lemmas.ServerLemmas.{server_chain}
 use Rattle.fe2o3_sasl_core.specs.declared.sasl_profile.error.ProfileError.TheVariants.{NotImplemented, Scram, StaleKeys, Frame as FrameFault, OutOfMemory}
 
 -- a body is sent in one way
@@ -42,11 +39,7 @@ one_sent body progress expected answer reply (inr (long, is)) (inr (also, too)) 
 
 server_answer : (says : ServerSays) (turn : FrameKind) (answer reply : SideOutput) → of_server.ServerOutputs says turn answer
     → of_server.ServerOutputs says turn reply → answer ≡ reply
-server_answer (Challenged body) turns.Init answer reply is too = one_sent body _ _ answer reply is too
-server_answer (Challenged body) turns.Mechanisms answer reply is too = is ∙ sym too
-server_answer (Challenged body) turns.Challenge answer reply is too = is ∙ sym too
-server_answer (Challenged body) turns.Response answer reply is too = is ∙ sym too
-server_answer (Challenged body) turns.Outcome answer reply is too = is ∙ sym too
+server_answer (Challenged body) turn answer reply is too = one_sent body _ _ answer reply is too
 server_answer (Concluded outcomes.Ok body) turn answer reply is too = one_sent body _ _ answer reply is too
 server_answer (Concluded outcomes.Auth body) turn answer reply is too = one_sent body _ _ answer reply is too
 server_answer (Concluded outcomes.Sys body) turn answer reply is too = one_sent body _ _ answer reply is too
@@ -56,24 +49,6 @@ server_answer (Failed faults.OutOfMemory) turn answer reply is too = absurd is
 server_answer (Failed faults.DecodeError) turn answer reply is too = is ∙ sym too
 server_answer (Failed faults.NotImplemented) turn answer reply is too = is ∙ sym too
 server_answer (Failed faults.TooLarge) turn answer reply is too = is ∙ sym too
-
-server_due : (says : ServerSays) (answer : SideOutput) → of_server.ServerOutputs says turns.Init answer → answer.progress ≡ InProgress
-    → answer.expected ≡ Frame turns.Response
-server_due (Challenged body) answer sends waits = sends_goes_on body turns.Response answer sends waits
-server_due (Concluded outcomes.Ok body) answer sends waits =
-    absurd (sends_ends body Authenticated (Frame turns.Init) answer authenticated_is_not_in_progress sends waits)
-server_due (Concluded outcomes.Auth body) answer sends waits =
-    absurd (sends_ends body _ (Frame turns.Init) answer (failed_is_not_in_progress (Refused outcomes.Auth)) sends waits)
-server_due (Concluded outcomes.Sys body) answer sends waits =
-    absurd (sends_ends body _ (Frame turns.Init) answer (failed_is_not_in_progress (Refused outcomes.Sys)) sends waits)
-server_due (Concluded outcomes.SysPerm body) answer sends waits =
-    absurd (sends_ends body _ (Frame turns.Init) answer (failed_is_not_in_progress (Refused outcomes.SysPerm)) sends waits)
-server_due (Concluded outcomes.SysTemp body) answer sends waits =
-    absurd (sends_ends body _ (Frame turns.Init) answer (failed_is_not_in_progress (Refused outcomes.SysTemp)) sends waits)
-server_due (Failed faults.OutOfMemory) answer never waits = absurd never
-server_due (Failed faults.DecodeError) answer is waits = absurd (closes_waits_not _ _ answer is waits)
-server_due (Failed faults.NotImplemented) answer is waits = absurd (closes_waits_not _ _ answer is waits)
-server_due (Failed faults.TooLarge) answer is waits = absurd (closes_waits_not _ _ answer is waits)
 
 server_has_memory : (says : ServerSays) (turn : FrameKind) (answer : SideOutput) → of_server.ServerOutputs says turn answer
     → says ≢ Failed faults.OutOfMemory
@@ -129,78 +104,42 @@ module _ {S : Type 0} (machine : Machine S) (function : IsFunction machine) wher
 pub functions_negotiate_equally : {S : Type 0} (machine : Machine S) → FunctionsNegotiateEqually machine
 functions_negotiate_equally machine function limit state pieces others taken sent out last end small first second nonces =
     one_result limit small (AcceptorSteps machine) of_server.ServerOutputs (server_step machine function)
-    (turns.Init ∷ turns.Response ∷ []) state pieces others taken sent out last end (server_due, tt) first second nonces
+    of_server.server_follows server_chain turns.Init state pieces others taken sent out last end first second nonces
 
 pub servers_negotiate_equally : ServersNegotiateEqually acceptor_machine
 servers_negotiate_equally = functions_negotiate_equally acceptor_machine one_acceptor_reply
 
 -- ---- a client
 
-client_answer : (says : ClientSays) (turn : FrameKind) (answer reply : SideOutput) → of_client.ClientOutputs says turn answer
-    → of_client.ClientOutputs says turn reply → answer ≡ reply
-client_answer (Started body) turns.Mechanisms answer reply is too = one_sent body _ _ answer reply is too
-client_answer (Started body) turns.Init answer reply is too = is ∙ sym too
-client_answer (Started body) turns.Challenge answer reply is too = is ∙ sym too
-client_answer (Started body) turns.Response answer reply is too = is ∙ sym too
-client_answer (Started body) turns.Outcome answer reply is too = is ∙ sym too
-client_answer (Answered body) turns.Challenge answer reply is too = one_sent body _ _ answer reply is too
-client_answer (Answered body) turns.Mechanisms answer reply is too = is ∙ sym too
-client_answer (Answered body) turns.Init answer reply is too = is ∙ sym too
-client_answer (Answered body) turns.Response answer reply is too = is ∙ sym too
-client_answer (Answered body) turns.Outcome answer reply is too = is ∙ sym too
-client_answer (Reported outcomes.Ok more) turn answer reply is too = is ∙ sym too
-client_answer (Reported outcomes.Auth more) turn answer reply is too = is ∙ sym too
-client_answer (Reported outcomes.Sys more) turn answer reply is too = is ∙ sym too
-client_answer (Reported outcomes.SysPerm more) turn answer reply is too = is ∙ sym too
-client_answer (Reported outcomes.SysTemp more) turn answer reply is too = is ∙ sym too
-client_answer (ClientRefused OutOfMemory) turn answer reply is too = absurd is
-client_answer (ClientRefused NotImplemented) turn answer reply is too = is ∙ sym too
-client_answer (ClientRefused (Scram fault)) turn answer reply is too = is ∙ sym too
-client_answer (ClientRefused StaleKeys) turn answer reply is too = is ∙ sym too
-client_answer (ClientRefused (FrameFault fault)) turn answer reply is too = is ∙ sym too
+client_answer : (signs : Bool) (says : ClientSays) (turn : FrameKind) (answer reply : SideOutput)
+    → of_client.ClientOutputs signs says turn answer → of_client.ClientOutputs signs says turn reply → answer ≡ reply
+client_answer signs (Started body) turns.Mechanisms answer reply is too = one_sent body _ _ answer reply is too
+client_answer signs (Started body) turns.Init answer reply is too = is ∙ sym too
+client_answer signs (Started body) turns.Challenge answer reply is too = is ∙ sym too
+client_answer signs (Started body) turns.Response answer reply is too = is ∙ sym too
+client_answer signs (Started body) turns.Outcome answer reply is too = is ∙ sym too
+client_answer signs (Started body) turns.SignatureChallenge answer reply is too = is ∙ sym too
+client_answer signs (Answered body) turns.Challenge answer reply is too = one_sent body _ _ answer reply is too
+client_answer signs (Answered body) turns.SignatureChallenge answer reply is too = one_sent body _ _ answer reply is too
+client_answer signs (Answered body) turns.Mechanisms answer reply is too = is ∙ sym too
+client_answer signs (Answered body) turns.Init answer reply is too = is ∙ sym too
+client_answer signs (Answered body) turns.Response answer reply is too = is ∙ sym too
+client_answer signs (Answered body) turns.Outcome answer reply is too = is ∙ sym too
+client_answer signs (Reported outcomes.Ok more) turn answer reply is too = is ∙ sym too
+client_answer signs (Reported outcomes.Auth more) turn answer reply is too = is ∙ sym too
+client_answer signs (Reported outcomes.Sys more) turn answer reply is too = is ∙ sym too
+client_answer signs (Reported outcomes.SysPerm more) turn answer reply is too = is ∙ sym too
+client_answer signs (Reported outcomes.SysTemp more) turn answer reply is too = is ∙ sym too
+client_answer signs (ClientRefused OutOfMemory) turn answer reply is too = absurd is
+client_answer signs (ClientRefused NotImplemented) turn answer reply is too = is ∙ sym too
+client_answer signs (ClientRefused (Scram fault)) turn answer reply is too = is ∙ sym too
+client_answer signs (ClientRefused StaleKeys) turn answer reply is too = is ∙ sym too
+client_answer signs (ClientRefused (FrameFault fault)) turn answer reply is too = is ∙ sym too
 
-client_first_due : (says : ClientSays) (answer : SideOutput) → of_client.ClientOutputs says turns.Mechanisms answer
-    → answer.progress ≡ InProgress → answer.expected ≡ Frame turns.Challenge
-client_first_due (Started body) answer sends waits = sends_goes_on body turns.Challenge answer sends waits
-client_first_due (Answered body) answer is waits = absurd (closes_waits_not _ _ answer is waits)
-client_first_due (Reported outcomes.Ok more) answer is waits =
-    absurd (authenticated_is_not_in_progress (sym (progress_of answer _ is) ∙ waits))
-client_first_due (Reported outcomes.Auth more) answer is waits = absurd (closes_waits_not _ _ answer is waits)
-client_first_due (Reported outcomes.Sys more) answer is waits = absurd (closes_waits_not _ _ answer is waits)
-client_first_due (Reported outcomes.SysPerm more) answer is waits = absurd (closes_waits_not _ _ answer is waits)
-client_first_due (Reported outcomes.SysTemp more) answer is waits = absurd (closes_waits_not _ _ answer is waits)
-client_first_due (ClientRefused OutOfMemory) answer never waits = absurd never
-client_first_due (ClientRefused NotImplemented) answer closed waits =
-    absurd (closes_waits_not _ _ answer closed waits)
-client_first_due (ClientRefused (Scram fault)) answer closed waits =
-    absurd (closes_waits_not _ _ answer closed waits)
-client_first_due (ClientRefused StaleKeys) answer closed waits = absurd (closes_waits_not _ _ answer closed waits)
-client_first_due (ClientRefused (FrameFault fault)) answer closed waits =
-    absurd (closes_waits_not _ _ answer closed waits)
-
-client_second_due : (says : ClientSays) (answer : SideOutput) → of_client.ClientOutputs says turns.Challenge answer
-    → answer.progress ≡ InProgress → answer.expected ≡ Frame turns.Outcome
-client_second_due (Started body) answer is waits = absurd (closes_waits_not _ _ answer is waits)
-client_second_due (Answered body) answer sends waits = sends_goes_on body turns.Outcome answer sends waits
-client_second_due (Reported outcomes.Ok more) answer is waits =
-    absurd (authenticated_is_not_in_progress (sym (progress_of answer _ is) ∙ waits))
-client_second_due (Reported outcomes.Auth more) answer is waits = absurd (closes_waits_not _ _ answer is waits)
-client_second_due (Reported outcomes.Sys more) answer is waits = absurd (closes_waits_not _ _ answer is waits)
-client_second_due (Reported outcomes.SysPerm more) answer is waits = absurd (closes_waits_not _ _ answer is waits)
-client_second_due (Reported outcomes.SysTemp more) answer is waits = absurd (closes_waits_not _ _ answer is waits)
-client_second_due (ClientRefused OutOfMemory) answer never waits = absurd never
-client_second_due (ClientRefused NotImplemented) answer closed waits =
-    absurd (closes_waits_not _ _ answer closed waits)
-client_second_due (ClientRefused (Scram fault)) answer closed waits =
-    absurd (closes_waits_not _ _ answer closed waits)
-client_second_due (ClientRefused StaleKeys) answer closed waits = absurd (closes_waits_not _ _ answer closed waits)
-client_second_due (ClientRefused (FrameFault fault)) answer closed waits =
-    absurd (closes_waits_not _ _ answer closed waits)
-
-client_has_memory : (says : ClientSays) (turn : FrameKind) (answer : SideOutput) → of_client.ClientOutputs says turn answer
-    → says ≢ ClientRefused OutOfMemory
-client_has_memory says turn answer said is =
-    subst (λ (s : ClientSays). of_client.ClientOutputs s turn answer) is said
+client_has_memory : (signs : Bool) (says : ClientSays) (turn : FrameKind) (answer : SideOutput)
+    → of_client.ClientOutputs signs says turn answer → says ≢ ClientRefused OutOfMemory
+client_has_memory signs says turn answer said is =
+    subst (λ (s : ClientSays). of_client.ClientOutputs signs s turn answer) is said
 
 -- what is made of one reply
 client_says : (reply : Result SaslFrame ProfileError) (profile moved : Profile) (says other : ClientSays)
@@ -240,24 +179,26 @@ client_gives (Err fault) hostname profile event says other next end memory too o
 client_gives (Ok frame) hostname profile event says other next end memory too one two =
     client_replies hostname profile event.nonce frame says other next end memory too one two
 
-client_step : (hostname : Option (List ℕ)) (turn : FrameKind) (profile : Profile) (event : Given) (says other : ClientSays)
-    (answer reply : SideOutput) (next end : Profile) → ProfileSteps hostname profile event says next
-    → of_client.ClientOutputs says turn answer → ProfileSteps hostname profile event other end → of_client.ClientOutputs other turn reply
+client_step : (hostname : Option (List ℕ)) (signs : Bool) (turn : FrameKind) (profile : Profile) (event : Given)
+    (says other : ClientSays) (answer reply : SideOutput) (next end : Profile)
+    → ProfileSteps hostname profile event says next → of_client.ClientOutputs signs says turn answer
+    → ProfileSteps hostname profile event other end → of_client.ClientOutputs signs other turn reply
     → (says ≡ other) × (next ≡ end) × (answer ≡ reply)
-client_step hostname turn profile event says other answer reply next end (spelled, spells, gives) said
+client_step hostname signs turn profile event says other answer reply next end (spelled, spells, gives) said
     (read, reads, goes) told =
     let same = one_spelling event.body spelled read spells reads in
     let (says_are, ends_are) = client_gives read hostname profile event says other next end
-    (client_has_memory says turn answer said) (client_has_memory other turn reply told)
+    (client_has_memory signs says turn answer said) (client_has_memory signs other turn reply told)
     (subst (λ (r : Result SaslFrame Error). ProfileGives hostname profile event r says next) same gives) goes in (
       says_are,
       ends_are,
-      client_answer other turn answer reply (subst (λ (s : ClientSays). of_client.ClientOutputs s turn answer) says_are said)
-          told,
+      client_answer signs other turn answer reply
+          (subst (λ (s : ClientSays). of_client.ClientOutputs signs s turn answer) says_are said) told,
     )
 
 pub clients_negotiate_equally : ClientsNegotiateEqually
 clients_negotiate_equally hostname limit profile pieces others taken sent out last end small first second nonces =
-    one_result limit small (ProfileSteps hostname) of_client.ClientOutputs (client_step hostname)
-    (turns.Mechanisms ∷ turns.Challenge ∷ turns.Outcome ∷ []) profile pieces others taken sent out last end
-    (client_first_due, (client_second_due, tt)) first second nonces
+    let signs : Bool = accepts_signature_by_challenge profile in
+    one_result limit small (ProfileSteps hostname) (of_client.ClientOutputs signs) (client_step hostname signs)
+    (of_client.client_follows signs) (client_chain signs) turns.Mechanisms profile pieces others taken sent out last end
+    first second nonces

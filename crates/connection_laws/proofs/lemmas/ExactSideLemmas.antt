@@ -165,16 +165,16 @@ server_header provider limit nonces more sent last made =
 -- ---- frames
 
 module _ {S A : Type 0} (Answers : Expected → S → List ℕ → List ℕ → SideOutput → S → Type 0) (Step : S → Given → A → S → Type 0)
-    (Says : A → FrameKind → SideOutput → Type 0)
+    (Says : S → A → FrameKind → SideOutput → Type 0)
     (asked : (turn : FrameKind) (state next : S) (nonce unit : List ℕ) (answer : SideOutput)
     → Answers (Frame turn) state nonce unit answer next
     → (spelled : Result SaslFrame Error) × SpellsBody (drop 4 unit) spelled
     × AnswersTo (λ (a : SideOutput) (n : S). (says : A) × Step state (record { body = drop 4 unit; nonce = nonce }) says n
-    × Says says turn a) turn state spelled answer next) where
+    × Says state says turn a) turn state spelled answer next) where
   -- its machine is asked
   abbrev Asks : S → List ℕ → List ℕ → FrameKind → SideOutput → S → Type 0
   Asks state unit nonce turn answer next = (says : A)
-      × Step state (record { body = drop 4 unit; nonce = nonce }) says next × Says says turn answer
+      × Step state (record { body = drop 4 unit; nonce = nonce }) says next × Says state says turn answer
 
   -- what a side makes of a frame that is expected
   pub record Takes (limit : ℕ) (turn : FrameKind) (state : S) (body more sent : List ℕ) (last : Side S) : Type 0 where
@@ -186,7 +186,7 @@ module _ {S A : Type 0} (Answers : Expected → S → List ℕ → List ℕ → 
     pub after : List ℕ
     pub long : length nonce ≡ 32
     pub steps : Step state (record { body = body; nonce = nonce }) says next
-    pub said : Says says turn answer
+    pub said : Says state says turn answer
     pub goes_on : Negotiates (Exact Answers) (behind_answer answer limit next) nonces more after last
     pub all : sent ≡ answer.sent ++ after
 

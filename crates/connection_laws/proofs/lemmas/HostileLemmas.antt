@@ -1,6 +1,6 @@
 -- What no connection of a server does.
 use Rattle.std.proofs.Common.{◌≡◌, ◌≢◌, ℕ, ◌+◌, ◌<◌, ◌≤◌, Bool, true, false, Option, Some, None, List, [], ◌∷◌, ◌++◌, length, refl, sym, ap, ◌∙◌, subst, inl, inr, append_assoc, arith, Result, Ok}
-use Rattle.std.specs.Prelude.{zip, flat_map, slice_get, if◌then◌else◌}
+use Rattle.std.specs.Prelude.{zip, flat_map, if◌then◌else◌}
 use Rattle.std.specs.List.{AllByRecursion}
 use Rattle.std.proofs.lemmas.Grind.{flat_map-append}
 use Rattle.std.proofs.lemmas.List.{append-nil, length-append}
@@ -28,17 +28,12 @@ use Rattle.fe2o3_sasl_negotiation.specs.declared.progress.FrameKind.TheVariants 
 use Rattle.fe2o3_sasl_negotiation.specs.Connections.{Piece, frames_of, AreFrames, Replied, ServerConnection, ServerNegotiated}
 use Rattle.fe2o3_sasl_negotiation.specs.Framing.{sasl_header, framed}
 use Rattle.fe2o3_sasl_negotiation.specs.Negotiations.{Side, SideOutput, Sends}
-use Rattle.fe2o3_sasl_negotiation.specs.ServerNegotiation.{ServerOutputs}
+use Rattle.fe2o3_sasl_negotiation.specs.ServerNegotiation.{ServerOutputs, server_follows}
 use Rattle.fe2o3_sasl_negotiation.proofs.lemmas.UnitLemmas.{length-framed}
 use Rattle.connection_laws.specs.Hostile.{IgnoresInit, IgnoresResponse, AnswersOther, AnswersHeader, HasShortFrame, MarksNothing, HasTwoNonces, ReusesNonce, HidesOffer, SendsBeyondOffer, SendsOther, said}
 use Rattle.connection_laws.proofs.lemmas.CutConnectionLemmas.{part_is_short, other_is_not}
 use Rattle.connection_laws.proofs.lemmas.CutLemmas.{fits_small, no_frame_after}
-use Rattle.connection_laws.proofs.lemmas.NegotiatedLemmas.{without_header}
-use Rattle.connection_laws.proofs.lemmas.ShapeLemmas.{one_frame}
-
--- the turns of a client's frames
-abbrev two_turns : List FrameKind
-two_turns = turns.Init ∷ turns.Response ∷ []
+use Rattle.connection_laws.proofs.lemmas.FramesLemmas.{one_frame, without_header}
 
 -- ---- which frames are answered
 
@@ -46,10 +41,10 @@ module _ {S : Type 0} (machine : Machine S) where
   -- a server that has answered nothing waits for an init
   waits_for_init : (state last : S) (events : List Given) (replies : List ServerSays) (answer : SideOutput)
       → events ≡ [] → Runs (AcceptorSteps machine) state events replies last
-      → Replied ServerOutputs two_turns replies answer
+      → Replied ServerOutputs server_follows turns.Init replies answer
       → answer ≡ record { sent = []; progress = InProgress; expected = Frame turns.Init }
   waits_for_init state last events replies answer none run replied =
-      subst (λ (l : List ServerSays). Replied ServerOutputs two_turns l answer)
+      subst (λ (l : List ServerSays). Replied ServerOutputs server_follows turns.Init l answer)
       (subst (λ (l : List Given). Runs (AcceptorSteps machine) state l replies last) none run).0 replied
 
   pub no_init_is_ignored : ¬ IgnoresInit machine
@@ -64,10 +59,11 @@ module _ {S : Type 0} (machine : Machine S) where
 
   -- a challenge that is sent leaves a response expected
   challenged : (challenge : List ℕ) (replies : List ServerSays) (answer : SideOutput)
-      → replies ≡ Challenged challenge ∷ [] → length challenge + 4 ≤ 512 → Replied ServerOutputs two_turns replies answer
+      → replies ≡ Challenged challenge ∷ [] → length challenge + 4 ≤ 512
+      → Replied ServerOutputs server_follows turns.Init replies answer
       → answer ≡ record { sent = framed challenge; progress = InProgress; expected = Frame turns.Response }
   challenged challenge replies answer are fits replied =
-      go (subst (λ (l : List ServerSays). Replied ServerOutputs two_turns l answer) are replied)
+      go (subst (λ (l : List ServerSays). Replied ServerOutputs server_follows turns.Init l answer) are replied)
     where
       go : Sends challenge InProgress (Frame turns.Response) answer
           → answer ≡ record { sent = framed challenge; progress = InProgress; expected = Frame turns.Response }
@@ -78,7 +74,8 @@ module _ {S : Type 0} (machine : Machine S) where
   no_response_is_ignored
       (init, body, more, challenge, event, served, fits, also, spells, are, replies_are, small) =
       let n = served.negotiated in
-      let frames = subst (λ (l : List Given). AreFrames served.pieces served.limit 8 two_turns l) are n.frames in
+      let frames = subst (λ (l : List Given). AreFrames served.pieces served.limit 8 server_follows turns.Init l) are
+      n.frames in
       let waits = challenged challenge n.replies n.answer replies_are small n.replied in
       let carried : framed init ++ (framed body ++ more) ≡ framed event.body ++ n.tail =
       without_header (framed init ++ (framed body ++ more)) (frames_of n.events ++ n.tail) n.carried
@@ -93,7 +90,8 @@ module _ {S : Type 0} (machine : Machine S) where
   pub none_answers_other : ¬ AnswersOther machine
   none_answers_other (body, more, event, events, served, fits, are, other) =
       let n = served.negotiated in
-      let frames = subst (λ (l : List Given). AreFrames served.pieces served.limit 8 two_turns l) are n.frames in
+      let frames = subst (λ (l : List Given). AreFrames served.pieces served.limit 8 server_follows turns.Init l) are
+      n.frames in
       let carried : framed body ++ more ≡ framed event.body ++ (frames_of events ++ n.tail) =
       without_header (framed body ++ more) (frames_of n.events ++ n.tail) n.carried
       ∙ (ap (λ (l : List Given). frames_of l ++ n.tail) are
@@ -121,8 +119,7 @@ module _ {S : Type 0} (machine : Machine S) where
       some (no_frames served.negotiated.events served.negotiated.tail served.negotiated.carried)
 
 pub no_frame_is_short : ¬ HasShortFrame
-no_frame_is_short (pieces, limit, at, [], event, events, frames, short) = frames
-no_frame_is_short (pieces, limit, at, expected ∷ others, event, events, frames, short) =
+no_frame_is_short (pieces, limit, at, follows, turn, event, events, frames, short) =
     let least : 8 ≤ length event.body + 4 = frames.0.0 in omega (arith, least, short)
 
 -- ---- where frames go
@@ -167,7 +164,7 @@ no_byte_has_two_nonces (pieces, n, nonce, other, is, too, apart) = apart (same_S
 
 pub none_reuses_a_nonce : {S : Type 0} (machine : Machine S) → ¬ ReusesNonce machine
 none_reuses_a_nonce machine (bytes, served, first, second, nonce, other, are, is, too, apart, one) =
-    let frames = subst (λ (l : List Given). AreFrames served.pieces served.limit 8 two_turns l) are
+    let frames = subst (λ (l : List Given). AreFrames served.pieces served.limit 8 server_follows turns.Init l) are
     served.negotiated.frames in
     apart (same_Some nonce first.nonce (sym is ∙ frames.2)
     ∙ (one ∙ same_Some second.nonce other (sym frames.3.2 ∙ too)))
@@ -239,27 +236,19 @@ sends_body body progress expected answer fits (inr closes) = let long : 512 < le
 abbrev AllFit : List ServerSays → Type 0
 AllFit replies = AllByRecursion (λ (body : List ℕ). length body + 4 ≤ 512) (said replies)
 
--- an outcome and a fault are sent as they are said
-sends_end : (says : ServerSays) (turn : FrameKind) (answer : SideOutput) → ((body : List ℕ) → says ≢ Challenged body)
-    → AllFit (says ∷ []) → ServerOutputs says turn answer → answer.sent ≡ flat_map framed (said (says ∷ []))
-sends_end (Challenged body) turn answer none fit says = absurd (none body refl)
-sends_end (Concluded outcomes.Ok body) turn answer none fit says = sends_body body _ _ answer fit.0 says
-sends_end (Concluded outcomes.Auth body) turn answer none fit says = sends_body body _ _ answer fit.0 says
-sends_end (Concluded outcomes.Sys body) turn answer none fit says = sends_body body _ _ answer fit.0 says
-sends_end (Concluded outcomes.SysPerm body) turn answer none fit says = sends_body body _ _ answer fit.0 says
-sends_end (Concluded outcomes.SysTemp body) turn answer none fit says = sends_body body _ _ answer fit.0 says
-sends_end (Failed faults.OutOfMemory) turn answer none fit says = absurd says
-sends_end (Failed faults.DecodeError) turn answer none fit says = ap (λ (a : SideOutput). a.sent) says
-sends_end (Failed faults.NotImplemented) turn answer none fit says = ap (λ (a : SideOutput). a.sent) says
-sends_end (Failed faults.TooLarge) turn answer none fit says = ap (λ (a : SideOutput). a.sent) says
-
--- and so is the first reply
-sends_first : (says : ServerSays) (answer : SideOutput) → AllFit (says ∷ []) → ServerOutputs says turns.Init answer
-    → answer.sent ≡ flat_map framed (said (says ∷ []))
-sends_first (Challenged body) answer fit says = sends_body body _ _ answer fit.0 says
-sends_first (Concluded code body) answer fit says =
-    sends_end (Concluded code body) turns.Init answer (λ text same. cc) fit says
-sends_first (Failed fault) answer fit says = sends_end (Failed fault) turns.Init answer (λ text same. cc) fit says
+-- a reply is sent as it is said
+sends_said : (says : ServerSays) (turn : FrameKind) (answer : SideOutput) → AllFit (says ∷ [])
+    → ServerOutputs says turn answer → answer.sent ≡ flat_map framed (said (says ∷ []))
+sends_said (Challenged body) turn answer fit says = sends_body body _ _ answer fit.0 says
+sends_said (Concluded outcomes.Ok body) turn answer fit says = sends_body body _ _ answer fit.0 says
+sends_said (Concluded outcomes.Auth body) turn answer fit says = sends_body body _ _ answer fit.0 says
+sends_said (Concluded outcomes.Sys body) turn answer fit says = sends_body body _ _ answer fit.0 says
+sends_said (Concluded outcomes.SysPerm body) turn answer fit says = sends_body body _ _ answer fit.0 says
+sends_said (Concluded outcomes.SysTemp body) turn answer fit says = sends_body body _ _ answer fit.0 says
+sends_said (Failed faults.OutOfMemory) turn answer fit says = absurd says
+sends_said (Failed faults.DecodeError) turn answer fit says = ap (λ (a : SideOutput). a.sent) says
+sends_said (Failed faults.NotImplemented) turn answer fit says = ap (λ (a : SideOutput). a.sent) says
+sends_said (Failed faults.TooLarge) turn answer fit says = ap (λ (a : SideOutput). a.sent) says
 
 -- the bodies of two replies, one after the other
 said_more : (says : ServerSays) (replies : List ServerSays) → said (says ∷ replies) ≡ said (says ∷ []) ++ said replies
@@ -273,20 +262,18 @@ all_fit (Challenged body) replies fit = ((fit.0, tt), fit.1)
 all_fit (Concluded code body) replies fit = ((fit.0, tt), fit.1)
 all_fit (Failed fault) replies fit = (tt, fit)
 
-all_sent : (replies : List ServerSays) (answer : SideOutput) → AllFit replies
-    → ((body : List ℕ) → slice_get replies 1 ≢ Some (Challenged body)) → Replied ServerOutputs two_turns replies answer
-    → answer.sent ≡ flat_map framed (said replies)
-all_sent [] answer fit none replied = ap (λ (a : SideOutput). a.sent) replied
-all_sent (says ∷ []) answer fit none replied = sends_first says answer fit replied
-all_sent (says ∷ next ∷ []) answer fit none (first, rest, one, waits, two, sum) =
-    let (fits, more) = all_fit says (next ∷ []) fit in
-    let start = sends_first says first fits one in
-    let end = sends_end next turns.Response rest (λ body same. none body (ap Some same)) more two in
+all_sent : (turn : FrameKind) (replies : List ServerSays) (answer : SideOutput) → AllFit replies
+    → Replied ServerOutputs server_follows turn replies answer → answer.sent ≡ flat_map framed (said replies)
+all_sent turn [] answer fit replied = ap (λ (a : SideOutput). a.sent) replied
+all_sent turn (says ∷ []) answer fit replied = sends_said says turn answer fit replied
+all_sent turn (says ∷ next ∷ replies) answer fit (first, rest, one, waits, more, sum) =
+    let (fits, others) = all_fit says (next ∷ replies) fit in
+    let start = sends_said says turn first fits one in
+    let end = all_sent (server_follows turn) (next ∷ replies) rest others more in
     ap (λ (a : SideOutput). a.sent) sum ∙ ((λ i. start i ++ end i)
-    ∙ (sym (flat_map-append framed (said (says ∷ [])) (said (next ∷ [])))
-    ∙ ap (flat_map framed) (sym (said_more says (next ∷ [])))))
-all_sent (says ∷ next ∷ third ∷ replies) answer fit none (first, rest, one, waits, two, sum) = absurd two.4
+    ∙ (sym (flat_map-append framed (said (says ∷ [])) (said (next ∷ replies)))
+    ∙ ap (flat_map framed) (sym (said_more says (next ∷ replies)))))
 
 pub none_sends_other : {S : Type 0} (machine : Machine S) → ¬ SendsOther machine
-none_sends_other machine (bytes, served, fit, none, other) =
-    let n = served.negotiated in other (n.sends ∙ all_sent n.replies n.answer fit none n.replied)
+none_sends_other machine (bytes, served, fit, other) =
+    let n = served.negotiated in other (n.sends ∙ all_sent turns.Init n.replies n.answer fit n.replied)

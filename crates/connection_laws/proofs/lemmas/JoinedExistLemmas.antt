@@ -14,6 +14,7 @@ use Rattle.fe2o3_sasl_core.specs.TwoSides.{sides_of}
 use Rattle.fe2o3_sasl_core.specs.UnalteredRuns.{HoldsLogin}
 use Rattle.fe2o3_sasl_negotiation.specs.declared.progress.Expected.TheVariants.{Header, Frame}
 use Rattle.fe2o3_sasl_negotiation.specs.declared.progress.Progress.TheVariants.{InProgress, Authenticated}
+use Rattle.fe2o3_sasl_negotiation.specs.declared.progress.FrameKind.{FrameKind}
 use Rattle.fe2o3_sasl_negotiation.specs.declared.progress.FrameKind.TheVariants as turns
 use Rattle.fe2o3_sasl_negotiation.specs.ClientNegotiation as of_client
 use Rattle.fe2o3_sasl_negotiation.specs.ServerNegotiation as of_server
@@ -68,8 +69,12 @@ module _ (p : Premises) (client_limit server_limit : ℕ) (client_wide : 512 ≤
   abbrev complete_profile : Profile
   complete_profile = ScramProfile (answer.complete_side p)
 
+  -- the turn of the outcome
+  abbrev last_turn : FrameKind
+  last_turn = answer.last_turn p
+
   abbrev client_last : Side Profile
-  client_last = behind_answer (quiet Authenticated turns.Outcome) client_limit complete_profile
+  client_last = behind_answer (quiet Authenticated last_turn) client_limit complete_profile
 
   -- what the server sends after its list of mechanisms, and what the client sends
   abbrev later_sent : List ℕ
@@ -91,8 +96,8 @@ module _ (p : Premises) (client_limit server_limit : ℕ) (client_wide : 512 ≤
       (long_enough (frames.Challenge (first_in (frame.exchange p))) challenge_body (frame.challenge_sent p).1)
       (frame.challenge_sent p).2
 
-  outcome_is_unit : IsUnit (Frame turns.Outcome) client_limit (framed outcome_body)
-  outcome_is_unit = frame_is_unit turns.Outcome client_limit outcome_body client_wide
+  outcome_is_unit : IsUnit (Frame last_turn) client_limit (framed outcome_body)
+  outcome_is_unit = frame_is_unit last_turn client_limit outcome_body client_wide
       (long_enough (frame.outcome p) outcome_body (frame.outcome_sent p).1) (frame.outcome_sent p).2
 
   client_takes : (n0 n2 n3 : List ℕ) (calls to_names to_challenge to_outcome idle : List Call)
@@ -105,10 +110,10 @@ module _ (p : Premises) (client_limit server_limit : ℕ) (client_wide : 512 ≤
       sasl_header (framed names_body ++ later_sent) n0 client_sent (quiet InProgress turns.Mechanisms) to_names client_last
       (header_is_unit client_limit) (answer.client_opens p n0) take_names calls [] sasl_header refl zeroth
     where
-      take_outcome : ClientCalls (behind_answer (waits response_body turns.Outcome) client_limit answered_profile)
+      take_outcome : ClientCalls (behind_answer (waits response_body last_turn) client_limit answered_profile)
           to_outcome (framed outcome_body ++ []) []
-      take_outcome = unit_calls (of_client.ClientSideAnswers p.login.hostname) (Frame turns.Outcome) client_limit
-          answered_profile complete_profile (framed outcome_body) [] n3 [] (quiet Authenticated turns.Outcome) idle
+      take_outcome = unit_calls (of_client.ClientSideAnswers p.login.hostname) (Frame last_turn) client_limit
+          answered_profile complete_profile (framed outcome_body) [] n3 [] (quiet Authenticated last_turn) idle
           client_last outcome_is_unit (answer.client_reports p n3)
           (rests (of_client.ClientSideAnswers p.login.hostname) idle client_last refl) to_outcome []
           (framed outcome_body) refl third
@@ -117,7 +122,7 @@ module _ (p : Premises) (client_limit server_limit : ℕ) (client_wide : 512 ≤
           to_challenge later_sent (framed response_body ++ [])
       take_challenge = unit_calls (of_client.ClientSideAnswers p.login.hostname) (Frame turns.Challenge) client_limit
           started_profile answered_profile (framed challenge_body) (framed outcome_body ++ []) n2 []
-          (waits response_body turns.Outcome) to_outcome client_last challenge_is_unit (answer.client_answers p n2)
+          (waits response_body last_turn) to_outcome client_last challenge_is_unit (answer.client_answers p n2)
           take_outcome to_challenge [] (framed challenge_body) refl second
 
       take_names : ClientCalls (behind_answer (quiet InProgress turns.Mechanisms) client_limit first_profile) to_names

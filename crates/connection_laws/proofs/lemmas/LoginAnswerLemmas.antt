@@ -26,7 +26,7 @@ use Rattle.fe2o3_scram.proofs.lemmas.messages.ExchangeLemmas.{nonce_text}
 use Rattle.fe2o3_scram.proofs.lemmas.texts.AsciiLemmas.{IsUtf8-base64_text, IsUtf8-literal}
 use Rattle.fe2o3_sasl_core.specs.Events.{Login, Challenged, Concluded, Failed, Started, Answered, Reported, Refused, ServerSays, ClientSays}
 use Rattle.fe2o3_sasl_core.specs.declared.sasl_profile.error.ProfileError.TheVariants.{Frame as FrameFault}
-use Rattle.fe2o3_sasl_core.specs.Profiles.{Profile, ScramProfile, ChallengeReplies, scram_profile}
+use Rattle.fe2o3_sasl_core.specs.Profiles.{Profile, ScramProfile, ChallengeReplies, scram_profile, accepts_signature_by_challenge}
 use Rattle.fe2o3_sasl_core.specs.Runs.{SendsCanonical, AcceptorGives, ProfileReplies}
 use Rattle.fe2o3_sasl_core.specs.SaslAcceptor.{Acceptor, ScramAcceptor, acceptor_names, acceptor_machine}
 use Rattle.fe2o3_sasl_core.proofs.lemmas.frames.SpellingLemmas.{spells_mechanisms, spells_init, spells_challenge, spells_response, spells_outcome}
@@ -70,7 +70,8 @@ sends_canonical too_large says sent body state moved is =
 -- a client's answer to a frame in turn
 client_answer : (hostname : Option (List ℕ)) (turn : FrameKind) (profile next : Profile) (body nonce : List ℕ)
     (frame : SaslFrame) (says : ClientSays) (answer : SideOutput) → SpellsBody body (Ok frame) → IsInTurn turn frame
-    → ProfileReplies hostname profile nonce frame says next → of_client.ClientOutputs says turn answer
+    → ProfileReplies hostname profile nonce frame says next
+    → of_client.ClientOutputs (accepts_signature_by_challenge profile) says turn answer
     → of_client.ClientSideAnswers hostname (Frame turn) profile nonce (framed body) answer next
 client_answer hostname turn profile next body nonce frame says answer spells in_turn replies outputs =
     subst (λ (b : List ℕ). of_client.ClientReplies hostname turn profile (record { body = b; nonce = nonce }) answer
@@ -151,6 +152,10 @@ module _ (p : Premises) where
 
   -- ---- the client, answer by answer
 
+  -- the turn after its response
+  abbrev pub last_turn : FrameKind
+  last_turn = of_client.client_follows login.signature_by_challenge turns.Challenge
+
   abbrev first_side : ClientSide
   first_side = record {
     user = login.user;
@@ -217,10 +222,11 @@ module _ (p : Premises) where
   )
 
   pub client_answers : (nonce : List ℕ) → ClientAnswersBy (Frame turns.Challenge) (ScramProfile started_side) nonce (framed challenge_body)
-      (waits response_body turns.Outcome) (ScramProfile answered_side)
+      (waits response_body last_turn) (ScramProfile answered_side)
   client_answers nonce = client_answer login.hostname turns.Challenge (ScramProfile started_side) (ScramProfile answered_side)
       challenge_body nonce (frames.Challenge (first_in exchange)) (Answered response_body)
-      (waits response_body turns.Outcome) (spells_challenge (first_in exchange) challenge_body (frame.challenge_sent p).1) tt
+      (waits response_body last_turn) (spells_challenge (first_in exchange) challenge_body (frame.challenge_sent p).1)
+      tt
       (answers nonce) (inl ((frame.response_sent p).2, refl))
 
   verifier_read : ReadsServerFinal (answer_in exchange).signature final_sent (Ok tt)
@@ -237,11 +243,13 @@ module _ (p : Premises) where
     (refl, refl),
   )
 
-  pub client_reports : (nonce : List ℕ) → ClientAnswersBy (Frame turns.Outcome) (ScramProfile answered_side) nonce (framed outcome_body)
-      (quiet Authenticated turns.Outcome) (ScramProfile complete_side)
-  client_reports nonce = client_answer login.hostname turns.Outcome (ScramProfile answered_side) (ScramProfile complete_side)
-      outcome_body nonce outcome (Reported outcomes.Ok (Some final_sent))
-      (quiet Authenticated turns.Outcome) (spells_outcome outcomes.Ok final_sent outcome_body (frame.outcome_sent p).1) tt (reports nonce) refl
+  pub client_reports : (nonce : List ℕ) → ClientAnswersBy (Frame last_turn) (ScramProfile answered_side) nonce
+      (framed outcome_body) (quiet Authenticated last_turn) (ScramProfile complete_side)
+  client_reports nonce = client_answer login.hostname last_turn (ScramProfile answered_side)
+      (ScramProfile complete_side)
+      outcome_body nonce outcome (Reported outcomes.Ok (Some final_sent)) (quiet Authenticated last_turn)
+      (spells_outcome outcomes.Ok final_sent outcome_body (frame.outcome_sent p).1)
+      (frame.outcome_in_turn login.signature_by_challenge outcomes.Ok (Some final_sent)) (reports nonce) refl
 
   -- ---- the server, answer by answer
 

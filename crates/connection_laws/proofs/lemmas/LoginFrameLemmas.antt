@@ -1,8 +1,9 @@
--- The frames of a login, each of which is sent.
-use Rattle.std.proofs.Common.{◌≡◌, ℕ, Some, List, [], ◌∷◌, length, ◌∙◌, arith}
+-- The frames of a login, each of which is sent and is in turn.
+use Rattle.std.proofs.Common.{◌≡◌, ℕ, Bool, true, false, Option, Some, List, [], ◌∷◌, length, ◌∙◌, arith}
 use Rattle.std.proofs.lemmas.List.{length-append}
+use Rattle.fe2o3_sasl_wire.specs.declared.amqp_types.SaslCode.{SaslCode}
 use Rattle.fe2o3_sasl_wire.specs.declared.amqp_types.SaslCode.TheVariants as outcomes
-use Rattle.fe2o3_sasl_wire.specs.SaslFrames.{SaslFrame, canonical}
+use Rattle.fe2o3_sasl_wire.specs.SaslFrames.{SaslFrame}
 use Rattle.fe2o3_sasl_wire.specs.SaslFrames as frames
 use Rattle.fe2o3_scram.specs.ClientFirst.{client_first}
 use Rattle.fe2o3_scram.specs.ClientFinal.{keys_for, without_proof}
@@ -18,10 +19,19 @@ use Rattle.fe2o3_sasl_core.specs.ServerHistory.{final_message}
 use Rattle.fe2o3_sasl_core.specs.TwoSides.{sides_of}
 use Rattle.fe2o3_sasl_core.specs.UnalteredRuns.{HoldsLogin}
 use Rattle.fe2o3_sasl_core.proofs.lemmas.unaltered.UnalteredStepLemmas as step
+use Rattle.fe2o3_sasl_negotiation.specs.declared.progress.FrameKind.TheVariants as turns
+use Rattle.fe2o3_sasl_negotiation.specs.ClientNegotiation.{client_follows}
 use Rattle.fe2o3_sasl_negotiation.specs.FrameSizes.{CanBeSent}
+use Rattle.fe2o3_sasl_negotiation.specs.Negotiations.{IsInTurn}
 use Rattle.fe2o3_sasl_negotiation.proofs.lemmas.FrameSizeLemmas.{scram_inits_fit, texts_fit}
 use Rattle.connection_laws.specs.Unaltered.{FitsFrames}
 use Rattle.connection_laws.proofs.lemmas.SmallReplyLemmas.{nonce_length, first_length, proof_length, response_length, names_fit, ok_fits}
+
+-- an outcome is in turn after a response, whether or not the client accepts the signature in a challenge
+pub outcome_in_turn : (signs : Bool) (code : SaslCode) (more : Option (List ℕ))
+    → IsInTurn (client_follows signs turns.Challenge) (frames.Outcome code more)
+outcome_in_turn true code more = tt
+outcome_in_turn false code more = tt
 
 -- a login with all that the law asks of it, and the nonces that both sides send
 pub record Premises : Type 0 where

@@ -1,5 +1,5 @@
 -- A server that answers no response by Ok has logged its client in by its only frame, an init.
-use Rattle.std.proofs.Common.{◌≡◌, ◌≢◌, ℕ, true, Option, Some, None, List, [], ◌∷◌, refl, sym, ap, ◌∙◌, subst, inl, inr, Ok, Err}
+use Rattle.std.proofs.Common.{◌≡◌, ◌≢◌, ℕ, ◌+◌, true, Option, Some, None, List, [], ◌∷◌, length, refl, sym, ap, ◌∙◌, subst, inl, inr, Ok, Err}
 use Rattle.fe2o3_sasl_wire.specs.declared.amqp_types.SaslCode.TheVariants as outcomes
 use Rattle.fe2o3_sasl_wire.specs.declared.sasl_frames.error.Error.TheVariants as faults
 use Rattle.fe2o3_sasl_wire.specs.SaslFrames as frames
@@ -14,9 +14,11 @@ use Rattle.fe2o3_sasl_core.specs.SaslAcceptor.{ends_with}
 use Rattle.fe2o3_sasl_core.proofs.lemmas.frames.SpellingLemmas.{one_spelled_frame}
 use Rattle.fe2o3_sasl_core.proofs.lemmas.steps.StepLawLemmas.{plain_oks_log_in}
 use Rattle.fe2o3_sasl_negotiation.specs.declared.progress.FrameKind.TheVariants as turns
-use Rattle.fe2o3_sasl_negotiation.specs.Connections.{Piece, SpellsTurn, AreFrames, LastReply, IsOkSent}
+use Rattle.fe2o3_sasl_negotiation.specs.Connections.{Piece, AreFrames, LastReply, IsOkSent}
+use Rattle.fe2o3_sasl_negotiation.specs.ServerNegotiation.{server_follows}
 use Rattle.fe2o3_sasl_negotiation.proofs.lemmas.LoginLemmas.{servers_log_in}
 use Rattle.connection_laws.specs.Servers.{ExternalServersLogIn, PlainServersLogIn}
+use Rattle.connection_laws.proofs.lemmas.ServerLemmas.{response_of}
 
 -- a step that answers Ok
 abbrev SaysOk : {S : Type 0} → Machine S → S → Given → S → Type 0
@@ -28,15 +30,6 @@ abbrev OnlyInits : {S : Type 0} → Machine S → Type 0
 OnlyInits {S} machine = (state next : S) (event : Given) (text : List ℕ)
     → SpellsBody event.body (Ok (frames.Response text)) → ¬ SaysOk machine state event next
 
--- a frame that is expected as a response spells one
-pub response_of : (body : List ℕ) → SpellsTurn turns.Response body
-    → (text : List ℕ) × SpellsBody body (Ok (frames.Response text))
-response_of body (frames.Response text, spells, in_turn) = (text, spells)
-response_of body (frames.Init mechanism response hostname, spells, in_turn) = absurd in_turn
-response_of body (frames.Mechanisms names, spells, in_turn) = absurd in_turn
-response_of body (frames.Challenge text, spells, in_turn) = absurd in_turn
-response_of body (frames.Outcome code more, spells, in_turn) = absurd in_turn
-
 module _ {S : Type 0} (machine : Machine S) (only_inits : OnlyInits machine) where
   -- the last step of a run whose last reply is an Ok
   says_ok : (state next last : S) (event : Given) (says : ServerSays) → AcceptorSteps machine state event says next
@@ -47,8 +40,24 @@ module _ {S : Type 0} (machine : Machine S) (only_inits : OnlyInits machine) whe
         (subst (λ (s : S). AcceptorSteps machine state event says s) (sym end) step),
   )
 
+  -- a response is not the last frame
+  no_response_last : (pieces : List Piece) (limit at : ℕ) (event : Given) (events : List Given)
+      (replies : List ServerSays) (state last : S) → AreFrames pieces limit at server_follows turns.Response
+      (event ∷ events)
+      → Runs (AcceptorSteps machine) state (event ∷ events) replies last → ¬ LastReply IsOkSent replies
+  no_response_last pieces limit at event [] replies state last frames (says, next, none, step, is, (empty, end)) ok =
+      let all : replies ≡ says ∷ [] = is ∙ ap (λ (l : List ServerSays). says ∷ l) empty in
+      let (text, response) = response_of event.body frames.1 in
+      only_inits state last event text response (says_ok state next last event says step end
+      (subst (λ (l : List ServerSays). LastReply IsOkSent l) all ok))
+  no_response_last pieces limit at event (second ∷ events) replies state last frames
+      (says, next, more, step, is, (then, mid, others, step_then, is_then, run)) ok =
+      let all : replies ≡ says ∷ then ∷ others = is ∙ ap (λ (l : List ServerSays). says ∷ l) is_then in
+      no_response_last pieces limit (at + (length event.body + 4)) second events (then ∷ others) next last frames.3
+      (then, mid, others, step_then, refl, run) (subst (λ (l : List ServerSays). LastReply IsOkSent l) all ok)
+
   pub by_one_frame : (pieces : List Piece) (limit : ℕ) (events : List Given) (replies : List ServerSays)
-      (state last : S) → AreFrames pieces limit 8 (turns.Init ∷ turns.Response ∷ []) events
+      (state last : S) → AreFrames pieces limit 8 server_follows turns.Init events
       → Runs (AcceptorSteps machine) state events replies last → LastReply IsOkSent replies
       → (event : Given) × (events ≡ event ∷ []) × SaysOk machine state event last
   by_one_frame pieces limit [] replies state last frames run ok =
@@ -60,14 +69,12 @@ module _ {S : Type 0} (machine : Machine S) (only_inits : OnlyInits machine) whe
         says_ok state next last event says step end
             (subst (λ (l : List ServerSays). LastReply IsOkSent l) all ok),
       )
-  by_one_frame pieces limit (event ∷ second ∷ []) replies state last frames
-      (says, mid, more, step, is, (then, next, none, step_then, is_then, (empty, end))) ok =
-      let all : replies ≡ says ∷ then ∷ [] =
-      is ∙ ap (λ (l : List ServerSays). says ∷ l) (is_then ∙ ap (λ (l : List ServerSays). then ∷ l) empty) in
-      let response = response_of second.body frames.3.1 in
-      absurd (only_inits mid last second response.0 response.1 (says_ok mid next last second then step_then end
-      (subst (λ (l : List ServerSays). LastReply IsOkSent l) all ok)))
-  by_one_frame pieces limit (event ∷ second ∷ third ∷ events) replies state last frames run ok = absurd frames.3.3
+  by_one_frame pieces limit (event ∷ second ∷ events) replies state last frames
+      (says, next, more, step, is, (then, mid, others, step_then, is_then, run)) ok =
+      let all : replies ≡ says ∷ then ∷ others = is ∙ ap (λ (l : List ServerSays). says ∷ l) is_then in
+      absurd (no_response_last pieces limit (8 + (length event.body + 4)) second events
+      (then ∷ others) next last frames.3
+      (then, mid, others, step_then, refl, run) (subst (λ (l : List ServerSays). LastReply IsOkSent l) all ok))
 
 -- ---- EXTERNAL
 

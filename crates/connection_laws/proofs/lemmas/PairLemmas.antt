@@ -1,10 +1,8 @@
 -- What the bytes of two connections say of both.
-use Rattle.std.proofs.Common.{◌≡◌, ◌⊎◌, ℕ, zero, suc, ◌<◌, ◌≤◌, ◌+◌, Option, Some, None, List, [], ◌∷◌, ◌++◌, length, replicate, codes, refl, sym, ap, ◌∙◌, subst, arith, ⊎_elim, inl, inr, Ok}
+use Rattle.std.proofs.Common.{◌≡◌, ◌⊎◌, ℕ, zero, suc, ◌+◌, Option, Some, None, List, [], ◌∷◌, ◌++◌, length, replicate, codes, refl, sym, ap, ◌∙◌, subst, arith, ⊎_elim, inl, inr, Ok}
 use Rattle.std.specs.Prelude.{slice_get, flat_map}
 use Rattle.std.specs.List.{Contains}
-use Rattle.std.proofs.lemmas.List.{length-append}
 use Rattle.std.proofs.lemmas.Option.{same_Some}
-use Rattle.fe2o3_sasl_wire.specs.declared.amqp_types.SaslCode.TheVariants as outcomes
 use Rattle.fe2o3_sasl_wire.specs.SaslFrames as frames
 use Rattle.fe2o3_sasl_wire.specs.SaslFrames.{SaslFrame}
 use Rattle.fe2o3_scram.specs.Credentials.{Provider}
@@ -15,14 +13,14 @@ use Rattle.fe2o3_scram.specs.ScramServer.{Initial}
 use Rattle.fe2o3_sasl_core.specs.Bodies.{SpellsBody}
 use Rattle.fe2o3_sasl_core.proofs.lemmas.frames.SpellingLemmas.{one_spelled_frame}
 use Rattle.fe2o3_sasl.proofs.lemmas.examples.ExampleTextLemmas.{length-base64_text}
-use Rattle.fe2o3_sasl_core.specs.Events.{Given, Login, IsRecord, ClientSays, Reported}
+use Rattle.fe2o3_sasl_core.specs.Events.{Given, Login, IsRecord, ClientSays}
 use Rattle.fe2o3_sasl_core.specs.Headline.{SignedAt}
 use Rattle.fe2o3_sasl_core.specs.Laws.{HoldsRecords}
 use Rattle.fe2o3_sasl_core.specs.Positions.{test_at}
 use Rattle.fe2o3_sasl_core.specs.Profiles.{scram_profile}
 use Rattle.fe2o3_sasl_core.specs.SaslAcceptor.{ScramAcceptor, acceptor_machine}
 use Rattle.fe2o3_sasl_core.specs.ServerHistory.{Accepted, LoggedIn as UserLoggedIn, full_nonce, is_challenge, is_ok}
-use Rattle.fe2o3_sasl_core.specs.TwoSides.{Sides, OkAt}
+use Rattle.fe2o3_sasl_core.specs.TwoSides.{Sides, OkAt, VerifierText}
 use Rattle.fe2o3_sasl_core.proofs.lemmas.histories.ServerLawLemmas.{accepted_response}
 use Rattle.fe2o3_sasl_core.proofs.lemmas.positions.PositionLemmas.{opens_here}
 use Rattle.fe2o3_sasl_core.proofs.lemmas.two_sides.EqualMessageLemmas.{accepts_open, is_challenging}
@@ -32,8 +30,10 @@ use Rattle.fe2o3_sasl_negotiation.specs.declared.progress.Progress.TheVariants.{
 use Rattle.fe2o3_sasl_negotiation.specs.declared.progress.FrameKind.{FrameKind}
 use Rattle.fe2o3_sasl_negotiation.specs.declared.progress.FrameKind.TheVariants as turns
 use Rattle.fe2o3_sasl_negotiation.specs.Connections.{Piece, PieceNonceAt, AreFrames, LastReply, IsOkSent, IsOkReported}
+use Rattle.fe2o3_sasl_negotiation.specs.ServerNegotiation.{server_follows}
 use Rattle.fe2o3_sasl_negotiation.proofs.lemmas.LoginLemmas.{servers_log_in, clients_log_in, scram_servers_serve, scram_clients_report}
 use Rattle.connection_laws.specs.Pairs.{ClientOf, ServerOf, ReportsLast, sides, LoggedInClientsAgree, LoggedInServersAccept, AcceptedProofsAreJudged, AcceptsLast, ChallengesWith, RepeatedResponsesMeanOneNonce, ReplaysAreRejected}
+use Rattle.connection_laws.proofs.lemmas.FramesLemmas.{one_split}
 
 -- the last reply, and where it is
 last_at : {A : Type 0} (Is : A → Type 0) (replies : List A) → LastReply Is replies
@@ -54,42 +54,46 @@ held sides n accepted records ok =
 
 -- ---- from the server to the client
 
--- at most one frame for each turn
-pub frames_within : (pieces : List Piece) (limit at : ℕ) (turns : List FrameKind) (events : List Given)
-    → AreFrames pieces limit at turns events → length events ≤ length turns
-frames_within pieces limit at turns [] frames = omega arith
-frames_within pieces limit at [] (event ∷ events) frames = absurd frames
-frames_within pieces limit at (turn ∷ turns) (event ∷ events) frames =
-    let rest = frames_within pieces limit (at + (length event.body + 4)) turns events frames.3 in omega (arith, rest)
+-- the server-final message on whose signature an Ok is reported
+verifier_text : (login : Login) (events : List Given) (replies : List ClientSays) (m : ℕ) (more : Option (List ℕ))
+    → SignedAt login events replies m more → (text : List ℕ) × VerifierText events replies m more text
+verifier_text login events replies m (Some text) signed = (text, refl)
+verifier_text login events replies m None signed = let verified = signed.4 in
+    let challenge = verified.2 in
+    (challenge.1, (verified.0, verified.1, (challenge.0, challenge.2, challenge.3)))
 
--- an outcome without data is the fourth frame at least: after a start, an answer and a signature
-has_data : (login : Login) (events : List Given) (replies : List ClientSays) (m : ℕ) (more : Option (List ℕ)) → m < 3
-    → SignedAt login events replies m more
-    → (text : List ℕ) × (more ≡ Some text) × SignedAt login events replies m (Some text)
-has_data login events replies m (Some text) few signed = (text, refl, signed)
-has_data login events replies m None few signed =
-    let response = signed.4.1 in
-    let opened = signed.4.2.4.1 in
-    let started = opened.2.4.2 in
-    absurd (omega (arith, few, response.before, opened.1.before, started.1.before))
+-- data has the text of its server-final message
+text_of_data : (events : List Given) (replies : List ClientSays) (m : ℕ) (more : Option (List ℕ)) (text given : List ℕ)
+    → VerifierText events replies m more text → more ≡ Some given → more ≡ Some text
+text_of_data events replies m more text given verifier is = let same : text ≡ given =
+    subst (λ (other : Option (List ℕ)). VerifierText events replies m other text) is verifier in
+    is ∙ ap Some (sym same)
 
 -- the last reply of a client that has logged in
-pub reports_last : (login : Login) (client : ClientOf login) → client.last.progress ≡ Authenticated
+reports_last : (login : Login) (client : ClientOf login) → client.last.progress ≡ Authenticated
     → (m : ℕ) × (text : List ℕ) × ReportsLast client m text
-    × SignedAt login client.connection.events client.connection.replies m (Some text)
 reports_last login client logged =
+    let events = client.connection.events in
+    let replies = client.connection.replies in
     let logs = scram_clients_report login client.limit client.pieces client.taken client.sent client.last
     client.connection in
-    let last = last_at IsOkReported client.connection.replies
-    ((clients_log_in login.hostname client.limit (scram_profile login) client.pieces client.taken client.sent client.last
-    client.connection).0 logged) in
+    let last = last_at IsOkReported replies
+    ((clients_log_in login.hostname client.limit (scram_profile login) client.pieces client.taken client.sent
+    client.last client.connection).0 logged) in
     let at = last.3 ∙ ap Some last.4.1 in
-    let count = frames_within client.pieces client.limit 8 (turns.Mechanisms ∷ turns.Challenge ∷ turns.Outcome ∷ [])
-    client.connection.events client.connection.frames in
-    let signed = has_data login client.connection.events client.connection.replies last.0 last.4.0
-    (omega (arith, count, last.2, logs.history.count)) (logs.exactly.only last.0 last.4.0 at) in
-    let reported = at ∙ ap (λ more. Some (Reported outcomes.Ok more)) signed.1 in
-    (last.0, signed.0, record { last = last.2; reported = reported }, signed.2)
+    let (text, verifier) = verifier_text login events replies last.0 last.4.0
+    (logs.exactly.only last.0 last.4.0 at) in (
+      last.0,
+      text,
+      record {
+        more = last.4.0;
+        last = last.2;
+        reported = at;
+        verifier = verifier;
+        with_data = λ outcomes_only. let (given, is) = logs.exactly.with_data outcomes_only last.0 last.4.0 at in
+            text_of_data events replies last.0 last.4.0 text given verifier is;
+      },
+    )
 
 pub logged_in_clients_agree : LoggedInClientsAgree
 logged_in_clients_agree login provider client server records logged =
@@ -105,10 +109,10 @@ logged_in_clients_agree login provider client server records logged =
           (record { client = logs.history; server = serves.history })
           (held (sides client server) n accepted records ok)
           (record {
-            more = Some last.1;
+            more = last.2.more;
             text = last.1;
             reported = last.2.reported;
-            verifier = refl;
+            verifier = last.2.verifier;
             ok = ok;
             one = one;
           }),
@@ -179,16 +183,15 @@ piece_at (first ∷ pieces) n nonce at =
     (flat_map (λ (other : Piece). replicate (length other.bytes) other.nonce) pieces) n nonce at)
 
 -- and that of an event is
-event_piece : (pieces : List Piece) (limit at : ℕ) (turns : List FrameKind) (events : List Given)
-    → AreFrames pieces limit at turns events → (j : ℕ) (event : Given) → slice_get events j ≡ Some event
-    → (piece : Piece) × Contains pieces piece × (piece.nonce ≡ event.nonce)
-event_piece pieces limit at turns [] frames j event is = absurd (cc)
-event_piece pieces limit at [] (first ∷ events) frames j event is = absurd frames
-event_piece pieces limit at (turn ∷ turns) (first ∷ events) frames zero event is =
+event_piece : (pieces : List Piece) (limit at : ℕ) (follows : FrameKind → FrameKind) (turn : FrameKind)
+    (events : List Given) → AreFrames pieces limit at follows turn events → (j : ℕ) (event : Given)
+    → slice_get events j ≡ Some event → (piece : Piece) × Contains pieces piece × (piece.nonce ≡ event.nonce)
+event_piece pieces limit at follows turn [] frames j event is = absurd (cc)
+event_piece pieces limit at follows turn (first ∷ events) frames zero event is =
     let found = piece_at pieces (at + (length first.body + 3)) first.nonce frames.2 in
     (found.0, found.1, found.2 ∙ ap (λ (e : Given). e.nonce) (same_Some first event is))
-event_piece pieces limit at (turn ∷ turns) (first ∷ events) frames (suc j) event is =
-    event_piece pieces limit (at + (length first.body + 4)) turns events frames.3 j event is
+event_piece pieces limit at follows turn (first ∷ events) frames (suc j) event is =
+    event_piece pieces limit (at + (length first.body + 4)) follows (follows turn) events frames.3 j event is
 
 same_text : (text other : List ℕ) → ◌≡◌ {A = SaslFrame} (frames.Response text) (frames.Response other) → text ≡ other
 same_text text other same = cc
@@ -214,26 +217,13 @@ made_with {provider} server n text accepted accepts =
     let opened = accepts_open provider events server.connection.replies n accepted accepts.accepts in
     let at = opened.2 in
     let event = at.0 in
-    let piece = event_piece server.pieces server.limit 8 (turns.Init ∷ turns.Response ∷ []) events
-    server.connection.frames opened.0 event at.2 in (
+    let piece = event_piece server.pieces server.limit 8 server_follows turns.Init events server.connection.frames
+    opened.0
+    event at.2 in (
       piece.0,
       (is_challenging provider event at.1 accepted.challenge at.4).nonce ∙ ap base64_text (sym piece.2),
       (piece.1, (opened.0, opened.1, (event, at.2, piece.2))),
     )
-
--- two texts whose ends are equally long
-pub one_split : (front back first second : List ℕ) → front ++ back ≡ first ++ second → length back ≡ length second
-    → (front ≡ first) × (back ≡ second)
-one_split [] back [] second same long = (refl, same)
-one_split [] back (x ∷ first) second same long =
-    absurd (omega (arith, long, ap length same, length-append first second))
-one_split (x ∷ front) back [] second same long =
-    absurd (omega (arith, long, ap length same, length-append front back))
-one_split (x ∷ front) back (y ∷ first) second same long =
-    let head : x ≡ y = cc in
-    let tail : front ++ back ≡ first ++ second = cc in
-    let rest = one_split front back first second tail long in
-    (ap (λ z. z ∷ front) head ∙ ap (λ z. y ∷ z) rest.0, rest.1)
 
 pub repeated_responses_mean_one_nonce : RepeatedResponsesMeanOneNonce
 repeated_responses_mean_one_nonce provider other server again n m text accepted repeated are too accepts reaccepts =

@@ -1,5 +1,5 @@
 -- The acceptor of a server that has not logged its client in is as it was.
-use Rattle.std.proofs.Common.{◌≡◌, ◌≢◌, ◌⊎◌, ℕ, None, List, [], ◌∷◌, sym, ap, ◌∙◌, subst, inl, inr, arith, Ok, Err}
+use Rattle.std.proofs.Common.{◌≡◌, ◌≢◌, ◌⊎◌, ℕ, None, List, [], ◌∷◌, refl, sym, ap, ◌∙◌, subst, inl, inr, arith, Ok, Err}
 use Rattle.fe2o3_sasl_wire.specs.declared.amqp_types.SaslCode.TheVariants as outcomes
 use Rattle.fe2o3_sasl_wire.specs.declared.sasl_frames.error.Error.TheVariants as faults
 use Rattle.fe2o3_sasl_wire.specs.SaslFrames as frames
@@ -14,10 +14,11 @@ use Rattle.fe2o3_sasl_core.specs.SaslAcceptor.{ends_with}
 use Rattle.fe2o3_sasl_core.proofs.lemmas.machines.AnyMechanismLemmas.{unmoved}
 use Rattle.fe2o3_sasl_negotiation.specs.declared.progress.Expected.TheVariants.{Frame}
 use Rattle.fe2o3_sasl_negotiation.specs.declared.progress.Progress.TheVariants.{InProgress, Authenticated}
+use Rattle.fe2o3_sasl_negotiation.specs.declared.progress.FrameKind.{FrameKind}
 use Rattle.fe2o3_sasl_negotiation.specs.declared.progress.FrameKind.TheVariants as turns
-use Rattle.fe2o3_sasl_negotiation.specs.Connections.{Piece, AreFrames, Replied, LastReply, IsOkSent}
+use Rattle.fe2o3_sasl_negotiation.specs.Connections.{Replied, LastReply, IsOkSent}
 use Rattle.fe2o3_sasl_negotiation.specs.Negotiations.{SideOutput}
-use Rattle.fe2o3_sasl_negotiation.specs.ServerNegotiation.{ServerOutputs}
+use Rattle.fe2o3_sasl_negotiation.specs.ServerNegotiation.{ServerOutputs, server_follows}
 use Rattle.fe2o3_sasl_negotiation.proofs.lemmas.FrameSizeLemmas.{outcomes_fit}
 use Rattle.fe2o3_sasl_negotiation.proofs.lemmas.KindLemmas.{sends_ends}
 use Rattle.fe2o3_sasl_negotiation.proofs.lemmas.LoginLemmas.{servers_log_in}
@@ -32,46 +33,42 @@ logged_in_waits_not : Authenticated ≢ InProgress
 logged_in_waits_not same = cc
 
 -- an Ok leaves no server waiting
-ok_ends : (says : ServerSays) (answer : SideOutput) → ServerOutputs says turns.Init answer → answer.progress ≡ InProgress
-    → ¬ IsOkSent says
-ok_ends says answer said waits (body, same, fits) =
-    sends_ends body Authenticated (Frame turns.Init) answer logged_in_waits_not
-    (subst (λ (s : ServerSays). ServerOutputs s turns.Init answer) same said) waits
+ok_ends : (says : ServerSays) (turn : FrameKind) (answer : SideOutput) → ServerOutputs says turn answer
+    → answer.progress ≡ InProgress → ¬ IsOkSent says
+ok_ends says turn answer said waits (body, same, fits) =
+    sends_ends body Authenticated (Frame turn) answer logged_in_waits_not
+    (subst (λ (s : ServerSays). ServerOutputs s turn answer) same said) waits
 
 module _ {S : Type 0} (machine : Machine S) (steps : StaysOrOk machine) where
-  stays_or_ok : (pieces : List Piece) (limit : ℕ) (events : List Given) (replies : List ServerSays) (answer : SideOutput)
-      (state last : S) → AreFrames pieces limit 8 (turns.Init ∷ turns.Response ∷ []) events
-      → Runs (AcceptorSteps machine) state events replies last
-      → Replied ServerOutputs (turns.Init ∷ turns.Response ∷ []) replies answer → LastReply IsOkSent replies ⊎ (last ≡ state)
-  stays_or_ok pieces limit [] replies answer state last expected run replied = inr run.1
-  stays_or_ok pieces limit (event ∷ []) replies answer state last expected (says, next, none, step, is, (empty, end)) replied =
+  stays_or_ok : (turn : FrameKind) (events : List Given) (replies : List ServerSays) (answer : SideOutput)
+      (state last : S) → Runs (AcceptorSteps machine) state events replies last
+      → Replied ServerOutputs server_follows turn replies answer → LastReply IsOkSent replies ⊎ (last ≡ state)
+  stays_or_ok turn [] replies answer state last run replied = inr run.1
+  stays_or_ok turn (event ∷ []) replies answer state last (says, next, none, step, is, (empty, end)) replied =
       let all : replies ≡ says ∷ [] = is ∙ ap (λ (l : List ServerSays). says ∷ l) empty in
       elim (steps state next event says step) [
         | inl ok ↦ inl (subst (λ (l : List ServerSays). LastReply IsOkSent l) (sym all) ok)
         | inr same ↦ inr (end ∙ same)
       ]
-  stays_or_ok pieces limit (event ∷ second ∷ []) replies answer state last expected
-      (says, mid, more, step, is, (then, next, none, step_then, is_then, (empty, end))) replied =
-      let all : replies ≡ says ∷ then ∷ [] =
-      is ∙ ap (λ (l : List ServerSays). says ∷ l) (is_then ∙ ap (λ (l : List ServerSays). then ∷ l) empty) in
-      let (first, rest, said, waits, _, _) =
-      subst (λ (l : List ServerSays). Replied ServerOutputs (turns.Init ∷ turns.Response ∷ []) l answer) all replied in
+  stays_or_ok turn (event ∷ second ∷ events) replies answer state last
+      (says, mid, more, step, is, (then, next, others, step_then, is_then, run)) replied =
+      let all : replies ≡ says ∷ then ∷ others = is ∙ ap (λ (l : List ServerSays). says ∷ l) is_then in
+      let (first, rest, said, waits, replied_then, _) =
+      subst (λ (l : List ServerSays). Replied ServerOutputs server_follows turn l answer) all replied in
       elim (steps state mid event says step) [
-        | inl ok ↦ absurd (ok_ends says first said waits ok)
+        | inl ok ↦ absurd (ok_ends says turn first said waits ok)
         | inr same ↦
-            elim (steps mid next second then step_then) [
+            elim (stays_or_ok (server_follows turn) (second ∷ events) (then ∷ others) rest mid last
+            (then, next, others, step_then, refl, run) replied_then) [
               | inl ok ↦ inl (subst (λ (l : List ServerSays). LastReply IsOkSent l) (sym all) ok)
-              | inr again ↦ inr (end ∙ (again ∙ same))
+              | inr again ↦ inr (again ∙ same)
             ]
       ]
-  stays_or_ok pieces limit (event ∷ second ∷ third ∷ events) replies answer state last expected run replied =
-      absurd expected.3.3
 
   pub servers_stay : ServersStay machine
   servers_stay state server out =
       let n = server.connection in
-      elim (stays_or_ok server.pieces server.limit n.events n.replies n.answer state server.last.state n.frames n.run
-      n.replied) [
+      elim (stays_or_ok turns.Init n.events n.replies n.answer state server.last.state n.run n.replied) [
         | inl ok ↦ absurd (out ((servers_log_in machine server.limit state server.pieces server.taken server.sent
             server.last n).1 ok))
         | inr same ↦ same

@@ -18,7 +18,7 @@ use Rattle.fe2o3_scram.proofs.lemmas.messages.ExchangeLemmas.{succeeds, opened}
 use Rattle.fe2o3_sasl_core.specs.ClientHistory.{ReadsChallenge, IsDue, NonceAt, is_start, is_answer}
 use Rattle.fe2o3_sasl_core.specs.Events.{Given, ServerSays, Challenged, Concluded, ClientSays, Started, Answered}
 use Rattle.fe2o3_sasl_core.specs.Positions.{IsLastOpen, test_at}
-use Rattle.fe2o3_sasl_core.specs.Profiles.{scram_profile}
+use Rattle.fe2o3_sasl_core.specs.Profiles.{scram_profile, accepts_signature_by_challenge}
 use Rattle.fe2o3_sasl_core.specs.Runs.{AcceptorSteps, ProfileSteps, Runs}
 use Rattle.fe2o3_sasl_core.specs.SaslAcceptor.{ScramAcceptor, acceptor_names, acceptor_machine}
 use Rattle.fe2o3_sasl_core.specs.ServerHistory.{FitsAsInit, final_message}
@@ -33,15 +33,15 @@ use Rattle.fe2o3_sasl_core.proofs.lemmas.unaltered.UnalteredStepLemmas as step
 use Rattle.fe2o3_sasl_negotiation.specs.declared.progress.Expected.TheVariants.{Frame}
 use Rattle.fe2o3_sasl_negotiation.specs.declared.progress.Progress.TheVariants.{InProgress, Authenticated}
 use Rattle.fe2o3_sasl_negotiation.specs.declared.progress.FrameKind.TheVariants as turns
-use Rattle.fe2o3_sasl_negotiation.specs.ClientNegotiation as of_client
 use Rattle.fe2o3_sasl_negotiation.specs.ServerNegotiation as of_server
 use Rattle.fe2o3_sasl_negotiation.specs.FrameSizes.{CanBeSent}
 use Rattle.fe2o3_sasl_negotiation.specs.Framing.{sasl_header, framed}
 use Rattle.fe2o3_sasl_negotiation.proofs.lemmas.FrameSizeLemmas.{texts_fit}
 use Rattle.connection_laws.proofs.lemmas.ReplyListLemmas.{arriving}
 use Rattle.connection_laws.proofs.lemmas.ExactSideLemmas.{Exact, ClientMakes, ServerMakes}
+use Rattle.connection_laws.proofs.lemmas.LoginFrameLemmas.{outcome_in_turn}
 use Rattle.connection_laws.proofs.lemmas.SmallReplyLemmas.{nonce_length, first_length, proof_length, response_length, fits_as, answer_is_small, challenge_is_small, ok_is_small, ok_fits}
-use Rattle.connection_laws.proofs.lemmas.UnalteredSideLemmas.{Case, UpToOk, ClientFine, ServerFine, ClientTakes, ServerTakes, client_memory, server_memory, authenticated_is_not_in_progress, ended_rests, first_text, event, exchange_by, met, held, suffices, histories, client_goes_on, client_takes, server_goes_on, server_takes, init_fits, zeroth_fine, starts}
+use Rattle.connection_laws.proofs.lemmas.UnalteredSideLemmas.{Case, UpToOk, ClientSends, turn_after_response, ClientFine, ServerFine, ClientTakes, ServerTakes, client_memory, server_memory, authenticated_is_not_in_progress, ended_rests, first_text, event, exchange_by, met, held, suffices, histories, client_goes_on, client_takes, server_goes_on, server_takes, init_fits, zeroth_fine, starts}
 
 module _ (c : Case) where
   -- the server challenges
@@ -182,7 +182,8 @@ module _ (c : Case) where
 
         second_fine : ClientFine second.says
         second_fine = (
-          client_memory second.says turns.Challenge second.answer second.said,
+          client_memory (accepts_signature_by_challenge zeroth.next) second.says turns.Challenge second.answer
+              second.said,
           answer_is_small c.login next_events next_replies 1 (event challenge second.nonce) second.says
               (profile_runs_are_histories c.login next_events next_replies second.next next_run) refl refl
               (first_in exchange) (step.answering_in exchange)
@@ -275,8 +276,9 @@ module _ (c : Case) where
           -- and the rest of the connection
           from_response : c.joined.server_sent ≡ sasl_header ++ (framed offer ++ (framed challenge ++ server_ends))
               → c.joined.client_sent ≡ framed init ++ (framed response ++ client_ends)
-              → ClientMakes c.login.hostname c.joined.client_limit (Frame turns.Outcome) second.next second.nonces server_ends
-              client_ends c.client → UpToOk c
+              → ClientMakes c.login.hostname c.joined.client_limit
+              (Frame (turn_after_response zeroth.next)) second.next second.nonces
+              server_ends client_ends c.client → UpToOk c
           from_response server_all client_all waits =
               let (outcome, accepted, sent_outcome) = accepts in
               let small = fits_as (frames.Outcome outcomes.Ok (Some final_sent)) outcome
@@ -292,9 +294,11 @@ module _ (c : Case) where
                 held = [];
                 state = third.next;
               }) c.server third.nonces client_ends third.after authenticated_is_not_in_progress ends in
-              let fourth = client_takes c turns.Outcome second.next second.nonces outcome third.after server_ends
+              let fourth = client_takes c (turn_after_response zeroth.next) second.next second.nonces outcome
+              third.after server_ends
               client_ends (frames.Outcome outcomes.Ok (Some final_sent)) sent_outcome small
-              (spells_outcome outcomes.Ok final_sent outcome sent_outcome) tt all waits in
+              (spells_outcome outcomes.Ok final_sent outcome sent_outcome)
+              (outcome_in_turn (accepts_signature_by_challenge zeroth.next) outcomes.Ok (Some final_sent)) all waits in
               record {
                 offer = offer;
                 init = init;
@@ -336,8 +340,9 @@ module _ (c : Case) where
             let (response, answered, sent_response) = answers in
             let small = fits_as (frames.Response (answer_in exchange).message) response response_fits sent_response in
             let (all, client_waits) = client_goes_on c turns.Challenge zeroth.next challenge server_ends client_sends second
-            response turns.Outcome small
-            (subst (λ (s : ClientSays). of_client.ClientOutputs s turns.Challenge second.answer) answered second.said) in
+            response (turn_after_response zeroth.next) small
+            (subst (λ (s : ClientSays). ClientSends zeroth.next s turns.Challenge second.answer) answered
+            second.said) in
             let third = server_takes c turns.Response first.next first.nonces response second.after client_sends
             server_ends (frames.Response (answer_in exchange).message) sent_response small
             (spells_response (answer_in exchange).message response sent_response) tt all waits in
@@ -373,7 +378,8 @@ module _ (c : Case) where
       (init_fits c offer server_sends c.joined.client_sent offered zeroth) sent_init in
       let (all, client_waits) = client_goes_on c turns.Mechanisms (scram_profile c.login) offer server_sends c.joined.client_sent
       zeroth init turns.Challenge small
-      (subst (λ (s : ClientSays). of_client.ClientOutputs s turns.Mechanisms zeroth.answer) started zeroth.said) in
+      (subst (λ (s : ClientSays). ClientSends (scram_profile c.login) s turns.Mechanisms zeroth.answer) started
+      zeroth.said) in
       let first = server_takes c turns.Init (ScramAcceptor c.provider Initial) server_nonces init zeroth.after c.joined.client_sent server_sends
       (frames.Init (mechanism_name c.login.version) (Some text) c.login.hostname) sent_init small
       (spells_init c.login.version text c.login.hostname init c.is.hostname sent_init) tt all waits in

@@ -8,7 +8,7 @@ use Rattle.fe2o3_scram.specs.Exchanges.{Exchange, answer_in}
 use Rattle.fe2o3_scram.specs.ScramServer.{Initial}
 use Rattle.fe2o3_sasl_core.specs.Events.{Given, ServerSays, Challenged, Concluded, ClientSays, Reported}
 use Rattle.fe2o3_sasl_core.specs.Positions.{test_at}
-use Rattle.fe2o3_sasl_core.specs.Profiles.{Profile, scram_profile}
+use Rattle.fe2o3_sasl_core.specs.Profiles.{Profile, scram_profile, accepts_signature_by_challenge}
 use Rattle.fe2o3_sasl_core.specs.Runs.{AcceptorSteps, ProfileSteps, Runs}
 use Rattle.fe2o3_sasl_core.specs.SaslAcceptor.{Acceptor, ScramAcceptor, acceptor_machine, acceptor_user}
 use Rattle.fe2o3_sasl_core.specs.ServerHistory.{final_message, is_challenge, is_ok}
@@ -21,7 +21,7 @@ use Rattle.fe2o3_sasl_core.proofs.lemmas.positions.PositionLemmas.{opens_here}
 use Rattle.fe2o3_sasl_core.proofs.lemmas.unaltered.UnalteredStepLemmas as step
 use Rattle.fe2o3_sasl_negotiation.specs.declared.progress.Expected.TheVariants.{Frame}
 use Rattle.fe2o3_sasl_negotiation.specs.declared.progress.Progress.TheVariants.{Authenticated}
-use Rattle.fe2o3_sasl_negotiation.specs.declared.progress.FrameKind.TheVariants as turns
+use Rattle.fe2o3_sasl_negotiation.specs.declared.progress.FrameKind.{FrameKind}
 use Rattle.fe2o3_sasl_negotiation.specs.ClientNegotiation as of_client
 use Rattle.fe2o3_sasl_negotiation.specs.Framing.{sasl_header, framed}
 use Rattle.fe2o3_sasl_negotiation.specs.Laws.{Negotiates}
@@ -31,7 +31,7 @@ use Rattle.connection_laws.specs.Unaltered.{BothLogIn}
 use Rattle.connection_laws.proofs.lemmas.ExactSideLemmas.{Exact}
 use Rattle.connection_laws.proofs.lemmas.OneLoginLemmas.{one_login}
 use Rattle.connection_laws.proofs.lemmas.SmallReplyLemmas.{report_is_small}
-use Rattle.connection_laws.proofs.lemmas.UnalteredSideLemmas.{Case, UpToOk, ClientFine, client_memory, authenticated_is_not_in_progress, ended_rests, event, exchange_by, met, held, suffices, histories}
+use Rattle.connection_laws.proofs.lemmas.UnalteredSideLemmas.{Case, UpToOk, ClientSends, turn_after_response, ClientFine, client_memory, authenticated_is_not_in_progress, ended_rests, event, exchange_by, met, held, suffices, histories}
 
 module _ (c : Case) (u : UpToOk c) where
   abbrev exchange : Exchange
@@ -80,9 +80,13 @@ module _ (c : Case) (u : UpToOk c) where
     ),
   )
 
+  -- the turn of the outcome
+  abbrev last_turn : FrameKind
+  last_turn = turn_after_response u.zeroth.next
+
   fourth_fine : ClientFine u.fourth.says
   fourth_fine = (
-    client_memory u.fourth.says turns.Outcome u.fourth.answer u.fourth.said,
+    client_memory (accepts_signature_by_challenge u.second.next) u.fourth.says last_turn u.fourth.answer u.fourth.said,
     report_is_small c.login all_events all_replies 2 (event u.outcome u.fourth.nonce) u.fourth.says
         (profile_runs_are_histories c.login all_events all_replies u.fourth.next all_run) refl refl final_sent
         (spells_outcome outcomes.Ok final_sent u.outcome u.sent_outcome),
@@ -135,18 +139,18 @@ module _ (c : Case) (u : UpToOk c) where
   client_ends_well : (u.more ≡ []) × (u.client_ends ≡ [])
       × (c.client ≡ record {
         progress = Authenticated;
-        expected = Frame turns.Outcome;
+        expected = Frame last_turn;
         limit = c.joined.client_limit;
         held = [];
         state = u.fourth.next;
       })
   client_ends_well =
-      let ends : u.fourth.answer ≡ record { sent = []; progress = Authenticated; expected = Frame turns.Outcome } =
-      subst (λ (s : ClientSays). of_client.ClientOutputs s turns.Outcome u.fourth.answer) reports u.fourth.said in
+      let ends : u.fourth.answer ≡ record { sent = []; progress = Authenticated; expected = Frame last_turn } =
+      subst (λ (s : ClientSays). ClientSends u.second.next s last_turn u.fourth.answer) reports u.fourth.said in
       let rests = ended_rests (Exact (of_client.ClientSideAnswers c.login.hostname))
       (record {
         progress = Authenticated;
-        expected = Frame turns.Outcome;
+        expected = Frame last_turn;
         limit = c.joined.client_limit;
         held = [];
         state = u.fourth.next;

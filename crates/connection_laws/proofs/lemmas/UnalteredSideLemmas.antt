@@ -1,5 +1,5 @@
 -- What the sides of an unaltered connection make of each frame that arrives.
-use Rattle.std.proofs.Common.{◌≡◌, ◌≢◌, ℕ, ◌+◌, ◌<◌, ◌≤◌, ◌^◌, Option, Some, List, [], ◌∷◌, ◌++◌, codes, length, refl, subst, arith, inl, inr, Ok}
+use Rattle.std.proofs.Common.{◌≡◌, ◌≢◌, ℕ, Bool, ◌+◌, ◌<◌, ◌≤◌, ◌^◌, Option, Some, List, [], ◌∷◌, ◌++◌, codes, length, refl, subst, arith, inl, inr, Ok}
 use Rattle.std.specs.Fmt.{decimal}
 use Rattle.std.specs.Str.{IsUtf8}
 use Rattle.std.proofs.lemmas.Fmt.{IsAscii-decimal}
@@ -20,7 +20,7 @@ use Rattle.fe2o3_scram.proofs.lemmas.texts.AsciiLemmas.{IsUtf8-base64_text, IsUt
 use Rattle.fe2o3_sasl_core.specs.Bodies.{SpellsBody}
 use Rattle.fe2o3_sasl_core.specs.Events.{Given, Login, IsLogin, ServerSays, Challenged, Concluded, Failed, ClientSays, Started, Answered, Refused}
 use Rattle.fe2o3_sasl_core.specs.declared.sasl_profile.error.ProfileError.TheVariants.{Frame as FrameFault, OutOfMemory}
-use Rattle.fe2o3_sasl_core.specs.Profiles.{Profile, scram_profile}
+use Rattle.fe2o3_sasl_core.specs.Profiles.{Profile, scram_profile, accepts_signature_by_challenge}
 use Rattle.fe2o3_sasl_core.specs.Runs.{AcceptorSteps, ProfileSteps, Runs}
 use Rattle.fe2o3_sasl_core.specs.SaslAcceptor.{Acceptor, ScramAcceptor, acceptor_names, acceptor_machine}
 use Rattle.fe2o3_sasl_core.specs.ServerHistory.{final_message}
@@ -56,9 +56,10 @@ ClientFine says = (says ≢ Refused OutOfMemory) × (says ≢ Refused (FrameFaul
 abbrev pub ServerFine : ServerSays → Type 0
 ServerFine says = (says ≢ Failed faults.OutOfMemory) × (says ≢ Failed faults.TooLarge)
 
-pub client_memory : (says : ClientSays) (turn : FrameKind) (answer : SideOutput) → of_client.ClientOutputs says turn answer
-    → says ≢ Refused OutOfMemory
-client_memory says turn answer said same = subst (λ (s : ClientSays). of_client.ClientOutputs s turn answer) same said
+pub client_memory : (signs : Bool) (says : ClientSays) (turn : FrameKind) (answer : SideOutput)
+    → of_client.ClientOutputs signs says turn answer → says ≢ Refused OutOfMemory
+client_memory signs says turn answer said same =
+    subst (λ (s : ClientSays). of_client.ClientOutputs signs s turn answer) same said
 
 pub server_memory : (says : ServerSays) (turn : FrameKind) (answer : SideOutput) → of_server.ServerOutputs says turn answer
     → says ≢ Failed faults.OutOfMemory
@@ -89,13 +90,25 @@ pub asked_server : (turn : FrameKind) (acceptor next : Acceptor) (nonce unit : L
     → of_server.ServerSideAnswers acceptor_names acceptor_machine (Frame turn) acceptor nonce unit answer next
 asked_server turn acceptor next nonce unit answer answers = answers
 
+-- what a client in this state, and a server, sends for a reply
+abbrev pub ClientSends : Profile → ClientSays → FrameKind → SideOutput → Type 0
+ClientSends profile says turn answer =
+    of_client.ClientOutputs (accepts_signature_by_challenge profile) says turn answer
+
+abbrev pub ServerSends : Acceptor → ServerSays → FrameKind → SideOutput → Type 0
+ServerSends acceptor says turn answer = of_server.ServerOutputs says turn answer
+
+-- the turn after the answer of a client in this state to a challenge
+abbrev pub turn_after_response : Profile → FrameKind
+turn_after_response profile = of_client.client_follows (accepts_signature_by_challenge profile) turns.Challenge
+
 abbrev pub ClientTakes : Login → ℕ → FrameKind → Profile → List ℕ → List ℕ → List ℕ → Side Profile → Type 0
 ClientTakes login limit turn profile body more sent last = Takes (of_client.ClientSideAnswers login.hostname)
-    (ProfileSteps login.hostname) of_client.ClientOutputs (asked_client login.hostname) limit turn profile body more sent last
+    (ProfileSteps login.hostname) ClientSends (asked_client login.hostname) limit turn profile body more sent last
 
 abbrev pub ServerTakes : ℕ → FrameKind → Acceptor → List ℕ → List ℕ → List ℕ → Side Acceptor → Type 0
 ServerTakes limit turn acceptor body more sent last =
-    Takes (of_server.ServerSideAnswers acceptor_names acceptor_machine) (AcceptorSteps acceptor_machine) of_server.ServerOutputs
+    Takes (of_server.ServerSideAnswers acceptor_names acceptor_machine) (AcceptorSteps acceptor_machine) ServerSends
     asked_server limit turn acceptor body more sent last
 
 -- the server-first message is UTF-8
@@ -178,7 +191,7 @@ module _ (c : Case) where
       → (sent ≡ framed reply ++ made.after)
       × ClientMakes c.login.hostname c.joined.client_limit (Frame expected) made.next made.nonces more made.after c.client
   client_goes_on turn profile body more sent made reply expected small is =
-      goes_on_with (of_client.ClientSideAnswers c.login.hostname) (ProfileSteps c.login.hostname) of_client.ClientOutputs
+      goes_on_with (of_client.ClientSideAnswers c.login.hostname) (ProfileSteps c.login.hostname) ClientSends
       (asked_client c.login.hostname) c.joined.client_limit turn profile body more sent c.client made reply InProgress (Frame expected) small
       is
 
@@ -188,7 +201,7 @@ module _ (c : Case) where
       → ClientMakes c.login.hostname c.joined.client_limit (Frame turn) profile nonces bytes sent c.client
       → ClientTakes c.login c.joined.client_limit turn profile body more sent c.client
   client_takes turn profile nonces body more bytes sent frame whole small spells in_turn all made =
-      takes (of_client.ClientSideAnswers c.login.hostname) (ProfileSteps c.login.hostname) of_client.ClientOutputs
+      takes (of_client.ClientSideAnswers c.login.hostname) (ProfileSteps c.login.hostname) ClientSends
       (asked_client c.login.hostname) c.joined.client_limit turn profile nonces body more sent c.client frame c.wide.client_limit
       (long_enough frame body whole) small spells in_turn
       (subst (λ (l : List ℕ). ClientMakes c.login.hostname c.joined.client_limit (Frame turn) profile nonces l sent c.client) all
@@ -203,7 +216,8 @@ module _ (c : Case) where
       made.after c.server
   server_goes_on turn acceptor body more sent made reply progress expected small is =
       goes_on_with (of_server.ServerSideAnswers acceptor_names acceptor_machine) (AcceptorSteps acceptor_machine)
-      of_server.ServerOutputs asked_server c.joined.server_limit turn acceptor body more sent c.server made reply progress expected small is
+      ServerSends asked_server c.joined.server_limit turn acceptor body more sent c.server made reply progress expected
+      small is
 
   pub server_takes : (turn : FrameKind) (acceptor : Acceptor) (nonces : List (List ℕ)) (body more bytes sent : List ℕ)
       (frame : SaslFrame) → canonical frame ≡ Some body → length body + 4 ≤ 512 → SpellsBody body (Ok frame)
@@ -212,7 +226,8 @@ module _ (c : Case) where
       → ServerTakes c.joined.server_limit turn acceptor body more sent c.server
   server_takes turn acceptor nonces body more bytes sent frame whole small spells in_turn all made =
       takes (of_server.ServerSideAnswers acceptor_names acceptor_machine) (AcceptorSteps acceptor_machine)
-      of_server.ServerOutputs asked_server c.joined.server_limit turn acceptor nonces body more sent c.server frame c.wide.server_limit
+      ServerSends asked_server c.joined.server_limit turn acceptor nonces body more sent c.server frame
+      c.wide.server_limit
       (long_enough frame body whole) small spells in_turn
       (subst (λ (l : List ℕ). ServerMakes c.joined.server_limit (Frame turn) acceptor nonces l sent c.server) all made)
 
@@ -235,7 +250,8 @@ module _ (c : Case) where
 
     pub zeroth_fine : ClientFine zeroth.says
     zeroth_fine = (
-      client_memory zeroth.says turns.Mechanisms zeroth.answer zeroth.said,
+      client_memory (accepts_signature_by_challenge (scram_profile c.login)) zeroth.says turns.Mechanisms zeroth.answer
+          zeroth.said,
       start_is_small c.login (offer_event ∷ []) (zeroth.says ∷ []) 0 offer_event zeroth.says
           (profile_runs_are_histories c.login (offer_event ∷ []) (zeroth.says ∷ []) zeroth.next start_run) refl refl
           (spells_mechanisms c.login.version offer offered) init_fits,
@@ -279,7 +295,8 @@ pub record UpToOk (c : Case) : Type 0 where
   pub second : ClientTakes c.login c.joined.client_limit turns.Challenge zeroth.next challenge server_ends client_sends
       c.client
   pub third : ServerTakes c.joined.server_limit turns.Response first.next response client_ends server_ends c.server
-  pub fourth : ClientTakes c.login c.joined.client_limit turns.Outcome second.next outcome more client_ends c.client
+  pub fourth : ClientTakes c.login c.joined.client_limit (turn_after_response zeroth.next) second.next outcome more
+      client_ends c.client
   pub offered : canonical (frames.Mechanisms (mechanism_name c.login.version ∷ [])) ≡ Some offer
   pub started : zeroth.says ≡ Started init
   pub sent_init : canonical (frames.Init (mechanism_name c.login.version)
