@@ -1,16 +1,17 @@
 //! What two lists of frame bodies, one of a client and one of a server, say of the two sides.
 //!
-//! Both lists are replayed, with enough memory for each step and with the limit that is passed; the replies of the real
-//! sides are not used. A finding is a position of the client and a position of the server that belong together: an Ok
-//! that the client reported on the verifier of an Ok of the server, or a response of the client whose proof the server
-//! accepted. Its verdict says whether both sides mean one login, and, if not, which texts or keys of theirs collide.
+//! Both lists are replayed, with enough memory for each step and with the limit and the options that are passed; the
+//! replies of the real sides are not used. A finding is a position of the client and a position of the server that
+//! belong together: an Ok that the client reported on the verifier of an Ok of the server, or a response of the client
+//! whose proof the server accepted. Its verdict says whether both sides mean one login, and, if not, which texts or
+//! keys of theirs collide.
 
 ghost use Rattle.std.specs.Prelude.{◌≡◌, IfOk, map, false};
 ghost use Rattle.fe2o3_scram.specs.Credentials.{serving};
 ghost use Rattle.fe2o3_scram.specs.ClientSecret.{no_limit};
 ghost use Rattle.fe2o3_sasl_core.specs.Verdicts.{AuditsEvents};
 ghost use Rattle.fe2o3_sasl.specs.Audit.{finding_of};
-ghost use Rattle.fe2o3_sasl_core.specs.Runs.{given, login_of};
+ghost use Rattle.fe2o3_sasl_core.specs.Runs.{given, accepting, login_of};
 ghost use Rattle.fe2o3_sasl.specs.declared.audit.AuditError.TheVariants.{OutOfMemory as NoMemory};
 
 mod client_receipts;
@@ -22,7 +23,9 @@ use crate::audit::client_receipts::{client_is_complete, client_receipts};
 use crate::audit::matching::{match_proofs, match_verifiers};
 use crate::audit::server_receipts::{server_is_complete, server_receipts};
 use fe2o3_sasl_core::events::Event;
-use fe2o3_sasl_core::whole_runs::{scram_client_run_limited, scram_server_run_with_cbind_flag_y};
+use fe2o3_sasl_core::whole_runs::{
+    scram_client_run_with_signature_by_challenge, scram_server_run_with_cbind_flag_y,
+};
 use fe2o3_scram::credentials::ScramCredentialProvider;
 use fe2o3_scram::hmac::ScramVersion;
 use std::alloc::{AllocError, Global};
@@ -236,12 +239,47 @@ pub fn audit_with_cbind_flag_y<C: ScramCredentialProvider>(
         (map given client_events.now) (serving accept_cbind_flag_y (C.meaning credentials.now))
         (map given server_events.now) (map finding_of findings.items)) }
 {
-    let client_replies = scram_client_run_limited(
+    audit_with_signature_by_challenge(
         alloc,
         user,
         password,
         version,
         limit,
+        false,
+        client_events,
+        accept_cbind_flag_y,
+        credentials,
+        server_events,
+    )
+}
+
+/// Like `audit_with_cbind_flag_y`, but with `signature_by_challenge` the client accepts the server's signature in a
+/// challenge too (`ScramClient::signature_by_challenge`; RFC 4422, section 5). Its finding is at the Ok without data
+/// that follows. The empty response to that challenge shows no proof.
+pub fn audit_with_signature_by_challenge<C: ScramCredentialProvider>(
+    alloc: Global,
+    user: &str,
+    password: &str,
+    version: ScramVersion,
+    limit: u32,
+    signature_by_challenge: bool,
+    client_events: &[Event],
+    accept_cbind_flag_y: bool,
+    credentials: &C,
+    server_events: &[Event],
+) -> Result<Vec<Finding>, AuditError>
+    ensures { IfOk result (λ findings. AuditsEvents
+        (accepting signature_by_challenge (login_of version user.now password.now limit))
+        (map given client_events.now) (serving accept_cbind_flag_y (C.meaning credentials.now))
+        (map given server_events.now) (map finding_of findings.items)) }
+{
+    let client_replies = scram_client_run_with_signature_by_challenge(
+        alloc,
+        user,
+        password,
+        version,
+        limit,
+        signature_by_challenge,
         client_events,
     )?;
     let server_replies = scram_server_run_with_cbind_flag_y(
@@ -262,6 +300,7 @@ pub fn audit_with_cbind_flag_y<C: ScramCredentialProvider>(
         password,
         version,
         limit,
+        signature_by_challenge,
         client_events,
         &client_replies,
     )?;

@@ -2,7 +2,7 @@
 
 pub use crate::audit::{
     AuditError, Finding, FindingKind, Parameters, Verdict, audit, audit_limited,
-    audit_with_cbind_flag_y,
+    audit_with_cbind_flag_y, audit_with_signature_by_challenge,
 };
 pub use fe2o3_sasl_core::events::{ClientReply, Event, EventError, ServerReply};
 pub use fe2o3_sasl_core::steps::{
@@ -10,6 +10,7 @@ pub use fe2o3_sasl_core::steps::{
     profile_step,
 };
 pub use fe2o3_sasl_core::whole_runs::{
-    run_acceptor, run_profile, scram_client_run, scram_client_run_limited, scram_server_run,
+    run_acceptor, run_profile, scram_client_run, scram_client_run_limited,
+    scram_client_run_with_signature_by_challenge, scram_server_run,
     scram_server_run_with_cbind_flag_y,
 };

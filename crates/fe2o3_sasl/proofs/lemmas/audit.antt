@@ -4,4 +4,5 @@ pub mod CoverLemmas
 pub mod FoundLemmas
 pub mod IndexLemmas
 pub mod RepeatedFindingLemmas
+pub mod ResponseLemmas
 pub mod ServerReceiptLemmas

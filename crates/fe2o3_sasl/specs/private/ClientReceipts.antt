@@ -1,5 +1,5 @@
 -- What the pass over a client's run knows and keeps. Only contracts of private functions cite this.
-use Rattle.std.specs.Prelude.{◌≡◌, ℕ, Option, Some, None, List, [], ◌∷◌, ◌++◌, Ok}
+use Rattle.std.specs.Prelude.{◌≡◌, ℕ, Bool, true, Option, Some, None, List, [], ◌∷◌, ◌++◌, Ok}
 use Rattle.std.specs.Str.{IsUtf8}
 use Rattle.fe2o3_sasl_wire.specs.declared.amqp_types.SaslCode.{SaslCode}
 use Rattle.fe2o3_sasl_wire.specs.declared.amqp_types.SaslCode.TheVariants as outcomes
@@ -8,23 +8,25 @@ use Rattle.fe2o3_scram.specs.ClientKeys.{ClientKeys, keys_of}
 use Rattle.fe2o3_scram.specs.ServerFirst.{ServerFirst, ReadsServerFirst}
 use Rattle.fe2o3_scram.specs.Texts.{Part, base64_text}
 use Rattle.fe2o3_sasl_core.specs.ClientHistory.{is_start, is_answer, ends_answer}
+use Rattle.fe2o3_sasl.specs.declared.audit.client_receipts.Last.{Last}
 use Rattle.fe2o3_sasl.specs.declared.audit.client_receipts.Words.{Words}
 use Rattle.fe2o3_sasl_core.specs.Events.{Given, Login, ClientSays, Started, Answered, Reported, Refused}
 use Rattle.fe2o3_sasl_core.specs.Positions.{IsLastOpen}
-use Rattle.fe2o3_sasl_core.specs.Runs.{login_of}
+use Rattle.fe2o3_sasl_core.specs.Runs.{accepting, login_of}
 use Rattle.fe2o3_sasl_core.specs.Bodies.{SpellsBody}
-use Rattle.fe2o3_sasl_core.specs.TwoSides.{proof_at}
-use Rattle.fe2o3_sasl.specs.private.Receipts.{ClientReceipt, OfAnswer, Covers, IsShownReceipt, IsTakenReceipt, RespondsAt, ReportsAt}
+use Rattle.fe2o3_sasl_core.specs.TwoSides.{ChallengeAt, proof_at}
+use Rattle.fe2o3_sasl.specs.private.Receipts.{ClientReceipt, OfAnswer, Covers, IsShownReceipt, IsTakenReceipt, ProvesAt, ReportsAt}
 
--- what is known at position i: the receipts so far, the last start that a challenge can answer, and the answer
--- that can be open
+-- what is known at position i: the receipts so far, the last start that a challenge can answer, and the last response
+-- since a start, which is the one that can be open; while there is one, no challenge answers that start
 pub record ClientSoFar (login : Login) (events : List Given) (replies : List ClientSays) (i start : ℕ)
-    (shown taken : List ClientReceipt) : Type 0 where
-  pub shows : Covers (IsShownReceipt login events replies) (λ receipt. receipt.place) (RespondsAt replies) i shown
+    (response : Option ℕ) (shown taken : List ClientReceipt) : Type 0 where
+  pub shows : Covers (IsShownReceipt login events replies) (λ receipt. receipt.place) (ProvesAt login events replies) i
+      shown
   pub takes : Covers (IsTakenReceipt login events replies) (λ receipt. receipt.place) (ReportsAt replies) i taken
   pub started : (s : ℕ) → IsLastOpen is_start is_answer replies i s → start ≡ s
-  pub answered : (j : ℕ) → IsLastOpen is_answer ends_answer replies i j
-      → (front : List ClientReceipt) × (last : ClientReceipt) × (shown ≡ front ++ last ∷ []) × (last.place ≡ j)
+  pub answered : (j : ℕ) → IsLastOpen is_answer ends_answer replies i j → response ≡ Some j
+  pub used : (j s : ℕ) → response ≡ Some j → ¬ IsLastOpen is_start is_answer replies i s
 
 -- a receipt made of the body of a challenge, for an answer to the start with this nonce
 abbrev pub ShownFor : Login → ℕ → List ℕ → List ℕ → ClientReceipt → Type 0
@@ -43,34 +45,55 @@ pub record TakenFor (position : ℕ) (text : List ℕ) (answer receipt : ClientR
   pub stored_key : receipt.stored_key ≡ answer.stored_key
   pub server_key : receipt.server_key ≡ answer.server_key
 
--- the receipt that an outcome adds: of code Ok with data one of the last answer, and otherwise none
-abbrev pub OutcomeKeeps : ℕ → SaslCode → Option (List ℕ) → List ClientReceipt → List ClientReceipt
-    → List ClientReceipt → Type 0
-OutcomeKeeps place outcomes.Ok (Some text) shown taken taken' =
-    (front : List ClientReceipt) × (last : ClientReceipt) × (receipt : ClientReceipt)
-    × (shown ≡ front ++ last ∷ []) × TakenFor place text last receipt × (taken' ≡ taken ++ receipt ∷ [])
-OutcomeKeeps place code more shown taken taken' = taken' ≡ taken
+-- the receipt that a response adds: after a response since the last start none, if the signature may come in a
+-- challenge, and otherwise one of an answer to the start
+abbrev pub ResponseKeeps : Login → ℕ → Given → Given → Bool → Option ℕ → List ClientReceipt → List ClientReceipt
+    → Type 0
+ResponseKeeps login place init event true (Some response) shown shown' = shown' ≡ shown
+ResponseKeeps login place init event signed response shown shown' =
+    (receipt : ClientReceipt) × ShownFor login place init.nonce event.body receipt × (shown' ≡ shown ++ receipt ∷ [])
 
--- the receipts that the reply at a position adds: from the start, those of responses and those of reported Oks so far
-abbrev pub ClientKeeps : Login → ℕ → Given → Given → ClientSays → ℕ → ℕ → List ClientReceipt → List ClientReceipt
+-- the text of the challenge that the last response answered
+abbrev pub LastChallenge : List Given → Option ℕ → List ℕ → Type 0
+LastChallenge events response text = (k : ℕ) × (response ≡ Some k) × ChallengeAt events k text
+
+-- the text of the server-final message for an outcome with this data: the data, or without data the challenge that the
+-- last response answered
+abbrev pub VerifierOf : List Given → Option ℕ → Option (List ℕ) → List ℕ → Type 0
+VerifierOf events response (Some given) text = text ≡ given
+VerifierOf events response None text = LastChallenge events response text
+
+-- the receipt that an outcome adds: of code Ok one of the last proof, and otherwise none
+abbrev pub OutcomeKeeps : ℕ → List Given → Option ℕ → SaslCode → Option (List ℕ) → List ClientReceipt
     → List ClientReceipt → List ClientReceipt → Type 0
-ClientKeeps login place init event (Started body) start next shown shown' taken taken' =
-    (next ≡ place) × (shown' ≡ shown) × (taken' ≡ taken)
-ClientKeeps login place init event (Answered body) start next shown shown' taken taken' =
-    (next ≡ start)
-    × ((receipt : ClientReceipt) × ShownFor login place init.nonce event.body receipt
-    × (shown' ≡ shown ++ receipt ∷ []))
+OutcomeKeeps place events response outcomes.Ok more shown taken taken' =
+    (text : List ℕ) × (front : List ClientReceipt) × (last : ClientReceipt) × (receipt : ClientReceipt)
+    × VerifierOf events response more text × (shown ≡ front ++ last ∷ []) × TakenFor place text last receipt
+    × (taken' ≡ taken ++ receipt ∷ [])
+OutcomeKeeps place events response code more shown taken taken' = taken' ≡ taken
+
+-- the receipts that the reply at a position adds: from the last start and the last response, those of proofs and those
+-- of reported Oks so far
+abbrev pub ClientKeeps : Login → ℕ → Given → Given → List Given → ClientSays → Last → Last → List ClientReceipt
+    → List ClientReceipt → List ClientReceipt → List ClientReceipt → Type 0
+ClientKeeps login place init event events (Started body) last next shown shown' taken taken' =
+    (next.start ≡ place) × (next.response ≡ None) × (shown' ≡ shown) × (taken' ≡ taken)
+ClientKeeps login place init event events (Answered body) last next shown shown' taken taken' =
+    (next.start ≡ last.start) × (next.response ≡ Some place)
+    × ResponseKeeps login place init event login.signature_by_challenge last.response shown shown'
     × (taken' ≡ taken)
-ClientKeeps login place init event (Reported code more) start next shown shown' taken taken' =
-    (next ≡ start) × (shown' ≡ shown) × OutcomeKeeps place code more shown taken taken'
-ClientKeeps login place init event (Refused fault) start next shown shown' taken taken' =
-    (next ≡ start) × (shown' ≡ shown) × (taken' ≡ taken)
+ClientKeeps login place init event events (Reported code more) last next shown shown' taken taken' =
+    (next.start ≡ last.start) × (next.response ≡ last.response) × (shown' ≡ shown)
+    × OutcomeKeeps place events last.response code more shown taken taken'
+ClientKeeps login place init event events (Refused fault) last next shown shown' taken taken' =
+    (next.start ≡ last.start) × (next.response ≡ last.response) × (shown' ≡ shown) × (taken' ≡ taken)
 
 -- ---- the keys that are kept
 
 -- the login with these words
 abbrev pub login_at : Words → Login
-login_at words = login_of words.version words.user.now words.password.now words.limit
+login_at words = accepting words.signature_by_challenge
+    (login_of words.version words.user.now words.password.now words.limit)
 
 -- the keys of the password with this salt and this count
 abbrev pub AreKeys : Words → List ℕ → ℕ → ClientKeys → Type 0

@@ -54,7 +54,7 @@ pub record OfAccepted (provider : Provider) (accepted : Accepted) (receipt : Ser
   pub server_key : receipt.server_key ≡ accepted.challenge.stored.server_key
   pub recovered : receipt.recovered ≡ recovered_at provider accepted
 
--- the receipt of a response of the client, with the proof that it showed
+-- the receipt of a response of the client to a server-first message, with the proof that it showed
 abbrev pub IsShownReceipt : Login → List Given → List ClientSays → ClientReceipt → Type 0
 IsShownReceipt login events replies receipt =
     (body : List ℕ) × (answer : Answering) × (slice_get replies receipt.place ≡ Some (Answered body))
@@ -77,9 +77,10 @@ IsOkReceipt provider events replies receipt =
     × (slice_get replies receipt.place ≡ Some (Concluded outcomes.Ok body))
     × AcceptsAt provider events replies receipt.place accepted × OfAccepted provider accepted receipt
 
--- the reply at this position is a response
-abbrev pub RespondsAt : List ClientSays → ℕ → Type 0
-RespondsAt replies k = (body : List ℕ) × (slice_get replies k ≡ Some (Answered body))
+-- the reply at this position is a response to a server-first message
+abbrev pub ProvesAt : Login → List Given → List ClientSays → ℕ → Type 0
+ProvesAt login events replies k = (body : List ℕ) × (answer : Answering)
+    × (slice_get replies k ≡ Some (Answered body)) × AnswersAt login events replies k answer
 
 -- the reply at this position is a reported Ok
 abbrev pub ReportsAt : List ClientSays → ℕ → Type 0

@@ -13,7 +13,7 @@ use Rattle.fe2o3_sasl_core.specs.Events.{Given, Login, ServerSays, Concluded, Cl
 use Rattle.fe2o3_sasl_core.specs.ServerHistory.{Accepted, AcceptsAt, ServerHistory, final_message}
 use Rattle.fe2o3_sasl_core.specs.TwoSides.{Sides, Histories, VerifierText, OkAt, Takes, Shows, proof_at}
 use Rattle.fe2o3_sasl.specs.private.Findings.{same, agreed_on, verifier_verdict, proof_verdict, is_taken, is_shown, verifier_finding, proof_finding, findings_of}
-use Rattle.fe2o3_sasl.specs.private.Receipts.{ClientReceipt, ServerReceipt, OfAnswer, OfAccepted, IsShownReceipt, IsTakenReceipt, IsOkReceipt, RespondsAt, ReportsAt, ConcludesAt, Member, Covers}
+use Rattle.fe2o3_sasl.specs.private.Receipts.{ClientReceipt, ServerReceipt, OfAnswer, OfAccepted, IsShownReceipt, IsTakenReceipt, IsOkReceipt, ProvesAt, ReportsAt, ConcludesAt, Member, Covers}
 use Rattle.fe2o3_scram.specs.Credentials.{Provider}
 use Rattle.fe2o3_scram.specs.Texts.{Part}
 use Rattle.fe2o3_scram.proofs.lemmas.texts.PartsLemmas.{one_part}
@@ -199,7 +199,7 @@ module _ (sides : Sides) (histories : Histories sides) (held : IsSecret sides.lo
 
   pub audits : (shown taken : List ClientReceipt) (oks : List ServerReceipt) → ClientComplete sides.client_replies
       → ServerComplete sides.server_replies
-      → Covers (Shown sides) (λ receipt. receipt.place) (RespondsAt sides.client_replies)
+      → Covers (Shown sides) (λ receipt. receipt.place) (ProvesAt sides.login sides.client_events sides.client_replies)
       (length sides.client_events) shown
       → Covers (Taken sides) (λ receipt. receipt.place) (ReportsAt sides.client_replies)
       (length sides.client_events) taken
@@ -269,7 +269,8 @@ module _ (sides : Sides) (histories : Histories sides) (held : IsSecret sides.lo
           × (is_shown client server ≡ true) × (client.place ≡ k) × (server.place ≡ n)
       shown_pair k n answer accepted t =
           let within = slice_get_within sides.client_replies k (Answered t.body) t.answered in
-          let found = shows.every k (omega (arith, within, histories.client.count)) (t.body, t.answered) in
+          let found = shows.every k (omega (arith, within, histories.client.count))
+          (t.body, answer, t.answered, t.answers) in
           let is = member_each (Shown sides) shown found.0 shows.each found.1 in
           let also : AnswersAt sides.login sides.client_events sides.client_replies k is.1 =
           subst (λ (z : ℕ). AnswersAt sides.login sides.client_events sides.client_replies z is.1) found.2 is.3 in
@@ -296,7 +297,8 @@ pub audits_events : {E X Y F A B : Type 0} (login : Login) (provider : Provider)
     → ServerHistory provider (map given server_events) (map server_says server_replies)
     → ClientComplete (map client_says client_replies) → ServerComplete (map server_says server_replies)
     → Covers (IsShownReceipt login (map given client_events) (map client_says client_replies))
-    (λ receipt. receipt.place) (RespondsAt (map client_says client_replies)) (length client_events) (map client shown)
+    (λ receipt. receipt.place) (ProvesAt login (map given client_events) (map client_says client_replies))
+    (length client_events) (map client shown)
     → Covers (IsTakenReceipt login (map given client_events) (map client_says client_replies))
     (λ receipt. receipt.place) (ReportsAt (map client_says client_replies)) (length client_events) (map client taken)
     → Covers (IsOkReceipt provider (map given server_events) (map server_says server_replies))
@@ -324,8 +326,8 @@ audits_events login provider given client_says server_says finding client server
           (map server oks)) e))
           (audits sides (record { client = hc; server = hs }) held (map client shown) (map client taken)
           (map server oks) fc fs
-          (subst (λ (i : ℕ). Covers (Shown sides) (λ (r : ClientReceipt). r.place) (RespondsAt sides.client_replies) i
-          (map client shown)) n cs)
+          (subst (λ (i : ℕ). Covers (Shown sides) (λ (r : ClientReceipt). r.place)
+          (ProvesAt sides.login sides.client_events sides.client_replies) i (map client shown)) n cs)
           (subst (λ (i : ℕ). Covers (Taken sides) (λ (r : ClientReceipt). r.place) (ReportsAt sides.client_replies) i
           (map client taken)) n ct)
           (subst (λ (i : ℕ). Covers (OfOk sides) (λ (r : ServerReceipt). r.place) (ConcludesAt sides.server_replies) i

@@ -1,12 +1,12 @@
 -- Receipts that are made position by position.
-use Rattle.std.proofs.Common.{◌≡◌, ◌≢◌, ℕ, zero, suc, ◌<◌, ◌+◌, Some, List, [], ◌∷◌, ◌++◌, map, length, take, get_or, sym, ap, ◌∙◌, subst, arith, ⊎_elim}
+use Rattle.std.proofs.Common.{◌≡◌, ◌≢◌, ℕ, zero, suc, ◌<◌, ◌+◌, Some, List, [], ◌∷◌, ◌++◌, map, length, take, get_or, sym, ap, ◌∙◌, subst, arith, ◌⊎◌, inl, inr, ⊎_elim}
 use Rattle.std.specs.Prelude.{slice_get}
 use Rattle.std.specs.List.{AllByRecursion}
 use Rattle.std.proofs.lemmas.List.{map-append, take_more}
 use Rattle.std.proofs.lemmas.Option.{same_Some}
-use Rattle.fe2o3_sasl.specs.private.Receipts.{Rising, Covers}
+use Rattle.fe2o3_sasl.specs.private.Receipts.{Member, Rising, Covers}
 use Rattle.fe2o3_sasl_core.proofs.lemmas.lists.EachLemmas.{each_append, each_weaker}
-use Rattle.fe2o3_sasl.proofs.lemmas.lists.MemberLemmas.{member_front, member_last}
+use Rattle.fe2o3_sasl.proofs.lemmas.lists.MemberLemmas.{member_front, member_last, member_each}
 use Rattle.fe2o3_sasl_core.proofs.lemmas.positions.PositionLemmas.{below_or_at}
 
 -- ---- one position more
@@ -41,6 +41,38 @@ module _ {X : Type 0} (Is : X → Type 0) (place : X → ℕ) (At : ℕ → Type
         (λ (b : k < i). let m = covers.every k b at in (m.0, member_front m.0 xs (y ∷ []) m.1, m.2))
         (λ (e : k ≡ i). (y, member_last xs y, here ∙ sym e)) (below_or_at k i l);
   }
+
+-- ---- the last one
+
+-- a member is the last one, or one in front of it
+last_or_front : {X : Type 0} (xs : List X) (y x : X) → Member x (xs ++ y ∷ []) → (y ≡ x) ⊎ Member x xs
+last_or_front [] y x (inl e) = inl e
+last_or_front [] y x (inr m) = absurd m
+last_or_front (z ∷ xs) y x (inl e) = inr (inl e)
+last_or_front (z ∷ xs) y x (inr m) =
+    ⊎_elim (λ (e : y ≡ x). inl e) (λ (f : Member x xs). inr (inr f)) (last_or_front xs y x m)
+
+-- those in front are of earlier positions
+front_before : {X : Type 0} (place : X → ℕ) (xs : List X) (y x : X) → Rising place (xs ++ y ∷ []) → Member x xs
+    → place x < place y
+front_before place [] y x rises m = absurd m
+front_before place (z ∷ xs) y x rises (inl e) =
+    subst (λ (w : _). place w < place y) e
+    (member_each (λ w. place z < place w) (xs ++ y ∷ []) y rises.0 (member_last xs y))
+front_before place (z ∷ xs) y x rises (inr m) = front_before place xs y x rises.1 m
+
+module _ {X : Type 0} (Is : X → Type 0) (place : X → ℕ) (At : ℕ → Type 0) where
+  -- the last receipt is of the last position of which At holds
+  pub covers_last : (i k : ℕ) (xs : List X) (y : X) → ((x : X) → Is x → At (place x))
+      → Covers Is place At i (xs ++ y ∷ []) → k < i → At k → ((m : ℕ) → k < m → m < i → ¬ At m) → place y ≡ k
+  covers_last i k xs y of covers within at none =
+      let found = covers.every k within at in
+      ⊎_elim (λ (e : y ≡ found.0). ap place e ∙ found.2)
+      (λ (front : Member found.0 xs). absurd (none (place y)
+      (omega (arith, found.2, front_before place xs y found.0 covers.rising front))
+      (member_each (λ x. place x < i) (xs ++ y ∷ []) y covers.below (member_last xs y))
+      (of y (member_each Is (xs ++ y ∷ []) y covers.each (member_last xs y)))))
+      (last_or_front xs y found.0 found.1)
 
 -- ---- what a loop over a slice knows
 

@@ -1,6 +1,6 @@
-use Rattle.std.proofs.Common.{map, refl, arith}
+use Rattle.std.proofs.Common.{map, arith}
 use Rattle.fe2o3_sasl_core.specs.Events.{Login}
-use Rattle.fe2o3_sasl_core.specs.Runs.{given, client_answer, login_of}
+use Rattle.fe2o3_sasl_core.specs.Runs.{given, client_answer, accepting, login_of}
 use Rattle.fe2o3_sasl.specs.private.Findings.{client_receipt}
 use Rattle.fe2o3_sasl.proofs.lemmas.audit.ClientReceiptLemmas.{client_next, start_behind}
 use Rattle.fe2o3_sasl.proofs.lemmas.audit.CoverLemmas.{at_index}
@@ -8,26 +8,29 @@ use Rattle.fe2o3_sasl.proofs.audit.client_receipts.client_receipts.Goals as goal
 
 pub loop-place-preserved : goal.loop-place-preserved
 loop-place-preserved c =
-    let login : Login = login_of c.args.version c.args.user.now c.args.password.now c.args.limit in
+    let login : Login = accepting c.args.signature_by_challenge
+    (login_of c.args.version c.args.user.now c.args.password.now c.args.limit) in
+    let events = map given c.args.events.now in
+    let replies = map client_answer c.args.replies.now in
     let i = c.loop-place.place in
-    let start = c.loop-place.start in
-    let next = c.in_ok-start.start in
-    let init = c.index-events-start.result in
+    let last = c.loop-place.last in
+    let next = c.in_ok-last.last in
+    let init = c.index-events-last.result in
     let event = c.index-events-place.result in
     let reply = c.index-replies-place.result in
     let shown = map client_receipt c.loop-place.receipts.shown.items in
     let taken = map client_receipt c.loop-place.receipts.taken.items in
     let shown' = map client_receipt c.keep_reply.new.receipts.shown.items in
     let taken' = map client_receipt c.keep_reply.new.receipts.taken.items in
-    let keeps = c.in_ok-start.ensures.keeps in
+    let keeps = c.in_ok-last.ensures.keeps in
     record {
-      so_far = client_next login (map given c.args.events.now) (map client_answer c.args.replies.now)
-          c.requires.history refl i start next shown shown' taken taken' (given init) (given event) (client_answer reply)
+      so_far = client_next login events replies c.requires.history i last next shown shown' taken taken' (given init)
+          (given event) (client_answer reply)
           (at_index client_answer c.args.replies.now i reply (omega arith) c.index-replies-place.is)
-          (at_index given c.args.events.now start init (omega arith) c.index-events-start.is)
+          (at_index given c.args.events.now last.start init (omega arith) c.index-events-last.is)
           (at_index given c.args.events.now i event (omega arith) c.index-events-place.is)
           keeps c.loop-place.invariant.so_far;
-      behind = start_behind login i start next shown shown' taken taken' (given init) (given event)
-          (client_answer reply) keeps c.loop-place.invariant.behind;
-      keys = c.in_ok-start.ensures.kept;
+      behind = start_behind login events replies c.requires.history i last next shown shown' taken taken' (given init)
+          (given event) (client_answer reply) keeps c.loop-place.invariant.behind;
+      keys = c.in_ok-last.ensures.kept;
     }

@@ -3,15 +3,16 @@ use Rattle.fe2o3_scram.specs.Credentials.{Provider, serving}
 use Rattle.fe2o3_sasl.specs.Audit.{finding_of}
 use Rattle.fe2o3_sasl_core.specs.Complete.{ClientComplete, ServerComplete}
 use Rattle.fe2o3_sasl_core.specs.Events.{Login}
-use Rattle.fe2o3_sasl_core.specs.Runs.{given, client_answer, server_answer, login_of}
+use Rattle.fe2o3_sasl_core.specs.Runs.{given, client_answer, server_answer, accepting, login_of}
 use Rattle.fe2o3_sasl.specs.private.Findings.{client_receipt, server_receipt, is_taken, is_shown, verifier_finding, proof_finding, findings_of}
-use Rattle.fe2o3_sasl.specs.private.Receipts.{Covers, IsShownReceipt, IsTakenReceipt, IsOkReceipt, RespondsAt, ReportsAt, ConcludesAt}
+use Rattle.fe2o3_sasl.specs.private.Receipts.{Covers, IsShownReceipt, IsTakenReceipt, IsOkReceipt, ProvesAt, ReportsAt, ConcludesAt}
 use Rattle.fe2o3_sasl.proofs.lemmas.audit.AuditLemmas.{audits_events}
-use Rattle.fe2o3_sasl.proofs.audit.audit_with_cbind_flag_y.Goals as goal
+use Rattle.fe2o3_sasl.proofs.audit.audit_with_signature_by_challenge.Goals as goal
 
 pub returns : goal.returns
 returns g c =
-    let login : Login = login_of c.args.version c.args.user.now c.args.password.now c.args.limit in
+    let login : Login = accepting c.args.signature_by_challenge
+    (login_of c.args.version c.args.user.now c.args.password.now c.args.limit) in
     let provider : Provider =
     serving c.args.accept_cbind_flag_y (g.C.ScramCredentialProvider.meaning c.args.credentials.now) in
     let inputs = map given c.args.client_events.now in
@@ -28,7 +29,7 @@ returns g c =
     (subst (λ z. ServerComplete (map server_answer z)) c.deref-2.ensures.value
     (c.server_is_complete.ensures.0 c.if-not-server_is_complete.false))
     (subst (λ z. Covers (IsShownReceipt login inputs (map client_answer z)) (λ receipt. receipt.place)
-    (RespondsAt (map client_answer z)) (length c.args.client_events.now) (map client_receipt shown))
+    (ProvesAt login inputs (map client_answer z)) (length c.args.client_events.now) (map client_receipt shown))
     c.deref-3.ensures.value c.in_ok-client.ensures.shown)
     (subst (λ z. Covers (IsTakenReceipt login inputs (map client_answer z)) (λ receipt. receipt.place)
     (ReportsAt (map client_answer z)) (length c.args.client_events.now) (map client_receipt taken))

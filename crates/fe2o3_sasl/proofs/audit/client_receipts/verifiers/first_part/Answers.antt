@@ -2,7 +2,7 @@ use Rattle.std.proofs.Common.{lit<, Bor, List, ℕ}
 use Rattle.std.proofs.lemmas.Iterator.Consumers.{nth_from_yields_List}
 use Rattle.std.proofs.lemmas.Iterator.Splits.{YieldsList-from_str_split}
 use Rattle.fe2o3_scram.proofs.lemmas.texts.PartsLemmas.{part_from_pieces}
-use Rattle.fe2o3_sasl.proofs.audit.client_receipts.first_part.Goals as goal
+use Rattle.fe2o3_sasl.proofs.audit.client_receipts.verifiers.first_part.Goals as goal
 
 pub returns : goal.returns
 returns c =
