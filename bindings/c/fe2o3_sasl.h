@@ -116,7 +116,10 @@ enum fe2o3_offer {
     /* No mechanism: PLAIN tests the password as received, also a non-ASCII one. Clients prepare their passwords. */
     FE2O3_PLAIN_PREPARED = 128,
     /* No mechanism: PLAIN tests the text that SASLprep prepares the password to. Not with FE2O3_PLAIN_PREPARED. */
-    FE2O3_PLAIN_SASLPREP = 256
+    FE2O3_PLAIN_SASLPREP = 256,
+    /* No mechanism: SCRAM sends the server's signature in a challenge, and the outcome OK follows the client's empty
+     * response (RFC 4422, section 5). For clients that do not read the data of an outcome. */
+    FE2O3_SIGNATURE_BY_CHALLENGE = 1024
 };
 
 /* How far a login on a connection is. */
@@ -142,7 +145,9 @@ enum fe2o3_expected {
     /* The response. */
     FE2O3_EXPECTED_RESPONSE = 4,
     /* The outcome. */
-    FE2O3_EXPECTED_OUTCOME = 5
+    FE2O3_EXPECTED_OUTCOME = 5,
+    /* The server's signature in a challenge, or already the outcome. Only for a client with `signature_by_challenge`. */
+    FE2O3_EXPECTED_SIGNATURE_CHALLENGE = 6
 };
 
 /* How far the exchange of a SCRAM client is. Other values count as FE2O3_SCRAM_CLIENT_INITIAL. */
@@ -169,7 +174,10 @@ enum fe2o3_scram_server_state {
     /* The user is authenticated. */
     FE2O3_SCRAM_SERVER_AUTHENTICATED = 2,
     /* A challenge is open, to a client whose GS2 header is `y,,`. */
-    FE2O3_SCRAM_SERVER_CHALLENGE_OPEN_CBIND_FLAG_Y = 3
+    FE2O3_SCRAM_SERVER_CHALLENGE_OPEN_CBIND_FLAG_Y = 3,
+    /* The server's signature was sent to the user in a challenge. The user is authenticated once the client has answered
+     * it. Only on a connection, and for steps over frame bodies. */
+    FE2O3_SCRAM_SERVER_SIGNATURE_SENT = 4
 };
 
 /* The error that a server sends in the place of a message (RFC 5802, section 7, `server-error-value`). */
@@ -582,8 +590,7 @@ struct fe2o3_login {
     const struct fe2o3_scram_keys *keys;
     /* Whether the client accepts the server's signature in a challenge too, before an outcome without data (RFC 4422,
      * section 5). 0 means that the signature has to come in the outcome. Any other value accepts it in both. Only
-     * `fe2o3_sasl_client_step` uses this field. A connection (`fe2o3_sasl_client_receive`) still closes at a second
-     * challenge as an unexpected frame, because connections do not support this exchange yet. */
+     * `fe2o3_sasl_client_receive` and `fe2o3_sasl_client_step` use this field. */
     uint32_t signature_by_challenge;
 };
 
@@ -821,7 +828,7 @@ struct fe2o3_sasl_server_config {
     /* The offered mechanisms: a sum of values of enum fe2o3_offer. PLAIN sends the password in clear, so offer it
      * over TLS only. It rejects every password that is not printable ASCII, unless the sum has FE2O3_PLAIN_PREPARED
      * or FE2O3_PLAIN_SASLPREP. By the latter it also rejects a password that SASLprep rejects or prepares to the empty
-     * text. */
+     * text. With FE2O3_SIGNATURE_BY_CHALLENGE SCRAM's outcome OK follows the client's empty response to a challenge. */
     uint32_t mechanisms;
     /* The iteration count with which PLAIN hashes the password of an unknown user. */
     uint32_t iterations;
@@ -849,8 +856,8 @@ struct fe2o3_sasl_server {
 };
 
 /* Writes the user name that the next frame claims, if `bytes` complete it: that of an init for SCRAM or PLAIN, and
- * for a response that of the open challenge. Nobody is authenticated yet: use it only to look up the record for
- * `fe2o3_sasl_server_receive`. Returns FE2O3_NAMES_NO_USER if the frame is not complete or claims no name; then no
+ * for a response that of the open challenge of SCRAM. Nobody is authenticated yet: use it only to look up the record
+ * for `fe2o3_sasl_server_receive`. Returns FE2O3_NAMES_NO_USER if the frame is not complete or claims no name; then no
  * record is needed. */
 uint32_t fe2o3_sasl_server_claimed_user(
     const struct fe2o3_sasl_server *server,
@@ -941,8 +948,8 @@ uint32_t fe2o3_sasl_server_offer(
     size_t *out_len);
 
 /* Writes the user name that a frame body claims: that of an init for SCRAM or PLAIN, and for a response that of the
- * open challenge. Nobody is authenticated yet: use it only to look up the record for `fe2o3_sasl_server_step`.
- * Returns FE2O3_NAMES_NO_USER if the body claims no name; then no record is needed. */
+ * open challenge of SCRAM. Nobody is authenticated yet: use it only to look up the record for
+ * `fe2o3_sasl_server_step`. Returns FE2O3_NAMES_NO_USER if the body claims no name; then no record is needed. */
 uint32_t fe2o3_sasl_server_step_claimed_user(
     const struct fe2o3_scram_server *server,
     const uint8_t *body,
@@ -962,10 +969,10 @@ uint32_t fe2o3_sasl_server_step_claimed_user(
  * (`fe2o3_scram_server_authenticated_user`). ANONYMOUS has none.
  *
  * This call is for programs that read frames themselves, reject those above 512 bytes, and limit their number. A
- * login takes an init, and for SCRAM one response. A client that may send more can try passwords again and again. A
- * response without a challenge is answered by an outcome that is not OK. A frame that no client sends returns
- * FE2O3_NO_SASL_FRAME. If a name or a message does not fit into the struct, the call returns FE2O3_TOO_LONG, and you
- * have to close the connection. */
+ * login takes an init, and for SCRAM one response, or two with FE2O3_SIGNATURE_BY_CHALLENGE. A client that may send
+ * more can try passwords again and again. A response without a challenge is answered by an outcome that is not OK. A
+ * frame that no client sends returns FE2O3_NO_SASL_FRAME. If a name or a message does not fit into the struct, the
+ * call returns FE2O3_TOO_LONG, and you have to close the connection. */
 uint32_t fe2o3_sasl_server_step(
     const struct fe2o3_sasl_server_config *config,
     struct fe2o3_scram_server *server,

@@ -1,9 +1,10 @@
 /* Serves logins of AMQP 1.0 over TCP on the loopback, by SCRAM-SHA-512, SCRAM-SHA-256 and, as if under TLS, by PLAIN:
  *
- *     server USERS LOGINS [MECHANISM [PEER]]
+ *     server USERS LOGINS [MECHANISM [PEER [challenge]]]
  *
- * or by this mechanism only, where EXTERNAL accepts the name PEER, as if the transport had authenticated it. USERS is a
- * file of users, a line for each (fe2o3_scram_line writes one). It prints the port that it listens on, serves so many
+ * or by this mechanism only, where EXTERNAL accepts the name PEER, as if the transport had authenticated it. With
+ * `challenge` SCRAM sends the server's signature in a challenge. USERS is a file of users, a line for each
+ * (fe2o3_scram_line writes one). It prints the port that it listens on, serves so many
  * connections, one after another, and says of each who has logged in, or why nobody. */
 #define _POSIX_C_SOURCE 200112L
 #include "fe2o3_sasl.h"
@@ -133,14 +134,17 @@ int main(int count, char **words)
 {
     struct sockaddr_in address;
     socklen_t size = sizeof address;
-    int alone = (count == 4 || count == 5) && offer_only(words[3]);
+    int by_challenge = count == 6 && strcmp(words[5], "challenge") == 0;
+    int alone = (count == 4 || count == 5 || by_challenge) && offer_only(words[3]);
     int listener, logins = count == 3 || alone ? atoi(words[2]) : 0;
     FILE *file = logins > 0 ? fopen(words[1], "rb") : NULL;
     if (file == NULL || !random_bytes(secret, sizeof secret)) {
-        fputs("server USERS LOGINS [MECHANISM [PEER]]\n", stderr);
+        fputs("server USERS LOGINS [MECHANISM [PEER [challenge]]]\n", stderr);
         return 2;
     }
-    peer = count == 5 ? words[4] : "";
+    peer = count >= 5 ? words[4] : "";
+    if (by_challenge)
+        mechanisms |= FE2O3_SIGNATURE_BY_CHALLENGE;
     users_len = fread(users, 1, sizeof users, file);
     fclose(file);
     memset(&address, 0, sizeof address);

@@ -36,6 +36,10 @@ static const uint8_t salt[] = {0x5b, 0x6d, 0x99, 0x68, 0x9d, 0x12, 0x35, 0x8e,
     "c=eSws,r=" BOTH_NONCES ",p=SJ1/Pm0x+vAkhmfEkR72IPuVMVkUt0BF477aSDSc3vM="
 #define CBIND_FLAG_Y_OK "\2\1\0\0\0\x53\x44\xc0\x33\2\x50\0\xa0\x2ev=mZx4E2gu+jcdDC0u/pNy5NPrR0Zh6PMH8UcHTIgvIxU="
 
+/* The signature of the first login in a challenge, and the empty response to it. */
+#define SIGNED "\2\1\0\0\0\x53\x42\xc0\x31\1\xa0\x2ev=50uHbJV+ANf1NSOfnBbK910b8IC4PmQ5G06TO7VnXz8="
+#define EMPTY_RESPONSE "\2\1\0\0\0\x53\x43\xc0\3\1\xa0\0"
+
 /* An outcome Ok, and one Auth, without more. */
 #define BARE_OK "\2\1\0\0\0\x53\x44\xc0\3\1\x50\0"
 #define BARE_AUTH "\2\1\0\0\0\x53\x44\xc0\3\1\x50\1"
@@ -388,6 +392,33 @@ static void cbind_flag_y(void)
         fe2o3_sasl_server_offer(&config, ROOM(out)) == FE2O3_NO_SUCH_MECHANISM);
 }
 
+/* A server that sends its signature in a challenge. */
+static void signature_by_challenge(void)
+{
+    struct fe2o3_scram_record record = record_by(FE2O3_SHA_256);
+    struct fe2o3_sasl_server_config config = config_of(&record);
+    struct fe2o3_scram_server server = fresh_server, other;
+    struct body out;
+    uint32_t progress = 9;
+    config.mechanisms |= FE2O3_SIGNATURE_BY_CHALLENGE;
+    told("SCRAM-SHA-256", "the signature in a challenge",
+        fe2o3_sasl_server_step(&config, &server, TEXT(INIT), server_nonce, &progress, ROOM(out)) == FE2O3_OK
+            && spells(&out, TEXT(CHALLENGE))
+            && fe2o3_sasl_server_step(&config, &server, TEXT(RESPONSE), server_nonce, &progress, ROOM(out)) == FE2O3_OK
+            && progress == FE2O3_IN_PROGRESS && spells(&out, TEXT(SIGNED))
+            && server.state == FE2O3_SCRAM_SERVER_SIGNATURE_SENT
+            && fe2o3_scram_server_authenticated_user(&server, ROOM(out)) == FE2O3_SERVER_ILLEGAL_AUTHENTICATOR_STATE);
+    other = server;
+    told("SCRAM-SHA-256", "the response to it names no user",
+        fe2o3_sasl_server_step_claimed_user(&server, TEXT(EMPTY_RESPONSE), ROOM(out)) == FE2O3_NAMES_NO_USER);
+    told("SCRAM-SHA-256", "an empty response to it logs in",
+        fe2o3_sasl_server_step(&config, &server, TEXT(EMPTY_RESPONSE), server_nonce, &progress, ROOM(out)) == FE2O3_OK
+            && progress == FE2O3_AUTHENTICATED && spells(&out, TEXT(BARE_OK)) && names(&server, TEXT("user")));
+    told("SCRAM-SHA-256", "any other response does not",
+        fe2o3_sasl_server_step(&config, &other, TEXT(RESPONSE), server_nonce, &progress, ROOM(out)) == FE2O3_OK
+            && progress == FE2O3_REFUSED_AUTH && spells(&out, TEXT(BARE_AUTH)) && names_no_user(&other));
+}
+
 int main(void)
 {
     by_several();
@@ -398,5 +429,6 @@ int main(void)
     by_others();
     out_of_turn();
     cbind_flag_y();
+    signature_by_challenge();
     return differences != 0;
 }

@@ -188,7 +188,9 @@ class Offer(enum.IntFlag):
     """What a server offers. PLAIN sends the password in clear, so offer it over TLS only. ACCEPT_CBIND_FLAG_Y
     is no mechanism: SCRAM also accepts the GS2 header `y,,`, like `Server.first` with `accept_cbind_flag_y`.
     PLAIN_PREPARED and PLAIN_SASLPREP, of which one is allowed, say which passwords PLAIN tests: the password as received,
-    or as the server prepares it by SASLprep. Without them it rejects non-ASCII passwords."""
+    or as the server prepares it by SASLprep. Without them it rejects non-ASCII passwords.
+    SIGNATURE_BY_CHALLENGE: SCRAM sends the server's signature in a challenge, and the outcome follows the client's empty
+    response."""
 
     SCRAM_SHA_512 = 1
     SCRAM_SHA_256 = 2
@@ -199,6 +201,7 @@ class Offer(enum.IntFlag):
     ACCEPT_CBIND_FLAG_Y = 64
     PLAIN_PREPARED = 128
     PLAIN_SASLPREP = 256
+    SIGNATURE_BY_CHALLENGE = 1024
 
 
 class _Mechanism(enum.IntEnum):
@@ -241,6 +244,7 @@ class _ServerState(enum.IntEnum):
     CHALLENGE_OPEN = 1
     AUTHENTICATED = 2
     CHALLENGE_OPEN_CBIND_FLAG_Y = 3
+    SIGNATURE_SENT = 4
 
 
 class _TextStruct(ctypes.Structure):
@@ -1076,8 +1080,8 @@ class Client:
         """A client that has sent nothing. It rejects an iteration count below the minimum, with which a server could
         guess the password sooner (RFC 7677 requires at least 4096), and one above the maximum, which costs time.
 
-        With `signature_by_challenge`, `ClientSteps` also accepts the server's signature in a challenge, before an outcome
-        without data (RFC 4422, section 5). `ClientConnection` does not support that exchange yet."""
+        With `signature_by_challenge`, `ClientConnection` and `ClientSteps` also accept the server's signature in a
+        challenge, before an outcome without data (RFC 4422, section 5)."""
         if password is None and keys is None:
             raise ValueError("a login takes a password, keys, or both")
         name, text = _text(username), b"" if password is None else _text(password)
@@ -1510,8 +1514,8 @@ class ServerConnection(_Connection, _ServerSide):
 class ServerSteps(_Steps, _ServerSide):
     """The server's side of one login over frame bodies, like `ClientSteps`.
 
-    A login takes two bodies of the client: its init, and for SCRAM a response. If you pass more of them, the client can
-    try passwords again and again.
+    A login takes two bodies of the client: its init, and for SCRAM a response, or two with SIGNATURE_BY_CHALLENGE. If you
+    pass more of them, the client can try passwords again and again.
     """
 
     __slots__ = ("_progress",)

@@ -505,7 +505,7 @@ class Connections(Case):
         one = ClientConnection.anonymous()
         one._login[0].mechanism = 6
         self.refused(Status.NO_SUCH_MECHANISM, one.receive, b"A")
-        for field, value in (("expected", 6), ("held_len", 513), ("held_len", 8)):
+        for field, value in (("expected", 7), ("held_len", 513), ("held_len", 8)):
             one = ClientConnection.anonymous()
             setattr(one._struct.connection, field, value)
             self.refused(Status.INVALID_SNAPSHOT, one.receive, b"A")
@@ -748,6 +748,35 @@ class Steps(Case):
                 self.assertEqual((side.on_frame(done), side.progress), (b"", Progress.AUTHENTICATED))
                 self.assertEqual(side.keys().client_key, broker.secret.client_key)
 
+    def test_a_server_that_sends_its_signature_in_a_challenge(self) -> None:
+        for version in VERSIONS:
+            known = of({"user": Record.make(version, "pencil", salt=SALT)})
+            offer = OFFERS[version] | Offer.SIGNATURE_BY_CHALLENGE
+            for accept in (True, False):
+                client = ClientSteps(Client(version, "user", "pencil", signature_by_challenge=accept))
+                side = ServerSteps(known, mechanisms=offer)
+                challenge = side.on_frame(client.on_frame(side.offer()))
+                signed = side.on_frame(client.on_frame(challenge))
+                self.assertEqual((signed[6], side.progress, side._struct.state), (CHALLENGE, Progress.IN_PROGRESS, 4))
+                self.refused(Status.SERVER_ILLEGAL_AUTHENTICATOR_STATE, side.authenticated_user)
+                if not accept:
+                    self.refused(Status.CLIENT_ILLEGAL_CLIENT_STATE, client.on_frame, signed)
+                    outcome = side.on_frame(body_of(RESPONSE, short(0xA0, b"v")))
+                    self.assertEqual((outcome, side.progress), (body_of(OUTCOME, b"\x50\1"), Progress.FAILED))
+                    continue
+                done = side.on_frame(client.on_frame(signed))
+                self.assertEqual((done, side.progress), (body_of(OUTCOME, b"\x50\0"), Progress.AUTHENTICATED))
+                self.assertEqual((client.on_frame(done), client.progress), (b"", Progress.AUTHENTICATED))
+                self.assertEqual(side.authenticated_user(), "user")
+            client = ClientConnection(Client(version, "user", "pencil", signature_by_challenge=True))
+            server = ServerConnection(known, mechanisms=offer)
+            to_server = client.open()
+            while to_server:
+                to_client, _ = server.receive(to_server)
+                to_server, _ = client.receive(to_client)
+            self.assertEqual((client.progress, server.progress), (Progress.AUTHENTICATED, Progress.AUTHENTICATED))
+            self.assertEqual(server.authenticated_user(), "user")
+
     def test_clients_of_other_mechanisms(self) -> None:
         known = Secret(SHA_1, "pencil", SALT, 1)
         for side_of, init in (
@@ -945,7 +974,7 @@ class Steps(Case):
             login.login.signature_by_challenge = bits.randrange(2)
             client, server = filled(fe2o3_sasl._ScramClientStruct), filled(fe2o3_sasl._ScramServerStruct)
             client.state, client.signature_len = bits.randrange(5), bits.choice((32, bits.randrange(66)))
-            server.state, server.user_len = bits.randrange(4), 1
+            server.state, server.user_len = bits.randrange(5), 1
             server.bare_len, server.nonce_len = bits.randrange(1026), bits.randrange(514)
             server.first_len, server.user[0] = bits.randrange(1026), ord("u")
             any_bytes = bytes(bits.randrange(256) for _ in range(bits.randrange(20)))
@@ -962,6 +991,7 @@ class Steps(Case):
                 body_of(INIT, short(0xA3, b"SCRAM-SHA-256"), short(0xA0, b"n,,n=u,r=" + base64_of(bytes(32)))),
                 body_of(INIT, short(0xA3, b"PLAIN"), short(0xA0, b"\0u\0p")),
                 body_of(RESPONSE, short(0xA0, b"c=biws,r=x,p=AAAA")),
+                body_of(RESPONSE, short(0xA0, b"")),
                 any_bytes,
             )))
         for export in ("fe2o3_sasl_client_step", "fe2o3_sasl_server_step"):

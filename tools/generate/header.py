@@ -177,7 +177,7 @@ class Reader:
         if "".join(row[0] for row in rows) != found[3]:
             sys.exit(f"header_preamble.h: enum fe2o3_{found[2]} has a value that is not known, or one without a doc")
         doc = [line.strip().strip("/*").strip() for line in found[1].splitlines()]
-        values = [Status([" ".join(row[1].split())], row[2], int(row[3])) for row in rows]
+        values = [Status([" ".join(re.sub(r"\n\s*\*", " ", row[1]).split())], row[2], int(row[3])) for row in rows]
         return Enum(doc, found[2], values)
 
     def parts(self, source, at, name, kind, is_field):
@@ -362,7 +362,8 @@ def python_block(reader):
                             " only. ACCEPT_CBIND_FLAG_Y\n    is no mechanism: SCRAM also accepts the GS2 header `y,,`, like `Server.first`"
                             " with `accept_cbind_flag_y`.\n    PLAIN_PREPARED and PLAIN_SASLPREP, of which one is allowed, say which"
                             " passwords PLAIN tests: the password as received,\n    or as the server prepares it by SASLprep."
-                            " Without them it rejects non-ASCII passwords.",
+                            " Without them it rejects non-ASCII passwords.\n    SIGNATURE_BY_CHALLENGE: SCRAM sends the server's"
+                            " signature in a challenge, and the outcome follows the client's empty\n    response.",
                             [(one.name.replace("OFFER_", ""), one.number) for one in enums["offer"].values]))
     for name, title, prefix in [("mechanism", "_Mechanism", ""), ("secret", "_Secret", ""), ("password_form", "_Form", ""),
                                 ("unassigned", "_Unassigned", "UNASSIGNED_"), ("scram_server_state", "_ServerState",

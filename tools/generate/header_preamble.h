@@ -116,7 +116,10 @@ enum fe2o3_offer {
     /* No mechanism: PLAIN tests the password as received, also a non-ASCII one. Clients prepare their passwords. */
     FE2O3_PLAIN_PREPARED = 128,
     /* No mechanism: PLAIN tests the text that SASLprep prepares the password to. Not with FE2O3_PLAIN_PREPARED. */
-    FE2O3_PLAIN_SASLPREP = 256
+    FE2O3_PLAIN_SASLPREP = 256,
+    /* No mechanism: SCRAM sends the server's signature in a challenge, and the outcome OK follows the client's empty
+     * response (RFC 4422, section 5). For clients that do not read the data of an outcome. */
+    FE2O3_SIGNATURE_BY_CHALLENGE = 1024
 };
 
 /* How far a login on a connection is. */
@@ -142,7 +145,9 @@ enum fe2o3_expected {
     /* The response. */
     FE2O3_EXPECTED_RESPONSE = 4,
     /* The outcome. */
-    FE2O3_EXPECTED_OUTCOME = 5
+    FE2O3_EXPECTED_OUTCOME = 5,
+    /* The server's signature in a challenge, or already the outcome. Only for a client with `signature_by_challenge`. */
+    FE2O3_EXPECTED_SIGNATURE_CHALLENGE = 6
 };
 
 /* How far the exchange of a SCRAM client is. Other values count as FE2O3_SCRAM_CLIENT_INITIAL. */
@@ -169,7 +174,10 @@ enum fe2o3_scram_server_state {
     /* The user is authenticated. */
     FE2O3_SCRAM_SERVER_AUTHENTICATED = 2,
     /* A challenge is open, to a client whose GS2 header is `y,,`. */
-    FE2O3_SCRAM_SERVER_CHALLENGE_OPEN_CBIND_FLAG_Y = 3
+    FE2O3_SCRAM_SERVER_CHALLENGE_OPEN_CBIND_FLAG_Y = 3,
+    /* The server's signature was sent to the user in a challenge. The user is authenticated once the client has answered
+     * it. Only on a connection, and for steps over frame bodies. */
+    FE2O3_SCRAM_SERVER_SIGNATURE_SENT = 4
 };
 
 /* The error that a server sends in the place of a message (RFC 5802, section 7, `server-error-value`). */

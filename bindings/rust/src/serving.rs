@@ -154,6 +154,12 @@ impl<R: UserRecords + Clone> PasswordServer<R> {
         self.with(sys::ACCEPT_CBIND_FLAG_Y, true)
     }
 
+    /// With `by_challenge`, makes SCRAM send the server's signature in a challenge: the outcome follows the client's empty
+    /// response (RFC 4422, section 5). Only for clients that do not read the data of an outcome.
+    pub fn signature_by_challenge(self, by_challenge: bool) -> Self {
+        self.with(sys::SIGNATURE_BY_CHALLENGE, by_challenge)
+    }
+
     /// Returns the records of the claimed user, and after them a mock record for each other offered hash.
     pub(crate) fn records(&self, name: Option<&str>) -> Result<Vec<sys::ScramRecord>, ConnectionError> {
         let Some(name) = name else { return Ok(Vec::new()) };

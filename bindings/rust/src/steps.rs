@@ -171,8 +171,8 @@ impl fmt::Debug for ClientSteps {
 
 /// The server's side of one login over frame bodies, like [`ClientSteps`].
 ///
-/// A login takes two bodies of the client: its init, and for SCRAM a response. If you pass more of them, the client can
-/// try passwords again and again.
+/// A login takes two bodies of the client: its init, and for SCRAM a response. It takes a third with
+/// [`PasswordServer::signature_by_challenge`]. If you pass more of them, the client can try passwords again and again.
 ///
 /// ```
 /// use fe2o3_sasl_proved::*;
@@ -218,8 +218,8 @@ impl<R: UserRecords + Clone> ServerSteps<R> {
         .map_err(ConnectionError::of)
     }
 
-    /// Answers a frame body: an init with a challenge or an outcome, and a response with an outcome. Send an outcome
-    /// whatever it says. An error changes nothing. After an error, other than `OutOfMemory`, close the connection.
+    /// Answers a frame body with a challenge or an outcome. Send an outcome whatever it says. An error changes nothing.
+    /// After an error, other than `OutOfMemory`, close the connection.
     ///
     /// # Panics
     ///

@@ -249,11 +249,11 @@ pub const ANONYMOUS: u32 = 2;
 pub const EXTERNAL: u32 = 3;
 
 /// `mechanism`: ANONYMOUS with the user name of the login as its initial response: trace information (RFC 4505, section
-/// 2), or * the empty text. The client also answers one empty challenge by it.
+/// 2), or the empty text. The client also answers one empty challenge by it.
 pub const ANONYMOUS_AS: u32 = 4;
 
 /// `mechanism`: EXTERNAL with the user name of the login as its initial response: the authorization identity, or the
-/// empty text * for the user whom the transport has authenticated. The client also answers one empty challenge by it.
+/// empty text for the user whom the transport has authenticated. The client also answers one empty challenge by it.
 pub const EXTERNAL_AS: u32 = 5;
 
 /// `secret`: The password.
@@ -304,6 +304,10 @@ pub const PLAIN_PREPARED: u32 = 128;
 /// `offer`: No mechanism: PLAIN tests the text that SASLprep prepares the password to. Not with PLAIN_PREPARED.
 pub const PLAIN_SASLPREP: u32 = 256;
 
+/// `offer`: No mechanism: SCRAM sends the server's signature in a challenge, and the outcome OK follows the client's
+/// empty response (RFC 4422, section 5). For clients that do not read the data of an outcome.
+pub const SIGNATURE_BY_CHALLENGE: u32 = 1024;
+
 /// `progress`: The login goes on: the other side has to send more.
 pub const IN_PROGRESS: u32 = 0;
 
@@ -331,6 +335,10 @@ pub const EXPECTED_RESPONSE: u32 = 4;
 /// `expected`: The outcome.
 pub const EXPECTED_OUTCOME: u32 = 5;
 
+/// `expected`: The server's signature in a challenge, or already the outcome. Only for a client with
+/// `signature_by_challenge`.
+pub const EXPECTED_SIGNATURE_CHALLENGE: u32 = 6;
+
 /// `scram_client_state`: The client has sent nothing.
 pub const SCRAM_CLIENT_INITIAL: u32 = 0;
 
@@ -357,6 +365,10 @@ pub const SCRAM_SERVER_AUTHENTICATED: u32 = 2;
 
 /// `scram_server_state`: A challenge is open, to a client whose GS2 header is `y,,`.
 pub const SCRAM_SERVER_CHALLENGE_OPEN_CBIND_FLAG_Y: u32 = 3;
+
+/// `scram_server_state`: The server's signature was sent to the user in a challenge. The user is authenticated once the
+/// client has answered it. Only on a connection, and for steps over frame bodies.
+pub const SCRAM_SERVER_SIGNATURE_SENT: u32 = 4;
 
 /// `server_error`: The message is no error.
 pub const SERVER_ERROR_NONE: u32 = 0;
@@ -493,8 +505,7 @@ pub struct Login {
     pub keys: *const ScramKeys,
     /// Whether the client accepts the server's signature in a challenge too, before an outcome without data (RFC 4422,
     /// section 5). 0 means that the signature has to come in the outcome. Any other value accepts it in both. Only
-    /// `fe2o3_sasl_client_step` uses this field. A connection (`fe2o3_sasl_client_receive`) still closes at a second
-    /// challenge as an unexpected frame, because connections do not support this exchange yet.
+    /// `fe2o3_sasl_client_receive` and `fe2o3_sasl_client_step` use this field.
     pub signature_by_challenge: u32,
 }
 
@@ -600,6 +611,7 @@ pub struct SaslServerConfig {
     /// The offered mechanisms: a sum of values of the `offer` constants. PLAIN sends the password in clear, so offer it
     /// over TLS only. It rejects every password that is not printable ASCII, unless the sum has PLAIN_PREPARED or
     /// PLAIN_SASLPREP. By the latter it also rejects a password that SASLprep rejects or prepares to the empty text.
+    /// With SIGNATURE_BY_CHALLENGE SCRAM's outcome OK follows the client's empty response to a challenge.
     pub mechanisms: u32,
     /// The iteration count with which PLAIN hashes the password of an unknown user.
     pub iterations: u32,
@@ -915,9 +927,9 @@ extern "C" {
         out_len: *mut usize) -> u32;
 
     /// Writes the user name that the next frame claims, if `bytes` complete it: that of an init for SCRAM or PLAIN, and
-    /// for a response that of the open challenge. Nobody is authenticated yet: use it only to look up the record for
-    /// `fe2o3_sasl_server_receive`. Returns NAMES_NO_USER if the frame is not complete or claims no name; then no
-    /// record is needed.
+    /// for a response that of the open challenge of SCRAM. Nobody is authenticated yet: use it only to look up the
+    /// record for `fe2o3_sasl_server_receive`. Returns NAMES_NO_USER if the frame is not complete or claims no name;
+    /// then no record is needed.
     pub fn fe2o3_sasl_server_claimed_user(
         server: *const SaslServer,
         bytes: *const u8,
@@ -977,8 +989,8 @@ extern "C" {
         out_len: *mut usize) -> u32;
 
     /// Writes the user name that a frame body claims: that of an init for SCRAM or PLAIN, and for a response that of
-    /// the open challenge. Nobody is authenticated yet: use it only to look up the record for `fe2o3_sasl_server_step`.
-    /// Returns NAMES_NO_USER if the body claims no name; then no record is needed.
+    /// the open challenge of SCRAM. Nobody is authenticated yet: use it only to look up the record for
+    /// `fe2o3_sasl_server_step`. Returns NAMES_NO_USER if the body claims no name; then no record is needed.
     pub fn fe2o3_sasl_server_step_claimed_user(
         server: *const ScramServer,
         body: *const u8,
@@ -998,10 +1010,10 @@ extern "C" {
     /// none.
     ///
     /// This call is for programs that read frames themselves, reject those above 512 bytes, and limit their number. A
-    /// login takes an init, and for SCRAM one response. A client that may send more can try passwords again and again.
-    /// A response without a challenge is answered by an outcome that is not OK. A frame that no client sends returns
-    /// NO_SASL_FRAME. If a name or a message does not fit into the struct, the call returns TOO_LONG, and you have to
-    /// close the connection.
+    /// login takes an init, and for SCRAM one response, or two with SIGNATURE_BY_CHALLENGE. A client that may send more
+    /// can try passwords again and again. A response without a challenge is answered by an outcome that is not OK. A
+    /// frame that no client sends returns NO_SASL_FRAME. If a name or a message does not fit into the struct, the call
+    /// returns TOO_LONG, and you have to close the connection.
     pub fn fe2o3_sasl_server_step(
         config: *const SaslServerConfig,
         server: *mut ScramServer,

@@ -162,6 +162,35 @@ fn a_signature_in_a_challenge() {
 }
 
 #[test]
+fn a_server_that_sends_its_signature_in_a_challenge() {
+    let both = format!("r={CLIENT_NONCE_TEXT}{SERVER_NONCE_TEXT}");
+    let client_first = binary(&format!("n,,n=user,r={CLIENT_NONCE_TEXT}"));
+    let init = body(INIT, &[&symbol("SCRAM-SHA-256"), &client_first, NULL]);
+    let response = body(RESPONSE, &[&binary(&format!("c=biws,{both},p={PROOF}"))]);
+    let signed = body(CHALLENGE, &[&binary(&format!("v={SIGNATURE}"))]);
+    for (answer, code, progress, user) in
+        [("", 0, Progress::Authenticated, Some("user")), ("v", 1, REFUSED, None)]
+    {
+        let mut side = ServerSteps::new(scram(ScramVersion::Sha256).signature_by_challenge(true));
+        side.on_frame_with(&init, &nonce(2)).unwrap();
+        assert_eq!(side.on_frame(&response), Ok(Answered { body: signed.clone(), progress: Progress::InProgress }));
+        assert_eq!(side.authenticated_user(), None);
+        let answer = body(RESPONSE, &[&binary(answer)]);
+        assert_eq!(side.on_frame(&answer), Ok(Answered { body: outcome(code), progress }));
+        assert_eq!(side.authenticated_user().as_deref(), user);
+    }
+    for version in [ScramVersion::Sha1, ScramVersion::Sha256, ScramVersion::Sha512] {
+        let mut side = ServerSteps::new(scram(version).signature_by_challenge(true));
+        let client = ScramClient::new("user", "pencil", version);
+        let mut client = ClientSteps::new(client.signature_by_challenge(true), None);
+        assert_eq!((joined(&mut client, &mut side), side.authenticated_user().as_deref()), (Ok(()), Some("user")));
+        let mut side = ServerSteps::new(scram(version).signature_by_challenge(true));
+        let mut client = ClientSteps::new(ScramClient::new("user", "pencil", version), None);
+        assert!(joined(&mut client, &mut side).is_err());
+    }
+}
+
+#[test]
 fn a_client_that_could_bind_a_channel() {
     let client_first = binary(&format!("y,,n=user,r={CLIENT_NONCE_TEXT}"));
     let init = body(INIT, &[&symbol("SCRAM-SHA-256"), &client_first, NULL]);

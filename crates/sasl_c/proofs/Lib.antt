@@ -7,7 +7,9 @@ pub mod ServerLemmas
 pub mod StateLemmas
 pub mod SaslClientLemmas
 pub mod LineLemmas
+pub mod ExchangeLemmas
 pub mod SaslServerLemmas
+pub mod ServerReplyLemmas
 pub mod ServerCallLemmas
 pub mod ServerUserLemmas
 pub mod LoginLemmas

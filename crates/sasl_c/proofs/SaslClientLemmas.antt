@@ -14,7 +14,7 @@ use Rattle.fe2o3_scram.specs.ScramClient.{AnswersIn, VerifiesIn, ClientSide, Cli
 use Rattle.fe2o3_scram.proofs.lemmas.texts.DecisionLemmas.{same_number_or}
 use Rattle.fe2o3_sasl_core.specs.Bodies.{carried as sent_or_not}
 use Rattle.fe2o3_sasl_core.specs.Events.{Given, ClientSays, Started, Answered, Reported, Refused}
-use Rattle.fe2o3_sasl_core.specs.Profiles.{Profile, ScramProfile, PlainProfile, AnonymousProfile, ExternalProfile, MessageProfile, MessageMechanism, AnonymousMessage, ExternalMessage, after_init, answers_empty_challenge, is_scram, profile_machine, ChallengeReplies}
+use Rattle.fe2o3_sasl_core.specs.Profiles.{Profile, ScramProfile, PlainProfile, AnonymousProfile, ExternalProfile, MessageProfile, MessageMechanism, AnonymousMessage, ExternalMessage, accepts_signature_by_challenge, after_init, answers_empty_challenge, is_scram, profile_machine, ChallengeReplies}
 use Rattle.fe2o3_sasl_core.specs.Runs.{ProfileGives, Replies}
 use Rattle.fe2o3_sasl_negotiation.specs.declared.snapshot.Snapshot.{Snapshot}
 use Rattle.fe2o3_sasl_negotiation.specs.declared.progress.Expected.{Expected}
@@ -294,27 +294,30 @@ sends_short body progress expected answer (inl (fits, same)) =
     let sent : length answer.sent ≡ length body + 4 = ap (λ (a : SideOutput). length a.sent) same ∙ length-framed body in
     omega (arith, sent, fits)
 
-says_short : (says : ClientSays) (turn : FrameKind) (answer : SideOutput) → ClientOutputs says turn answer → Short answer
-says_short (Started body) turns.Mechanisms answer sends = sends_short body _ _ answer sends
-says_short (Started body) turns.Init answer same = silent_short answer _ same refl
-says_short (Started body) turns.Challenge answer same = silent_short answer _ same refl
-says_short (Started body) turns.Response answer same = silent_short answer _ same refl
-says_short (Started body) turns.Outcome answer same = silent_short answer _ same refl
-says_short (Answered body) turns.Challenge answer sends = sends_short body _ _ answer sends
-says_short (Answered body) turns.Mechanisms answer same = silent_short answer _ same refl
-says_short (Answered body) turns.Init answer same = silent_short answer _ same refl
-says_short (Answered body) turns.Response answer same = silent_short answer _ same refl
-says_short (Answered body) turns.Outcome answer same = silent_short answer _ same refl
-says_short (Reported outcomes.Ok more) turn answer same = silent_short answer _ same refl
-says_short (Reported outcomes.Auth more) turn answer same = silent_short answer _ same refl
-says_short (Reported outcomes.Sys more) turn answer same = silent_short answer _ same refl
-says_short (Reported outcomes.SysPerm more) turn answer same = silent_short answer _ same refl
-says_short (Reported outcomes.SysTemp more) turn answer same = silent_short answer _ same refl
-says_short (Refused OutOfMemory) turn answer never = absurd never
-says_short (Refused NotImplemented) turn answer refused = silent_short answer _ refused refl
-says_short (Refused (Scram kind)) turn answer refused = silent_short answer _ refused refl
-says_short (Refused StaleKeys) turn answer refused = silent_short answer _ refused refl
-says_short (Refused (FrameFault fault)) turn answer refused = silent_short answer _ refused refl
+says_short : (signs : Bool) (says : ClientSays) (turn : FrameKind) (answer : SideOutput) → ClientOutputs signs says turn answer
+    → Short answer
+says_short signs (Started body) turns.Mechanisms answer sends = sends_short body _ _ answer sends
+says_short signs (Started body) turns.Init answer same = silent_short answer _ same refl
+says_short signs (Started body) turns.Challenge answer same = silent_short answer _ same refl
+says_short signs (Started body) turns.Response answer same = silent_short answer _ same refl
+says_short signs (Started body) turns.Outcome answer same = silent_short answer _ same refl
+says_short signs (Started body) turns.SignatureChallenge answer same = silent_short answer _ same refl
+says_short signs (Answered body) turns.Challenge answer sends = sends_short body _ _ answer sends
+says_short signs (Answered body) turns.SignatureChallenge answer sends = sends_short body _ _ answer sends
+says_short signs (Answered body) turns.Mechanisms answer same = silent_short answer _ same refl
+says_short signs (Answered body) turns.Init answer same = silent_short answer _ same refl
+says_short signs (Answered body) turns.Response answer same = silent_short answer _ same refl
+says_short signs (Answered body) turns.Outcome answer same = silent_short answer _ same refl
+says_short signs (Reported outcomes.Ok more) turn answer same = silent_short answer _ same refl
+says_short signs (Reported outcomes.Auth more) turn answer same = silent_short answer _ same refl
+says_short signs (Reported outcomes.Sys more) turn answer same = silent_short answer _ same refl
+says_short signs (Reported outcomes.SysPerm more) turn answer same = silent_short answer _ same refl
+says_short signs (Reported outcomes.SysTemp more) turn answer same = silent_short answer _ same refl
+says_short signs (Refused OutOfMemory) turn answer never = absurd never
+says_short signs (Refused NotImplemented) turn answer refused = silent_short answer _ refused refl
+says_short signs (Refused (Scram kind)) turn answer refused = silent_short answer _ refused refl
+says_short signs (Refused StaleKeys) turn answer refused = silent_short answer _ refused refl
+says_short signs (Refused (FrameFault fault)) turn answer refused = silent_short answer _ refused refl
 
 answers_short : (hostname : Option (List ℕ)) (expected : Expected) (profile next : Profile) (nonce unit : List ℕ)
     (answer : SideOutput) → ClientSideAnswers hostname expected profile nonce unit answer next → Short answer
@@ -325,7 +328,8 @@ answers_short hostname (Frame turn) profile next nonce unit answer (Err fault, s
 answers_short hostname (Frame turn) profile next nonce unit answer (Ok frame, spells, inl out) =
     silent_short answer _ out.1 refl
 answers_short hostname (Frame turn) profile next nonce unit answer
-    (Ok frame, spells, inr (in_turn, (says, steps, said))) = says_short says turn answer said
+    (Ok frame, spells, inr (in_turn, (says, steps, said))) =
+    says_short (accepts_signature_by_challenge profile) says turn answer said
 
 -- ---- a call
 
@@ -476,7 +480,8 @@ is_taken_up login client kept profile side keeps limit is same =
 due_named : ℕ → Expected
 due_named number = if nat_eq number 0 then Header else if nat_eq number 1 then Frame turns.Mechanisms
     else if nat_eq number 2 then Frame turns.Init else if nat_eq number 3 then Frame turns.Challenge
-    else if nat_eq number 4 then Frame turns.Response else Frame turns.Outcome
+    else if nat_eq number 4 then Frame turns.Response else if nat_eq number 5 then Frame turns.Outcome
+    else Frame turns.SignatureChallenge
 
 named_back : (expected : Expected) → due_named (expected_number expected) ≡ expected
 unfolding due_named
@@ -486,6 +491,7 @@ named_back (Frame turns.Init) = refl
 named_back (Frame turns.Challenge) = refl
 named_back (Frame turns.Response) = refl
 named_back (Frame turns.Outcome) = refl
+named_back (Frame turns.SignatureChallenge) = refl
 
 pub one_due : (expected other : Expected) → expected_number expected ≡ expected_number other → expected ≡ other
 one_due expected other same = sym (named_back expected) ∙ (ap due_named same ∙ named_back other)

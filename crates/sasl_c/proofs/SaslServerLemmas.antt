@@ -1,19 +1,17 @@
 -- What structs show of a server of a connection, and of which server they are (AMQP 1.0, part 5, section 5.3.2).
-use Rattle.std.proofs.Common.{arith, refl, sym, ap, inl, inr, ◌∙◌, ◌≡◌, ◌≢◌, ◌≤◌, ◌<◌, ◌∷◌, ◌++◌, ℕ, List, [], length}
-use Rattle.std.specs.Prelude.{Bool, true, false, MatchOption, Option, Some, None, Ok, Err, option_map, take}
+use Rattle.std.proofs.Common.{arith, refl, sym, ap, inl, inr, ◌∙◌, ◌≡◌, ◌≢◌, ◌≤◌, ◌<◌, ◌+◌, ◌⊎◌, ◌∷◌, ◌++◌, ℕ, List, [], length}
+use Rattle.std.specs.Prelude.{Bool, true, false, MatchOption, Option, Some, None, Ok, Err, option_map}
 use Rattle.std.specs.Str.{IsUtf8}
-use Rattle.std.proofs.lemmas.List.{append-nil, append_assoc, length-take}
+use Rattle.std.proofs.lemmas.List.{append-nil, append_assoc}
 use Rattle.fe2o3_scram.specs.declared.hmac.ScramVersion.{ScramVersion}
 use Rattle.fe2o3_scram.specs.declared.hmac.ScramVersion.TheVariants as versions
-use Rattle.fe2o3_scram.specs.declared.scram_messages.channel_binding_flag.ChannelBindingFlag.{ChannelBindingFlag}
-use Rattle.fe2o3_scram.specs.declared.scram_messages.channel_binding_flag.ChannelBindingFlag.TheVariants.{NotSupported, ClientSupports}
-use Rattle.fe2o3_scram.specs.Credentials.{VersionedRecord}
+use Rattle.fe2o3_scram.specs.Credentials.{Record, VersionedRecord}
 use Rattle.fe2o3_scram.specs.Mixed.{MultiRecords}
 use Rattle.fe2o3_scram.specs.ClientFinal.{ClientFinal, ReadsClientFinal, Server}
 use Rattle.fe2o3_scram.specs.Hmac.{digest_len}
 use Rattle.fe2o3_scram.proofs.lemmas.hashes.DigestLemmas.{length-digest}
 use Rattle.fe2o3_scram.specs.Readings.{NoneHolds}
-use Rattle.fe2o3_scram.specs.ScramServer.{ServerState, server_against}
+use Rattle.fe2o3_scram.specs.ScramServer.{ServerState, ServerFinalSent, server_against}
 use Rattle.fe2o3_scram.specs.ServerFirst.{ServerChallenge}
 use Rattle.fe2o3_sasl_core.specs.declared.any_mechanism.Selected.TheVariants.{First}
 use Rattle.fe2o3_sasl_core.specs.declared.plain_server.passwords.PlainPasswords.{PlainPasswords}
@@ -31,11 +29,15 @@ use Rattle.sasl_c.specs.declared.server.ScramServer.{ScramServer as ScramStruct}
 use Rattle.sasl_c.specs.declared.status.Status.{Status}
 use Rattle.sasl_c.specs.declared.status.Status.TheVariants as statuses
 use Rattle.sasl_c.specs.Records.{ShowsRecord, SpellsStruct}
-use Rattle.sasl_c.specs.SaslServer.{AddsRecord, HasNoServerWords, HasNone, HasNoStruct, HasRecords, IsNoConfig, IsOf, IsServer, NoRecordIsUnmet, ServerIsReached, ShowRecords, ShowsBy, ShowsOpen, ShowsProgress, ShowsSide, ShowsState, Stands, State, config_tests, exchange_of, version_of_first, no_record as record_without_keys, one_where, passwords_number, settings_for, side_in, side_struct, state_struct, struct_by, sum_of}
-use Rattle.fe2o3_sasl_core.specs.PasswordServer.{asked_of, first_asked, opened, password_names, password_open, password_server, password_server_in, password_state, password_user, second_asked}
+use Rattle.sasl_c.specs.SaslServer.{AddsRecord, HasNoServerWords, HasNone, HasNoStruct, HasRecords, IsNoConfig, IsOf, IsServer, NoRecordIsUnmet, ServerIsReached, ShowRecords, ShowsBy, ShowsProgress, ShowsSide, ShowsState, Stands, State, config_tests, extra_for, kept_exchange, mechanisms_sum, version_of_first, no_record as record_without_keys, one_where, passwords_number, saved_for, settings_for, side_in, side_struct, state_of, state_struct, struct_by, sum_of}
+use Rattle.fe2o3_sasl_core.specs.ExtraChallenges.{Phase}
+use Rattle.fe2o3_sasl_core.specs.declared.extra_challenges.ExtraChallenges.{ExtraChallenges}
+use Rattle.fe2o3_sasl_core.specs.declared.extra_challenges.WithExtraChallenges.{WithExtraChallenges}
+use Rattle.fe2o3_sasl_core.specs.PasswordServer.{PasswordState, SavedExchange, asked_of, first_asked, opened, password_names, password_server, password_server_in, password_user, second_asked}
 use Rattle.fe2o3_sasl_core.specs.declared.password_server.PasswordServer.{PasswordServer}
-use Rattle.sasl_c.specs.Server.{IsAuthenticated, ChallengeHasRoom, IsOpen, open_number}
+use Rattle.sasl_c.specs.Server.{KeptExchange, NothingKept, ChallengeOpen, SignatureSent, IsAuthenticated, IsPhaseOf, ShowsExchange, phase_for, signed_exchange}
 use Rattle.sasl_c.specs.Status.{version_number}
+use Rattle.sasl_c.proofs.ExchangeLemmas.{short}
 use Rattle.sasl_c.proofs.StatusLemmas.{carried}
 
 -- ---- which mechanisms are offered
@@ -49,8 +51,8 @@ form_within forms.Typed = omega (arith)
 form_within forms.Prepared = omega (arith)
 form_within forms.Saslprep = omega (arith)
 
--- a sum is at most 383
-pub sum_small : (choice : Choice) → sum_of choice ≤ 383
+-- the sum of the mechanisms is at most 383
+sum_small : (choice : Choice) → mechanisms_sum choice ≤ 383
 sum_small choice = omega (
   arith,
   within choice.sha_512 1,
@@ -62,6 +64,32 @@ sum_small choice = omega (
   within choice.cbind_flag_y 64,
   form_within choice.passwords,
 )
+
+either : (is : Bool) → (one_where is 1024 ≡ 0) ⊎ (one_where is 1024 ≡ 1024)
+either true = inr refl
+either false = inl refl
+
+-- so no choice has a sum above 2047, or one whose rest below 1024 is above 383
+pub too_large : (sum : ℕ) → 2047 < sum → (choice : Choice) → sum_of choice ≢ sum
+too_large sum large choice same =
+    absurd (omega (arith, large, same, sum_small choice, within choice.signature_by_challenge 1024))
+
+no_rest : (sum signed rest own mechanisms : ℕ) → sum ≡ signed + rest → 383 < rest → rest < 1024 → own + mechanisms ≡ sum
+    → mechanisms ≤ 383 → (signed ≡ 0) ⊎ (signed ≡ 1024) → (own ≡ 0) ⊎ (own ≡ 1024) → ⊥
+no_rest sum signed rest own mechanisms is large small same few (inl none) (inl unsigned) =
+    omega (arith, is, large, small, same, few, none, unsigned)
+no_rest sum signed rest own mechanisms is large small same few (inl none) (inr signs) =
+    omega (arith, is, large, small, same, few, none, signs)
+no_rest sum signed rest own mechanisms is large small same few (inr one) (inl unsigned) =
+    omega (arith, is, large, small, same, few, one, unsigned)
+no_rest sum signed rest own mechanisms is large small same few (inr one) (inr signs) =
+    omega (arith, is, large, small, same, few, one, signs)
+
+pub between : (sum rest : ℕ) (is : Bool) → sum ≡ one_where is 1024 + rest → 383 < rest → rest < 1024 → (choice : Choice)
+    → sum_of choice ≢ sum
+between sum rest is split large small choice same =
+    no_rest sum (one_where is 1024) rest (one_where choice.signature_by_challenge 1024) (mechanisms_sum choice) split large
+    small same (sum_small choice) (either is) (either choice.signature_by_challenge)
 
 -- ---- the record of a configuration's user
 
@@ -187,58 +215,102 @@ never_met challenge version text message next ((final, read, sent), then) =
 
 -- ---- the server of a configuration
 
--- the library's server with the open challenge that a struct shows
-module _ (config : Config) (choice : Choice) (records : MultiRecords) where
-  abbrev served : Option (ScramVersion × ServerChallenge) → State
-  served shown = password_server (settings_for config choice records (option_map (exchange_of records) shown))
+-- the library's server which continues what a struct keeps
+module _ (config : Config) (choice : Choice) (records : MultiRecords) (signed : ScramVersion) where
+  abbrev saved : KeptExchange → Option SavedExchange
+  saved exchange = saved_for records signed exchange
 
-  abbrev states_for : Option (ScramVersion × ServerChallenge) → ScramVersion → ServerState
-  states_for shown = opened (option_map (exchange_of records) shown)
+  abbrev served : KeptExchange → PasswordState
+  served exchange = password_server (settings_for config choice records (saved exchange))
 
-  stands : (shown : Option (ScramVersion × ServerChallenge)) → Stands records shown (states_for shown)
-      (first_asked (asked_of (option_map (exchange_of records) shown)))
-      (second_asked (asked_of (option_map (exchange_of records) shown)))
-  stands None = ((λ version. refl), refl, refl)
-  stands (Some (versions.Sha1, challenge)) = (refl, (refl, refl))
-  stands (Some (versions.Sha256, challenge)) = (refl, (refl, refl))
-  stands (Some (versions.Sha512, challenge)) = (refl, refl)
+  -- with the phase of what was kept
+  abbrev extended : KeptExchange → State
+  extended exchange = record { inner = served exchange; extra = extra_for choice; phase = phase_for exchange }
 
-  served_in : (shown : Option (ScramVersion × ServerChallenge)) → served shown
-      ≡ password_server_in (settings_for config choice records None) (states_for shown)
-      (option_map (λ (exchange : ScramVersion × ServerChallenge). First) shown)
-      (first_asked (asked_of (option_map (exchange_of records) shown)))
-      (second_asked (asked_of (option_map (exchange_of records) shown)))
-  served_in None = refl
-  served_in (Some shown) = refl
+  abbrev StandsSo : Option SavedExchange → Type 0
+  StandsSo exchange = Stands exchange (opened exchange) (first_asked (asked_of exchange)) (second_asked (asked_of exchange))
 
-  opened_in : (shown : Option (ScramVersion × ServerChallenge)) → password_open (served shown) ≡ shown
-  opened_in None = refl
-  opened_in (Some (versions.Sha1, challenge)) = refl
-  opened_in (Some (versions.Sha256, challenge)) = refl
-  opened_in (Some (versions.Sha512, challenge)) = refl
+  stands_at : (version : ScramVersion) (state : ServerState) → StandsSo (Some (record { version = version; state = state }))
+  stands_at versions.Sha1 state = (refl, (refl, refl))
+  stands_at versions.Sha256 state = (refl, (refl, refl))
+  stands_at versions.Sha512 state = (refl, refl)
 
-  is_of : (shown : Option (ScramVersion × ServerChallenge)) (server : State) → sum_of choice ≡ config.mechanisms
-      → HasRecords config records → server ≡ served shown → IsOf config shown server
+  stands : (exchange : KeptExchange) → StandsSo (saved exchange)
+  stands NothingKept = ((λ version. refl), refl, refl)
+  stands (ChallengeOpen version challenge) = stands_at version _
+  stands (SignatureSent user) = stands_at signed _
+
+  served_in : (exchange : KeptExchange) → served exchange
+      ≡ password_server_in (settings_for config choice records None) (opened (saved exchange))
+      (option_map (λ (one : SavedExchange). First) (saved exchange)) (first_asked (asked_of (saved exchange)))
+      (second_asked (asked_of (saved exchange)))
+  served_in NothingKept = refl
+  served_in (ChallengeOpen version challenge) = refl
+  served_in (SignatureSent user) = refl
+
+  -- it keeps just this
+  keeps_open : (version : ScramVersion) (challenge : ServerChallenge)
+      → kept_exchange (extended (ChallengeOpen version challenge)) ≡ ChallengeOpen version challenge
+  keeps_open versions.Sha1 challenge = refl
+  keeps_open versions.Sha256 challenge = refl
+  keeps_open versions.Sha512 challenge = refl
+
+  keeps_user : (version : ScramVersion) (user : List ℕ)
+      → signed_exchange (password_user (password_server (settings_for config choice records
+      (Some (record { version = version; state = ServerFinalSent user }))))) ≡ SignatureSent user
+  keeps_user versions.Sha1 user = refl
+  keeps_user versions.Sha256 user = refl
+  keeps_user versions.Sha512 user = refl
+
+  keeps : (exchange : KeptExchange) → kept_exchange (extended exchange) ≡ exchange
+  keeps NothingKept = refl
+  keeps (ChallengeOpen version challenge) = keeps_open version challenge
+  keeps (SignatureSent user) = keeps_user signed user
+
+  in_phase : (exchange : KeptExchange) → IsPhaseOf exchange (phase_for exchange)
+  in_phase NothingKept = inl refl
+  in_phase (ChallengeOpen version challenge) = inl refl
+  in_phase (SignatureSent user) = refl
+
+  is_of : (exchange : KeptExchange) → sum_of choice ≡ config.mechanisms → HasRecords config records
+      → IsOf config exchange (extended exchange)
   unfolding IsOf
-  is_of shown server sum has is = (
+  is_of exchange sum has = (
     choice,
     records,
-    states_for shown,
-    first_asked (asked_of (option_map (exchange_of records) shown)),
-    second_asked (asked_of (option_map (exchange_of records) shown)),
+    signed,
+    opened (saved exchange),
+    first_asked (asked_of (saved exchange)),
+    second_asked (asked_of (saved exchange)),
     sum,
     has,
-    stands shown,
-    is ∙ served_in shown,
+    stands exchange,
+    in_phase exchange,
+    refl,
+    served_in exchange,
   )
 
-  pub made : (scram : ScramStruct) (shown : Option (ScramVersion × ServerChallenge)) (server : State)
-      → sum_of choice ≡ config.mechanisms → HasRecords config records → ShowsOpen scram shown → server ≡ served shown
+  extended_so : (exchange : KeptExchange) (inner : PasswordState) (extra : ExtraChallenges) (phase : Phase)
+      → inner ≡ served exchange → extra ≡ extra_for choice → phase ≡ phase_for exchange
+      → ◌≡◌ {A = State} (record { inner = inner; extra = extra; phase = phase }) (extended exchange)
+  extended_so exchange inner extra phase is own at =
+      ap (λ (i : PasswordState). with_parts i extra phase) is
+      ∙ (ap (λ (e : ExtraChallenges). with_parts (served exchange) e phase) own
+      ∙ ap (λ (p : Phase). with_parts (served exchange) (extra_for choice) p) at)
+    where
+      with_parts : PasswordState → ExtraChallenges → Phase → State
+      with_parts i e p = record { inner = i; extra = e; phase = p }
+
+  pub made : (scram : ScramStruct) (exchange : KeptExchange) (server : State) (inner : PasswordState)
+      (extra : ExtraChallenges) (phase : Phase) → sum_of choice ≡ config.mechanisms
+      → HasRecords config records → ShowsExchange scram exchange → inner ≡ served exchange → extra ≡ extra_for choice
+      → phase ≡ phase_for exchange → server ≡ record { inner = inner; extra = extra; phase = phase }
       → ServerIsReached config InProgress server × ShowsState scram InProgress server
-  made scram shown server sum has shows is = (
-    (shown, is_of shown server sum has is),
-    carried (ShowsOpen scram) shown (password_open server) (sym (ap password_open is ∙ opened_in shown)) shows,
-  )
+  made scram exchange server inner extra phase sum has shows is own at given =
+      let same : server ≡ extended exchange = given ∙ extended_so exchange inner extra phase is own at in (
+        (exchange, carried (IsOf config exchange) (extended exchange) server (sym same) (is_of exchange sum has)),
+        carried (ShowsExchange scram) exchange (kept_exchange server) (sym (ap kept_exchange same ∙ keeps exchange)) shows,
+      )
 
 -- why there is none
 pub no_choice : (config : Config) → ((choice : Choice) → sum_of choice ≢ config.mechanisms)
@@ -253,18 +325,18 @@ no_words config choice status sum (is, inl wrong) = inl (inr ((λ none. none cho
 no_words config choice status sum (is, inr (name, wrong)) =
     inl (inr ((λ none. none choice sum), inr ((λ other. other name), inl (wrong, is))))
 
-pub no_offer : (config : Config) (choice : Choice) (records : MultiRecords)
-    (shown : Option (ScramVersion × ServerChallenge)) → sum_of choice ≡ config.mechanisms → HasRecords config records
+pub no_offer : (config : Config) (choice : Choice) (records : MultiRecords) (signed : ScramVersion)
+    (exchange : KeptExchange) → sum_of choice ≡ config.mechanisms → HasRecords config records
     → IsUtf8 config.username.now → IsUtf8 config.external_authcid.now
-    → password_names (served config choice records shown) ≡ [] → IsNoConfig config statuses.NoSuchMechanism
+    → password_names (served config choice records signed exchange) ≡ [] → IsNoConfig config statuses.NoSuchMechanism
 unfolding IsNoConfig
-no_offer config choice records shown sum has name peer nothing = inr (
+no_offer config choice records signed exchange sum has name peer nothing = inr (
   ((λ none. none choice sum), ((λ wrong. wrong name), ((λ wrong. wrong peer), tt))),
   refl,
   (
-    shown,
-    served config choice records shown,
-    is_of config choice records shown (served config choice records shown) sum has refl,
+    exchange,
+    extended config choice records signed exchange,
+    is_of config choice records signed exchange sum has,
     nothing,
   ),
 )
@@ -278,132 +350,77 @@ pub ruleset acceptor = (no_choice, no_words, no_test)
 
 -- ---- what the struct of SCRAM shows
 
--- a challenge that a struct shows has room in it
-open_room : (scram : ScramStruct) (challenge : ServerChallenge) → IsOpen scram challenge → ChallengeHasRoom challenge
-open_room scram challenge is = let lengths = is.1 in (
-  short scram.user_len 256 scram.user challenge.user (ap (λ (c : ServerChallenge). c.user) is.2) lengths.0,
-  short scram.bare_len 1024 scram.bare challenge.bare (ap (λ (c : ServerChallenge). c.bare) is.2) lengths.1,
-  short scram.nonce_len 512 scram.nonce challenge.nonce (ap (λ (c : ServerChallenge). c.nonce) is.2) lengths.2,
-  short scram.first_len 1024 scram.first challenge.first (ap (λ (c : ServerChallenge). c.first) is.2) lengths.3,
-)
-  where
-    short : (n most : ℕ) (array text : List ℕ) → text ≡ take n array → n ≤ most → length text ≤ most
-    short n most array text same few =
-        let long : length (take n array) ≤ n = omega (arith, length-take n array) in
-        omega (arith, ap length same, long, few)
-
--- a user whom it shows too
+-- a user whom a struct shows has room in it
 user_room : (scram : ScramStruct) (user : List ℕ) → IsAuthenticated scram user → length user ≤ 256
-user_room scram user is =
-    let long : length (take scram.user_len scram.user) ≤ scram.user_len =
-    omega (arith, length-take scram.user_len scram.user) in
-    omega (arith, ap length is.2, long, is.1)
+user_room scram user is = short scram.user_len 256 scram.user user is.2 is.1
 
 -- what is shown of a login that stands so
-stands_so : (scram : ScramStruct) (progress other : Progress) (opened last : Option (ScramVersion × ServerChallenge))
-    (user name : Option (List ℕ)) → progress ≡ other → opened ≡ last → user ≡ name
-    → ShowsProgress scram other last name → ShowsProgress scram progress opened user
-stands_so scram progress other opened last user name same is named shows =
-    carried (λ s. ShowsProgress scram s opened user) other progress (sym same)
-    (carried (λ o. ShowsProgress scram other o user) last opened (sym is)
-    (carried (λ (u : Option (List ℕ)). ShowsProgress scram other last u) name user (sym named) shows))
+stands_so : (scram : ScramStruct) (progress other : Progress) (exchange : KeptExchange) (user name : Option (List ℕ))
+    → progress ≡ other → user ≡ name → ShowsProgress scram other exchange name → ShowsProgress scram progress exchange user
+stands_so scram progress other exchange user name same named shows =
+    carried (λ s. ShowsProgress scram s exchange user) other progress (sym same)
+    (carried (λ (u : Option (List ℕ)). ShowsProgress scram other exchange u) name user (sym named) shows)
 
-pub shows_challenge : (scram : ScramStruct) (progress : Progress) (opened : Option (ScramVersion × ServerChallenge))
-    (user : Option (List ℕ)) (version : ScramVersion) (challenge : ServerChallenge) → progress ≡ InProgress
-    → opened ≡ Some (version, challenge) → scram.version ≡ version_number version → IsOpen scram challenge
-    → ShowsProgress scram progress opened user
-shows_challenge scram progress opened user version challenge wants some hash is =
-    stands_so scram progress InProgress opened (Some (version, challenge)) user user wants some refl (sym hash, is)
-
--- no number of an open challenge is 0
-never_zero : (header : ChannelBindingFlag) → 0 ≡ open_number header → ⊥
-never_zero NotSupported same = omega (arith, same)
-never_zero ClientSupports same = omega (arith, same)
-
-pub shows_no_challenge : (scram : ScramStruct) (progress : Progress) (opened : Option (ScramVersion × ServerChallenge))
-    (user : Option (List ℕ)) → progress ≡ InProgress → opened ≡ None → scram.state ≡ 0
-    → ShowsProgress scram progress opened user
-shows_no_challenge scram progress opened user wants none fresh =
-    stands_so scram progress InProgress opened None user user wants none refl
-    (λ version challenge is. never_zero challenge.header (sym fresh ∙ is.1.0))
-
-pub no_challenge_room : (progress : Progress) (opened : Option (ScramVersion × ServerChallenge)) (user : Option (List ℕ))
-    (version : ScramVersion) (challenge : ServerChallenge) → progress ≡ InProgress → opened ≡ Some (version, challenge)
-    → ¬ ChallengeHasRoom challenge → (scram : ScramStruct) → ¬ ShowsProgress scram progress opened user
-no_challenge_room progress opened user version challenge wants some wide scram shows =
-    let is = stands_so scram InProgress progress (Some (version, challenge)) opened user user (sym wants) (sym some) refl
-    shows in wide (open_room scram challenge is.1)
-
-pub shows_user : (scram : ScramStruct) (progress : Progress) (opened : Option (ScramVersion × ServerChallenge)) (user : Option (List ℕ))
+pub shows_user : (scram : ScramStruct) (progress : Progress) (exchange : KeptExchange) (user : Option (List ℕ))
     (name : List ℕ) → progress ≡ Authenticated → user ≡ Some name → IsAuthenticated scram name
-    → ShowsProgress scram progress opened user
-shows_user scram progress opened user name in_is some is =
-    stands_so scram progress Authenticated opened opened user (Some name) in_is refl some is
+    → ShowsProgress scram progress exchange user
+shows_user scram progress exchange user name in_is some is =
+    stands_so scram progress Authenticated exchange user (Some name) in_is some is
 
-pub shows_no_user : (scram : ScramStruct) (progress : Progress) (opened : Option (ScramVersion × ServerChallenge))
-    (user : Option (List ℕ)) → progress ≡ Authenticated → user ≡ None → scram.state ≡ 0
-    → ShowsProgress scram progress opened user
-shows_no_user scram progress opened user in_is none fresh =
-    stands_so scram progress Authenticated opened opened user None in_is refl none fresh
+pub shows_no_user : (scram : ScramStruct) (progress : Progress) (exchange : KeptExchange) (user : Option (List ℕ))
+    → progress ≡ Authenticated → user ≡ None → scram.state ≡ 0 → ShowsProgress scram progress exchange user
+shows_no_user scram progress exchange user in_is none fresh =
+    stands_so scram progress Authenticated exchange user None in_is none fresh
 
-pub no_user_room : (progress : Progress) (opened : Option (ScramVersion × ServerChallenge)) (user : Option (List ℕ)) (name : List ℕ)
+pub no_user_room : (progress : Progress) (exchange : KeptExchange) (user : Option (List ℕ)) (name : List ℕ)
     → progress ≡ Authenticated → user ≡ Some name → 256 < length name
-    → (scram : ScramStruct) → ¬ ShowsProgress scram progress opened user
-no_user_room progress opened user name in_is some long scram shows =
-    let is = stands_so scram Authenticated progress opened opened (Some name) user (sym in_is) refl (sym some) shows in
+    → (scram : ScramStruct) → ¬ ShowsProgress scram progress exchange user
+no_user_room progress exchange user name in_is some long scram shows =
+    let is = stands_so scram Authenticated progress exchange (Some name) user (sym in_is) (sym some) shows in
     absurd (omega (arith, user_room scram name is, long))
 
-pub shows_closed : (scram : ScramStruct) (progress : Progress) (opened : Option (ScramVersion × ServerChallenge))
+pub shows_closed : (scram : ScramStruct) (progress : Progress) (exchange : KeptExchange)
     (user : Option (List ℕ)) (why : CloseReason) → progress ≡ Failed why → scram.state ≡ 0
-    → ShowsProgress scram progress opened user
-shows_closed scram progress opened user why closed fresh =
-    stands_so scram progress (Failed why) opened opened user user closed refl refl fresh
+    → ShowsProgress scram progress exchange user
+shows_closed scram progress exchange user why closed fresh =
+    stands_so scram progress (Failed why) exchange user user closed refl fresh
 
-pub ruleset shown = (
-  shows_challenge,
-  shows_no_challenge,
-  no_challenge_room,
-  shows_user,
-  shows_no_user,
-  no_user_room,
-  shows_closed,
-)
+-- what a server keeps of a login that goes on
+pub shows_exchange : (progress : Progress) (exchange : KeptExchange) (user : Option (List ℕ))
+    (answer : Option ScramStruct) → progress ≡ InProgress
+    → MatchOption answer ((scram : ScramStruct) → ¬ ShowsExchange scram exchange) (λ scram. ShowsExchange scram exchange)
+    → MatchOption answer ((scram : ScramStruct) → ¬ ShowsProgress scram progress exchange user)
+    (λ scram. ShowsProgress scram progress exchange user)
+shows_exchange progress exchange user answer wants held =
+    carried (λ (s : Progress). MatchOption answer ((scram : ScramStruct) → ¬ ShowsProgress scram s exchange user)
+    (λ scram. ShowsProgress scram s exchange user)) InProgress progress (sym wants) held
 
--- so it is of a server whose challenge and user these are
-pub shows_as : (progress : Progress) (server : State) (opened : Option (ScramVersion × ServerChallenge)) (user : Option (List ℕ))
-    (answer : Option ScramStruct) → opened ≡ password_open server → user ≡ password_user server
-    → MatchOption answer ((scram : ScramStruct) → ¬ ShowsProgress scram progress opened user)
-    (λ scram. ShowsProgress scram progress opened user)
-    → MatchOption answer ((scram : ScramStruct) → ¬ ShowsState scram progress server)
-    (λ scram. ShowsState scram progress server)
-shows_as progress server opened user answer is named held =
-    carried (λ (u : Option (List ℕ)).
-    MatchOption answer ((scram : ScramStruct) → ¬ ShowsProgress scram progress (password_open server) u)
-    (λ scram. ShowsProgress scram progress (password_open server) u)) user (password_user server) named
-    (carried (λ (o : Option (ScramVersion × ServerChallenge)).
-    MatchOption answer ((scram : ScramStruct) → ¬ ShowsProgress scram progress o user)
-    (λ scram. ShowsProgress scram progress o user)) opened (password_open server) is held)
+pub ruleset shown = (shows_exchange, shows_user, shows_no_user, no_user_room, shows_closed)
 
 -- ---- the structs of a side
 
--- what a struct of SCRAM shows of an acceptor
-abbrev pub Shown : ScramStruct → Progress → PasswordServer → Type 0
-Shown scram progress acceptor = ShowsState scram progress (password_state acceptor)
+-- the library's server of a configuration
+abbrev pub Served : Type 0
+Served = WithExtraChallenges PasswordServer
+
+-- what a struct of SCRAM shows of it
+abbrev pub Shown : ScramStruct → Progress → Served → Type 0
+Shown scram progress acceptor = ShowsState scram progress (state_of acceptor)
 
 -- and the one that is written for it
-abbrev pub written_for : Progress → PasswordServer → ScramStruct
-written_for progress acceptor = state_struct progress (password_state acceptor)
+abbrev pub written_for : Progress → Served → ScramStruct
+written_for progress acceptor = state_struct progress (state_of acceptor)
 
-pub writes_side : (server : Struct) (next : ServerConnectionSide PasswordServer) → server ≡ struct_by password_state written_for next
+pub writes_side : (server : Struct) (next : ServerConnectionSide Served) → server ≡ struct_by state_of written_for next
     → server ≡ side_struct (side_in next)
 writes_side server next written = written
 
-pub shows_side : (server : Struct) (next : ServerConnectionSide PasswordServer) → ShowsBy password_state Shown server next
+pub shows_side : (server : Struct) (next : ServerConnectionSide Served) → ShowsBy state_of Shown server next
     → ShowsSide server (side_in next)
 unfolding ShowsSide
 shows_side server next shows = shows
 
-pub shows_nothing : (next : ServerConnectionSide PasswordServer) → HasNone password_state Shown next → HasNoStruct (side_in next)
+pub shows_nothing : (next : ServerConnectionSide Served) → HasNone state_of Shown next → HasNoStruct (side_in next)
 unfolding HasNoStruct
 shows_nothing next none = none
 

@@ -18,8 +18,7 @@ use Rattle.sasl_c.specs.declared.status.Status.{Status}
 use Rattle.sasl_c.specs.declared.status.Status.TheVariants as statuses
 use Rattle.sasl_c.specs.Connection.{profile_status}
 use Rattle.sasl_c.specs.SaslClient.{ProfileIsReached as LoginComes, HasNoHostname, IsHostname, IsNoProfile, IsProfile}
-use Rattle.fe2o3_sasl_core.specs.PasswordServer.{password_machine, password_state}
-use Rattle.sasl_c.specs.SaslServer.{ServerIsReached, IsNoConfig, State}
+use Rattle.sasl_c.specs.SaslServer.{ServerIsReached, IsNoConfig, State, server_machine, state_of}
 use Rattle.sasl_c.specs.Steps.{ClientHides, ClientNotStepped, ClientStepped, ClientTells, IsStepped, NotStepped, ProfileNotStepped, ProfileStepped, ServerNotStepped, ServerStepped, ServerTells, ConfigServes, behind_code, progress_number}
 use Rattle.sasl_c.proofs.SaslClientLemmas.{gives_comes as profile_gives, profile_comes}
 use Rattle.sasl_c.proofs.SaslServerLemmas.{Shown, written_for}
@@ -121,7 +120,7 @@ code_comes config outcomes.SysPerm next = tt
 code_comes config outcomes.SysTemp next = tt
 
 server_comes : (config : Config) (event : Given) (server next : State) (says : ServerSays) (sent : List ℕ)
-    (stands : Progress) → ServerIsReached config InProgress server → AcceptorSteps password_machine server event says next
+    (stands : Progress) → ServerIsReached config InProgress server → AcceptorSteps server_machine server event says next
     → ServerTells says sent stands → ServerIsReached config stands next
 server_comes config event server next (Challenged body) sent stands comes steps tells =
     carried (λ (s : Progress). ServerIsReached config s next) InProgress stands (sym tells.1)
@@ -132,7 +131,7 @@ server_comes config event server next (Failed fault) sent stands comes steps tel
 
 pub server_stepped : (config : Config) (event : Given) (before after : ServerStruct) (server : State)
     (stands : Progress) (sent : List ℕ) → ConfigServes config before InProgress server
-    → IsStepped password_state password_machine Shown written_for server event after stands sent
+    → IsStepped state_of server_machine Shown written_for server event after stands sent
     → ServerStepped config event before after (progress_number stands) sent
 unfolding ServerStepped
 server_stepped config event before after server stands sent serves (next, says, steps, tells, shows, written) = (
@@ -140,18 +139,18 @@ server_stepped config event before after server stands sent serves (next, says, 
   stands,
   serves,
   (
-    password_state next,
+    state_of next,
     says,
     steps,
     tells,
-    (server_comes config event server (password_state next) says sent stands serves.0 steps tells, shows),
+    (server_comes config event server (state_of next) says sent stands serves.0 steps tells, shows),
     written,
   ),
   refl,
 )
 
 pub server_steps_short : (server : State) (event : Given) (after : ServerStruct) (stands : Progress) (sent : List ℕ)
-    → IsStepped password_state password_machine Shown written_for server event after stands sent → length sent ≤ 508
+    → IsStepped state_of server_machine Shown written_for server event after stands sent → length sent ≤ 508
 server_steps_short server event after stands sent (next, says, steps, tells, shows, written) =
     server_short says sent stands tells
 
@@ -161,14 +160,14 @@ unfolding ServerNotStepped
 server_no_config config event before status wrong = inl wrong
 
 pub server_not_stepped : (config : Config) (event : Given) (before : ServerStruct) (server : State) (status : Status)
-    → ConfigServes config before InProgress server → NotStepped password_state password_machine Shown server event status
+    → ConfigServes config before InProgress server → NotStepped state_of server_machine Shown server event status
     → ServerNotStepped config event before status
 unfolding ServerNotStepped
 server_not_stepped config event before server status serves (next, says, steps, inl hides) =
-    inr (server, serves, (password_state next, says, steps, inl hides))
+    inr (server, serves, (state_of next, says, steps, inl hides))
 server_not_stepped config event before server status serves
     (next, says, steps, inr (is, (stands, sent, tells, none))) = inr (
       server,
       serves,
-      (password_state next, says, steps, inr (is, (stands, sent, tells, λ after shows. none after shows.1))),
+      (state_of next, says, steps, inr (is, (stands, sent, tells, λ after shows. none after shows.1))),
     )

@@ -30,6 +30,7 @@ expected_number (Frame turns.Init) = 2
 expected_number (Frame turns.Challenge) = 3
 expected_number (Frame turns.Response) = 4
 expected_number (Frame turns.Outcome) = 5
+expected_number (Frame turns.SignatureChallenge) = 6
 
 -- why a frame is not read or not written
 abbrev pub frame_status : Error → Status

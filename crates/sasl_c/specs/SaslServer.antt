@@ -13,11 +13,14 @@ use Rattle.fe2o3_sasl_core.specs.declared.any_mechanism.Selected.TheVariants.{Fi
 use Rattle.fe2o3_scram.specs.Mixed.{MultiRecords, provider_for}
 use Rattle.fe2o3_scram.specs.Hmac.{mechanism_name}
 use Rattle.fe2o3_scram.specs.Readings.{IsFirst, NoneHolds}
-use Rattle.fe2o3_scram.specs.ScramServer.{ConcludesFrom, ServerState, Initial, ServerFirstSent}
+use Rattle.fe2o3_scram.specs.ScramServer.{ConcludesFrom, ServerState, Initial, ServerFinalSent, ServerFirstSent}
 use Rattle.fe2o3_scram.specs.ServerFirst.{ServerChallenge}
 use Rattle.fe2o3_sasl_core.specs.Bodies.{SpellsBody}
 use Rattle.fe2o3_sasl_core.specs.PlainServer.{IsTaken, PlainParts, SpellsPlain}
-use Rattle.fe2o3_sasl_core.specs.PasswordServer.{OpenExchange, PasswordSettings, PasswordState, name_where, password_machine, password_names, password_open, password_server_in, password_state, password_user}
+use Rattle.fe2o3_sasl_core.specs.ExtraChallenges.{Extended, extended_machine, extended_of, extended_user}
+use Rattle.fe2o3_sasl_core.specs.declared.extra_challenges.ExtraChallenges.{ExtraChallenges}
+use Rattle.fe2o3_sasl_core.specs.declared.extra_challenges.WithExtraChallenges.{WithExtraChallenges}
+use Rattle.fe2o3_sasl_core.specs.PasswordServer.{PasswordSettings, PasswordState, SavedExchange, name_where, password_machine, password_names, password_open, password_server_in, password_state, password_user}
 use Rattle.fe2o3_sasl_core.specs.declared.password_server.PasswordServer.{PasswordServer}
 use Rattle.fe2o3_sasl_core.specs.declared.plain_server.passwords.PlainPasswords.{PlainPasswords}
 use Rattle.fe2o3_sasl_core.specs.declared.plain_server.passwords.PlainPasswords.TheVariants as forms
@@ -41,15 +44,30 @@ use Rattle.sasl_c.specs.declared.status.Status.{Status}
 use Rattle.sasl_c.specs.declared.status.Status.TheVariants as statuses
 use Rattle.sasl_c.specs.Connection.{IsSideOf, Keeps, KeepsNoPart, side_tests, connection_struct, KeepsNoPartOf}
 use Rattle.sasl_c.specs.Records.{ShowsRecord}
-use Rattle.sasl_c.specs.Status.{version_number}
 use Rattle.sasl_c.specs.declared.records.ScramRecord.{ScramRecord as Kept}
-use Rattle.sasl_c.specs.Server.{IsAuthenticated, IsOpen, IsOpenBy, fresh_server_struct, authenticated_struct, open_struct}
+use Rattle.sasl_c.specs.Server.{KeptExchange, NothingKept, ChallengeOpen, SignatureSent, IsAuthenticated, IsOpen, IsPhaseOf, ShowsExchange, authenticated_struct, exchange_in, exchange_struct, fresh_server_struct}
 
 -- ---- the server of a configuration
 
--- its state: that of the library's server of these mechanisms
+-- its state: that of the library's server of these mechanisms, which may send its signature in a challenge
 abbrev pub State : Type 0
-State = PasswordState
+State = Extended PasswordState
+
+-- the names of its mechanisms
+abbrev pub server_names : State → List (List ℕ)
+server_names = λ server. password_names server.inner
+
+-- what it replies
+abbrev pub server_machine : State → List ℕ → SaslFrame → SaslFrame → State → Type 0
+server_machine = extended_machine password_names password_machine
+
+-- the user whom it names
+abbrev pub server_user : State → Option (List ℕ)
+server_user server = extended_user server.phase (password_user server.inner)
+
+-- what it keeps of a login that is not complete
+abbrev pub kept_exchange : State → KeptExchange
+kept_exchange server = exchange_in server.phase (password_open server.inner) (password_user server.inner)
 
 -- a number where it is so, and else 0
 abbrev pub one_where : Bool → ℕ → ℕ
@@ -64,10 +82,18 @@ passwords_number forms.Saslprep = 256
 
 -- the sum of the mechanisms' numbers: 1 SCRAM-SHA-512, 2 SCRAM-SHA-256, 4 SCRAM-SHA-1, 8 PLAIN, 16 ANONYMOUS, 32
 -- EXTERNAL; 64 if SCRAM accepts the GS2 flag `y` (RFC 5802, section 6); and the number of the form of PLAIN's passwords
-abbrev pub sum_of : Choice → ℕ
-sum_of choice = one_where choice.sha_512 1 + one_where choice.sha_256 2 + one_where choice.sha_1 4
+abbrev pub mechanisms_sum : Choice → ℕ
+mechanisms_sum choice = one_where choice.sha_512 1 + one_where choice.sha_256 2 + one_where choice.sha_1 4
     + one_where choice.plain 8 + one_where choice.anonymous 16 + one_where choice.external 32
     + one_where choice.cbind_flag_y 64 + passwords_number choice.passwords
+
+-- and 1024 if the signature is sent in a challenge (RFC 4422, section 5)
+abbrev pub sum_of : Choice → ℕ
+sum_of choice = one_where choice.signature_by_challenge 1024 + mechanisms_sum choice
+
+-- the challenges that are sent beyond those of the mechanisms
+abbrev pub extra_for : Choice → ExtraChallenges
+extra_for choice = record { initial_response = false; signature = choice.signature_by_challenge }
 
 -- the records that an array of structs shows, in their order, each for this user
 abbrev pub ShowRecords : List ℕ → List Kept → MultiRecords → Type 0
@@ -93,7 +119,7 @@ version_of_first [] = Sha256
 version_of_first (user ∷ users) = user.1.version
 
 -- the settings of the library's server
-abbrev pub settings_for : Config → Choice → MultiRecords → Option OpenExchange → PasswordSettings
+abbrev pub settings_for : Config → Choice → MultiRecords → Option SavedExchange → PasswordSettings
 settings_for config choice records restored = record {
   records = records;
   mock = None;
@@ -126,13 +152,15 @@ or_no_record (Some stored) = stored
 abbrev pub record_for : MultiRecords → ScramVersion → List ℕ → Record
 record_for records version user = or_no_record (record_at (provider_for version records).records user)
 
--- an open challenge, with the record of its user for its hash
-abbrev pub exchange_of : MultiRecords → ScramVersion × ServerChallenge → OpenExchange
-exchange_of records shown = record {
-  version = shown.0;
-  challenge = shown.1;
-  stored = record_for records shown.0 shown.1.user;
-}
+-- what SCRAM continues for what a server keeps: an open challenge, with the record of its user for its hash; or the
+-- login of a user, by this hash
+abbrev pub saved_for : MultiRecords → ScramVersion → KeptExchange → Option SavedExchange
+saved_for records signed NothingKept = None
+saved_for records signed (ChallengeOpen version challenge) = Some (record {
+  version = version;
+  state = ServerFirstSent challenge (record_for records version challenge.user);
+})
+saved_for records signed (SignatureSent user) = Some (record { version = signed; state = ServerFinalSent user })
 
 -- the last init was of this hash, by the parts of SCRAM that are selected
 abbrev pub Asked : ScramVersion → Option Selected → Option Selected → Type 0
@@ -140,62 +168,56 @@ Asked Sha512 selected weaker = selected ≡ Some First
 Asked Sha256 selected weaker = (selected ≡ Some Second) × (weaker ≡ Some First)
 Asked Sha1 selected weaker = (selected ≡ Some Second) × (weaker ≡ Some Second)
 
--- the states of SCRAM: without an open challenge each is that before a login, and with one that of its hash has the
--- challenge, and the last init was of this hash. The states of the other hashes play no part then: a response goes to the
--- hash of the last init, and an init begins an exchange of its own
-abbrev pub Stands : MultiRecords → Option (ScramVersion × ServerChallenge) → (ScramVersion → ServerState)
-    → Option Selected → Option Selected → Type 0
-Stands records None states selected weaker =
+-- the states of SCRAM: where no exchange is continued each is that before a login, and otherwise that of its hash is
+-- the one of the exchange, and the last init was of this hash. The states of the other hashes play no part then: a response
+-- goes to the hash of the last init, and an init begins an exchange of its own
+abbrev pub Stands : Option SavedExchange → (ScramVersion → ServerState) → Option Selected → Option Selected → Type 0
+Stands None states selected weaker =
     ((version : ScramVersion) → states version ≡ Initial) × (selected ≡ None) × (weaker ≡ None)
-Stands records (Some shown) states selected weaker =
-    (states shown.0 ≡ ServerFirstSent shown.1 (record_for records shown.0 shown.1.user)) × Asked shown.0 selected weaker
+Stands (Some saved) states selected weaker = (states saved.version ≡ saved.state) × Asked saved.version selected weaker
 
--- the server is that of a configuration, with this open challenge
-unfoldable pub IsOf : Config → Option (ScramVersion × ServerChallenge) → State → Type 0
-IsOf config shown server = (choice : Choice) × (records : MultiRecords) × (states : ScramVersion → ServerState)
-    × (selected weaker : Option Selected) × (sum_of choice ≡ config.mechanisms) × HasRecords config records
-    × Stands records shown states selected weaker
-    × (server ≡ password_server_in (settings_for config choice records None) states
-    (option_map (λ (exchange : ScramVersion × ServerChallenge). First) shown) selected weaker)
+-- the server is that of a configuration, and keeps this. By which hash a signature was sent plays no part
+unfoldable pub IsOf : Config → KeptExchange → State → Type 0
+IsOf config exchange server = (choice : Choice) × (records : MultiRecords) × (signed : ScramVersion)
+    × (states : ScramVersion → ServerState) × (selected weaker : Option Selected) × (sum_of choice ≡ config.mechanisms)
+    × HasRecords config records × Stands (saved_for records signed exchange) states selected weaker
+    × IsPhaseOf exchange server.phase × (server.extra ≡ extra_for choice)
+    × (server.inner ≡ password_server_in (settings_for config choice records None) states
+    (option_map (λ (saved : SavedExchange). First) (saved_for records signed exchange)) selected weaker)
 
--- the servers that a configuration can reach while more bytes are expected: before the init, and with an open challenge
+-- the servers that a configuration can reach while more bytes are expected: before the init, with an open challenge,
+-- and after the signature
 abbrev pub ServerIsReached : Config → Progress → State → Type 0
-ServerIsReached config InProgress server = (shown : Option (ScramVersion × ServerChallenge)) × IsOf config shown server
+ServerIsReached config InProgress server = (exchange : KeptExchange) × IsOf config exchange server
 ServerIsReached config Authenticated server = Unit {0}
 ServerIsReached config (Failed why) server = Unit {0}
-
--- the struct shows this challenge as open, or that none is
-abbrev pub ShowsOpen : ScramStruct → Option (ScramVersion × ServerChallenge) → Type 0
-ShowsOpen scram None = (version : ScramVersion) (challenge : ServerChallenge) → ¬ IsOpenBy scram version challenge
-ShowsOpen scram (Some shown) = IsOpenBy scram shown.0 shown.1
 
 -- the struct shows that this user has logged in, or nothing of whom no name is known
 abbrev pub ShowsUser : ScramStruct → Option (List ℕ) → Type 0
 ShowsUser scram None = scram.state ≡ 0
 ShowsUser scram (Some user) = IsAuthenticated scram user
 
--- the struct of SCRAM holds what a login of this progress needs: the open challenge, the authenticated user, or nothing
--- once it is closed
-abbrev pub ShowsProgress : ScramStruct → Progress → Option (ScramVersion × ServerChallenge) → Option (List ℕ) → Type 0
-ShowsProgress scram InProgress opened user = ShowsOpen scram opened
-ShowsProgress scram Authenticated opened user = ShowsUser scram user
-ShowsProgress scram (Failed why) opened user = scram.state ≡ 0
+-- the struct of SCRAM holds what a login of this progress needs: what the server keeps, the authenticated user, or
+-- nothing once it is closed
+abbrev pub ShowsProgress : ScramStruct → Progress → KeptExchange → Option (List ℕ) → Type 0
+ShowsProgress scram InProgress exchange user = ShowsExchange scram exchange
+ShowsProgress scram Authenticated exchange user = ShowsUser scram user
+ShowsProgress scram (Failed why) exchange user = scram.state ≡ 0
 
 -- the struct of SCRAM that a call writes for such a login
-abbrev pub progress_struct : Progress → Option (ScramVersion × ServerChallenge) → Option (List ℕ) → ScramStruct
-progress_struct InProgress None user = fresh_server_struct
-progress_struct InProgress (Some shown) user = open_struct (version_number shown.0) shown.1
-progress_struct Authenticated opened None = fresh_server_struct
-progress_struct Authenticated opened (Some user) = authenticated_struct user
-progress_struct (Failed why) opened user = fresh_server_struct
+abbrev pub progress_struct : Progress → KeptExchange → Option (List ℕ) → ScramStruct
+progress_struct InProgress exchange user = exchange_struct exchange
+progress_struct Authenticated exchange None = fresh_server_struct
+progress_struct Authenticated exchange (Some user) = authenticated_struct user
+progress_struct (Failed why) exchange user = fresh_server_struct
 
 -- the struct of SCRAM holds what a server of this progress needs
 abbrev pub ShowsState : ScramStruct → Progress → State → Type 0
-ShowsState scram progress server = ShowsProgress scram progress (password_open server) (password_user server)
+ShowsState scram progress server = ShowsProgress scram progress (kept_exchange server) (server_user server)
 
 -- the struct that a call writes for a server
 abbrev pub state_struct : Progress → State → ScramStruct
-state_struct progress server = progress_struct progress (password_open server) (password_user server)
+state_struct progress server = progress_struct progress (kept_exchange server) (server_user server)
 
 -- the structs show a side, where this says what the one of SCRAM shows of its acceptor
 abbrev pub ShowsBy : {A S : Type 0} → (A → S) → (ScramStruct → Progress → A → Type 0) → Struct → ServerConnectionSide A
@@ -250,8 +272,7 @@ config_tests config = (statuses.NoSuchMechanism, (choice : Choice) → sum_of ch
 unfoldable pub IsNoConfig : Config → Status → Type 0
 IsNoConfig config status = IsFirst (config_tests config) status
     ⊎ (NoneHolds (config_tests config) × (status ≡ statuses.NoSuchMechanism)
-    × ((shown : Option (ScramVersion × ServerChallenge)) × (server : State) × IsOf config shown server
-    × (password_names server ≡ [])))
+    × ((exchange : KeptExchange) × (server : State) × IsOf config exchange server × (server_names server ≡ [])))
 
 -- why the structs are those of no side that wants more bytes: the tests of the connection, those of the configuration, and last
 -- that what was kept is a part of what is expected
@@ -259,12 +280,12 @@ unfoldable pub IsNoServer : Config → Struct → Status → Type 0
 IsNoServer config server status = IsFirst (side_tests server.connection) status
     ⊎ (NoneHolds (side_tests server.connection) × (IsNoConfig config status
     ⊎ ((status ≡ statuses.InvalidSnapshot) × KeepsNoPartOf server_due server.connection
-    × ((shown : Option (ScramVersion × ServerChallenge)) × (kept : State) × IsOf config shown kept))))
+    × ((exchange : KeptExchange) × (kept : State) × IsOf config exchange kept))))
 
 -- a call answers bytes: between two structs, what the library's side of the connection makes of them
 unfoldable pub Received : Config → List ℕ → List ℕ → Struct → Struct → ℕ → List ℕ → Type 0
 Received config bytes nonce before after taken sent = (side next : Side State) × IsServer config before side
-    × (side.progress ≡ InProgress) × ServerReceives password_names password_machine side bytes nonce taken sent next
+    × (side.progress ≡ InProgress) × ServerReceives server_names server_machine side bytes nonce taken sent next
     × IsServer config after next × (after ≡ side_struct next)
 
 -- or it does not, because the structs are those of no side, or no struct is that of the side behind the call
@@ -272,7 +293,7 @@ unfoldable pub NotReceived : Config → List ℕ → List ℕ → Struct → Sta
 NotReceived config bytes nonce before status = IsNoServer config before status
     ⊎ ((status ≡ statuses.TooLong) × ((side next : Side State) × (taken : ℕ) × (sent : List ℕ)
     × IsServer config before side × (side.progress ≡ InProgress)
-    × ServerReceives password_names password_machine side bytes nonce taken sent next
+    × ServerReceives server_names server_machine side bytes nonce taken sent next
     × ((other : Struct) → ¬ IsServer config other next)))
 
 -- what a call makes of bytes
@@ -365,6 +386,10 @@ Names server bytes (Err status) = NotNamed server bytes status
 
 -- ---- the code's values
 
+-- the state that an acceptor is
+abbrev pub state_of : WithExtraChallenges PasswordServer → State
+state_of = extended_of password_state
+
 -- the side that a value is
-abbrev pub side_in : ServerConnectionSide PasswordServer → Side State
-side_in server = server_side password_state server
+abbrev pub side_in : ServerConnectionSide (WithExtraChallenges PasswordServer) → Side State
+side_in server = server_side state_of server

@@ -1,5 +1,5 @@
 -- A SCRAM server that is kept in a struct of C between its calls (RFC 5802, sections 3 and 5).
-use Rattle.std.specs.Prelude.{Bool, true, ◌≡◌, ◌≤◌, ◌⊎◌, ℕ, List, [], ◌∷◌, length, replicate, take, Some, Result, Ok, Err}
+use Rattle.std.specs.Prelude.{Bool, true, ◌≡◌, ◌≤◌, ◌⊎◌, ℕ, List, [], ◌∷◌, length, replicate, take, Option, Some, None, Result, Ok, Err}
 use Rattle.std.specs.Str.{IsUtf8}
 use Rattle.fe2o3_scram.specs.declared.hmac.ScramVersion.{ScramVersion}
 use Rattle.fe2o3_scram.specs.declared.scram_messages.error.ServerScramErrorKind.{ServerScramErrorKind}
@@ -10,18 +10,21 @@ use Rattle.fe2o3_scram.specs.declared.scram_messages.channel_binding_flag.Channe
 use Rattle.fe2o3_scram.specs.declared.scram_messages.channel_binding_flag.ChannelBindingFlag.TheVariants.{NotSupported, ClientSupports}
 use Rattle.fe2o3_scram.specs.Credentials.{Store, VersionedRecord, serving}
 use Rattle.fe2o3_scram.specs.Hmac.{zero_filled}
-use Rattle.fe2o3_scram.specs.ScramServer.{ConcludesFrom, ServerFirstSent, ServerFinalSent}
+use Rattle.fe2o3_scram.specs.ScramServer.{ConcludesFrom, ServerFirstSent, ServerFinalSent, challenge_kept}
 use Rattle.fe2o3_scram.specs.ServerFinal.{FinalCosts}
 use Rattle.fe2o3_scram.specs.ServerFirst.{AnswersClientFirst, ServerChallenge}
 use Rattle.fe2o3_scram.specs.Texts.{base64_text}
+use Rattle.fe2o3_sasl_core.specs.ExtraChallenges.{Phase, Idle, Signing, Unconfirmed}
 use Rattle.sasl_c.specs.declared.records.ScramRecord.{ScramRecord as Kept}
+use Rattle.sasl_c.specs.declared.exchange.ScramExchange.{ScramExchange}
+use Rattle.sasl_c.specs.declared.exchange.ScramExchange.TheVariants as forms
 use Rattle.sasl_c.specs.declared.server.ScramServer.{ScramServer as Struct}
 use Rattle.sasl_c.specs.declared.status.Status.{Status}
 use Rattle.sasl_c.specs.declared.status.Status.TheVariants as statuses
 use Rattle.sasl_c.specs.Records.{IsVersion, ShowsSomeRecord, ShowsRecord, SpellsStruct}
 use Rattle.sasl_c.specs.declared.status.WriteError.{WriteError}
 use Rattle.sasl_c.specs.declared.status.WriteError.TheVariants.{RoomTooSmall, Other}
-use Rattle.sasl_c.specs.Status.{Lacks, Room, server_status, with_written}
+use Rattle.sasl_c.specs.Status.{Lacks, Room, server_status, version_number, with_written}
 
 -- the store of one user
 abbrev pub one_user : List ℕ → VersionedRecord → Store
@@ -65,6 +68,51 @@ IsOpenBy server version challenge = IsVersion server.version version × IsOpen s
 abbrev pub IsAuthenticated : Struct → List ℕ → Type 0
 IsAuthenticated server user = (server.state ≡ 2) × (server.user_len ≤ 256) × (user ≡ take server.user_len server.user)
 
+-- the struct is that of a server that has sent its signature to this user in a challenge, which is not answered yet
+abbrev pub HasSigned : Struct → List ℕ → Type 0
+HasSigned server user = (server.state ≡ 4) × (server.user_len ≤ 256) × (user ≡ take server.user_len server.user)
+    × IsUtf8 user
+
+-- what a server keeps of a login that is not complete: nothing, an open challenge of SCRAM with its hash, or the user
+-- to whom it has sent its signature in a challenge
+pub data KeptExchange : Type 0 where
+  NothingKept : KeptExchange
+  ChallengeOpen : (version : ScramVersion) → (challenge : ServerChallenge) → KeptExchange
+  SignatureSent : (user : List ℕ) → KeptExchange
+
+-- the struct shows that a server keeps this
+abbrev pub ShowsExchange : Struct → KeptExchange → Type 0
+ShowsExchange server NothingKept =
+    ((version : ScramVersion) (challenge : ServerChallenge) → ¬ IsOpenBy server version challenge)
+    × ((user : List ℕ) → ¬ HasSigned server user)
+ShowsExchange server (ChallengeOpen version challenge) = IsOpenBy server version challenge
+ShowsExchange server (SignatureSent user) = HasSigned server user
+
+-- an open challenge with its hash, if there is one, as what a server keeps
+abbrev pub open_exchange : Option (ScramVersion × ServerChallenge) → KeptExchange
+open_exchange None = NothingKept
+open_exchange (Some shown) = ChallengeOpen shown.0 shown.1
+
+-- and the user to whom the signature was sent, if there is one
+abbrev pub signed_exchange : Option (List ℕ) → KeptExchange
+signed_exchange None = NothingKept
+signed_exchange (Some user) = SignatureSent user
+
+-- what a server keeps in this phase, with this open challenge and this user
+abbrev pub exchange_in : Phase → Option (ScramVersion × ServerChallenge) → Option (List ℕ) → KeptExchange
+exchange_in Signing opened user = signed_exchange user
+exchange_in phase opened user = open_exchange opened
+
+-- the phase in which a server is restored that keeps this
+abbrev pub phase_for : KeptExchange → Phase
+phase_for (SignatureSent user) = Signing
+phase_for exchange = Idle
+
+-- a server that keeps this is in this phase
+abbrev pub IsPhaseOf : KeptExchange → Phase → Type 0
+IsPhaseOf (SignatureSent user) phase = phase ≡ Signing
+IsPhaseOf exchange phase = (phase ≡ Idle) ⊎ (phase ≡ Unconfirmed)
+
 -- ---- the structs that calls write: every field that a state does not name is zero, and so is each byte after a length
 
 -- of a server with no open challenge and no authenticated user
@@ -97,10 +145,10 @@ open_struct version challenge = record {
   first = zero_filled 1024 challenge.first;
 }
 
--- of one that has authenticated the user whose name is that many bytes of this array
-abbrev pub user_struct : ℕ → List ℕ → Struct
-user_struct len array = record {
-  state = 2;
+-- of one that keeps only a user, whose name is that many bytes of this array, in the state of this number
+abbrev pub user_struct : ℕ → ℕ → List ℕ → Struct
+user_struct state len array = record {
+  state = state;
   version = 0;
   user_len = len;
   bare_len = 0;
@@ -114,7 +162,17 @@ user_struct len array = record {
 
 -- of one that has authenticated this user
 abbrev pub authenticated_struct : List ℕ → Struct
-authenticated_struct user = user_struct (length user) (zero_filled 256 user)
+authenticated_struct user = user_struct 2 (length user) (zero_filled 256 user)
+
+-- of one that has sent its signature to this user in a challenge
+abbrev pub signed_struct : List ℕ → Struct
+signed_struct user = user_struct 4 (length user) (zero_filled 256 user)
+
+-- of one that keeps this
+abbrev pub exchange_struct : KeptExchange → Struct
+exchange_struct NothingKept = fresh_server_struct
+exchange_struct (ChallengeOpen version challenge) = open_struct (version_number version) challenge
+exchange_struct (SignatureSent user) = signed_struct user
 
 -- ---- what the calls return (RFC 5802, section 5), and the struct after them
 
@@ -208,3 +266,11 @@ abbrev pub TellsUser : Struct → Result (List ℕ) Status → Type 0
 TellsUser server (Ok user) = IsAuthenticated server user
 TellsUser server (Err status) = (status ≡ server_status IllegalAuthenticatorState)
     × ((user : List ℕ) → ¬ IsAuthenticated server user)
+
+-- ---- the code's values
+
+-- what a server keeps that a value is
+abbrev pub exchange_shown : ScramExchange → KeptExchange
+exchange_shown forms.NothingKept = NothingKept
+exchange_shown (forms.ChallengeOpen version challenge) = ChallengeOpen version (challenge_kept challenge)
+exchange_shown (forms.SignatureSent user) = SignatureSent user.now

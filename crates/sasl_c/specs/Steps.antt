@@ -20,8 +20,7 @@ use Rattle.sasl_c.specs.declared.status.Status.{Status}
 use Rattle.sasl_c.specs.declared.status.Status.TheVariants as statuses
 use Rattle.sasl_c.specs.Connection.{closed_status, frame_status, profile_status}
 use Rattle.sasl_c.specs.SaslClient.{ProfileIsReached, HasNoHostname, IsHostname, IsNoProfile, IsProfile, WritesProfile}
-use Rattle.fe2o3_sasl_core.specs.PasswordServer.{password_machine, password_names}
-use Rattle.sasl_c.specs.SaslServer.{BodyNames, BodyNamesNoUser, ServerIsReached as ConfigReached, IsNoConfig, ShowsState, State, state_struct}
+use Rattle.sasl_c.specs.SaslServer.{BodyNames, BodyNamesNoUser, ServerIsReached as ConfigReached, IsNoConfig, ShowsState, State, server_machine, server_names, state_struct}
 use Rattle.sasl_c.specs.Status.{status_number}
 
 -- the progress of a login after an outcome of this code (part 5, section 5.3.3.6)
@@ -99,9 +98,9 @@ ConfigServes config scram stands server = ConfigReached config stands server × 
 
 -- the body with which a server offers its mechanisms (part 5, section 5.3.3.1), or why there is none
 abbrev pub ConfigOffers : Config → Result (List ℕ) Status → Type 0
-ConfigOffers config (Ok body) = (server : State) × ConfigReached config InProgress server × (offer_body (password_names server) ≡ Some body)
+ConfigOffers config (Ok body) = (server : State) × ConfigReached config InProgress server × (offer_body (server_names server) ≡ Some body)
 ConfigOffers config (Err status) = IsNoConfig config status ⊎ ((status ≡ statuses.FrameTooLarge)
-    × ((server : State) × ConfigReached config InProgress server × (offer_body (password_names server) ≡ None)))
+    × ((server : State) × ConfigReached config InProgress server × (offer_body (server_names server) ≡ None)))
 
 -- what a reply sends: a challenge and an outcome are sent
 abbrev pub ServerTells : ServerSays → List ℕ → Progress → Type 0
@@ -135,14 +134,14 @@ NotStepped {A} state machine shows server event status = (next : A) × (says : S
 unfoldable pub ServerStepped : Config → Given → ServerStruct → ServerStruct → ℕ → List ℕ → Type 0
 ServerStepped config event before after progress sent = (server : State) × (stands : Progress)
     × ConfigServes config before InProgress server
-    × IsStepped (λ (next : State). next) password_machine (ConfigServes config) state_struct server event after stands sent
+    × IsStepped (λ (next : State). next) server_machine (ConfigServes config) state_struct server event after stands sent
     × (progress ≡ progress_number stands)
 
 -- or none: the configuration has no acceptor, or it makes none
 unfoldable pub ServerNotStepped : Config → Given → ServerStruct → Status → Type 0
 ServerNotStepped config event before status = IsNoConfig config status
     ⊎ ((server : State) × ConfigServes config before InProgress server
-    × NotStepped (λ (next : State). next) password_machine (ConfigServes config) server event status)
+    × NotStepped (λ (next : State). next) server_machine (ConfigServes config) server event status)
 
 -- the result of a body for a call
 abbrev pub ServerSteps : Config → Given → ServerStruct → ServerStruct → ℕ → Result (List ℕ) Status → Type 0

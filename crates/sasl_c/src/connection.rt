@@ -52,6 +52,7 @@ fn number_of(expected: Expected) -> u32
         Expected::Frame(FrameKind::Challenge) => 3,
         Expected::Frame(FrameKind::Response) => 4,
         Expected::Frame(FrameKind::Outcome) => 5,
+        Expected::Frame(FrameKind::SignatureChallenge) => 6,
     }
 }
 
@@ -66,6 +67,7 @@ fn expected_of(number: u32) -> Option<Expected>
         3 => Some(Expected::Frame(FrameKind::Challenge)),
         4 => Some(Expected::Frame(FrameKind::Response)),
         5 => Some(Expected::Frame(FrameKind::Outcome)),
+        6 => Some(Expected::Frame(FrameKind::SignatureChallenge)),
         _ => None,
     }
 }

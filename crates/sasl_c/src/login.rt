@@ -50,8 +50,7 @@ pub struct Login<'a> {
 
     /// Whether the client accepts the server's signature in a challenge too, before an outcome without data (RFC 4422,
     /// section 5). 0 means that the signature has to come in the outcome. Any other value accepts it in both. Only
-    /// `fe2o3_sasl_client_step` uses this field. A connection (`fe2o3_sasl_client_receive`) still closes at a second
-    /// challenge as an unexpected frame, because connections do not support this exchange yet.
+    /// `fe2o3_sasl_client_receive` and `fe2o3_sasl_client_step` use this field.
     pub signature_by_challenge: u32,
 }
 

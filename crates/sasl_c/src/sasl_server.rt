@@ -5,19 +5,16 @@ ghost use Rattle.std.specs.Str.{IsUtf8};
 ghost use Rattle.fe2o3_scram.specs.Credentials.{kept};
 ghost use Rattle.fe2o3_scram.specs.Mixed.{MultiRecords};
 ghost use Rattle.fe2o3_scram.specs.Readings.{NoneHolds};
-ghost use Rattle.fe2o3_scram.specs.ServerFirst.{ServerChallenge};
-ghost use Rattle.fe2o3_scram.specs.ScramServer.{challenge_kept};
-ghost use Rattle.fe2o3_scram.specs.declared.hmac.ScramVersion.{ScramVersion as ScramVersions};
-ghost use Rattle.fe2o3_sasl_core.specs.PasswordServer.{challenge_with, password_names, password_server, password_state};
+ghost use Rattle.fe2o3_sasl_core.specs.ExtraChallenges.{phase_of};
+ghost use Rattle.fe2o3_sasl_core.specs.PasswordServer.{password_names, password_server, password_state};
 ghost use Rattle.fe2o3_sasl_core.specs.declared.password_server.BuildError.TheVariants.{NoMechanism as BuildNoMechanism, SaltTooLong as BuildSaltTooLong};
-ghost use Rattle.fe2o3_sasl_negotiation.specs.declared.progress.Progress.{Progress as ProgressOf};
 ghost use Rattle.fe2o3_sasl_negotiation.specs.declared.progress.Progress.TheVariants.{InProgress};
 ghost use Rattle.fe2o3_sasl_negotiation.specs.ServerNegotiation.{ServerReceives};
 ghost use Rattle.fe2o3_sasl_negotiation.specs.Snapshot.{IsServerKept, side_of};
 ghost use Rattle.fe2o3_sasl_negotiation.specs.Sides.{ServerConnectionSide, server_side};
-ghost use Rattle.sasl_c.specs.SaslServer.{AddsRecord, HasNoServerWords, HasNone, IsNoConfig, NoRecordIsUnmet, NotReceived, Received, ReceivesAsServer, ServerIsReached, ShowRecords, ShowsBy, ShowsOpen, ShowsProgress, ShowsState, config_tests, exchange_of, one_where, passwords_number, progress_struct, record_for, settings_for, state_struct, struct_by, sum_of, version_of_first};
+ghost use Rattle.sasl_c.specs.SaslServer.{AddsRecord, HasNoServerWords, HasNone, IsNoConfig, NoRecordIsUnmet, NotReceived, Received, ReceivesAsServer, ServerIsReached, ShowRecords, ShowsBy, ShowsState, config_tests, extra_for, one_where, passwords_number, record_for, saved_for, settings_for, state_of, struct_by, sum_of, version_of_first};
+ghost use Rattle.sasl_c.specs.Server.{exchange_shown, phase_for};
 ghost use Rattle.sasl_c.specs.declared.sasl_server.Choice.{Choice as Choices};
-ghost use Rattle.sasl_c.specs.declared.server.ScramServer.{ScramServer as ScramStruct};
 ghost use Rattle.sasl_c.specs.Connection.{side_tests};
 ghost use Rattle.sasl_c.specs.Status.{AnswersText, AsksText, AsksWhere, FillsWithin};
 ghost use Rattle.sasl_c.specs.declared.status.Status.TheVariants.{OutOfMemory as StatusOutOfMemory, InvalidSnapshot as StatusInvalidSnapshot, TooLong as StatusTooLong};
@@ -25,18 +22,18 @@ ghost use Rattle.sasl_c.specs.declared.status.WriteError.TheVariants.{RoomTooSma
 
 use crate::arrays::put;
 use crate::connection::Connection;
+use crate::exchange::ScramExchange;
 use crate::records::ScramRecord;
 use crate::server::ScramServer;
-use crate::status::{Status, WriteError, number_of, text, text_number};
+use crate::shows::Shows;
+use crate::status::{Status, WriteError, text, text_number};
 use bytes::BytesMut;
 use fe2o3_sasl_core::{
-    AuthenticatedUser, BuildError, PasswordServer, PasswordServerBuilder, PlainPasswords,
-    ScramHashes,
+    AuthenticatedUser, BuildError, ChallengePhase, ExtraChallenges, PasswordServer,
+    PasswordServerBuilder, PlainPasswords, ScramHashes, WithExtraChallenges,
 };
-use fe2o3_sasl_negotiation::{Progress, RestoreError, ServerNegotiation, Snapshot};
-use fe2o3_scram::{
-    Meter, MultiRecordStore, OpenChallenge, ScramCredentialProvider, ScramVersion, StoredPassword,
-};
+use fe2o3_sasl_negotiation::{RestoreError, ServerNegotiation, Snapshot};
+use fe2o3_scram::{Meter, MultiRecordStore, ScramCredentialProvider, ScramVersion, StoredPassword};
 use std::alloc::Global;
 
 /// What a server offers, and the records of one user. You lend the struct to each call.
@@ -46,7 +43,7 @@ pub struct SaslServerConfig<'a> {
     /// The offered mechanisms: a sum of values of enum fe2o3_offer. PLAIN sends the password in clear, so offer it
     /// over TLS only. It rejects every password that is not printable ASCII, unless the sum has FE2O3_PLAIN_PREPARED
     /// or FE2O3_PLAIN_SASLPREP. By the latter it also rejects a password that SASLprep rejects or prepares to the empty
-    /// text.
+    /// text. With FE2O3_SIGNATURE_BY_CHALLENGE SCRAM's outcome OK follows the client's empty response to a challenge.
     pub mechanisms: u32,
 
     /// The iteration count with which PLAIN hashes the password of an unknown user.
@@ -90,6 +87,9 @@ struct Choice {
     /// Whether SCRAM accepts the GS2 flag `y`.
     cbind_flag_y: bool,
 
+    /// Whether the server's signature is sent in a challenge.
+    signature_by_challenge: bool,
+
     /// Which passwords PLAIN tests.
     passwords: PlainPasswords,
 }
@@ -124,14 +124,17 @@ fn split_passwords(sum: u32) -> (PlainPasswords, u32)
 
 impl Choice {
     /// The choice of a sum.
-    #[tactic(auto, using(crate::proofs::SaslServerLemmas::sum_small))]
     fn of(sum: u32) -> Option<Choice>
         ensures { MatchOption result ((choice : Choices) → sum_of choice ≢ sum) (λ choice. sum_of choice ≡ sum) }
     {
-        if sum > 383 {
+        if sum > 2047 {
             return None;
         }
-        let (passwords, rest) = split_passwords(sum);
+        let (signature_by_challenge, rest) = split(sum, 1024);
+        if rest > 383 {
+            return None;
+        }
+        let (passwords, rest) = split_passwords(rest);
         let (cbind_flag_y, rest) = split(rest, 64);
         let (external, rest) = split(rest, 32);
         let (anonymous, rest) = split(rest, 16);
@@ -147,8 +150,19 @@ impl Choice {
             anonymous,
             external,
             cbind_flag_y,
+            signature_by_challenge,
             passwords,
         })
+    }
+
+    /// The challenges that are sent beyond those of the mechanisms.
+    fn extra(self) -> ExtraChallenges
+        ensures { result ≡ extra_for self }
+    {
+        ExtraChallenges {
+            initial_response: false,
+            signature: self.signature_by_challenge,
+        }
     }
 
     /// The hashes of SCRAM.
@@ -209,6 +223,19 @@ fn add_record(
     }
 }
 
+/// The library's server of a configuration.
+type Acceptor = WithExtraChallenges<PasswordServer>;
+
+/// The phase of a server that keeps this.
+fn phase_for(exchange: &ScramExchange<'_>) -> ChallengePhase
+    ensures { phase_of result ≡ phase_for (exchange_shown exchange.now) }
+{
+    match exchange {
+        ScramExchange::SignatureSent(_) => ChallengePhase::Signing,
+        _ => ChallengePhase::Idle,
+    }
+}
+
 impl SaslServerConfig<'_> {
     /// The records of the configuration's user. `OutOfMemory` is the only error.
     #[tactic(auto, using(crate::proofs::SaslServerLemmas::store))]
@@ -237,7 +264,7 @@ impl SaslServerConfig<'_> {
         ScramVersion::Sha256
     }
 
-    /// The library's server of these settings, with the open challenge that the struct of SCRAM shows.
+    /// The library's server of these settings, which continues what was kept of a login.
     fn server(
         &self,
         alloc: Global,
@@ -245,16 +272,15 @@ impl SaslServerConfig<'_> {
         store: &MultiRecordStore,
         version: ScramVersion,
         external: &str,
-        scram: &ScramServer,
+        exchange: &ScramExchange<'_>,
     ) -> Result<PasswordServer, BuildError>
         requires version { version ≡ version_of_first store.now }
         requires external { external.now ≡ self.now.external_authcid.now }
-        ensures ok { IfOk result (λ server. (shown : Option (ScramVersions × ServerChallenge)) × ShowsOpen scram.now shown
-            × (password_state server ≡ password_server (settings_for self.now choice store.now
-            (option_map (exchange_of store.now) shown)))) }
-        ensures none { IfErr result (λ error. error ≡ BuildNoMechanism → (shown : Option (ScramVersions × ServerChallenge))
-            × (password_names (password_server (settings_for self.now choice store.now
-            (option_map (exchange_of store.now) shown))) ≡ [])) }
+        ensures ok { IfOk result (λ server. password_state server
+            ≡ password_server (settings_for self.now choice store.now (saved_for store.now version (exchange_shown exchange.now)))) }
+        ensures none { IfErr result (λ error. error ≡ BuildNoMechanism
+            → password_names (password_server (settings_for self.now choice store.now
+            (saved_for store.now version (exchange_shown exchange.now)))) ≡ []) }
         ensures salts { IfErr result (λ error. error ≢ BuildSaltTooLong) }
     {
         let builder = PasswordServerBuilder::new(store)
@@ -265,16 +291,19 @@ impl SaslServerConfig<'_> {
             .plain_passwords(choice.passwords)
             .anonymous(choice.anonymous)
             .external(if choice.external { external } else { "" });
-        let Some((hash, challenge)) = scram.exchange() else {
-            return builder.build(alloc);
-        };
-        let stored = record_for(store, hash, challenge.username);
-        match builder
-            .open_challenge(hash, &challenge, &stored)
-            .build(alloc)
-        {
-            Ok(server) => Ok(server),
-            Err(error) => Err(error),
+        match exchange {
+            ScramExchange::NothingKept => builder.build(alloc),
+            ScramExchange::SignatureSent(user) => builder.authenticated(version, user).build(alloc),
+            ScramExchange::ChallengeOpen(hash, challenge) => {
+                let stored = record_for(store, *hash, challenge.username);
+                match builder
+                    .open_challenge(*hash, challenge, &stored)
+                    .build(alloc)
+                {
+                    Ok(server) => Ok(server),
+                    Err(error) => Err(error),
+                }
+            }
         }
     }
 
@@ -287,11 +316,11 @@ impl SaslServerConfig<'_> {
         Ok((text(self.username)?, text(self.external_authcid)?))
     }
 
-    /// The library's server, with the open challenge that the struct of SCRAM shows.
+    /// The library's server, which continues what the struct of SCRAM keeps of a login.
     #[tactic(auto, using(crate::proofs::SaslServerLemmas::acceptor))]
-    pub fn acceptor(&self, alloc: Global, scram: &ScramServer) -> Result<PasswordServer, Status>
-        ensures ok { IfOk result (λ acceptor. ServerIsReached self.now InProgress (password_state acceptor)
-            × ShowsState scram.now InProgress (password_state acceptor)) }
+    pub fn acceptor(&self, alloc: Global, scram: &ScramServer) -> Result<Acceptor, Status>
+        ensures ok { IfOk result (λ acceptor. ServerIsReached self.now InProgress (state_of acceptor)
+            × ShowsState scram.now InProgress (state_of acceptor)) }
         ensures tests { IfOk result (λ _. NoneHolds (config_tests self.now)) }
         ensures err { IfErr result (λ status. status ≢ StatusOutOfMemory → IsNoConfig self.now status) }
         ensures memory { AsksWhere (NoneHolds (config_tests self.now)) result }
@@ -308,8 +337,10 @@ impl SaslServerConfig<'_> {
             Err(status) => return Err(status),
         };
         let version = self.first_version();
-        match self.server(alloc, choice, &store, version, external, scram) {
-            Ok(server) => Ok(server),
+        let exchange = scram.kept_exchange();
+        let phase = phase_for(&exchange);
+        match self.server(alloc, choice, &store, version, external, &exchange) {
+            Ok(server) => Ok(WithExtraChallenges::with_phase(server, choice.extra(), phase)),
             Err(BuildError::NoMechanism) => Err(Status::NoSuchMechanism),
             Err(BuildError::SaltTooLong) => unreachable!(),
             Err(BuildError::OutOfMemory) => Err(Status::OutOfMemory),
@@ -359,57 +390,6 @@ fn restore<A: AuthenticatedUser + Drop>(
         sent,
         side,
     })
-}
-
-/// Returns the struct of SCRAM for a login of this progress, or `None` if a text does not fit.
-#[tactic(auto, using(crate::proofs::SaslServerLemmas::shown))]
-fn shown(
-    progress: Progress,
-    exchange: Option<(ScramVersion, OpenChallenge<'_>)>,
-    user: Option<&str>,
-) -> Option<ScramServer>
-    ensures shows { MatchOption result
-        ((scram : ScramStruct) → ¬ ShowsProgress scram progress (option_map challenge_with exchange.entry)
-        (option_map (λ user. user.now) user.entry)) (λ scram. ShowsProgress scram progress
-        (option_map challenge_with exchange.entry)
-        (option_map (λ user. user.now) user.entry)) }
-    ensures writes { IfSome result (λ scram. scram ≡ progress_struct progress
-        (option_map challenge_with exchange.entry) (option_map (λ user. user.now) user.entry)) }
-{
-    match progress {
-        Progress::InProgress => match exchange {
-            Some((version, challenge)) => ScramServer::of(number_of(version), &challenge),
-            None => Some(ScramServer::fresh()),
-        },
-        Progress::Authenticated => match user {
-            Some(user) => ScramServer::logged_in(user),
-            None => Some(ScramServer::fresh()),
-        },
-        Progress::Failed(_) => Some(ScramServer::fresh()),
-    }
-}
-
-/// An acceptor of which a struct of SCRAM shows how far it is.
-pub trait Shows: AuthenticatedUser {
-    ghost shows: { ScramStruct → ProgressOf → Self → Type 0 };
-
-    ghost written_for: { ProgressOf → Self → ScramStruct };
-
-    /// Returns the struct for a login of this progress, or `None` if a text does not fit.
-    fn shown(&self, progress: Progress) -> Option<ScramServer>
-        ensures shows { MatchOption result ((scram : ScramStruct) → ¬ shows scram progress self.now)
-            (λ scram. shows scram progress self.now) }
-        ensures writes { IfSome result (λ scram. scram ≡ written_for progress self.now) };
-}
-
-impl Shows for PasswordServer {
-    ghost shows = { λ scram progress server. ShowsState scram progress (password_state server) };
-
-    ghost written_for = { λ progress server. state_struct progress (password_state server) };
-
-    fn shown(&self, progress: Progress) -> Option<ScramServer> {
-        shown(progress, self.open_challenge(), self.authenticated_user())
-    }
 }
 
 impl SaslServer {

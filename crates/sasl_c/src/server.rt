@@ -83,12 +83,12 @@ impl ScramServer {
         }
     }
 
-    /// Returns the struct of a server whose authenticated user is the first `user_len` bytes of this array.
-    fn with_user(user: [u8; 256], user_len: u32) -> ScramServer
-        ensures { result ≡ user_struct user_len user }
+    /// Returns the struct of a server that keeps only a user, the first `user_len` bytes of this array, in this state.
+    pub fn with_user(state: u32, user: [u8; 256], user_len: u32) -> ScramServer
+        ensures { result ≡ user_struct state user_len user }
     {
         ScramServer {
-            state: 2,
+            state,
             version: 0,
             user_len,
             bare_len: 0,
@@ -107,7 +107,7 @@ impl ScramServer {
         ensures writes { IfSome result (λ server. server ≡ authenticated_struct user.now) }
     {
         let name = padded(user.as_bytes())?;
-        Some(ScramServer::with_user(name, user.len() as u32))
+        Some(ScramServer::with_user(2, name, user.len() as u32))
     }
 
     /// Turns the struct into that of a server that has authenticated the user of the challenge, which keeps only the name
@@ -116,7 +116,7 @@ impl ScramServer {
         requires { self.old.user_len ≤ 256 }
         ensures { self.new ≡ authenticated_struct (take self.old.user_len self.old.user) }
     {
-        *self = ScramServer::with_user(cleared(&self.user, self.user_len), self.user_len);
+        *self = ScramServer::with_user(2, cleared(&self.user, self.user_len), self.user_len);
     }
 
     /// Returns the struct of a server with this open challenge, by the hash of this number, or `None` if a text of the

@@ -161,8 +161,8 @@ fn compute_claimed_user(alloc: Global, server: &SaslServer, bytes: &[u8]) -> Res
 }
 
 /// Writes the user name that the next frame claims, if `bytes` complete it: that of an init for SCRAM or PLAIN, and
-/// for a response that of the open challenge. Nobody is authenticated yet: use it only to look up the record for
-/// `fe2o3_sasl_server_receive`. Returns FE2O3_NAMES_NO_USER if the frame is not complete or claims no name; then no
+/// for a response that of the open challenge of SCRAM. Nobody is authenticated yet: use it only to look up the record
+/// for `fe2o3_sasl_server_receive`. Returns FE2O3_NAMES_NO_USER if the frame is not complete or claims no name; then no
 /// record is needed.
 #[unsafe(no_mangle)]
 #[tactic(auto, using(crate::proofs::StatusLemmas::written))]

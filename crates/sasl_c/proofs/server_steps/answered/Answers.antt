@@ -1,4 +1,4 @@
-use Rattle.fe2o3_sasl_core.specs.PasswordServer.{password_state}
+use Rattle.sasl_c.specs.SaslServer.{state_of}
 use Rattle.sasl_c.proofs.StepLemmas.{server_no_config, server_not_stepped, server_stepped, server_steps_short}
 use Rattle.sasl_c.proofs.server_steps.answered.Goals as goal
 
@@ -8,13 +8,13 @@ returns-in-Err-clause-err c = λ other. server_no_config c.args.config.now _ c.a
 
 pub returns-in-Err-stepped-clause-err : goal.returns-in-Err-stepped-clause-err
 returns-in-Err-stepped-clause-err c = λ other. server_not_stepped c.args.config.now _ c.args.server.now
-    (password_state c.in-Ok.acceptor) c.in-Err-stepped.status c.in-Ok.ensures.ok (c.in-Err-stepped.ensures.err other)
+    (state_of c.in-Ok.acceptor) c.in-Err-stepped.status c.in-Ok.ensures.ok (c.in-Err-stepped.ensures.err other)
 
 pub returns-in-Ok-stepped-clause-ok : goal.returns-in-Ok-stepped-clause-ok
 returns-in-Ok-stepped-clause-ok c = server_stepped c.args.config.now _ c.args.server.now c.in-Ok-stepped.made.next
-    (password_state c.in-Ok.acceptor) c.in-Ok-stepped.made.progress c.in-Ok-stepped.made.sent.items c.in-Ok.ensures.ok
+    (state_of c.in-Ok.acceptor) c.in-Ok-stepped.made.progress c.in-Ok-stepped.made.sent.items c.in-Ok.ensures.ok
     c.in-Ok-stepped.ensures.ok
 
 pub returns-in-Ok-stepped-clause-fits : goal.returns-in-Ok-stepped-clause-fits
-returns-in-Ok-stepped-clause-fits c = server_steps_short (password_state c.in-Ok.acceptor) _ c.in-Ok-stepped.made.next
+returns-in-Ok-stepped-clause-fits c = server_steps_short (state_of c.in-Ok.acceptor) _ c.in-Ok-stepped.made.next
     c.in-Ok-stepped.made.progress c.in-Ok-stepped.made.sent.items c.in-Ok-stepped.ensures.ok

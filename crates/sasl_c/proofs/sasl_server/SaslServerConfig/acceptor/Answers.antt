@@ -1,18 +1,23 @@
-use Rattle.sasl_c.specs.SaslServer.{ShowRecords}
+use Rattle.fe2o3_sasl_core.specs.ExtraChallenges.{phase_of}
 use Rattle.fe2o3_sasl_core.specs.PasswordServer.{password_state}
+use Rattle.sasl_c.specs.SaslServer.{ShowRecords, state_of}
+use Rattle.sasl_c.specs.Server.{exchange_shown}
 use Rattle.sasl_c.proofs.SaslServerLemmas.{made, no_offer}
 use Rattle.sasl_c.proofs.StatusLemmas.{carried}
 use Rattle.sasl_c.proofs.sasl_server.SaslServerConfig.acceptor.Goals as goal
 
 pub returns-in-Ok-server-clause-ok : goal.returns-in-Ok-server-clause-ok
-returns-in-Ok-server-clause-ok c = let ok = c.in-Ok-server.ensures.ok in
-    made c.args.self.now c.in-Some.choice c.in-Ok-store.store c.args.scram.now ok.0 (password_state c.in-Ok-server.server)
-    c.in-Some.ensures
+returns-in-Ok-server-clause-ok c =
+    made c.args.self.now c.in-Some.choice c.in-Ok-store.store c.first_version-version.result c.args.scram.now
+    (exchange_shown c.kept_exchange-exchange.result) (state_of c.with_phase.result)
+    (password_state c.in-Ok-server.server) c.extra.result (phase_of c.phase_for-phase.result) c.in-Some.ensures
     (carried (λ user. ShowRecords user c.args.self.now.records.now c.in-Ok-store.store) c.in-Ok.words.0.now _
-    c.in-Ok.ensures.0 c.in-Ok-store.ensures.ok) ok.1 ok.2
+    c.in-Ok.ensures.0 c.in-Ok-store.ensures.ok) c.kept_exchange-exchange.ensures c.in-Ok-server.ensures.ok c.extra.ensures
+    c.phase_for-phase.ensures c.with_phase.ensures
 
 pub returns-in-Err-NoMechanism-clause-err : goal.returns-in-Err-NoMechanism-clause-err
 returns-in-Err-NoMechanism-clause-err c = λ _. let none = c.in-Err-NoMechanism.ensures.none c.in-Err-NoMechanism.field-0-is in
-    no_offer c.args.self.now c.in-Some.choice c.in-Ok-store.store none.0 c.in-Some.ensures
+    no_offer c.args.self.now c.in-Some.choice c.in-Ok-store.store c.first_version-version.result
+    (exchange_shown c.kept_exchange-exchange.result) c.in-Some.ensures
     (carried (λ user. ShowRecords user c.args.self.now.records.now c.in-Ok-store.store) c.in-Ok.words.0.now _
-    c.in-Ok.ensures.0 c.in-Ok-store.ensures.ok) c.in-Ok.ensures.2 c.in-Ok.ensures.3 none.1
+    c.in-Ok.ensures.0 c.in-Ok-store.ensures.ok) c.in-Ok.ensures.2 c.in-Ok.ensures.3 none
