@@ -7,10 +7,11 @@
     tools/models/negotiations.py check  compares these files, and what the program printed, with what would be written
 
 A model of both sides, written from AMQP 1.0, part 2 (section 2.2, headers; 2.3.1, frames) and part 5 (5.3, SASL),
-RFC 5802 and RFC 7677 (SCRAM), RFC 4616 (PLAIN), RFC 4505 (ANONYMOUS) and RFC 4422 (EXTERNAL), independently of this
-repository's code. Bodies
-are read and written by `tools/models/frames.py`. The project's own are the names of the faults and their order, how
-lists of bodies are answered and audited (docs/SPECIFICATION.md), and what docs/COMPATIBILITY.md lists.
+RFC 5802 and RFC 7677 (SCRAM), RFC 4616 (PLAIN), RFC 4505 (ANONYMOUS) and RFC 4422 (EXTERNAL, and section 5 for empty
+challenges and data of an outcome), independently of this repository's code. Bodies
+are read and written by `tools/models/frames.py`. The project's own are the names of the faults and their order, that a
+server asks for no message of ANONYMOUS and EXTERNAL, how lists of bodies are answered and audited
+(docs/SPECIFICATION.md), and what docs/COMPATIBILITY.md lists.
 """
 import base64
 import copy
@@ -209,13 +210,67 @@ class AnonymousServer:
         return "Outcome", [0, None]
 
 
-class ScramClient:
-    """A client with a password, prepared or as it is typed, and a limit on the iteration count."""
+class ExternalServer:
+    """RFC 4422, appendix A: the client has an identity from outside SASL, and asks for it or for none."""
 
-    def __init__(self, mechanism, user, password, limit, prepared=False):
+    mechanism = "EXTERNAL"
+
+    def __init__(self, user):
+        self.known, self.user = user, None
+
+    def init(self, mechanism, message, nonce):
+        if mechanism != b"EXTERNAL" or message not in (None, b"", self.known):
+            raise Refused("Auth")
+        self.user = self.known
+        return "Outcome", [0, None]
+
+
+class ExtraServer:
+    """A server with challenges beyond those of its mechanism, by the words of its line (RFC 4422, section 5): with
+    `asks` an init without an initial response gets an empty challenge, whose response is the initial response, and with
+    `signs` the data of an outcome Ok come in a challenge, whose response has to be empty."""
+
+    def __init__(self, server, words):
+        self.server, self.mechanism = server, server.mechanism
+        self.asks, self.signs = "asks" in words, "signs" in words
+        self.asked, self.signed, self.user = None, False, None
+
+    def init(self, mechanism, message, nonce):
+        is_needed = mechanism == self.mechanism.encode() and self.mechanism not in ("ANONYMOUS", "EXTERNAL")
+        if self.asks and message is None and is_needed:
+            self.asked = mechanism, nonce
+            return "Challenge", [b""]
+        return self.sent(*self.server.init(mechanism, message, nonce))
+
+    def response(self, message):
+        if self.asked is not None:
+            (mechanism, nonce), self.asked = self.asked, None
+            return self.sent(*self.server.init(mechanism, message, nonce))
+        if not self.signed:
+            return self.sent(*self.server.response(message))
+        if message != b"":
+            raise Refused("Auth")
+        return self.sent("Outcome", [0, None])
+
+    def sent(self, kind, said):
+        if kind == "Outcome" and self.signs and said[1] is not None:
+            self.signed = True
+            return "Challenge", [said[1]]
+        if kind == "Outcome":
+            self.user = self.server.user
+        return kind, said
+
+
+class ScramClient:
+    """A client with a password, prepared or as it is typed, and a limit on the iteration count. With `by_challenge` it
+    takes the server-final message in a challenge too, which it answers by an empty response (RFC 4422, section 5)."""
+
+    def __init__(self, mechanism, user, password, limit, prepared=False, by_challenge=False):
         self.mechanism, self.name = mechanism, HASHES[mechanism]
         self.user, self.password, self.limit, self.prepared = user, password, limit, prepared
+        self.by_challenge = by_challenge
         self.nonce = self.bare = self.signature = None
+        self.is_verified = False
 
     def first(self, nonce):
         self.nonce = base64.b64encode(nonce)
@@ -229,7 +284,15 @@ class ScramClient:
             raise Refused("IterationCountTooLarge")
         return int(digits)
 
+    def expects_signature(self):
+        """Whether a challenge with the server-final message is due."""
+        return self.by_challenge and self.signature is not None
+
     def challenge(self, message):
+        if self.expects_signature():
+            self.believe(message)
+            self.signature, self.is_verified = None, True
+            return b""
         parts = text(message).split(b",")
         if len(parts) < 3:
             raise Refused("InsufficientParts")
@@ -250,6 +313,8 @@ class ScramClient:
 
     def believe(self, data):
         if data is None:
+            if self.is_verified:
+                return
             raise Refused("ServerSignatureMismatch")
         if self.signature is None:
             raise Refused("IllegalClientState")
@@ -278,6 +343,9 @@ class MessageClient(OtherClient):
         if message != b"":
             raise Fault("Mechanism NotImplemented")
         return self.message
+
+    def expects_signature(self):
+        return False
 
 
 # The two sides of a connection (AMQP 1.0, part 5, section 5.3.2)
@@ -379,7 +447,7 @@ class Client(Side):
         if not isinstance(self.machine, ScramClient | MessageClient):
             raise Fault("Mechanism NotImplemented")
         sent = self.says("Response", self.machine.challenge(fields[0]))
-        self.due = ("Outcome",)
+        self.due = ("Challenge", "Outcome") if self.machine.expects_signature() else ("Outcome",)
         return sent
 
     def outcome(self, fields, nonce):
@@ -388,6 +456,24 @@ class Client(Side):
         self.machine.believe(fields[1])
         self.progress = "Authenticated"
         return b""
+
+
+class LateClient(Client):
+    """A client that sends its initial response when an empty challenge asks for it (RFC 4422, section 5)."""
+
+    def mechanisms(self, fields, nonce):
+        self.message = self.machine.first(nonce)
+        self.due = ("Challenge",)
+        return self.says("Init", self.machine.mechanism.encode(), None, self.hostname)
+
+    def challenge(self, fields, nonce):
+        message, self.message = self.message, None
+        if message is None:
+            return super().challenge(fields, nonce)
+        if fields[0] != b"":
+            raise Fault("Mechanism NotImplemented")
+        self.due = ("Challenge", "Outcome")
+        return self.says("Response", message)
 
 
 # The words of the files
@@ -403,17 +489,23 @@ def unhexed(word):
 def side_of(line):
     """The side that a line of the files names."""
     match line.split(" "):
+        case ["server", *words] if "asks" in words or "signs" in words:
+            server = side_of(" ".join(it for it in line.split(" ") if it not in ("asks", "signs")))
+            return Server(ExtraServer(server.machine, words))
         case ["server", "ANONYMOUS"]:
             return Server(AnonymousServer())
+        case ["server", "EXTERNAL", user]:
+            return Server(ExternalServer(unhexed(user)))
         case ["server", "PLAIN", user, password]:
             return Server(PlainState(unhexed(user), unhexed(password)))
         case ["server", mechanism, user, password, salt, count]:
             return scram_server(mechanism, user, password, salt, count)
-        case ["client", mechanism, user, password, limit, hostname]:
+        case ["client", mechanism, user, password, limit, hostname, *words]:
             user, password = unhexed(user), unhexed(password)
             hostname = None if hostname == "none" else unhexed(hostname)
             if mechanism in HASHES:
-                return Client(ScramClient(mechanism, user, password, int(limit)), hostname)
+                by_challenge = words == ["by-challenge"]
+                return Client(ScramClient(mechanism, user, password, int(limit), by_challenge=by_challenge), hostname)
             if mechanism.endswith("-AS"):
                 return Client(MessageClient(mechanism.removesuffix("-AS"), user), hostname)
             message = b"\0" + user + b"\0" + password if mechanism == "PLAIN" else None
@@ -443,6 +535,8 @@ def side_of_run(line):
 def server_line(mechanism, user=b"user", password=b"pencil", salt=b"\3" * 32, count=1):
     if mechanism == "ANONYMOUS":
         return "server ANONYMOUS"
+    if mechanism == "EXTERNAL":
+        return f"server EXTERNAL {hexed(user)}"
     words = f"server {mechanism} {hexed(user)} {hexed(password)}"
     return words if mechanism == "PLAIN" else f"{words} {salt.hex()} {count}"
 
@@ -455,10 +549,12 @@ def client_line(mechanism, user=b"user", password=b"pencil", limit=HIGHEST, host
 class Login:
     """What goes over the wire in a login, frame by frame, with a nonce of each side."""
 
-    def __init__(self, server, client, client_nonce=b"\1" * 32, server_nonce=b"\2" * 32):
+    def __init__(self, server, client, client_nonce=b"\1" * 32, server_nonce=b"\2" * 32, late=False):
         self.server, self.client = server, client
         self.nonces = {"server": [server_nonce], "client": [client_nonce]}
         ours, theirs = side_of(server), side_of(client)
+        if late:
+            theirs = LateClient(theirs.machine, theirs.hostname)
         _, opened = ours.receive(SASL, server_nonce)
         theirs.receive(opened[:8], client_nonce)
         # the units that each side is given
@@ -787,13 +883,155 @@ def single_messages(rows):
             rows.add(f"Another list for {mechanism}.", line, [SASL, spelled("Mechanisms", [b"PLAIN"]) + AMQP])
 
 
+# Challenges beyond those of the mechanisms (RFC 4422, section 5)
+
+def server_with(words, mechanism, **given):
+    return " ".join([server_line(mechanism, **given), *words])
+
+
+def by_challenge_line(mechanism=MAIN, **given):
+    return client_line(mechanism, **given) + " by-challenge"
+
+
+def both_ways(rows, name, login, side):
+    """The units of a side of a login, one by one and in one piece."""
+    line, units, nonces = login.line(side), login.units[side], login.nonces[side]
+    rows.add(f"{name}, unit by unit: the {side}.", line, [*units, AMQP], nonces)
+    rows.add(f"{name}, all at once, with AMQP's header behind it: the {side}.", line, [b"".join(units) + AMQP], nonces)
+
+
+def longer_logins(rows):
+    """Whole logins with more challenges."""
+    for mechanism in SCRAM:
+        signed = Login(server_with(["signs"], mechanism), by_challenge_line(mechanism))
+        for side in ("server", "client"):
+            both_ways(rows, f"A login by {mechanism} with the signature by challenge", signed, side)
+        asked = Login(server_with(["asks"], mechanism), client_line(mechanism), late=True)
+        rows.add(f"A login by {mechanism}, whose initial response is asked for: the server.", asked.server,
+                 [*asked.units["server"], AMQP], asked.nonces["server"])
+        every = Login(server_with(["asks", "signs"], mechanism), by_challenge_line(mechanism, hostname=b"localhost"),
+                      late=True)
+        both_ways(rows, f"A login by {mechanism} with both challenges", every, "server")
+        plain = Login(server_line(mechanism), by_challenge_line(mechanism))
+        rows.add(f"A login by {mechanism} with the signature in the outcome, to a client that takes a challenge too.",
+                 plain.client, [*plain.units["client"], AMQP], plain.nonces["client"])
+    every = Login(server_with(["asks", "signs"], MAIN), by_challenge_line(), late=True)
+    stream, ends = b"".join(every.units["server"]) + AMQP, range(0, 1024, 7)
+    rows.add("A login with both challenges, in pieces of 7 bytes: the server.", every.server,
+             [stream[it:it + 7] for it in ends if it < len(stream)], every.nonces["server"])
+    usual = Login(server_with(["asks", "signs"], MAIN), by_challenge_line())
+    both_ways(rows, "A login by an init with an initial response, which is not asked for", usual, "server")
+
+
+def asked_messages(rows):
+    """Inits without an initial response, and what follows the empty challenge."""
+    line = server_with(["asks"], "PLAIN")
+    login = Login(line, client_line("PLAIN"), late=True)
+    both_ways(rows, "A login by PLAIN, whose message is asked for", login, "server")
+    usual = Login(server_with(["asks", "signs"], "PLAIN"), client_line("PLAIN"))
+    rows.add("A message of PLAIN that is not asked for, and no data in the outcome.", usual.server,
+             [*usual.units["server"], AMQP], usual.nonces["server"])
+    unit = spelled("Init", b"PLAIN", None, None)
+    for message in (b"", b"\0user\0crayon", b"\0nobody\0pencil"):
+        rows.add("Another message of PLAIN that is asked for.", line, [SASL, unit, spelled("Response", message) + AMQP])
+    rows.add("An init of PLAIN in place of its message.", line,
+             [SASL, unit, spelled("Init", b"PLAIN", b"\0user\0pencil", None)])
+    rows.add("An empty message of PLAIN, which is not asked for.", line, [SASL, spelled("Init", b"PLAIN", b"", None)])
+    rows.add("Another mechanism without a message, which is not asked for.", line,
+             [SASL, spelled("Init", b"EXTERNAL", None, None)])
+    for mechanism in ("ANONYMOUS", "EXTERNAL"):
+        line = server_with(["asks", "signs"], mechanism)
+        both_ways(rows, f"{mechanism} without a message, which is not asked for", Login(line, client_line(mechanism)),
+                  "server")
+        for message in (b"nobody", b"", b"user")[:3 if mechanism == "EXTERNAL" else 1]:
+            rows.add(f"A message of {mechanism} to a server that asks.", line,
+                     [SASL, spelled("Init", mechanism.encode(), message, None)])
+    rows.add("A server of EXTERNAL.", server_line("EXTERNAL"), [SASL, spelled("Init", b"EXTERNAL", None, None)])
+
+
+def asked_scram(rows):
+    """SCRAM without an initial response, and what follows the empty challenge."""
+    for words in (["asks"], ["asks", "signs"]):
+        line = server_with(words, MAIN)
+        unit = spelled("Init", MAIN.encode(), None, None)
+        first = read(Login(line, client_line(MAIN)).units["server"][1][4:])[1][1]
+        for name, message in (("An empty response", b""), ("An unknown user", b"n,,n=nobody,r=fyko")):
+            pieces = [SASL, unit, spelled("Response", message)]
+            rows.add(f"{name} where the client-first message is asked for.", line,
+                     pieces if words == ["asks"] else [b"".join(pieces) + AMQP], [b"\2" * 32])
+        rows.add("A second init in place of the client-first message.", line,
+                 [SASL, unit, spelled("Init", MAIN.encode(), first, None)], [b"\2" * 32])
+    for password, words in ((b"crayon", ["signs"]), (b"crayon", ["asks", "signs"])):
+        login = Login(server_with(words, MAIN), by_challenge_line(password=password), late="asks" in words)
+        both_ways(rows, "A wrong password", login, "server")
+    login = Login(server_with(["signs"], MAIN), by_challenge_line(password=b"crayon"))
+    rows.add("A wrong password: the client.", login.client, [*login.units["client"], AMQP], login.nonces["client"])
+    login = Login(server_with(["signs"], MAIN), by_challenge_line(user=b"nobody"))
+    rows.add("An unknown user, to a server that signs.", login.server, [*login.units["server"], AMQP],
+             login.nonces["server"])
+
+
+def confirmations(rows):
+    """What follows the challenge with the signature, to a server."""
+    login = Login(server_with(["signs"], MAIN), by_challenge_line())
+    *before, empty = login.units["server"]
+    for name, unit in [("A response of one byte", spelled("Response", b"\0")),
+                       ("The client-final message", before[-1]), ("The init", before[1]),
+                       ("An outcome", spelled("Outcome", 0, None)), ("The size 513", (513).to_bytes(4, "big")),
+                       ("Two empty responses", empty + empty)]:
+        rows.add(f"{name} in place of the empty response.", login.server, [*before, unit], login.nonces["server"])
+    rows.add("A response of one byte in place of the empty response, all at once.", login.server,
+             [b"".join(before) + spelled("Response", b"\0") + AMQP], login.nonces["server"])
+
+
+def signatures(rows):
+    """What follows the client-final message, to a client that takes the signature in a challenge too."""
+    login = Login(server_with(["signs"], MAIN), by_challenge_line())
+    nonces, [*before, signed, accepted] = login.nonces["client"], login.units["client"]
+    shown = read(signed[4:])[1][0]
+    for pieces in ([*before, signed, accepted], [b"".join([*before, signed, accepted])]):
+        rows.add("The signature in a challenge, to a client that takes none there.", client_line(MAIN), pieces, nonces)
+    for pieces in ([*before, signed, signed, accepted], [b"".join([*before, signed, signed, accepted])]):
+        rows.add("The signature in a challenge, twice.", login.client, pieces, nonces)
+    rows.add("An outcome without data in place of the challenge.", login.client, [*before[:2], accepted], nonces)
+    for pieces in ([*before, accepted], [b"".join([*before, accepted])]):
+        rows.add("An outcome without data in place of the signature.", login.client, pieces, nonces)
+    for data in (b"", b"v=", shown[:-1], b"v=A", b"v=" + base64.b64encode(b"\0" * 32), b"e=other-error", b"\xff",
+                 read(before[2][4:])[1][0], shown + b",a=b"):
+        rows.add("A server-final message in a challenge.", login.client,
+                 [*before, spelled("Challenge", data), accepted], nonces)
+    rows.add("A server-final message in place of the server-first message.", login.client, [*before[:2], signed],
+             nonces)
+    for data in (shown, b"", b"\xff"):
+        rows.add("Data of an outcome behind the signature.", login.client,
+                 [*before, signed, spelled("Outcome", 0, data) + AMQP], nonces)
+    for code in (1, 4):
+        rows.add(f"The outcome {CODES[code]} behind the signature.", login.client,
+                 [*before, signed, spelled("Outcome", code, None) + accepted], nonces)
+    rows.add("A rejection in place of the signature.", login.client, [*before, spelled("Outcome", 1, None)], nonces)
+    for pieces in ([*before, before[1]], [*before, signed, before[1]]):
+        rows.add("The list where the signature and its outcome are due.", login.client, pieces, nonces)
+
+
+def more_challenges(rows):
+    for part in (longer_logins, asked_messages, asked_scram, confirmations, signatures):
+        part(rows)
+
+
 HEADING = """\
 # Connections over the SASL layer of AMQP 1.0, separated by empty lines. A connection begins with its side,
 #     server SCRAM-SHA-256 USER PASSWORD SALT COUNT     a server of one user, and so of the other two of SCRAM
 #     server PLAIN USER PASSWORD
 #     server ANONYMOUS
+#     server EXTERNAL USER                              a server of the user that the transport has authenticated
 #     client MECHANISM USER PASSWORD LIMIT HOSTNAME     a client; `none` is no hostname; of ANONYMOUS-AS and EXTERNAL-AS,
 #                                                       the user is the initial response
+# that can end with words for challenges beyond those of the mechanism (RFC 4422, section 5),
+#     server .. asks          an init without an initial response gets an empty challenge that asks for it, but not one
+#                             of ANONYMOUS or EXTERNAL
+#     server .. signs         the data of an outcome Ok are sent in a challenge first, and an empty response gets the Ok
+#     server .. asks signs    both
+#     client .. by-challenge  a client of SCRAM that takes the server-final message in a challenge too
 # and has a line for each call with bytes as they came, and with what is answered:
 #     NONCE BYTES => TAKEN SENT STANDING
 # how many of the bytes are taken, and the bytes that are sent. STANDING is InProgress; Authenticated, of a server with the
@@ -809,7 +1047,7 @@ MODEL = "a model in Python, `tools/models/negotiations.py`, which wrote this fil
 def connections():
     rows = Rows(HEADING + MODEL)
     for part in (whole_logins, headers, sizes, types, out_of_turn, refused_logins, scram_messages, large_replies,
-                 other_spellings, single_messages):
+                 other_spellings, single_messages, more_challenges):
         part(rows)
     return rows
 

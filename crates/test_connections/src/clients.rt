@@ -3,6 +3,7 @@
 use crate::cuts::{Call, End, Row, all_end, text};
 use crate::units::*;
 use fe2o3_sasl::sasl_profile::{ProfileError, SaslProfile, SaslScramSha256};
+use fe2o3_sasl::scram_messages::ScramErrorKind;
 use fe2o3_sasl_negotiation::{CloseReason, Piece, Progress, client_connection};
 use fe2o3_sasl_wire::SaslCode;
 use std::process::Abort;
@@ -22,7 +23,7 @@ impl Call for Client {
 }
 
 /// Connections to a client.
-static ROWS: [Row; 6] = [
+static ROWS: [Row; 7] = [
     Row {
         name: "A login by SCRAM-SHA-256, all at once, with AMQP's header after it",
         given: &[SASL, MECHANISMS, CHALLENGE, OUTCOME, AMQP],
@@ -65,11 +66,128 @@ static ROWS: [Row; 6] = [
         progress: Progress::InProgress,
         stops: [(0, 0); 3],
     },
+    Row {
+        name: "The signature in a challenge, to a client that takes none there",
+        given: &[
+            SASL,
+            MECHANISMS,
+            CHALLENGE,
+            SIGNATURE_CHALLENGE,
+            PLAIN_OUTCOME,
+        ],
+        sent: &[INIT, RESPONSE],
+        progress: Progress::Failed(CloseReason::UnexpectedFrame),
+        stops: [(0, 259), (259, 0), (37, 0)],
+    },
 ];
 
 #[test]
 fn clients_end(rt: HostRuntime) {
     all_end(&rt, &Client, &ROWS);
+}
+
+/// A client of SCRAM-SHA-256 that accepts the server's signature in a challenge too, by [`client_connection`].
+struct Accepting;
+
+impl Call for Accepting {
+    const NONCE: (u8, usize) = (1, 40);
+
+    fn ends<R: Abort + AllocGlobal>(&self, rt: &R, pieces: &[Piece<'_>], end: &End<'_>) -> bool {
+        let scram = SaslScramSha256::new(text(rt, USER), text(rt, PASSWORD));
+        let profile = SaslProfile::from(scram.signature_by_challenge(true));
+        let answered = client_connection(rt.alloc(), profile, None, pieces).expect(rt, "memory");
+        end.is(&answered, answered.side.progress())
+    }
+}
+
+/// Connections to a client that accepts the server's signature in a challenge too.
+static ACCEPTING_ROWS: [Row; 7] = [
+    Row {
+        name: "A login by SCRAM-SHA-256 with the signature by challenge, all at once",
+        given: &[
+            SASL,
+            MECHANISMS,
+            CHALLENGE,
+            SIGNATURE_CHALLENGE,
+            PLAIN_OUTCOME,
+            AMQP,
+        ],
+        sent: &[INIT, RESPONSE, EMPTY_RESPONSE],
+        progress: Progress::Authenticated,
+        stops: [(0, 275), (275, 0), (39, 2)],
+    },
+    Row {
+        name: "A login by SCRAM-SHA-256 with the signature in the outcome",
+        given: &[SASL, MECHANISMS, CHALLENGE, OUTCOME, AMQP],
+        sent: &[INIT, RESPONSE],
+        progress: Progress::Authenticated,
+        stops: [(0, 261), (261, 0), (37, 2)],
+    },
+    Row {
+        name: "An outcome without data in place of the signature",
+        given: &[SASL, MECHANISMS, CHALLENGE, PLAIN_OUTCOME, AMQP],
+        sent: &[INIT, RESPONSE],
+        progress: Progress::Failed(CloseReason::Mechanism(ProfileError::Scram(
+            ScramErrorKind::ServerSignatureMismatch,
+        ))),
+        stops: [(0, 213), (213, 0), (30, 3)],
+    },
+    Row {
+        name: "The signature in a challenge, twice",
+        given: &[
+            SASL,
+            MECHANISMS,
+            CHALLENGE,
+            SIGNATURE_CHALLENGE,
+            SIGNATURE_CHALLENGE,
+        ],
+        sent: &[INIT, RESPONSE, EMPTY_RESPONSE],
+        progress: Progress::Failed(CloseReason::UnexpectedFrame),
+        stops: [(1, 0), (321, 0), (46, 0)],
+    },
+    Row {
+        name: "The server-first message in place of the signature",
+        given: &[SASL, MECHANISMS, CHALLENGE, CHALLENGE],
+        sent: &[INIT, RESPONSE],
+        progress: Progress::Failed(CloseReason::Mechanism(ProfileError::Scram(
+            ScramErrorKind::ServerSignatureMismatch,
+        ))),
+        stops: [(1, 0), (354, 0), (51, 0)],
+    },
+    Row {
+        name: "Data of an outcome after the signature",
+        given: &[
+            SASL,
+            MECHANISMS,
+            CHALLENGE,
+            SIGNATURE_CHALLENGE,
+            OUTCOME,
+            AMQP,
+        ],
+        sent: &[INIT, RESPONSE, EMPTY_RESPONSE],
+        progress: Progress::Failed(CloseReason::Mechanism(ProfileError::Scram(
+            ScramErrorKind::IllegalClientState,
+        ))),
+        stops: [(0, 323), (323, 0), (46, 1)],
+    },
+    Row {
+        name: "The refusal after the signature",
+        given: &[
+            SASL,
+            MECHANISMS,
+            CHALLENGE,
+            SIGNATURE_CHALLENGE,
+            OUTCOME_AUTH,
+        ],
+        sent: &[INIT, RESPONSE, EMPTY_RESPONSE],
+        progress: Progress::Failed(CloseReason::Refused(SaslCode::Auth)),
+        stops: [(1, 0), (275, 0), (40, 0)],
+    },
+];
+
+#[test]
+fn clients_that_accept_a_signature_challenge_end(rt: HostRuntime) {
+    all_end(&rt, &Accepting, &ACCEPTING_ROWS);
 }
 
 /// A client of EXTERNAL with the empty identity by [`client_connection`].

@@ -3,9 +3,11 @@
 use crate::cuts::{Call, End, Row, all_end, text};
 use crate::units::*;
 use fe2o3_sasl::credentials::{ScramRecord, UserRecord};
+use fe2o3_sasl::extra_challenges::{ExtraChallenges, WithExtraChallenges};
 use fe2o3_sasl::hmac::{Meter, ScramVersion};
 use fe2o3_sasl::passwords::Password;
 use fe2o3_sasl::sasl_acceptor::{AuthenticatedUser, SaslPlainMechanism};
+use fe2o3_sasl::scram_server::ScramAuthenticator;
 use fe2o3_sasl_negotiation::{
     CloseReason, Negotiated, Piece, Progress, ServerNegotiation, scram_server_connection,
     server_connection,
@@ -120,6 +122,154 @@ static SCRAM: [Row; 5] = [
     },
 ];
 
+/// Which challenges the servers send beyond those of their mechanisms.
+const BOTH: ExtraChallenges = ExtraChallenges {
+    initial_response: true,
+    signature: true,
+};
+
+/// A server of PLAIN with both extra challenges by [`server_connection`].
+struct AskingPlain;
+
+impl Call for AskingPlain {
+    const NONCE: (u8, usize) = (2, 29);
+
+    fn ends<R: Abort + AllocGlobal>(&self, rt: &R, pieces: &[Piece<'_>], end: &End<'_>) -> bool {
+        let plain = SaslPlainMechanism::new(text(rt, USER), text(rt, PASSWORD));
+        let asking = WithExtraChallenges::new(plain, BOTH);
+        let served = server_connection(rt.alloc(), asking, pieces);
+        is_end(&served.expect(rt, "memory"), end)
+    }
+}
+
+/// A server of SCRAM over these credentials with both extra challenges by [`server_connection`].
+#[derive(Drop)]
+struct AskingScram(UserRecord);
+
+impl Call for AskingScram {
+    const NONCE: (u8, usize) = (2, 37);
+
+    fn ends<R: Abort + AllocGlobal>(&self, rt: &R, pieces: &[Piece<'_>], end: &End<'_>) -> bool {
+        let stored = self.0.clone().expect(rt, "memory");
+        let asking = WithExtraChallenges::new(ScramAuthenticator::new(stored), BOTH);
+        let served = server_connection(rt.alloc(), asking, pieces);
+        is_end(&served.expect(rt, "memory"), end)
+    }
+}
+
+/// Connections to a server of PLAIN with both extra challenges.
+static ASKING_PLAIN: [Row; 3] = [
+    Row {
+        name: "A login by PLAIN, whose message is asked for",
+        given: &[SASL, PLAIN_BARE_INIT, PLAIN_RESPONSE, AMQP],
+        sent: &[SASL, PLAIN_MECHANISMS, EMPTY_CHALLENGE, PLAIN_OUTCOME],
+        progress: Progress::Authenticated,
+        stops: [(0, 57), (57, 0), (8, 1)],
+    },
+    Row {
+        name: "Another message of PLAIN that is asked for",
+        given: &[SASL, PLAIN_BARE_INIT, PLAIN_WRONG_RESPONSE, AMQP],
+        sent: &[SASL, PLAIN_MECHANISMS, EMPTY_CHALLENGE, OUTCOME_AUTH],
+        progress: Progress::Failed(CloseReason::Refused(SaslCode::Auth)),
+        stops: [(0, 57), (57, 0), (8, 1)],
+    },
+    Row {
+        name: "A message of PLAIN that is not asked for",
+        given: &[SASL, PLAIN_INIT, AMQP],
+        sent: &[SASL, PLAIN_MECHANISMS, PLAIN_OUTCOME],
+        progress: Progress::Authenticated,
+        stops: [(0, 43), (43, 0), (6, 1)],
+    },
+];
+
+/// Connections to a server of SCRAM with both extra challenges.
+static ASKING_SCRAM: [Row; 6] = [
+    Row {
+        name: "A login by SCRAM-SHA-256 with both challenges, all at once",
+        given: &[
+            SASL,
+            BARE_INIT,
+            FIRST_RESPONSE,
+            RESPONSE,
+            EMPTY_RESPONSE,
+            AMQP,
+        ],
+        sent: &[
+            SASL,
+            MECHANISMS,
+            EMPTY_CHALLENGE,
+            CHALLENGE,
+            SIGNATURE_CHALLENGE,
+            PLAIN_OUTCOME,
+        ],
+        progress: Progress::Authenticated,
+        stops: [(0, 285), (285, 0), (40, 5)],
+    },
+    Row {
+        name: "A login by SCRAM-SHA-256 with both challenges, up to the signature",
+        given: &[SASL, BARE_INIT, FIRST_RESPONSE, RESPONSE],
+        sent: &[
+            SASL,
+            MECHANISMS,
+            EMPTY_CHALLENGE,
+            CHALLENGE,
+            SIGNATURE_CHALLENGE,
+        ],
+        progress: Progress::InProgress,
+        stops: [(1, 0), (269, 0), (39, 0)],
+    },
+    Row {
+        name: "A response of one byte in place of the empty response",
+        given: &[
+            SASL,
+            BARE_INIT,
+            FIRST_RESPONSE,
+            RESPONSE,
+            ONE_BYTE_RESPONSE,
+            AMQP,
+        ],
+        sent: &[
+            SASL,
+            MECHANISMS,
+            EMPTY_CHALLENGE,
+            CHALLENGE,
+            SIGNATURE_CHALLENGE,
+            OUTCOME_AUTH,
+        ],
+        progress: Progress::Failed(CloseReason::Refused(SaslCode::Auth)),
+        stops: [(0, 286), (286, 0), (40, 6)],
+    },
+    Row {
+        name: "A wrong password",
+        given: &[SASL, BARE_INIT, FIRST_RESPONSE, WRONG_RESPONSE, AMQP],
+        sent: &[SASL, MECHANISMS, EMPTY_CHALLENGE, CHALLENGE, OUTCOME_AUTH],
+        progress: Progress::Failed(CloseReason::Refused(SaslCode::Auth)),
+        stops: [(0, 269), (269, 0), (38, 3)],
+    },
+    Row {
+        name: "An empty response where the client-first message is asked for",
+        given: &[SASL, BARE_INIT, EMPTY_RESPONSE, AMQP],
+        sent: &[SASL, MECHANISMS, EMPTY_CHALLENGE, OUTCOME_AUTH],
+        progress: Progress::Failed(CloseReason::Refused(SaslCode::Auth)),
+        stops: [(0, 53), (53, 0), (7, 4)],
+    },
+    Row {
+        name: "A second init in place of the client-first message",
+        given: &[SASL, BARE_INIT, INIT],
+        sent: &[SASL, MECHANISMS, EMPTY_CHALLENGE],
+        progress: Progress::Failed(CloseReason::UnexpectedFrame),
+        stops: [(1, 0), (124, 0), (18, 0)],
+    },
+];
+
+/// Returns the credentials of the user.
+fn stored<R: Abort + AllocGlobal>(rt: &R) -> UserRecord {
+    let (alloc, version) = (rt.alloc(), ScramVersion::Sha256);
+    let (password, meter) = (Password::Typed(PASSWORD), &mut Meter::new());
+    let record = ScramRecord::from_password(alloc, version, password, &[3; 32], 1, meter);
+    UserRecord::new(text(rt, USER), record.expect(rt, "a record"))
+}
+
 #[test]
 fn plain_servers_end(rt: HostRuntime) {
     all_end(&rt, &Plain, &PLAIN);
@@ -127,10 +277,15 @@ fn plain_servers_end(rt: HostRuntime) {
 
 #[test]
 fn scram_servers_end(rt: HostRuntime) {
-    let (alloc, version) = (rt.alloc(), ScramVersion::Sha256);
-    let (password, meter) = (Password::Typed(PASSWORD), &mut Meter::new());
-    let record = ScramRecord::from_password(alloc, version, password, &[3; 32], 1, meter);
-    let record = record.expect(&rt, "a record");
-    let stored = UserRecord::new(text(&rt, USER), record);
-    all_end(&rt, &Scram(stored), &SCRAM);
+    all_end(&rt, &Scram(stored(&rt)), &SCRAM);
+}
+
+#[test]
+fn plain_servers_that_ask_end(rt: HostRuntime) {
+    all_end(&rt, &AskingPlain, &ASKING_PLAIN);
+}
+
+#[test]
+fn scram_servers_that_ask_and_sign_end(rt: HostRuntime) {
+    all_end(&rt, &AskingScram(stored(&rt)), &ASKING_SCRAM);
 }

@@ -44,19 +44,19 @@ const INIT_OF_ANOTHER: &str =
     2415145424151454241514542415145424151454241514542415145424151453d";
 
 /// The init of `user` with SCRAM-SHA-256, password `pencil`, and a nonce of 32 bytes 01.
-const LOGIN_INIT: &str =
+pub const LOGIN_INIT: &str =
     "02010000005341c04a02a30d534352414d2d5348412d323536a0386e2c2c6e3d757365722c723d41514542415145424151454241\
     5145424151454241514542415145424151454241514542415145424151453d";
 
 /// The challenge to `LOGIN_INIT`, with a nonce of 32 bytes 02, a salt of 32 bytes 03 and the count 4096.
-const LOGIN_CHALLENGE: &str =
+pub const LOGIN_CHALLENGE: &str =
     "02010000005342c09301a090723d4151454241514542415145424151454241514542415145424151454241514542415145424151\
     45424151453d416749434167494341674943416749434167494341674943416749434167494341674943416749434167493d2c73\
     3d41774d4441774d4441774d4441774d4441774d4441774d4441774d4441774d4441774d4441774d4441774d3d2c693d34303936";
 
 /// The response to `LOGIN_CHALLENGE`. Its proof and the signature of the outcome were computed with Python's `hashlib`
 /// and `hmac`.
-const LOGIN_RESPONSE: &str =
+pub const LOGIN_RESPONSE: &str =
     "02010000005343c09301a090633d626977732c723d41514542415145424151454241514542415145424151454241514542415145\
     4241514542415145424151453d416749434167494341674943416749434167494341674943416749434167494341674943416749\
     434167493d2c703d42434e634f5a67302b446a566d4f59627175546a2b374a61424976744830505574516572306e74774c78513d";
@@ -153,12 +153,12 @@ fn plays<R: Abort + AllocGlobal, A: AuthenticatedUser + Drop>(
 }
 
 /// Returns an acceptor of PLAIN.
-fn plain<R: Abort + AllocGlobal>(rt: &R) -> SaslPlainMechanism {
+pub fn plain<R: Abort + AllocGlobal>(rt: &R) -> SaslPlainMechanism {
     SaslPlainMechanism::new(text(rt, USER), text(rt, PASSWORD))
 }
 
 /// Returns a server of SCRAM that has `user`.
-fn scram<R: Abort + AllocGlobal>(rt: &R) -> ScramAuthenticator<SingleScramCredential> {
+pub fn scram<R: Abort + AllocGlobal>(rt: &R) -> ScramAuthenticator<SingleScramCredential> {
     let (user, version) = (text(rt, "user"), ScramVersion::Sha256);
     let credential = SingleScramCredential::new(rt.alloc(), user, "pencil", version, [3; 32]);
     ScramAuthenticator::new(credential.expect(rt, "memory"))

@@ -13,6 +13,8 @@ mod client_policy;
 #[cfg(test)]
 mod closed;
 #[cfg(test)]
+mod extra_challenges;
+#[cfg(test)]
 mod kept_logins;
 #[cfg(test)]
 mod own_acceptor;

@@ -112,10 +112,19 @@ impl<'a> Row<'a> {
         self.made(text, String::new(self.alloc))
     }
 
+    /// Reads the next word if it is this one, and returns whether it is.
+    pub fn takes(&mut self, word: &str) -> bool {
+        let (next, rest) = self.words.split_once(' ').unwrap_or((self.words, ""));
+        let is_next = next == word;
+        if is_next {
+            self.words = rest;
+        }
+        is_next
+    }
+
     /// Returns the hostname, if one is left that is not `none`.
     pub fn hostname(&mut self) -> Option<String> {
-        if self.is_over() || self.words == "none" {
-            self.words = "";
+        if self.is_over() || self.takes("none") {
             return None;
         }
         Some(self.text())

@@ -1,8 +1,11 @@
 //! The sides of a connection that a line names, and words for the progress of a side.
 
 use crate::rows::Row;
-use crate::runs::profiles::profile_of;
+use crate::runs::profiles::{accepting_signature, profile_of};
+use fe2o3_sasl::any_mechanism::HasMechanism;
 use fe2o3_sasl::credentials::{ScramRecord, UserRecord};
+use fe2o3_sasl::external_server::ExternalServer;
+use fe2o3_sasl::extra_challenges::{ExtraChallenges, WithExtraChallenges};
 use fe2o3_sasl::hmac::{Meter, ScramVersion};
 use fe2o3_sasl::passwords::Password;
 use fe2o3_sasl::sasl_acceptor::{AuthenticatedUser, SaslAnonymousMechanism, SaslPlainMechanism};
@@ -75,21 +78,30 @@ pub fn play_side<'a, P: Play>(row: &mut Row<'a>, side: &'a str, play: &mut P) {
     }
 }
 
-/// Plays with a server of an acceptor.
-fn play_acceptor<A: AuthenticatedUser + Drop, P: Play>(
-    row: &mut Row<'_>,
-    acceptor: A,
-    play: &mut P,
-) {
-    let mut server = ServerNegotiation::new(row.alloc, acceptor);
-    play.play(row, &mut server);
+/// Plays with a server of an acceptor, or with one of its [`WithExtraChallenges`]: the words `asks` and `signs`.
+fn play_acceptor<A: HasMechanism + Drop, P: Play>(row: &mut Row<'_>, acceptor: A, play: &mut P) {
+    let (alloc, initial_response) = (row.alloc, row.takes("asks"));
+    let extra = ExtraChallenges {
+        initial_response,
+        signature: row.takes("signs"),
+    };
+    if extra == ExtraChallenges::default() {
+        play.play(row, &mut ServerNegotiation::new(alloc, acceptor));
+    } else {
+        let acceptor = WithExtraChallenges::new(acceptor, extra);
+        play.play(row, &mut ServerNegotiation::new(alloc, acceptor));
+    }
 }
 
-/// Plays with a server: `ANONYMOUS`, `PLAIN USER PASSWORD` or `VERSION USER PASSWORD SALT COUNT`.
+/// Plays with a server: `ANONYMOUS`, `EXTERNAL USER`, `PLAIN USER PASSWORD` or `VERSION USER PASSWORD SALT COUNT`.
 fn play_server<P: Play>(row: &mut Row<'_>, play: &mut P) {
     let alloc = row.alloc;
     match row.word() {
         "ANONYMOUS" => play_acceptor(row, SaslAnonymousMechanism::new(), play),
+        "EXTERNAL" => match ExternalServer::new(row.text()) {
+            Ok(external) => play_acceptor(row, external, play),
+            Err(error) => row.refuse(error),
+        },
         "PLAIN" => {
             let (user, password) = (row.text(), row.text());
             play_acceptor(row, SaslPlainMechanism::new(user, password), play);
@@ -110,11 +122,14 @@ pub fn stored(row: &mut Row<'_>, version: &str) -> Option<UserRecord> {
     record.ok().map(|record| UserRecord::new(user, record))
 }
 
-/// Plays with a client: `MECHANISM USER PASSWORD LIMIT HOSTNAME`.
+/// Plays with a client: `MECHANISM USER PASSWORD LIMIT HOSTNAME`, and `by-challenge` if it accepts the signature of the
+/// server in a challenge too.
 fn play_client<P: Play>(row: &mut Row<'_>, play: &mut P) {
     let (profile, hostname, alloc) = (profile_of(row, "profile"), row.hostname(), row.alloc);
+    let by_challenge = row.takes("by-challenge");
     match profile {
         Some(profile) => {
+            let profile = accepting_signature(profile, by_challenge);
             play.play(row, &mut ClientNegotiation::new(alloc, profile, hostname));
         }
         None => row.refuse("no profile"),

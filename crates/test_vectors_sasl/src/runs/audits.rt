@@ -4,7 +4,9 @@ use crate::replies::{Reply, agree_all};
 use crate::rows::Row;
 use crate::runs::Run;
 use crate::runs::acceptors::credential_of;
-use fe2o3_sasl::audit::{Finding, audit, audit_limited, audit_with_cbind_flag_y};
+use fe2o3_sasl::audit::{
+    Finding, audit, audit_limited, audit_with_cbind_flag_y, audit_with_signature_by_challenge,
+};
 use sasl_lab_lib::audit::line_of;
 
 impl Reply for Finding {
@@ -16,7 +18,8 @@ impl Reply for Finding {
 }
 
 /// Checks an audit: `VERSION USER PASSWORD SERVER-USER SERVER-PASSWORD SALT`, followed by the limit of the client, or
-/// `cbind_flag_y` if the server accepts the GS2 header `y,,`.
+/// `cbind_flag_y` if the server accepts the GS2 header `y,,`, or `signature_by_challenge` if the client accepts the
+/// server's signature in a challenge.
 pub fn check(row: &mut Row<'_>, run: &Run<'_>) {
     let (alloc, version, user, password) = (row.alloc, row.version(), row.text(), row.text());
     let (client, server) = (run.client_events.as_slice(), run.events.as_slice());
@@ -30,6 +33,12 @@ pub fn check(row: &mut Row<'_>, run: &Run<'_>) {
             let limit = u32::MAX;
             audit_with_cbind_flag_y(
                 alloc, &user, &password, version, limit, client, true, credential, server,
+            )
+        }
+        "signature_by_challenge" => {
+            let limit = u32::MAX;
+            audit_with_signature_by_challenge(
+                alloc, &user, &password, version, limit, true, client, false, credential, server,
             )
         }
         limit => {

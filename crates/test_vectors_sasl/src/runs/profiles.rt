@@ -115,6 +115,17 @@ pub fn profile_of(row: &mut Row<'_>, kind: &str) -> Option<SaslProfile> {
     }
 }
 
+/// Returns a SCRAM profile that accepts the server's signature in a challenge too, or does not, and any other profile
+/// unchanged.
+pub fn accepting_signature(profile: SaslProfile, accept: bool) -> SaslProfile {
+    match profile {
+        SaslProfile::ScramSha1(scram) => SaslProfile::from(scram.signature_by_challenge(accept)),
+        SaslProfile::ScramSha256(scram) => SaslProfile::from(scram.signature_by_challenge(accept)),
+        SaslProfile::ScramSha512(scram) => SaslProfile::from(scram.signature_by_challenge(accept)),
+        profile => profile,
+    }
+}
+
 /// Returns keys: `PASSWORD SALT COUNT`, of a password that is prepared if that of the kind is.
 fn keys_of(row: &mut Row<'_>, mechanism: &str, kind: &str) -> Option<CachedKeys> {
     let (alloc, version) = (row.alloc, ScramVersion::from_mechanism(mechanism)?);
