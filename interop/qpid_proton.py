@@ -25,10 +25,6 @@ REFUSED = Ending("not logged in: Connection: The login was rejected", False)
 FORGED = Ending("not logged in: Client: Server signature mismatch", False)
 
 
-#: Whether our client's connections pass a second challenge on to the mechanism. They do not yet.
-CONNECTIONS_PASS_A_SECOND_CHALLENGE = False
-
-
 class QpidProton(Peer):
     name = "Qpid Proton"
     package = "python3-qpid-proton"
@@ -125,8 +121,8 @@ class QpidProton(Peer):
 
         return lambda side: serve_external(side, self.authority, by)
 
-    def serve(self, mechanism: str, user: User = USER, known: User = USER, mar=None):
-        """A login of a client of Proton to our server, which knows one user."""
+    def serve(self, mechanism: str, user: User = USER, known: User = USER, mar=None, more=()):
+        """A login of a client of Proton to our server, which knows one user, and has more words."""
 
         def by(port: int) -> bool:
             words = {"mechanism": mechanism, "user": user.name, "password": user.password}
@@ -135,7 +131,7 @@ class QpidProton(Peer):
 
         def login(side: Side) -> Ending:
             of = mechanism if mechanism in SCRAM else "SCRAM-SHA-256"
-            return side.serve_frames(mechanism, {known.name: side.record(of, known)}, by, mar)
+            return side.serve_frames(mechanism, {known.name: side.record(of, known)}, by, mar, more)
 
         return login
 
@@ -218,10 +214,10 @@ class ProtonWithCyrus(QpidProton):
 
     def cells(self) -> Iterator[Cell]:
         for mechanism in SCRAM:
-            if CONNECTIONS_PASS_A_SECOND_CHALLENGE:
-                yield from self.our_clients_by_challenge(mechanism)
+            yield from self.our_clients_by_challenge(mechanism)
             yield from self.our_scram_clients(mechanism)
             yield from self.our_servers(mechanism)
+            yield from self.our_servers_by_challenge(mechanism)
         yield from self.our_plain_clients()
         yield from self.our_servers("PLAIN")
         # (without an initial response it sends an empty challenge)
@@ -243,6 +239,18 @@ class ProtonWithCyrus(QpidProton):
         yield cell("wrong password", REFUSED, User("user", "pencils"))
         yield cell("altered on the way", FORGED, mar=marred)
         yield cell("an outcome in its place", FORGED, mar=unsigned)
+
+    def our_servers_by_challenge(self, mechanism: str) -> Iterator[Cell]:
+        """Our server sends its signature by one more challenge. There Proton's client verifies it."""
+
+        def cell(what: str, ends: Ending, user: User = USER, known: User = USER, mar=None) -> Cell:
+            login = self.serve(mechanism, user, known, mar, ("", BY_CHALLENGE))
+            return Cell("server", mechanism, f"signature by a challenge: {what}", login, ends)
+
+        yield cell("a login", Ending("logged in: user", True))
+        yield cell("a name with `,` and `=`", Ending("logged in: a,b=c", True), COMMA, COMMA)
+        yield cell("wrong password", REFUSED, User("user", "pencils"))
+        yield cell("altered on the way", Ending("no connection", False), mar=marred)
 
     def our_scram_clients(self, mechanism: str) -> Iterator[Cell]:
         """It sends its signature by one more challenge, which our client rejects by default."""

@@ -19,7 +19,7 @@ PATIENCE = 60
 SCRAM = ("SCRAM-SHA-1", "SCRAM-SHA-256", "SCRAM-SHA-512")
 #: What our programs over frames call EXTERNAL and ANONYMOUS with the user's name as the initial response.
 EXTERNAL_AS, ANONYMOUS_AS = "EXTERNAL as", "ANONYMOUS as"
-#: The word with which our client over frames accepts the server's signature in a challenge.
+#: The word with which our client over frames accepts the server's signature in a challenge, and our server sends it there.
 BY_CHALLENGE = "challenge"
 #: As long as the rows of stored vectors have it.
 SALT = b"a salt of thirty-two bytes, so!!"
@@ -258,10 +258,10 @@ class Side:
         return subprocess.Popen(words, stdout=subprocess.PIPE, text=True)
 
     def serve_frames(
-        self, mechanism: str, records: dict[str, str], peer: Callable[[int], Optional[bool]], mar=None
+        self, mechanism: str, records: dict[str, str], peer: Callable[[int], Optional[bool]], mar=None, more=()
     ) -> Ending:
-        """A login at our server over frames. The peer is called with the server's port."""
-        words = [*self.frames_server, str(self.users(records)), "1", mechanism]
+        """A login at our server over frames, for which it has more words. The peer is called with the server's port."""
+        words = [*self.frames_server, str(self.users(records)), "1", mechanism, *more]
         with ended_after(subprocess.Popen(words, stdout=subprocess.PIPE, text=True)) as program:
             seen = peer(self.tapped(int(program.stdout.readline()), mar))
             return Ending(program.stdout.readline().strip(), seen)

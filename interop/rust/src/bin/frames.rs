@@ -3,12 +3,12 @@
 //!
 //! ```text
 //! frames client HOST PORT MECHANISM USER [challenge]
-//! frames server USERS LOGINS MECHANISM [PEER]
+//! frames server USERS LOGINS MECHANISM [PEER [challenge]]
 //! ```
 //!
 //! The client takes the password from standard input. `EXTERNAL as` and `ANONYMOUS as` send USER as the initial
-//! response, which can be empty. With `challenge` the client also accepts the server's signature in a challenge. The
-//! server offers this mechanism only, where EXTERNAL accepts the name PEER.
+//! response, which can be empty. With `challenge` the client also accepts the server's signature in a challenge, and the
+//! server sends it there. The server offers this mechanism only, where EXTERNAL accepts the name PEER.
 
 use fe2o3_sasl_proved::{ClientNegotiation, Progress, SaslProfile, ScramClient, ScramVersion, ServerNegotiation};
 use interop::{password, told, version_of, Failure, Users};
@@ -72,14 +72,23 @@ fn run_client(words: &[&str]) -> Result<i32, Failure> {
     }
 }
 
-fn serve(mut channel: TcpStream, users: Users, mechanism: &str, peer: &str) -> Result<String, Failure> {
+/// What the server offers: a mechanism, the name that EXTERNAL accepts, and whether its signature goes into a challenge.
+struct Offer<'a> {
+    mechanism: &'a str,
+    peer: &'a str,
+    by_challenge: bool,
+}
+
+fn serve(mut channel: TcpStream, users: Users, offer: &Offer) -> Result<String, Failure> {
+    let mechanism = offer.mechanism;
     let hashes: Vec<_> = version_of(mechanism).into_iter().collect();
     let server = users
         .server()
         .hashes(&hashes)
         .plain_under_tls(mechanism == "PLAIN")
         .anonymous(mechanism == "ANONYMOUS")
-        .external(peer);
+        .external(offer.peer)
+        .signature_by_challenge(offer.by_challenge);
     let mut side = ServerNegotiation::new(server);
     let mut room = [0; 4096];
     while side.progress() == Progress::InProgress {
@@ -93,12 +102,15 @@ fn serve(mut channel: TcpStream, users: Users, mechanism: &str, peer: &str) -> R
 
 fn run_server(words: &[&str]) -> Result<i32, Failure> {
     let version = version_of(words[2]).unwrap_or(ScramVersion::Sha256);
+    let peer = words.get(3).copied().unwrap_or("");
+    let offer = Offer { mechanism: words[2], peer, by_challenge: words.len() == 5 };
     let listener = TcpListener::bind(("127.0.0.1", 0))?;
     println!("{}", listener.local_addr()?.port());
     for _ in 0..words[1].parse()? {
         let (channel, _) = listener.accept()?;
-        match serve(channel, Users::read(words[0], version)?, words[2], words.get(3).copied().unwrap_or("")) {
+        match serve(channel, Users::read(words[0], version)?, &offer) {
             Ok(name) => println!("logged in: {name}"),
+            Err(why) if why.to_string() == NO_CONNECTION => println!("{NO_CONNECTION}"),
             Err(why) => println!("not logged in: {why}"),
         }
     }
@@ -112,6 +124,7 @@ fn main() -> Result<(), Failure> {
         (Some("client"), 5) => run_client(&words[1..])?,
         (Some("client"), 6) if words[5] == "challenge" => run_client(&words[1..])?,
         (Some("server"), 4 | 5) => run_server(&words[1..])?,
+        (Some("server"), 6) if words[5] == "challenge" => run_server(&words[1..])?,
         _ => 2,
     };
     std::process::exit(status)
