@@ -8,6 +8,7 @@ pub mod SaslAcceptor
 pub mod AnyMechanism
 pub mod RestrictMechanisms
 pub mod ExtraChallenges
+pub mod LoginAttempts
 pub mod AnyMechanismSides
 pub mod ExternalServer
 pub mod PasswordServer
@@ -27,6 +28,7 @@ pub mod MechanismLaws
 pub mod AnyMechanismLaws
 pub mod AnyMechanismUsers
 pub mod ExtraChallengeLaws
+pub mod LoginAttemptLaws
 pub mod ChallengeCounts
 pub mod StepLaws
 pub mod CostLaws

@@ -21,13 +21,13 @@ use Rattle.fe2o3_sasl_core.specs.SaslAcceptor.{Acceptor, AnonymousAcceptor, Scra
 use Rattle.fe2o3_sasl_core.specs.declared.any_mechanism.Selected.{Selected}
 use Rattle.fe2o3_sasl_core.specs.declared.any_mechanism.Selected.TheVariants.{First, Second}
 use Rattle.fe2o3_sasl_core.specs.declared.plain_server.passwords.PlainPasswords.{PlainPasswords}
-use Rattle.fe2o3_sasl_core.specs.declared.password_server.Mock.{Mock}
-use Rattle.fe2o3_sasl_core.specs.declared.password_server.Restored.{Restored}
-use Rattle.fe2o3_sasl_core.specs.declared.password_server.RestoredState.{RestoredState}
-use Rattle.fe2o3_sasl_core.specs.declared.password_server.RestoredState.TheVariants as states
+use Rattle.fe2o3_sasl_core.specs.declared.password_server.builder.Mock.{Mock}
+use Rattle.fe2o3_sasl_core.specs.declared.password_server.builder.Restored.{Restored}
+use Rattle.fe2o3_sasl_core.specs.declared.password_server.builder.RestoredState.{RestoredState}
+use Rattle.fe2o3_sasl_core.specs.declared.password_server.builder.RestoredState.TheVariants as states
 use Rattle.fe2o3_sasl_core.specs.declared.password_server.PasswordServer.{PasswordServer as Server}
-use Rattle.fe2o3_sasl_core.specs.declared.password_server.PasswordServerBuilder.{PasswordServerBuilder}
-use Rattle.fe2o3_sasl_core.specs.declared.password_server.ScramHashes.{ScramHashes}
+use Rattle.fe2o3_sasl_core.specs.declared.password_server.builder.PasswordServerBuilder.{PasswordServerBuilder}
+use Rattle.fe2o3_sasl_core.specs.declared.password_server.builder.ScramHashes.{ScramHashes}
 use Rattle.fe2o3_sasl_core.specs.declared.password_server.others.Others.{Others}
 use Rattle.fe2o3_sasl_core.specs.declared.password_server.scrams.Scrams.{Scrams}
 

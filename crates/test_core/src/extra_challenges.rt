@@ -13,13 +13,13 @@ use test_help_bodies::bodies::*;
 use test_help_bodies::replies::is_server_reply;
 
 /// An init of SCRAM-SHA-256 without an initial response.
-const INIT_SCRAM: &str = "02010000005341c01001a30d534352414d2d5348412d323536";
+pub const INIT_SCRAM: &str = "02010000005341c01001a30d534352414d2d5348412d323536";
 
 /// An init of PLAIN without an initial response.
 const INIT_PLAIN_EMPTY: &str = "02010000005341c00801a305504c41494e";
 
 /// A challenge without data.
-const CHALLENGE_EMPTY: &str = "02010000005342c00301a000";
+pub const CHALLENGE_EMPTY: &str = "02010000005342c00301a000";
 
 /// A response without data.
 const RESPONSE_EMPTY: &str = "02010000005343c00301a000";
@@ -28,7 +28,7 @@ const RESPONSE_EMPTY: &str = "02010000005343c00301a000";
 const RESPONSE_OF_ONE: &str = "02010000005343c00401a00178";
 
 /// The initial response of `LOGIN_INIT`, in a response.
-const FIRST_RESPONSE: &str =
+pub const FIRST_RESPONSE: &str =
     "02010000005343c03b01a0386e2c2c6e3d757365722c723d41514542415145424151454241514542415145424151454241514542\
     4151454241514542415145424151453d";
 

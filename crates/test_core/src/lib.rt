@@ -17,6 +17,8 @@ mod extra_challenges;
 #[cfg(test)]
 mod kept_logins;
 #[cfg(test)]
+mod login_attempts;
+#[cfg(test)]
 mod own_acceptor;
 #[cfg(test)]
 mod own_provider;

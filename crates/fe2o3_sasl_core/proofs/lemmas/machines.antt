@@ -1,4 +1,6 @@
 pub mod ClientMachineLemmas
+pub mod ClientStateLemmas
+pub mod ClientStepLemmas
 pub mod InitCostLemmas
 pub mod MemoryLemmas
 pub mod OneReplyLemmas
@@ -21,3 +23,7 @@ pub mod ExtraChallengeRunLemmas
 pub mod WithoutExtraChallengeLemmas
 pub mod ChallengeCountLemmas
 pub mod ExtraChallengeReplyLemmas
+pub mod LoginAttemptLemmas
+pub mod ClaimLemmas
+pub mod LastAttemptLemmas
+pub mod LastAnsweredInitLemmas

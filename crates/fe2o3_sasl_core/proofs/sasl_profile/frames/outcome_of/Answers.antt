@@ -1,7 +1,7 @@
 use Rattle.std.proofs.Common.{◌≡◌, ℕ, Option, Some, List, refl, Result, Ok, Err}
 use Rattle.std.specs.Prelude.{IfErr}
 use Rattle.fe2o3_sasl_wire.specs.FrameView.{shown}
-use Rattle.fe2o3_sasl_core.proofs.sasl_profile.outcome_of.Goals as goal
+use Rattle.fe2o3_sasl_core.proofs.sasl_profile.frames.outcome_of.Goals as goal
 
 pub returns-in_err-from_slice-in-Some-clause-err : goal.returns-in_err-from_slice-in-Some-clause-err
 returns-in_err-from_slice-in-Some-clause-err c =

@@ -1,0 +1,199 @@
+-- A server keeps the claim of the last init that it answered: `last_answered_init_is_kept`.
+use Rattle.std.proofs.Common.{◌≡◌, ◌⊎◌, ◌≤◌, ◌+◌, ℕ, zero, suc, Option, Some, None, List, [], ◌∷◌, refl, sym, ap, ◌∙◌, subst, inl, inr, Result, Ok, Err, arith}
+use Rattle.std.specs.Prelude.{slice_get}
+use Rattle.fe2o3_sasl_wire.specs.declared.sasl_frames.error.Error.{Error}
+use Rattle.fe2o3_sasl_wire.specs.declared.sasl_frames.error.Error.TheVariants as faults
+use Rattle.fe2o3_sasl_wire.specs.SaslFrames as frames
+use Rattle.fe2o3_sasl_wire.specs.SaslFrames.{SaslFrame, canonical}
+use Rattle.fe2o3_sasl_core.specs.AnyMechanismLaws.{Machine}
+use Rattle.fe2o3_sasl_core.specs.Bodies.{SpellsBody, server_says}
+use Rattle.fe2o3_sasl_core.specs.Events.{Given, ServerSays, Failed}
+use Rattle.fe2o3_sasl_core.specs.ExtraChallengeLaws.{IsError}
+use Rattle.fe2o3_sasl_core.specs.LoginAttemptLaws.{AnsweredInit, LastAnsweredInitIsKept, NoAnsweredInit}
+use Rattle.fe2o3_sasl_core.specs.LoginAttempts.{Attempt, IsAttempt, Recorded, recorded_machine}
+use Rattle.fe2o3_sasl_core.specs.Runs.{Runs, AcceptorSteps, AcceptorAnswers, AcceptorGives, SendsCanonical}
+use Rattle.fe2o3_sasl_core.proofs.lemmas.frames.SpellingLemmas.{one_spelled_frame}
+
+-- ---- a step
+
+-- the body is an init that claims this, and is answered
+abbrev Claims : Given → ServerSays → Attempt → Type 0
+Claims event says attempt =
+    (frame : SaslFrame) × SpellsBody event.body (Ok frame) × IsAttempt frame attempt × ¬ IsError says
+
+-- what a step does to the claim: an init that is answered replaces it, and otherwise it is unchanged
+abbrev StepsClaim : {S : Type 0} → Recorded S → Given → ServerSays → Recorded S → Type 0
+StepsClaim server event says next =
+    ((attempt : Attempt) × Claims event says attempt × (next.last ≡ Some attempt))
+    ⊎ (((attempt : Attempt) → ¬ Claims event says attempt) × (next.last ≡ server.last))
+
+stays : {S : Type 0} (server next : Recorded S) (event : Given) (says : ServerSays) (fault : Error)
+    → says ≡ Failed fault → next.last ≡ server.last → StepsClaim server event says next
+stays server next event says fault failed same =
+    inr ((λ attempt claims. claims.3 (subst IsError (sym failed) tt)), same)
+
+said : (reply : SaslFrame) (body : List ℕ) → ¬ IsError (server_says reply body)
+said (frames.Outcome code more) body error = error
+said (frames.Mechanisms names) body error = error
+said (frames.Init mechanism response hostname) body error = error
+said (frames.Challenge text) body error = error
+said (frames.Response text) body error = error
+
+last_of : {S : Type 0} → (server other : Recorded S) → server ≡ other → server.last ≡ other.last
+last_of {S} server other is = ap (λ (s : Recorded S). s.last) is
+
+init_sent : {S : Type 0} (server mid next : Recorded S) (event : Given) (says : ServerSays) (reply frame : SaslFrame)
+    (attempt : Attempt) (body : Option (List ℕ)) → SpellsBody event.body (Ok frame) → IsAttempt frame attempt
+    → mid.last ≡ Some attempt
+    → SendsCanonical (Failed faults.TooLarge) (server_says reply) body server mid says next
+    → StepsClaim server event says next
+init_sent server mid next event says reply frame attempt None spells is to sent =
+    stays server next event says faults.TooLarge sent.0 (last_of next server sent.1)
+init_sent server mid next event says reply frame attempt (Some body) spells is to sent = inl (
+  attempt,
+  (frame, spells, is, λ error. said reply body (subst IsError sent.0 error)),
+  last_of next mid sent.1 ∙ to,
+)
+
+response_sent : {S : Type 0} (server mid next : Recorded S) (say : List ℕ → ServerSays) (says : ServerSays)
+    (body : Option (List ℕ)) → mid.last ≡ server.last
+    → SendsCanonical (Failed faults.TooLarge) say body server mid says next → next.last ≡ server.last
+response_sent server mid next say says None to sent = last_of next server sent.1
+response_sent server mid next say says (Some body) to sent = last_of next mid sent.1 ∙ to
+
+no_claim : (event : Given) (says : ServerSays) (text : List ℕ)
+    → SpellsBody event.body (Ok (frames.Response text)) → (attempt : Attempt) → ¬ Claims event says attempt
+no_claim event says text spells attempt (frame, too, is, answered) =
+    subst (λ (f : SaslFrame). IsAttempt f attempt) (one_spelled_frame event.body frame (frames.Response text) too spells)
+    is
+
+gives : {S : Type 0} (machine : Machine S) (server : Recorded S) (event : Given) (spelled : Result SaslFrame Error)
+    (says : ServerSays) (next : Recorded S) → SpellsBody event.body spelled
+    → AcceptorGives (recorded_machine machine) server event spelled says next → StepsClaim server event says next
+gives machine server event (Ok (frames.Init mechanism response hostname)) says next spells (inl want) =
+    stays server next event says faults.OutOfMemory want.0 (last_of next server want.1)
+gives machine server event (Ok (frames.Init mechanism response hostname)) says next spells
+    (inr (reply, mid, (answers, (attempt, is, to)), sent)) =
+    init_sent server mid next event says reply (frames.Init mechanism response hostname) attempt (canonical reply) spells
+    is to sent
+gives machine server event (Ok (frames.Response text)) says next spells (inl want) =
+    stays server next event says faults.OutOfMemory want.0 (last_of next server want.1)
+gives machine server event (Ok (frames.Response text)) says next spells (inr (reply, mid, (answers, to), sent)) = inr (
+  no_claim event says text spells,
+  response_sent server mid next (server_says reply) says (canonical reply) to sent,
+)
+gives machine server event (Ok frame) says next spells is =
+    stays server next event says faults.NotImplemented is.0 (last_of next server is.1)
+gives machine server event (Err fault) says next spells is =
+    stays server next event says fault is.0 (last_of next server is.1)
+
+-- ---- positions
+
+first_answered : (event : Given) (events : List Given) (says : ServerSays) (replies : List ServerSays)
+    (attempt : Attempt) → Claims event says attempt → AnsweredInit (event ∷ events) (says ∷ replies) 0 attempt
+first_answered event events says replies attempt claims = record {
+  event = event;
+  says = says;
+  frame = claims.0;
+  is = refl;
+  said = refl;
+  spells = claims.1;
+  claims = claims.2;
+  answered = claims.3;
+}
+
+later_answered : (event : Given) (events : List Given) (says : ServerSays) (replies : List ServerSays) (at : ℕ)
+    (attempt : Attempt) → AnsweredInit events replies at attempt
+    → AnsweredInit (event ∷ events) (says ∷ replies) (suc at) attempt
+later_answered event events says replies at attempt a = record {
+  event = a.event;
+  says = a.says;
+  frame = a.frame;
+  is = a.is;
+  said = a.said;
+  spells = a.spells;
+  claims = a.claims;
+  answered = a.answered;
+}
+
+earlier_answered : (event : Given) (events : List Given) (says : ServerSays) (replies : List ServerSays) (at : ℕ)
+    (attempt : Attempt) → AnsweredInit (event ∷ events) (says ∷ replies) (suc at) attempt
+    → AnsweredInit events replies at attempt
+earlier_answered event events says replies at attempt a = record {
+  event = a.event;
+  says = a.says;
+  frame = a.frame;
+  is = a.is;
+  said = a.said;
+  spells = a.spells;
+  claims = a.claims;
+  answered = a.answered;
+}
+
+claims_first : (event : Given) (events : List Given) (says : ServerSays) (replies : List ServerSays)
+    (attempt : Attempt) → AnsweredInit (event ∷ events) (says ∷ replies) 0 attempt → Claims event says attempt
+claims_first event events says replies attempt a =
+    let event_is : event ≡ a.event = let is = a.is in cc in
+    let says_is : says ≡ a.says = let said = a.said in cc in (
+      a.frame,
+      subst (λ (e : Given). SpellsBody e.body (Ok a.frame)) (sym event_is) a.spells,
+      a.claims,
+      λ error. a.answered (subst IsError says_is error),
+    )
+
+none_later : (event : Given) (events : List Given) (says : ServerSays) (replies : List ServerSays) (from more : ℕ)
+    → more ≡ suc from → NoAnsweredInit events replies from → NoAnsweredInit (event ∷ events) (says ∷ replies) more
+none_later event events says replies from more is none zero attempt least a = absurd (omega arith)
+none_later event events says replies from more is none (suc at) attempt least a =
+    none at attempt (omega arith) (earlier_answered event events says replies at attempt a)
+
+none_at_all : (event : Given) (events : List Given) (says : ServerSays) (replies : List ServerSays)
+    → ((attempt : Attempt) → ¬ Claims event says attempt) → NoAnsweredInit events replies 0
+    → NoAnsweredInit (event ∷ events) (says ∷ replies) 0
+none_at_all event events says replies not none zero attempt least a =
+    not attempt (claims_first event events says replies attempt a)
+none_at_all event events says replies not none (suc at) attempt least a =
+    none at attempt (omega arith) (earlier_answered event events says replies at attempt a)
+
+-- ---- a run
+
+-- which claim is kept
+abbrev Keeps : Option Attempt → Option Attempt → List Given → List ServerSays → Type 0
+Keeps before after events replies = (NoAnsweredInit events replies 0 × (after ≡ before))
+    ⊎ ((at : ℕ) × (attempt : Attempt) × AnsweredInit events replies at attempt
+    × NoAnsweredInit events replies (at + 1) × (after ≡ Some attempt))
+
+keeps_more : {S : Type 0} (server next : Recorded S) (after : Option Attempt) (event : Given) (events : List Given)
+    (says : ServerSays) (replies : List ServerSays) → StepsClaim server event says next
+    → Keeps next.last after events replies → Keeps server.last after (event ∷ events) (says ∷ replies)
+keeps_more server next after event events says replies step (inr (at, attempt, answered, none, is)) = inr (
+  suc at,
+  attempt,
+  later_answered event events says replies at attempt answered,
+  none_later event events says replies (at + 1) (suc at + 1) (omega arith) none,
+  is,
+)
+keeps_more server next after event events says replies (inl (attempt, claims, to)) (inl (none, is)) = inr (
+  0,
+  attempt,
+  first_answered event events says replies attempt claims,
+  none_later event events says replies 0 1 (omega arith) none,
+  is ∙ to,
+)
+keeps_more server next after event events says replies (inr (not, to)) (inl (none, is)) =
+    inl (none_at_all event events says replies not none, is ∙ to)
+
+runs_keep : {S : Type 0} (machine : Machine S) (server last : Recorded S) (events : List Given)
+    (replies : List ServerSays) → Runs (AcceptorSteps (recorded_machine machine)) server events replies last
+    → Keeps server.last last.last events replies
+runs_keep machine server last [] replies runs =
+    inl ((λ at attempt least a. let is = a.is in absurd (cc)), last_of last server runs.1)
+runs_keep machine server last (event ∷ events) replies runs =
+    let step = gives machine server event runs.3.0 runs.0 runs.1 runs.3.1 runs.3.2 in
+    let rest = runs_keep machine runs.1 last events runs.2 runs.5 in
+    subst (λ (r : List ServerSays). Keeps server.last last.last (event ∷ events) r) (sym runs.4)
+    (keeps_more server runs.1 last.last event events runs.0 runs.2 step rest)
+
+pub last_answered_init_is_kept : {S : Type 0} (machine : Machine S) → LastAnsweredInitIsKept machine
+last_answered_init_is_kept machine server last events replies runs =
+    runs_keep machine server last events replies runs

@@ -1,0 +1,90 @@
+-- Laws of claims, and of a server that keeps the last claim. Each is the contract of a clause of
+-- `login_attempts::laws`.
+use Rattle.std.specs.Prelude.{◌≡◌, ◌↔◌, ◌⊎◌, ◌≤◌, ◌+◌, ℕ, Option, Some, List, slice_get, Ok}
+use Rattle.fe2o3_sasl_wire.specs.SaslFrames.{SaslFrame}
+use Rattle.fe2o3_sasl_core.specs.AnyMechanismLaws.{Machine}
+use Rattle.fe2o3_sasl_core.specs.Bodies.{SpellsBody}
+use Rattle.fe2o3_sasl_core.specs.ChallengeCounts.{BoundsChallenges, ChallengesOnlyAtInit}
+use Rattle.fe2o3_sasl_core.specs.Events.{Given, ServerSays}
+use Rattle.fe2o3_sasl_core.specs.ExtraChallengeLaws.{HasOneReply, HasSomeReply, IsError}
+use Rattle.fe2o3_sasl_core.specs.LoginAttempts.{Attempt, ClaimOf, IsAttempt, Recorded, recorded_hmacs, recorded_machine}
+use Rattle.fe2o3_sasl_core.specs.Runs.{Runs, AcceptorSteps}
+
+-- ---- claims
+
+-- an initial response claims one user name, or none
+abbrev pub OneClaim : Type 0
+OneClaim = (mechanism text : List ℕ) (user other : Option (List ℕ)) → ClaimOf mechanism text user
+    → ClaimOf mechanism text other → user ≡ other
+
+abbrev pub SomeClaim : Type 0
+SomeClaim = (mechanism text : List ℕ) → (user : Option (List ℕ)) × ClaimOf mechanism text user
+
+-- ---- the server answers like its acceptor
+
+-- a server that keeps the last claim, around an acceptor in this state
+abbrev pub recording : {S : Type 0} → S → Option Attempt → Recorded S
+recording inner last = record { inner = inner; last = last }
+
+-- the server answers each frame like its acceptor, with any last claim
+abbrev pub RecordedRepliesLikeAcceptor : {S : Type 0} → Machine S → Type 0
+RecordedRepliesLikeAcceptor {S} machine = (server : Recorded S) (nonce : List ℕ) (frame reply : SaslFrame) (moved : S)
+    → ((last : Option Attempt) × recorded_machine machine server nonce frame reply (recording moved last))
+    ↔ machine server.inner nonce frame reply moved
+
+-- the server makes as many HMAC values as its acceptor
+abbrev pub RecordedCostsLikeAcceptor : {S : Type 0} → (S → SaslFrame → ℕ → Type 0) → Type 0
+RecordedCostsLikeAcceptor {S} hmacs = (server : Recorded S) (frame : SaslFrame) (n : ℕ)
+    → recorded_hmacs hmacs server frame n ↔ hmacs server.inner frame n
+
+-- the server replies like its acceptor, over any list of bodies
+abbrev pub RecordedRunsLikeAcceptor : {S : Type 0} → Machine S → Type 0
+RecordedRunsLikeAcceptor {S} machine = (server : Recorded S) (moved : S) (events : List Given)
+    (replies : List ServerSays)
+    → ((last : Option Attempt)
+    × Runs (AcceptorSteps (recorded_machine machine)) server events replies (recording moved last))
+    ↔ Runs (AcceptorSteps machine) server.inner events replies moved
+
+-- an acceptor that keeps the last claim still has at most one reply, or some reply
+abbrev pub RecordedOneReplyIsKept : {S : Type 0} → Machine S → Type 0
+RecordedOneReplyIsKept machine = HasOneReply machine → HasOneReply (recorded_machine machine)
+
+abbrev pub RecordedSomeReplyIsKept : {S : Type 0} → Machine S → Type 0
+RecordedSomeReplyIsKept machine = HasSomeReply machine → HasSomeReply (recorded_machine machine)
+
+-- every bound on the challenges of an acceptor holds, and one that challenges only at an init still does
+abbrev pub RecordedBoundsHold : {S : Type 0} → Machine S → Type 0
+RecordedBoundsHold {S} machine = (left most : S → ℕ) → BoundsChallenges machine left most
+    → BoundsChallenges (recorded_machine machine) (λ (server : Recorded S). left server.inner)
+    (λ (server : Recorded S). most server.inner)
+
+abbrev pub RecordedChallengesOnlyAtInit : {S : Type 0} → Machine S → Type 0
+RecordedChallengesOnlyAtInit machine = ChallengesOnlyAtInit machine
+    → ChallengesOnlyAtInit (recorded_machine machine)
+
+-- ---- which claim is kept
+
+-- at this position of a run an init that claims this is answered, by a challenge or an outcome of any code
+pub record AnsweredInit (events : List Given) (replies : List ServerSays) (at : ℕ) (attempt : Attempt) : Type 0 where
+  pub event : Given
+  pub says : ServerSays
+  pub frame : SaslFrame
+  pub is : slice_get events at ≡ Some event
+  pub said : slice_get replies at ≡ Some says
+  pub spells : SpellsBody event.body (Ok frame)
+  pub claims : IsAttempt frame attempt
+  pub answered : ¬ IsError says
+
+-- from this position on no init is answered
+abbrev pub NoAnsweredInit : List Given → List ServerSays → ℕ → Type 0
+NoAnsweredInit events replies from =
+    (at : ℕ) (attempt : Attempt) → from ≤ at → ¬ AnsweredInit events replies at attempt
+
+-- the claim after a run is that of the last init that was answered, also by a rejection; if none was, it is that before
+-- the run
+abbrev pub LastAnsweredInitIsKept : {S : Type 0} → Machine S → Type 0
+LastAnsweredInitIsKept {S} machine = (server last : Recorded S) (events : List Given) (replies : List ServerSays)
+    → Runs (AcceptorSteps (recorded_machine machine)) server events replies last
+    → (NoAnsweredInit events replies 0 × (last.last ≡ server.last))
+    ⊎ ((at : ℕ) × (attempt : Attempt) × AnsweredInit events replies at attempt
+    × NoAnsweredInit events replies (at + 1) × (last.last ≡ Some attempt))

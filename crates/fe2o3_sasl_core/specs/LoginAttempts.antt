@@ -1,0 +1,98 @@
+-- What the inits of a connection claim (AMQP 1.0, part 5, section 5.3.3.2), and a server that keeps the last claim.
+use Rattle.std.specs.Prelude.{◌≡◌, ◌⊎◌, ℕ, true, Option, Some, None, MatchOption, option_map, List, codes, string_bytes, Ok}
+use Rattle.fe2o3_sasl_wire.specs.SaslFrames as frames
+use Rattle.fe2o3_sasl_wire.specs.SaslFrames.{SaslFrame}
+use Rattle.fe2o3_scram.specs.ClientFirst.{ClientFirst, HasEscapes, ReadsClientFirst}
+use Rattle.fe2o3_scram.specs.Hmac.{mechanism_name}
+use Rattle.fe2o3_scram.specs.declared.hmac.ScramVersion.{ScramVersion}
+use Rattle.fe2o3_sasl_core.specs.PlainServer.{IsTaken, PlainParts, SpellsPlain}
+use Rattle.fe2o3_sasl_core.specs.declared.login_attempts.LoginAttempt.{LoginAttempt}
+use Rattle.fe2o3_sasl_core.specs.declared.login_attempts.WithLastAttempt.{WithLastAttempt}
+
+-- ---- what an init claims
+
+-- an initial response of this mechanism claims this user name: a client-first message of SCRAM, after either GS2 header
+-- (RFC 5802, section 7), or a message of PLAIN that is accepted for a test (RFC 4616, section 2)
+abbrev pub ClaimsUser : List ℕ → List ℕ → List ℕ → Type 0
+ClaimsUser mechanism text name =
+    ((version : ScramVersion) × (first : ClientFirst) × (mechanism ≡ mechanism_name version)
+    × ReadsClientFirst true text (Ok first) × (name ≡ first.user))
+    ⊎ ((mechanism ≡ codes "PLAIN") × ((parts : PlainParts) × SpellsPlain parts text × IsTaken parts
+    × (name ≡ parts.user)))
+
+-- the user name that an initial response claims, or none if it claims none
+abbrev pub ClaimOf : List ℕ → List ℕ → Option (List ℕ) → Type 0
+ClaimOf mechanism text user =
+    MatchOption user ((name : List ℕ) → ¬ ClaimsUser mechanism text name) (ClaimsUser mechanism text)
+
+-- memory is requested to read a claim: the initial response claims a name, or its client-first message has a name with
+-- escapes
+abbrev pub ClaimAllocates : List ℕ → List ℕ → Type 0
+ClaimAllocates mechanism text = ((version : ScramVersion) × (mechanism ≡ mechanism_name version) × HasEscapes true text)
+    ⊎ ((name : List ℕ) × ClaimsUser mechanism text name)
+
+-- what an init claims: its mechanism, the user name of its initial response, and its hostname
+pub record Attempt : Type 0 where
+  pub mechanism : List ℕ
+  pub user : Option (List ℕ)
+  pub hostname : Option (List ℕ)
+
+-- the user name that an init claims by its initial response; without one it claims none
+abbrev pub ClaimIn : List ℕ → Option (List ℕ) → Option (List ℕ) → Type 0
+ClaimIn mechanism (Some text) user = ClaimOf mechanism text user
+ClaimIn mechanism None user = user ≡ None
+
+-- the frame is an init that claims this
+abbrev pub IsAttempt : SaslFrame → Attempt → Type 0
+IsAttempt (frames.Init mechanism response hostname) attempt = (attempt.mechanism ≡ mechanism)
+    × ClaimIn mechanism response attempt.user × (attempt.hostname ≡ hostname)
+IsAttempt frame attempt = ⊥
+
+-- ---- a server that keeps the last claim
+
+-- an acceptor in its state, and what the last init claimed
+pub record Recorded (S : Type 0) : Type 0 where
+  pub inner : S
+  pub last : Option Attempt
+
+-- the last claim before a frame and after it: an init replaces it, and every other frame leaves it
+abbrev pub RecordsFrame : SaslFrame → Option Attempt → Option Attempt → Type 0
+RecordsFrame (frames.Init mechanism response hostname) before after =
+    (attempt : Attempt) × IsAttempt (frames.Init mechanism response hostname) attempt × (after ≡ Some attempt)
+RecordsFrame frame before after = after ≡ before
+
+-- the machine of a server that keeps the last claim: the acceptor answers each frame, whatever its reply is
+abbrev pub recorded_machine : {S : Type 0} → (S → List ℕ → SaslFrame → SaslFrame → S → Type 0) → Recorded S → List ℕ
+    → SaslFrame → SaslFrame → Recorded S → Type 0
+recorded_machine machine server nonce frame reply next =
+    machine server.inner nonce frame reply next.inner × RecordsFrame frame server.last next.last
+
+-- the frame is an init
+abbrev pub IsInitFrame : SaslFrame → Type 0
+IsInitFrame (frames.Init mechanism response hostname) = Unit {0}
+IsInitFrame frame = ⊥
+
+-- where the server allocates: at each init, which it copies, and where the acceptor does
+abbrev pub recorded_allocates : {S : Type 0} → (S → SaslFrame → Type 0) → Recorded S → SaslFrame → Type 0
+recorded_allocates allocates server frame = IsInitFrame frame ⊎ allocates server.inner frame
+
+-- how many HMAC values the server makes (RFC 5802, section 3): as many as the acceptor
+abbrev pub recorded_hmacs : {S : Type 0} → (S → SaslFrame → ℕ → Type 0) → Recorded S → SaslFrame → ℕ → Type 0
+recorded_hmacs hmacs server frame n = hmacs server.inner frame n
+
+-- ---- the code's values
+
+-- the claim that a value is
+abbrev pub attempt_of : LoginAttempt → Attempt
+attempt_of attempt = record {
+  mechanism = attempt.mechanism;
+  user = option_map string_bytes attempt.claimed_user;
+  hostname = option_map string_bytes attempt.hostname;
+}
+
+-- the server that a value is
+abbrev pub recorded_of : {A S : Type 0} → (A → S) → WithLastAttempt A → Recorded S
+recorded_of state server = record {
+  inner = state server.acceptor;
+  last = option_map attempt_of server.last;
+}

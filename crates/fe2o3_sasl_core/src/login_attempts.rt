@@ -1,0 +1,253 @@
+//! What the inits of a connection claim (AMQP 1.0, part 5, section 5.3.3.2), and an acceptor that keeps the last claim,
+//! also after a rejection.
+
+ghost use Rattle.std.specs.Prelude.{◌≡◌, ◌⊎◌, ℕ, true, List, None, Ok, IfOk, IfErr, MatchOption, option_map, string_bytes};
+ghost use Rattle.std.specs.Cow.{cow_str_bytes};
+ghost use Rattle.fe2o3_sasl_wire.specs.AmqpTypes.{binary_bytes, init_frame};
+ghost use Rattle.fe2o3_scram.specs.ClientFirst.{ClientFirst as FirstValues, HasEscapes, ReadsClientFirst};
+ghost use Rattle.fe2o3_sasl_core.specs.LoginAttempts.{ClaimAllocates, ClaimIn, ClaimOf, IsAttempt, Recorded, attempt_of, recorded_allocates, recorded_hmacs, recorded_machine, recorded_of};
+
+pub mod laws;
+
+use crate::OutOfMemory;
+use crate::any_mechanism::HasMechanism;
+use crate::mechanism_names::PLAIN;
+use crate::plain_server::plain_user;
+use crate::sasl_acceptor::{AuthenticatedUser, SaslAcceptor, SaslServerFrame};
+use fe2o3_sasl_wire::{Array, SaslInit, SaslResponse, Symbol};
+use fe2o3_scram::ClientFirst;
+use fe2o3_scram::hmac::{Meter, ScramVersion};
+use fe2o3_scram::scram_messages::ServerScramErrorKind;
+use std::alloc::{AllocError, Global};
+
+/// What an init claims (AMQP 1.0, part 5, section 5.3.3.2). Nobody is authenticated by it: the user who has logged in is
+/// that of [`AuthenticatedUser`]. Use it to count rejected logins per user, or to choose a virtual host.
+#[derive(Debug, Drop)]
+pub struct LoginAttempt {
+    /// The mechanism that the init names, also one that the server does not offer.
+    pub mechanism: Symbol,
+
+    /// The user name that the initial response claims, as [`claimed_user`] returns it. `None` if the init has no initial
+    /// response.
+    pub claimed_user: Option<String>,
+
+    /// The hostname that the init names.
+    pub hostname: Option<String>,
+}
+
+impl LoginAttempt {
+    /// Copies what the init claims.
+    fn of_init(alloc: Global, init: &SaslInit) -> Result<Self, OutOfMemory>
+        ensures { IfOk result (λ attempt. IsAttempt (init_frame init.now) (attempt_of attempt)) }
+    {
+        Ok(Self {
+            mechanism: init.mechanism.clone()?,
+            claimed_user: user_of_init(alloc, init)?,
+            hostname: init.hostname.clone()?,
+        })
+    }
+}
+
+impl Clone for LoginAttempt {
+    ghost is_clone = { λ attempt copy. attempt_of copy ≡ attempt_of attempt };
+
+    fn clone(&self) -> Result<Self, AllocError> {
+        Ok(Self {
+            mechanism: self.mechanism.clone()?,
+            claimed_user: self.claimed_user.clone()?,
+            hostname: self.hostname.clone()?,
+        })
+    }
+}
+
+/// Returns the user name that an initial response of this mechanism claims. Nobody is authenticated by it.
+///
+/// - For SCRAM-SHA-1, SCRAM-SHA-256 and SCRAM-SHA-512 it is the unescaped name of the client-first message, whose GS2
+///   header is `n,,` or `y,,` (RFC 5802, section 7).
+/// - For PLAIN it is the name that `plain_user` returns (RFC 4616, section 2).
+/// - For every other mechanism, and for a message that cannot be parsed, it is `None`.
+///
+/// The only error is `OutOfMemory`.
+#[tactic(auto, using(crate::proofs::lemmas::machines::LoginAttemptLemmas::claims))]
+pub fn claimed_user(
+    alloc: Global,
+    mechanism: &str,
+    message: &[u8],
+) -> Result<Option<String>, OutOfMemory>
+    ensures ok { IfOk result (λ user. ClaimOf mechanism.now message.now (option_map string_bytes user)) }
+    ensures memory { IfErr result (λ _. ClaimAllocates mechanism.now message.now) }
+{
+    if let Some(_) = ScramVersion::from_mechanism(mechanism) {
+        return scram_user(alloc, message);
+    }
+    if mechanism != PLAIN {
+        return Ok(None);
+    }
+    match plain_user(message) {
+        Some(user) => Ok(Some(user.to_string(alloc)?)),
+        None => Ok(None),
+    }
+}
+
+/// Returns the user name that an init claims by its initial response, or `None` if it has none.
+fn user_of_init(alloc: Global, init: &SaslInit) -> Result<Option<String>, OutOfMemory>
+    ensures { IfOk result (λ user. ClaimIn init.now.mechanism (option_map binary_bytes init.now.initial_response)
+        (option_map string_bytes user)) }
+{
+    match &init.initial_response {
+        Some(message) => claimed_user(alloc, init.mechanism.as_str(), &message.0),
+        None => Ok(None),
+    }
+}
+
+/// Returns the user name of a client-first message after either GS2 header, or `None` if it cannot be parsed.
+#[tactic(auto, using(crate::proofs::lemmas::machines::LoginAttemptLemmas::unread))]
+fn scram_user(alloc: Global, message: &[u8]) -> Result<Option<String>, OutOfMemory>
+    ensures ok { IfOk result (λ user. MatchOption (option_map string_bytes user)
+        ((first : FirstValues) → ¬ ReadsClientFirst true message.now (Ok first))
+        (λ name. (first : FirstValues) × ReadsClientFirst true message.now (Ok first) × (name ≡ first.user))) }
+    ensures memory { IfErr result (λ _. HasEscapes true message.now
+        ⊎ ((first : FirstValues) × ReadsClientFirst true message.now (Ok first))) }
+{
+    match ClientFirst::parse_with_cbind_flag_y(alloc, message, true) {
+        Ok(first) => Ok(Some(first.username.as_str().to_string(alloc)?)),
+        Err(ServerScramErrorKind::OutOfMemory) => Err(OutOfMemory),
+        Err(_) => Ok(None),
+    }
+}
+
+/// An acceptor that keeps what the last init claims, also if the reply rejects it. It answers each frame like the inner
+/// acceptor, whose user it names.
+///
+/// Each init replaces the attempt, and a response leaves it. A call that runs out of memory changes nothing.
+#[derive(Drop)]
+pub struct WithLastAttempt<A> {
+    acceptor: A,
+    last: Option<LoginAttempt>,
+}
+
+impl<A: HasMechanism> WithLastAttempt<A> {
+    /// Makes a server of this acceptor, which has received no init.
+    pub fn new(acceptor: A) -> Self
+        ensures { recorded_of A.state result ≡ record { inner = A.state acceptor; last = None } }
+    {
+        Self {
+            acceptor,
+            last: None,
+        }
+    }
+
+    /// Restores a server with this last attempt, as `last_attempt` returned it when the server was saved between two
+    /// calls. Pass the acceptor in its saved state.
+    pub fn with_attempt(acceptor: A, last: Option<LoginAttempt>) -> Self
+        ensures { recorded_of A.state result
+            ≡ record { inner = A.state acceptor; last = option_map attempt_of last } }
+    {
+        Self { acceptor, last }
+    }
+
+    /// Returns the inner acceptor.
+    pub fn acceptor(&self) -> &A
+        ensures { A.state result.now ≡ (recorded_of A.state self.now).inner }
+    {
+        &self.acceptor
+    }
+
+    /// Returns what the last init claimed, or `None` before the first init. Read it after a rejection too.
+    pub fn last_attempt(&self) -> Option<&LoginAttempt>
+        ensures { option_map (λ attempt. attempt_of attempt.now) result ≡ (recorded_of A.state self.now).last }
+    {
+        self.last.as_ref()
+    }
+}
+
+impl<A: HasMechanism> Clone for WithLastAttempt<A> {
+    ghost is_clone = { λ server copy. (A.is_clone server.acceptor copy.acceptor)
+        × (option_map attempt_of copy.last ≡ option_map attempt_of server.last) };
+
+    fn clone(&self) -> Result<Self, AllocError> {
+        Ok(Self {
+            acceptor: self.acceptor.clone()?,
+            last: self.last.clone()?,
+        })
+    }
+}
+
+impl<A: HasMechanism> SaslAcceptor for WithLastAttempt<A> {
+    ghost State = { Recorded A.State };
+
+    ghost state = { recorded_of A.state };
+
+    ghost names = { λ server. A.names server.inner };
+
+    ghost machine = { recorded_machine A.machine };
+
+    ghost allocates = { recorded_allocates A.allocates };
+
+    ghost hmacs = { recorded_hmacs A.hmacs };
+
+    ghost clone_keeps = { λ server copy same i. record {
+      inner = A.clone_keeps server.acceptor copy.acceptor same.0 i;
+      last = same.1 i;
+    } };
+
+    fn mechanisms(&self, alloc: Global) -> Result<Array<Symbol>, OutOfMemory> {
+        self.acceptor.mechanisms(alloc)
+    }
+
+    fn on_init(
+        &mut self,
+        alloc: Global,
+        init: SaslInit,
+        nonce: &[u8; 32],
+    ) -> Result<SaslServerFrame, OutOfMemory> {
+        self.on_init_metered(alloc, init, nonce, &mut Meter::new())
+    }
+
+    fn on_response(
+        &mut self,
+        alloc: Global,
+        response: SaslResponse,
+    ) -> Result<SaslServerFrame, OutOfMemory> {
+        self.on_response_metered(alloc, response, &mut Meter::new())
+    }
+
+    fn on_init_metered(
+        &mut self,
+        alloc: Global,
+        init: SaslInit,
+        nonce: &[u8; 32],
+        meter: &mut Meter,
+    ) -> Result<SaslServerFrame, OutOfMemory> {
+        let attempt = LoginAttempt::of_init(alloc, &init)?;
+        let reply = self.acceptor.on_init_metered(alloc, init, nonce, meter)?;
+        self.last = Some(attempt);
+        Ok(reply)
+    }
+
+    fn on_response_metered(
+        &mut self,
+        alloc: Global,
+        response: SaslResponse,
+        meter: &mut Meter,
+    ) -> Result<SaslServerFrame, OutOfMemory> {
+        self.acceptor.on_response_metered(alloc, response, meter)
+    }
+}
+
+impl<A: HasMechanism> AuthenticatedUser for WithLastAttempt<A> {
+    ghost named = { λ server. A.named server.acceptor };
+
+    ghost named_by_state = { λ server other same.
+        A.named_by_state server.acceptor other.acceptor (λ i. (same i).inner) };
+
+    fn authenticated_user(&self) -> Option<&str> {
+        self.acceptor.authenticated_user()
+    }
+}
+
+impl<A: HasMechanism> HasMechanism for WithLastAttempt<A> {
+    fn has_mechanism(&self, name: &str) -> bool {
+        self.acceptor.has_mechanism(name)
+    }
+}

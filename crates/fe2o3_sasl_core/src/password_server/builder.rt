@@ -1,0 +1,289 @@
+//! The builder of `PasswordServer`: its options, and the errors of `build`.
+
+ghost use Rattle.std.specs.Prelude.{◌≡◌, [], true, false, Some, None};
+ghost use Rattle.fe2o3_sasl_core.specs.PasswordServer.{settings_of};
+ghost use Rattle.fe2o3_scram.specs.Credentials.{kept};
+ghost use Rattle.fe2o3_scram.specs.ScramServer.{ServerFinalSent, ServerFirstSent, challenge_kept};
+ghost use Rattle.fe2o3_scram.specs.declared.hmac.ScramVersion.TheVariants.{Sha256};
+ghost use Rattle.fe2o3_sasl_core.specs.declared.plain_server.passwords.PlainPasswords.TheVariants.{Typed as FormTyped};
+ghost use Rattle.fe2o3_sasl_core.specs.declared.password_server.builder.BuildError.TheVariants.{OutOfMemory as BuildOutOfMemory, SaltTooLong as BuildSaltTooLong};
+
+mod build;
+
+use crate::plain_server::PlainPasswords;
+use fe2o3_scram::OpenChallenge;
+use fe2o3_scram::credentials::MultiRecordStore;
+use fe2o3_scram::hmac::ScramVersion;
+use fe2o3_scram::provider::StoredPassword;
+use fe2o3_scram::scram_server::SaltTooLong;
+use std::alloc::AllocError;
+use thiserror::Error;
+
+/// Why a server is not built.
+#[derive(Clone, Copy, Debug, PartialEq, Eq, Error)]
+pub enum BuildError {
+    /// The salts of the mock records are longer than 64 bytes.
+    #[error("Salt too long")]
+    SaltTooLong,
+
+    /// The server would offer no mechanism.
+    #[error("No mechanism")]
+    NoMechanism,
+
+    /// A request for memory was refused.
+    #[error("Out of memory")]
+    OutOfMemory,
+}
+
+impl From<AllocError> for BuildError {
+    ghost from_gives = { λ _ error. error ≡ BuildOutOfMemory };
+
+    fn from(_error: AllocError) -> Self {
+        BuildError::OutOfMemory
+    }
+}
+
+impl From<SaltTooLong> for BuildError {
+    ghost from_gives = { λ _ error. error ≡ BuildSaltTooLong };
+
+    fn from(_error: SaltTooLong) -> Self {
+        BuildError::SaltTooLong
+    }
+}
+
+/// The settings of mock authentication, for every hash.
+#[derive(Clone, Copy)]
+struct Mock<'a> {
+    secret: &'a [u8],
+    salt_len: usize,
+    iterations: u32,
+}
+
+/// What SCRAM sent last in the exchange that a server continues.
+#[derive(Clone, Copy)]
+enum RestoredState<'a> {
+    /// This challenge, which was made with this record.
+    Challenge {
+        challenge: &'a OpenChallenge<'a>,
+        stored: &'a StoredPassword<'a>,
+    },
+
+    /// The end of the login of this user.
+    Authenticated(&'a str),
+}
+
+/// The exchange that a server continues, with the hash of its mechanism.
+#[derive(Clone, Copy)]
+struct Restored<'a> {
+    version: ScramVersion,
+    state: RestoredState<'a>,
+}
+
+/// The hashes that SCRAM is offered with.
+#[derive(Clone, Copy, Debug, PartialEq, Eq)]
+pub struct ScramHashes {
+    /// SCRAM-SHA-512.
+    pub sha_512: bool,
+
+    /// SCRAM-SHA-256.
+    pub sha_256: bool,
+
+    /// SCRAM-SHA-1.
+    pub sha_1: bool,
+}
+
+/// Builds a [`PasswordServer`] over the records of a store. Without options the server offers
+/// SCRAM-SHA-512 and SCRAM-SHA-256, in this order, and answers an unknown user with `Auth` at once.
+///
+/// ```text
+/// let server = PasswordServerBuilder::new(&records)
+///     .mock_unknown_users(&secret, 16, 4096)
+///     .plain_under_tls(is_tls)
+///     .build(alloc)?;
+/// ```
+#[derive(Clone, Copy)]
+pub struct PasswordServerBuilder<'a> {
+    records: &'a MultiRecordStore,
+    mock: Option<Mock<'a>>,
+    hashes: ScramHashes,
+    cbind_flag_y: bool,
+    plain: bool,
+    plain_version: ScramVersion,
+    plain_iterations: Option<u32>,
+    plain_passwords: PlainPasswords,
+    anonymous: bool,
+    external: &'a str,
+    restored: Option<Restored<'a>>,
+}
+
+impl<'a> PasswordServerBuilder<'a> {
+    /// Returns a builder without options, over these records.
+    pub fn new(records: &'a MultiRecordStore) -> Self
+        ensures { settings_of result ≡ record {
+          records = records.now;
+          mock = None;
+          hashes = record { sha_512 = true; sha_256 = true; sha_1 = false };
+          cbind_flag_y = false;
+          plain = false;
+          plain_version = Sha256;
+          plain_count = None;
+          plain_passwords = FormTyped;
+          anonymous = false;
+          external = [];
+          restored = None;
+        } }
+    {
+        Self {
+            records,
+            mock: None,
+            hashes: ScramHashes {
+                sha_512: true,
+                sha_256: true,
+                sha_1: false,
+            },
+            cbind_flag_y: false,
+            plain: false,
+            plain_version: ScramVersion::Sha256,
+            plain_iterations: None,
+            plain_passwords: PlainPasswords::Typed,
+            anonymous: false,
+            external: "",
+            restored: None,
+        }
+    }
+
+    /// Returns this builder with mock authentication (`ScramAuthenticator::mock_unknown_users`): an
+    /// unknown user is answered as a known one. The secret is at least 32 random bytes, stored beside
+    /// the records. `salt_len` is the length of the records' salts, in bytes, and `iterations` their
+    /// iteration count.
+    pub fn mock_unknown_users(self, secret: &'a [u8], salt_len: usize, iterations: u32) -> Self
+        ensures { settings_of result ≡ record (settings_of self.entry) {
+          mock = Some (record {
+            secret = secret.now;
+            salt_len = salt_len;
+            count = iterations;
+          });
+        } }
+    {
+        let mut builder = self;
+        builder.mock = Some(Mock {
+            secret,
+            salt_len,
+            iterations,
+        });
+        builder
+    }
+
+    /// Returns this builder, which offers SCRAM with these hashes. SCRAM-SHA-1 is for clients that have no
+    /// other hash.
+    pub fn hashes(self, hashes: ScramHashes) -> Self
+        ensures { settings_of result ≡ record (settings_of self.entry) { hashes = hashes } }
+    {
+        let mut builder = self;
+        builder.hashes = hashes;
+        builder
+    }
+
+    /// Returns this builder, whose SCRAM accepts the GS2 flag `y` if `accept` is true
+    /// (`ScramAuthenticator::accept_cbind_flag_y`).
+    pub fn accept_cbind_flag_y(self, accept: bool) -> Self
+        ensures { settings_of result ≡ record (settings_of self.entry) { cbind_flag_y = accept } }
+    {
+        let mut builder = self;
+        builder.cbind_flag_y = accept;
+        builder
+    }
+
+    /// Returns this builder, which offers PLAIN only if the connection is under TLS: PLAIN sends the
+    /// password itself (RFC 4616, section 5).
+    pub fn plain_under_tls(self, is_tls: bool) -> Self
+        ensures { settings_of result ≡ record (settings_of self.entry) { plain = is_tls } }
+    {
+        let mut builder = self;
+        builder.plain = is_tls;
+        builder
+    }
+
+    /// Returns this builder, whose PLAIN tests passwords against the records of this hash, and hashes the
+    /// password of an unknown user `iterations` times.
+    pub fn plain_records(self, version: ScramVersion, iterations: u32) -> Self
+        ensures { settings_of result ≡ record (settings_of self.entry) {
+          plain_version = version;
+          plain_count = Some iterations;
+        } }
+    {
+        let mut builder = self;
+        builder.plain_version = version;
+        builder.plain_iterations = Some(iterations);
+        builder
+    }
+
+    /// Returns this builder, whose PLAIN tests passwords in this form. Without this call the form is `Typed`, which
+    /// rejects every non-ASCII password.
+    pub fn plain_passwords(self, passwords: PlainPasswords) -> Self
+        ensures { settings_of result ≡ record (settings_of self.entry) { plain_passwords = passwords } }
+    {
+        let mut builder = self;
+        builder.plain_passwords = passwords;
+        builder
+    }
+
+    /// Returns this builder, which offers ANONYMOUS if `offered` is true (RFC 4505).
+    pub fn anonymous(self, offered: bool) -> Self
+        ensures { settings_of result ≡ record (settings_of self.entry) { anonymous = offered } }
+    {
+        let mut builder = self;
+        builder.anonymous = offered;
+        builder
+    }
+
+    /// Returns this builder, which offers EXTERNAL for the name that the transport authenticated (RFC 4422,
+    /// appendix A). If the name is empty, EXTERNAL is not offered.
+    pub fn external(self, name: &'a str) -> Self
+        ensures { settings_of result ≡ record (settings_of self.entry) { external = name.now } }
+    {
+        let mut builder = self;
+        builder.external = name;
+        builder
+    }
+
+    /// Returns this builder, whose server has this open challenge of SCRAM by this hash, as
+    /// `PasswordServer::open_challenge` returned it, and this record of its user
+    /// (`ScramAuthenticator::restore_challenge`).
+    pub fn open_challenge(
+        self,
+        version: ScramVersion,
+        challenge: &'a OpenChallenge<'a>,
+        stored: &'a StoredPassword<'a>,
+    ) -> Self
+        ensures { settings_of result ≡ record (settings_of self.entry) {
+          restored = Some (record {
+            version = version;
+            state = ServerFirstSent (challenge_kept challenge.now) (kept stored.now);
+          });
+        } }
+    {
+        let mut builder = self;
+        builder.restored = Some(Restored {
+            version,
+            state: RestoredState::Challenge { challenge, stored },
+        });
+        builder
+    }
+
+    /// Returns this builder, whose server has authenticated this user by SCRAM with this hash
+    /// (`ScramAuthenticator::restore_authenticated`). The caller vouches for the name. It replaces an open challenge of
+    /// this builder.
+    pub fn authenticated(self, version: ScramVersion, username: &'a str) -> Self
+        ensures { settings_of result ≡ record (settings_of self.entry) {
+          restored = Some (record { version = version; state = ServerFinalSent username.now });
+        } }
+    {
+        let mut builder = self;
+        builder.restored = Some(Restored {
+            version,
+            state: RestoredState::Authenticated(username),
+        });
+        builder
+    }
+}

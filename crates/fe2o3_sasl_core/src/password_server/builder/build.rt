@@ -1,0 +1,266 @@
+//! Builds a `PasswordServer` from the options of its builder.
+
+ghost use Rattle.std.specs.Prelude.{◌≡◌, ◌≢◌, ◌↔◌, [], false, None, IfOk, IfErr, IsTrue, map};
+ghost use Rattle.fe2o3_scram.specs.Mixed.{provider_for};
+ghost use Rattle.fe2o3_sasl_core.specs.ExternalServer.{external_of};
+ghost use Rattle.fe2o3_sasl_core.specs.PasswordServer.{HasLongSalts, OffersNothing, asked_of, count_of_unknown, external_mechanism, external_name, first_asked, name_where, names_for, offering_for, opened, others_names, others_of, others_state, password_server, password_state, scram_provider, scram_state, scrams_in, scrams_state, second_asked, settings_of, state_held};
+ghost use Rattle.fe2o3_sasl_core.specs.AnyMechanism.{both_names};
+ghost use Rattle.fe2o3_sasl_core.specs.AnyMechanismSides.{both_states};
+ghost use Rattle.fe2o3_sasl_core.specs.RestrictMechanisms.{offering_names, offering_of};
+ghost use Rattle.fe2o3_scram.specs.Mixed.{is_version};
+ghost use Rattle.fe2o3_scram.specs.ScramServer.{Initial, served_by};
+ghost use Rattle.fe2o3_sasl_core.specs.SaslAcceptor.{ScramAcceptor};
+ghost use Rattle.fe2o3_sasl_core.specs.declared.password_server.builder.BuildError.TheVariants.{NoMechanism as BuildNoMechanism, SaltTooLong as BuildSaltTooLong};
+
+use crate::OutOfMemory;
+use crate::any_mechanism::{AnyMechanism, HasMechanism, Selected};
+use crate::external_server::ExternalServer;
+use crate::password_server::PasswordServer;
+use crate::password_server::builder::{BuildError, PasswordServerBuilder, RestoredState};
+use crate::password_server::others::Others;
+use crate::password_server::scrams::{Scram, Scrams, Weaker, second_asked};
+use crate::plain_server::PlainServer;
+use crate::restrict_mechanisms::{OfferError, RestrictMechanisms};
+use fe2o3_scram::credentials::{DEFAULT_SCRAM_ITERATIONS, RecordStore};
+use fe2o3_scram::hmac::ScramVersion;
+use fe2o3_scram::scram_server::ScramAuthenticator;
+use std::alloc::Global;
+
+impl RestoredState<'_> {
+    /// Returns SCRAM in this state.
+    fn restore(self, alloc: Global, scram: Scram) -> Result<Scram, OutOfMemory>
+        ensures { IfOk result (λ restored. scram_state restored
+            ≡ ScramAcceptor (served_by (λ store. store) scram) (state_held self.entry)) }
+    {
+        match self {
+            RestoredState::Challenge { challenge, stored } => {
+                scram.restore_challenge(alloc, challenge, stored)
+            }
+            RestoredState::Authenticated(user) => scram.restore_authenticated(alloc, user),
+        }
+    }
+}
+
+impl PasswordServerBuilder<'_> {
+    /// Returns a server for one connection. It shares the records with every other server.
+    ///
+    /// PLAIN tests passwords against the records for SCRAM-SHA-256, or of the hash that `plain_records` set.
+    /// An unknown user's password is hashed as often as `plain_records` or otherwise `mock_unknown_users`
+    /// says, or else 4096 times.
+    ///
+    /// Errors: `SaltTooLong` if the mock salts are longer than 64 bytes, `NoMechanism` if no mechanism would
+    /// be offered, and otherwise `OutOfMemory`.
+    pub fn build(&self, alloc: Global) -> Result<PasswordServer, BuildError>
+        ensures ok { IfOk result (λ server. password_state server ≡ password_server (settings_of self.now)) }
+        ensures some { IfOk result (λ _. ¬ OffersNothing (settings_of self.now)) }
+        ensures short { IfOk result (λ _. ¬ HasLongSalts (settings_of self.now)) }
+        ensures err { IfErr result (λ error. error ≡ BuildError.SaltTooLong → HasLongSalts (settings_of self.now)) }
+        ensures none { IfErr result (λ error. error ≡ BuildError.NoMechanism
+            → ¬ HasLongSalts (settings_of self.now) × OffersNothing (settings_of self.now)) }
+        ensures memory { IfErr result (λ error. error ≡ BuildError.OutOfMemory → ¬ HasLongSalts (settings_of self.now)) }
+    {
+        if self.has_long_salts() {
+            return Err(BuildError::SaltTooLong);
+        }
+        let scrams = self.scrams(alloc)?;
+        Ok(PasswordServer {
+            acceptors: self.offered(alloc, scrams)?,
+        })
+    }
+
+    /// Returns the acceptors, of which some are offered. The function is generic, because its exits drop SCRAM, whose
+    /// whole type is slow to prove.
+    fn offered<A: HasMechanism + Drop>(
+        &self,
+        alloc: Global,
+        scrams: A,
+    ) -> Result<RestrictMechanisms<AnyMechanism<A, Others>>, BuildError>
+        ensures ok { IfOk result (λ offering. offering_of (both_states A.state others_state) offering
+            ≡ offering_for (settings_of self.now) (A.state scrams)) }
+        ensures some { IfOk result (λ _. offering_names (λ parts. both_names (A.names parts.first) (others_names parts.second))
+            (offering_for (settings_of self.now) (A.state scrams)) ≢ []) }
+        ensures none { IfErr result (λ error. error ≡ BuildNoMechanism
+            → offering_names (λ parts. both_names (A.names parts.first) (others_names parts.second))
+            (offering_for (settings_of self.now) (A.state scrams)) ≡ []) }
+        ensures salts { IfErr result (λ error. error ≢ BuildSaltTooLong) }
+    {
+        let others = self.others(alloc)?;
+        let selected = match self.restored {
+            Some(_) => Some(Selected::First),
+            None => None,
+        };
+        let parts = AnyMechanism::with_selected(scrams, others, selected);
+        match RestrictMechanisms::new(alloc, parts, &self.names()) {
+            Ok(acceptors) => Ok(acceptors),
+            Err(OfferError::OutOfMemory) => Err(BuildError::OutOfMemory),
+            Err(OfferError::NoMechanismLeft) => Err(BuildError::NoMechanism),
+        }
+    }
+
+    /// Returns true if the mock salts are longer than a mock salt can be.
+    fn has_long_salts(&self) -> bool
+        ensures { IsTrue result ↔ HasLongSalts (settings_of self.now) }
+    {
+        match &self.mock {
+            Some(mock) => mock.salt_len > 64,
+            None => false,
+        }
+    }
+
+    /// Returns the names that may be offered. A mechanism that is not offered has the empty name here.
+    fn names(&self) -> [&'static str; 6]
+        ensures { map (λ name. name.now) result ≡ names_for (settings_of self.now) }
+    {
+        [
+            name_where(self.hashes.sha_512, "SCRAM-SHA-512"),
+            name_where(self.hashes.sha_256, "SCRAM-SHA-256"),
+            name_where(self.hashes.sha_1, "SCRAM-SHA-1"),
+            name_where(self.plain, "PLAIN"),
+            name_where(self.anonymous, "ANONYMOUS"),
+            external_mechanism(self.external),
+        ]
+    }
+
+    /// Returns the records for this hash, which are shared.
+    fn store(&self, version: ScramVersion) -> Result<RecordStore, OutOfMemory>
+        ensures { IfOk result (λ store. store ≡ provider_for version (settings_of self.now).records) }
+    {
+        Ok(self.records.for_version(version).clone()?)
+    }
+
+    /// Returns the hash of the exchange that is continued.
+    fn asked(&self) -> Option<ScramVersion>
+        ensures { result ≡ asked_of (settings_of self.now).restored }
+    {
+        match &self.restored {
+            Some(restored) => Some(restored.version),
+            None => None,
+        }
+    }
+
+    /// Returns SCRAM by every hash.
+    fn scrams(&self, alloc: Global) -> Result<Scrams, BuildError>
+        ensures ok { IfOk result (λ scrams. scrams_state scrams
+            ≡ scrams_in (settings_of self.now) (opened (settings_of self.now).restored)
+            (first_asked (asked_of (settings_of self.now).restored)) (second_asked (asked_of (settings_of self.now).restored))) }
+        ensures err { IfErr result (λ error. (error ≡ BuildNoMechanism → ⊥)
+            × (error ≡ BuildSaltTooLong → HasLongSalts (settings_of self.now))) }
+    {
+        let strongest = self.scram(alloc, ScramVersion::Sha512)?;
+        let weaker = self.weaker(alloc)?;
+        Ok(Scrams::new(strongest, weaker, self.asked()))
+    }
+
+    /// Returns SCRAM by SHA-256 and SHA-1.
+    fn weaker(&self, alloc: Global) -> Result<Weaker, BuildError>
+        ensures ok { IfOk result (λ scrams. both_states scram_state scram_state scrams
+            ≡ (scrams_in (settings_of self.now) (opened (settings_of self.now).restored) None
+            (second_asked (asked_of (settings_of self.now).restored))).second) }
+        ensures err { IfErr result (λ error. (error ≡ BuildNoMechanism → ⊥)
+            × (error ≡ BuildSaltTooLong → HasLongSalts (settings_of self.now))) }
+    {
+        let first = self.scram(alloc, ScramVersion::Sha256)?;
+        let second = self.scram(alloc, ScramVersion::Sha1)?;
+        Ok(AnyMechanism::with_selected(first, second, second_asked(self.asked())))
+    }
+
+    /// Returns the server of SCRAM by this hash, in the exchange that is continued if it is of this hash.
+    fn scram(&self, alloc: Global, version: ScramVersion) -> Result<Scram, BuildError>
+        ensures ok { IfOk result (λ scram. scram_state scram
+            ≡ ScramAcceptor (scram_provider (settings_of self.now) version) (opened (settings_of self.now).restored version)) }
+        ensures err { IfErr result (λ error. (error ≡ BuildNoMechanism → ⊥)
+            × (error ≡ BuildSaltTooLong → HasLongSalts (settings_of self.now))) }
+    {
+        let fresh = self.fresh(alloc, version)?;
+        match &self.restored {
+            Some(restored) if is_version(restored.version, version) => {
+                Ok(restored.state.restore(alloc, fresh)?)
+            }
+            _ => Ok(fresh),
+        }
+    }
+
+    /// Returns the server of SCRAM by this hash, without an open challenge.
+    fn fresh(&self, alloc: Global, version: ScramVersion) -> Result<Scram, BuildError>
+        ensures ok { IfOk result (λ scram. scram_state scram
+            ≡ ScramAcceptor (scram_provider (settings_of self.now) version) Initial) }
+        ensures err { IfErr result (λ error. (error ≡ BuildNoMechanism → ⊥)
+            × (error ≡ BuildSaltTooLong → HasLongSalts (settings_of self.now))) }
+    {
+        let scram = ScramAuthenticator::new(self.store(version)?);
+        let scram = scram.accept_cbind_flag_y(self.cbind_flag_y);
+        match &self.mock {
+            Some(mock) => {
+                let secret = mock.secret.to_vec(alloc)?;
+                Ok(scram.mock_unknown_users(secret, mock.salt_len, mock.iterations)?)
+            }
+            None => Ok(scram),
+        }
+    }
+
+    /// Returns PLAIN, ANONYMOUS and EXTERNAL.
+    fn others(&self, alloc: Global) -> Result<Others, OutOfMemory>
+        ensures { IfOk result (λ others. others_state others ≡ others_of (settings_of self.now)) }
+    {
+        let plain = PlainServer::new(
+            self.store(self.plain_version)?,
+            self.iterations(),
+        ).with_passwords(self.plain_passwords);
+        let external = self.external_server(alloc)?;
+        Ok(Others::new(plain, external))
+    }
+
+    /// Returns the acceptor of EXTERNAL.
+    fn external_server(&self, alloc: Global) -> Result<ExternalServer, OutOfMemory>
+        ensures { IfOk result (λ external. external_of external
+            ≡ record { user = external_name (settings_of self.now).external; accepted = false }) }
+    {
+        match ExternalServer::new(external_name(self.external).to_string(alloc)?) {
+            Ok(external) => Ok(external),
+            Err(_) => unreachable!(),
+        }
+    }
+
+    /// Returns the iteration count by which PLAIN answers an unknown user.
+    fn iterations(&self) -> u32
+        ensures { result ≡ count_of_unknown (settings_of self.now).plain_count (settings_of self.now).mock }
+    {
+        match (self.plain_iterations, &self.mock) {
+            (Some(iterations), _) => iterations,
+            (None, Some(mock)) => mock.iterations,
+            (None, None) => DEFAULT_SCRAM_ITERATIONS,
+        }
+    }
+}
+
+/// Returns whether two hashes are one.
+fn is_version(version: ScramVersion, other: ScramVersion) -> bool
+    ensures { result ≡ is_version version other }
+{
+    match version {
+        ScramVersion::Sha1 => matches!(other, ScramVersion::Sha1),
+        ScramVersion::Sha256 => matches!(other, ScramVersion::Sha256),
+        ScramVersion::Sha512 => matches!(other, ScramVersion::Sha512),
+    }
+}
+
+/// Returns the name of EXTERNAL's user. With an empty name EXTERNAL is not offered, so that this user is never reported.
+fn external_name(name: &str) -> &str
+    ensures { result.now ≡ external_name name.now }
+{
+    if name.is_empty() { "nobody" } else { name }
+}
+
+/// Returns the name of EXTERNAL, or the empty name if the transport authenticated no one.
+fn external_mechanism(name: &str) -> &'static str
+    ensures { result.now ≡ external_mechanism name.now }
+{
+    if name.is_empty() { "" } else { "EXTERNAL" }
+}
+
+/// Returns the name if it is offered, and otherwise the empty name.
+fn name_where(offered: bool, name: &'static str) -> &'static str
+    ensures { result.now ≡ name_where offered name.now }
+{
+    if offered { name } else { "" }
+}
