@@ -26,3 +26,9 @@ pub mod KeptLemmas
 pub mod ClientKeptLemmas
 pub mod RetryLemmas
 pub mod FrameSizeLemmas
+pub mod NonceLemmas
+pub mod ResponseNonceLemmas
+pub mod PolicyClientLemmas
+pub mod PolicyLawLemmas
+pub mod PolicyInitLemmas
+pub mod PolicyNonceLemmas

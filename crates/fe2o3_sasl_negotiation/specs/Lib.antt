@@ -14,3 +14,6 @@ pub mod CostLaws
 pub mod Memory
 pub mod Retries
 pub mod FrameSizes
+pub mod Nonces
+pub mod PolicyClient
+pub mod PolicyLaws

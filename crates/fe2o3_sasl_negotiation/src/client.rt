@@ -46,7 +46,7 @@ pub struct ClientEndpoint {
 pub type ClientNegotiation = ConnectionSide<ClientEndpoint, ClientRole>;
 
 /// Answers the server's header. A client continues only after the header of SASL.
-fn open(header: &[u8]) -> Step
+pub(crate) fn open(header: &[u8]) -> Step
     ensures { (out : List ℕ) → Appends (ClientOpens header.now) out out result }
 {
     if is_sasl(header) {
@@ -124,7 +124,7 @@ fn refuse(turn: FrameKind, fault: ProfileError) -> Result<Step, OutOfMemory>
 }
 
 /// Answers a frame, which begins with its size.
-fn reply(
+pub(crate) fn reply(
     alloc: Global,
     profile: &mut SaslProfile,
     hostname: Option<&str>,
@@ -158,7 +158,7 @@ fn reply(
 }
 
 /// Returns the hostname of a client, if it has one.
-fn shown_name(hostname: &Option<String>) -> Option<&str>
+pub(crate) fn shown_name(hostname: &Option<String>) -> Option<&str>
     ensures { shown result ≡ option_map string_bytes hostname.now }
 {
     match hostname {
@@ -219,6 +219,7 @@ impl Endpoint<ClientRole> for ClientEndpoint {
 }
 
 impl ClientNegotiation {
+    ghost use Rattle.fe2o3_sasl_negotiation.specs.Nonces.{client_uses_nonce};
     ghost use Rattle.fe2o3_sasl_negotiation.specs.Sides.{client_side, hostname_in};
 
     /// Makes the client's side of a new connection from a profile that no connection has used and the hostname that its
@@ -255,6 +256,17 @@ impl ClientNegotiation {
         ensures { profile_of result.now ≡ (client_side self.now).state }
     {
         &self.endpoint.profile
+    }
+
+    /// Returns whether the next call of `receive` may use its nonce: the list of mechanisms is expected. Otherwise every
+    /// nonce gives the same result (`nonces::unused_nonces`), and you need no fresh random bytes.
+    pub fn wants_nonce(&self) -> bool
+        ensures { result ≡ client_uses_nonce (client_side self.now) }
+    {
+        matches!(
+            (self.progress, self.expected),
+            (Progress::InProgress, Expected::Frame(FrameKind::Mechanisms))
+        )
     }
 
     /// Saves what the side has beside its profile and its hostname, for `restore`. It holds no password, key or user.

@@ -191,6 +191,7 @@ impl<A: AuthenticatedUser> Endpoint<ServerRole> for A {
 }
 
 impl<A: AuthenticatedUser> ServerNegotiation<A> {
+    ghost use Rattle.fe2o3_sasl_negotiation.specs.Nonces.{server_uses_nonce};
     ghost use Rattle.fe2o3_sasl_negotiation.specs.Sides.{acceptor_in, server_side};
 
     /// Makes the server's side of a new connection, by an acceptor that no connection has used. It waits for the
@@ -220,6 +221,17 @@ impl<A: AuthenticatedUser> ServerNegotiation<A> {
         ensures { result.now ≡ acceptor_in self.now }
     {
         &self.endpoint
+    }
+
+    /// Returns whether the next call of `receive` may use its nonce: an init is expected. Otherwise every nonce gives the
+    /// same result (`nonces::unused_nonces`), and you need no fresh random bytes.
+    pub fn wants_nonce(&self) -> bool
+        ensures { result ≡ server_uses_nonce (server_side A.state self.now) }
+    {
+        matches!(
+            (self.progress, self.expected),
+            (Progress::InProgress, Expected::Frame(FrameKind::Init))
+        )
     }
 
     /// Returns the name of the user who has logged in. It is `None` before that, and for a mechanism that names no

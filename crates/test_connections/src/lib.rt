@@ -8,6 +8,8 @@ mod clients;
 #[cfg(test)]
 mod cuts;
 #[cfg(test)]
+mod policies;
+#[cfg(test)]
 mod saved;
 #[cfg(test)]
 mod servers;

@@ -27,7 +27,7 @@ use Rattle.fe2o3_sasl_negotiation.proofs.lemmas.KeptLemmas.{unread_is_no_memory}
 use Rattle.fe2o3_sasl_core.specs.declared.sasl_profile.error.ProfileError.TheVariants.{NotImplemented, Scram, StaleKeys, Frame as FrameFault, OutOfMemory}
 
 -- where an answer is this one
-at_client : (answer other : SideOutput) → answer ≡ other → IsTrue (client_fits other.progress other.expected)
+pub at_client : (answer other : SideOutput) → answer ≡ other → IsTrue (client_fits other.progress other.expected)
     → IsTrue (client_fits answer.progress answer.expected)
 at_client answer other is holds = subst (λ (a : SideOutput). IsTrue (client_fits a.progress a.expected)) (sym is) holds
 
@@ -48,7 +48,7 @@ opened_at_client header out step (sent, appended, inr (sasl, is)) =
     (record { sent = []; progress = InProgress; expected = Frame turns.Mechanisms }) is refl
 
 -- a client that closes at a frame for a fault of its body
-unread_at_client : (fault : Error) (turn : FrameKind) → fault ≢ faults.OutOfMemory → IsTrue (client_due (Frame turn))
+pub unread_at_client : (fault : Error) (turn : FrameKind) → fault ≢ faults.OutOfMemory → IsTrue (client_due (Frame turn))
     → IsTrue (client_fits (Failed (MalformedFrame fault)) (Frame turn))
 unread_at_client faults.DecodeError turn other unit = unit
 unread_at_client faults.NotImplemented turn other unit = unit
@@ -162,7 +162,7 @@ says_at_client signs (ClientRefused fault) turn answer unit reports says =
     refused_at_client signs fault turn answer unit says
 
 module _ (hostname : Option (List ℕ)) where
-  replied_at_client : (turn : FrameKind) (profile next : Profile) (event : Given) (answer : SideOutput)
+  pub replied_at_client : (turn : FrameKind) (profile next : Profile) (event : Given) (answer : SideOutput)
       → IsTrue (client_due (Frame turn)) → ClientReplies hostname turn profile event answer next
       → IsTrue (client_fits answer.progress answer.expected)
   replied_at_client turn profile next event answer unit (Err fault, spells, (is, same)) =

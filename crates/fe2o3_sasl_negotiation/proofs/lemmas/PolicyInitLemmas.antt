@@ -1,0 +1,194 @@
+-- A client sends no init of a mechanism that its policy does not allow, or that is not offered.
+use Rattle.std.proofs.Common.{◌≡◌, ◌≢◌, ℕ, Bool, Option, Some, None, List, [], ◌++◌, drop, take, refl, sym, ◌∙◌, ap, subst, inl, inr, Result, Ok, Err}
+use Rattle.fe2o3_sasl_wire.specs.SaslFrames as frames
+use Rattle.fe2o3_sasl_wire.specs.SaslFrames.{SaslFrame, canonical}
+use Rattle.fe2o3_sasl_wire.specs.declared.sasl_frames.error.Error.{Error}
+use Rattle.fe2o3_sasl_wire.specs.declared.sasl_frames.error.Error.TheVariants as faults
+use Rattle.fe2o3_scram.specs.declared.client_secret.IterationLimits.{IterationLimits}
+use Rattle.fe2o3_scram.specs.declared.hmac.ScramVersion.{ScramVersion}
+use Rattle.fe2o3_scram.specs.declared.hmac.ScramVersion.TheVariants.{Sha1, Sha256, Sha512}
+use Rattle.fe2o3_scram.specs.ClientSecret.{Secret, Password, Keys, Both}
+use Rattle.fe2o3_scram.specs.Hmac.{mechanism_name}
+use Rattle.fe2o3_sasl_core.specs.Bodies.{SpellsBody, carried}
+use Rattle.fe2o3_sasl_core.specs.ClientPolicy.{policy_name, profile_by, scram_by, secret_for}
+use Rattle.fe2o3_sasl_core.specs.Events.{ClientSays, Given, Refused, Started}
+use Rattle.fe2o3_sasl_core.specs.Profiles.{Profile, accepts_signature_by_challenge, initial_response, profile_name}
+use Rattle.fe2o3_sasl_core.specs.Runs.{ProfileGives, Replies}
+use Rattle.fe2o3_sasl_core.specs.declared.client_policy.Mechanism.{Mechanism}
+use Rattle.fe2o3_sasl_core.specs.declared.client_policy.Mechanism.TheVariants.{ScramSha512, ScramSha256, ScramSha1, External, Plain, Anonymous}
+use Rattle.fe2o3_sasl_core.specs.declared.sasl_profile.error.ProfileError.{ProfileError}
+use Rattle.fe2o3_sasl_core.specs.declared.sasl_profile.error.ProfileError.TheVariants.{Frame as FrameFault}
+use Rattle.fe2o3_sasl_core.proofs.lemmas.frames.SpellingLemmas.{one_spelled_frame, one_spelling}
+use Rattle.fe2o3_sasl_negotiation.specs.ClientNegotiation.{ClientOutputs, ClientReplies}
+use Rattle.fe2o3_sasl_negotiation.specs.Framing.{framed, size_of, unit_size, IsWhole}
+use Rattle.fe2o3_sasl_negotiation.specs.Negotiations.{IsInTurn, ReceivesAt, Side, SideOutput, Sends}
+use Rattle.fe2o3_sasl_negotiation.specs.PolicyClient.{PolicySideAnswers, Selection, SelectsFor}
+use Rattle.fe2o3_sasl_negotiation.specs.PolicyLaws.{NothingBelowPolicy, SendsAllowed}
+use Rattle.fe2o3_sasl_negotiation.specs.declared.progress.Expected.{Expected}
+use Rattle.fe2o3_sasl_negotiation.specs.declared.progress.Expected.TheVariants.{Header, Frame}
+use Rattle.fe2o3_sasl_negotiation.specs.declared.progress.FrameKind.{FrameKind}
+use Rattle.fe2o3_sasl_negotiation.specs.declared.progress.FrameKind.TheVariants as turns
+use Rattle.fe2o3_sasl_negotiation.specs.declared.progress.Progress.{Progress}
+use Rattle.fe2o3_sasl_negotiation.specs.declared.progress.Progress.TheVariants.{Authenticated, Failed, InProgress}
+use Rattle.fe2o3_sasl_negotiation.proofs.lemmas.PolicyLawLemmas.{sent_is}
+
+-- ---- the name of a selected profile
+
+abbrev name_in : Option Profile → List ℕ
+name_in None = []
+name_in (Some profile) = profile_name profile
+
+scram_name : (limits : IterationLimits) (user : List ℕ) (version : ScramVersion) (secret : Option Secret) (profile : Profile)
+    → scram_by limits user version secret ≡ Some profile → profile_name profile ≡ mechanism_name version
+scram_name limits user version None profile is = absurd (cc)
+scram_name limits user version (Some secret) profile is = sym (ap name_in is)
+
+selected_name : (limits : IterationLimits) (user : List ℕ) (secret : Secret) (mechanism : Mechanism) (profile : Profile)
+    → profile_by limits user secret mechanism ≡ Some profile → profile_name profile ≡ policy_name mechanism
+selected_name limits user secret ScramSha512 profile is =
+    scram_name limits user Sha512 (secret_for Sha512 secret) profile is
+selected_name limits user secret ScramSha256 profile is =
+    scram_name limits user Sha256 (secret_for Sha256 secret) profile is
+selected_name limits user secret ScramSha1 profile is = scram_name limits user Sha1 (secret_for Sha1 secret) profile is
+selected_name limits user secret External profile is = sym (ap name_in is)
+selected_name limits user (Password password) Plain profile is = sym (ap name_in is)
+selected_name limits user (Keys keys) Plain profile is = absurd (cc)
+selected_name limits user (Both password keys) Plain profile is = sym (ap name_in is)
+selected_name limits user secret Anonymous profile is = sym (ap name_in is)
+
+-- ---- the init that a profile sends
+
+-- an init of this mechanism, in a frame
+abbrev SendsInit : List ℕ → Option (List ℕ) → SideOutput → Type 0
+SendsInit name hostname answer = (response : Option (List ℕ)) × (init : List ℕ)
+    × (canonical (frames.Init name response hostname) ≡ Some init) × (answer.sent ≡ framed init)
+
+module _ (hostname : Option (List ℕ)) (profile moved : Profile) (event : Given) (names : List (List ℕ))
+    (answer : SideOutput) (some : answer.sent ≡ [] → ⊥) (spells : SpellsBody event.body (Ok (frames.Mechanisms names))) where
+  abbrev signs : Bool
+  signs = accepts_signature_by_challenge profile
+
+  sends : (init : List ℕ) → canonical (frames.Init (profile_name profile) (initial_response profile event.nonce) hostname) ≡ Some init
+      → Sends init InProgress (Frame turns.Challenge) answer → SendsInit (profile_name profile) hostname answer
+  sends init is (inl (fits, same)) = (initial_response profile event.nonce, init, is, sent_is answer _ same)
+  sends init is (inr (long, same)) = absurd (some (sent_is answer _ same))
+
+  carries : (body : Option (List ℕ)) (says : ClientSays)
+      → canonical (frames.Init (profile_name profile) (initial_response profile event.nonce) hostname) ≡ body
+      → says ≡ carried (Refused (FrameFault faults.TooLarge)) (λ b. Started b) body
+      → ClientOutputs signs says turns.Mechanisms answer → SendsInit (profile_name profile) hostname answer
+  carries None says written is outputs =
+      absurd (some (sent_is answer _ (subst (λ (s : ClientSays). ClientOutputs signs s turns.Mechanisms answer) is outputs)))
+  carries (Some init) says written is outputs =
+      sends init written (subst (λ (s : ClientSays). ClientOutputs signs s turns.Mechanisms answer) is outputs)
+
+  gives : (says : ClientSays) → ProfileGives hostname profile event (Ok (frames.Mechanisms names)) says moved
+      → ClientOutputs signs says turns.Mechanisms answer → SendsInit (profile_name profile) hostname answer
+  gives says (inl (allocates, is, same)) outputs =
+      absurd (subst (λ (s : ClientSays). ClientOutputs signs s turns.Mechanisms answer) is outputs)
+  gives says (inr (reply, after, inl (offered, is, next), replies)) outputs =
+      carries _ says refl
+      (subst (λ (r : Result SaslFrame ProfileError). Replies profile after r says moved) is replies).0 outputs
+  gives says (inr (reply, after, inr (other, is, next), replies)) outputs =
+      absurd (some (sent_is answer _ (subst (λ (s : ClientSays). ClientOutputs signs s turns.Mechanisms answer)
+      (subst (λ (r : Result SaslFrame ProfileError). Replies profile after r says moved) is replies).0 outputs)))
+
+  init_sent : ClientReplies hostname turns.Mechanisms profile event answer moved
+      → SendsInit (profile_name profile) hostname answer
+  init_sent (Err fault, too, (is, same)) = absurd (some (sent_is answer _ is))
+  init_sent (Ok frame, too, inl (out, is, same)) = absurd (some (sent_is answer _ is))
+  init_sent (Ok frame, too, inr (in_turn, (says, (spelled, spelt, step), outputs))) =
+      gives says (subst (λ (s : Result SaslFrame Error). ProfileGives hostname profile event s says moved)
+      (one_spelling event.body spelled (Ok (frames.Mechanisms names)) spelt spells) step) outputs
+
+-- ---- what a call sends
+
+-- a list of mechanisms is in turn only where one is expected
+list_in_turn : (turn : FrameKind) (names : List (List ℕ)) → IsInTurn turn (frames.Mechanisms names) → turn ≡ turns.Mechanisms
+list_in_turn turns.Mechanisms names in_turn = refl
+list_in_turn turns.Init names in_turn = absurd in_turn
+list_in_turn turns.Challenge names in_turn = absurd in_turn
+list_in_turn turns.Response names in_turn = absurd in_turn
+list_in_turn turns.Outcome names in_turn = absurd in_turn
+list_in_turn turns.SignatureChallenge names in_turn = absurd in_turn
+
+module _ (selection : Selection) (side next : Side (Option Profile)) (bytes nonce sent : List ℕ) (taken : ℕ)
+    (some : sent ≢ []) (going : side.progress ≡ InProgress) where
+  offered_list : (turn : FrameKind) → side.expected ≡ Frame turn → turn ≡ turns.Mechanisms
+      → IsWhole (Frame turn) side.limit (side.held ++ bytes) → (names : List (List ℕ)) (answer : SideOutput)
+      (state : Option Profile) → sent ≡ answer.sent
+      → SpellsBody (drop 4 (take (size_of (side.held ++ bytes)) (side.held ++ bytes))) (Ok (frames.Mechanisms names))
+      → SelectsFor selection turn
+      (record { body = drop 4 (take (size_of (side.held ++ bytes)) (side.held ++ bytes)); nonce = nonce })
+      (frames.Mechanisms names) answer state → SendsAllowed selection side bytes sent
+  offered_list turn expects is whole names answer state same spells (inl (none, closed, kept)) =
+      absurd (some (same ∙ sent_is answer _ closed))
+  offered_list turn expects is whole names answer state same spells (inr (profile, moved, selected, replies, kept)) =
+      let event : Given =
+      record { body = drop 4 (take (size_of (side.held ++ bytes)) (side.held ++ bytes)); nonce = nonce } in
+      let init = init_sent selection.hostname profile moved event names answer (λ empty. some (same ∙ empty)) spells
+      (subst (λ (t : FrameKind). ClientReplies selection.hostname t profile event answer moved) is replies) in
+      let named = selected_name selection.policy.limits selection.user selection.secret selected.0 profile selected.2 in
+      record {
+        body = event.body;
+        names = names;
+        mechanism = selected.0;
+        response = init.0;
+        init = init.1;
+        completes = (
+          going,
+          expects ∙ ap (λ (t : FrameKind). Frame t) is,
+          subst (λ (t : FrameKind). IsWhole (Frame t) side.limit (side.held ++ bytes)) is whole,
+          refl,
+        );
+        spells = spells;
+        allowed = selected.1.2.0;
+        offered = selected.1.2.2;
+        written = subst (λ (name : List ℕ). canonical (frames.Init name init.0 selection.hostname) ≡ Some init.1) named init.2;
+        sends = same ∙ init.3;
+      }
+
+  allowed_answer : (expected : Expected) → side.expected ≡ expected → IsWhole expected side.limit (side.held ++ bytes)
+      → (answer : SideOutput) (state : Option Profile) → sent ≡ answer.sent
+      → PolicySideAnswers selection expected None nonce (take (unit_size expected (side.held ++ bytes)) (side.held ++ bytes))
+      answer state → SendsAllowed selection side bytes sent
+  allowed_answer Header expects whole answer state same (inl (other, is), kept) = absurd (some (same ∙ sent_is answer _ is))
+  allowed_answer Header expects whole answer state same (inr (sasl, is), kept) = absurd (some (same ∙ sent_is answer _ is))
+  allowed_answer (Frame turn) expects whole answer state same (Err fault, spells, (is, kept)) =
+      absurd (some (same ∙ sent_is answer _ is))
+  allowed_answer (Frame turn) expects whole answer state same (Ok frame, spells, inl (out, is, kept)) =
+      absurd (some (same ∙ sent_is answer _ is))
+  allowed_answer (Frame turn) expects whole answer state same (Ok frame, spells, inr (in_turn, (other, spelt, selects))) =
+      by other spelt selects
+    where
+      by : (other : SaslFrame) → SpellsBody (drop 4 (take (size_of (side.held ++ bytes)) (side.held ++ bytes))) (Ok other)
+          → SelectsFor selection turn
+          (record { body = drop 4 (take (size_of (side.held ++ bytes)) (side.held ++ bytes)); nonce = nonce }) other answer
+          state → SendsAllowed selection side bytes sent
+      by (frames.Mechanisms names) spelt selects =
+          offered_list turn expects (list_in_turn turn names (subst (λ (f : SaslFrame). IsInTurn turn f)
+          (one_spelled_frame (drop 4 (take (size_of (side.held ++ bytes)) (side.held ++ bytes))) frame
+          (frames.Mechanisms names) spells spelt) in_turn)) whole names answer state same spelt selects
+      by (frames.Init mechanism response hostname) spelt (is, kept) = absurd (some (same ∙ sent_is answer _ is))
+      by (frames.Challenge text) spelt (is, kept) = absurd (some (same ∙ sent_is answer _ is))
+      by (frames.Response text) spelt (is, kept) = absurd (some (same ∙ sent_is answer _ is))
+      by (frames.Outcome code more) spelt (is, kept) = absurd (some (same ∙ sent_is answer _ is))
+
+allowed_at : (selection : Selection) (side next : Side (Option Profile)) (bytes nonce sent : List ℕ) (taken : ℕ)
+    (progress : Progress) → side.progress ≡ progress → side.state ≡ None
+    → ReceivesAt progress (PolicySideAnswers selection) side bytes nonce taken sent next → sent ≢ []
+    → SendsAllowed selection side bytes sent
+allowed_at selection side next bytes nonce sent taken InProgress going none (inl (part, (t, s, is))) some = absurd (some s)
+allowed_at selection side next bytes nonce sent taken InProgress going none (inr (inl (refused, (t, s, is)))) some =
+    absurd (some s)
+allowed_at selection side next bytes nonce sent taken InProgress going none
+    (inr (inr (answer, state, whole, answers, (t, s, is)))) some =
+    allowed_answer selection side next bytes nonce sent taken some going side.expected refl whole answer state s
+    (subst (λ (p : Option Profile). PolicySideAnswers selection side.expected p nonce
+    (take (unit_size side.expected (side.held ++ bytes)) (side.held ++ bytes)) answer state) none answers)
+allowed_at selection side next bytes nonce sent taken Authenticated going none (t, s, is) some = absurd (some s)
+allowed_at selection side next bytes nonce sent taken (Failed why) going none (t, s, is) some = absurd (some s)
+
+pub nothing_below_policy : NothingBelowPolicy
+nothing_below_policy selection side next bytes nonce sent taken none receives some =
+    allowed_at selection side next bytes nonce sent taken side.progress refl none receives some

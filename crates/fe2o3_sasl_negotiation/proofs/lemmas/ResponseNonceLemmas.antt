@@ -1,0 +1,59 @@
+-- The acceptors answer a response alike with every nonce.
+use Rattle.std.proofs.Common.{ℕ, Option, Some, None, List}
+use Rattle.fe2o3_sasl_wire.specs.SaslFrames as frames
+use Rattle.fe2o3_sasl_wire.specs.SaslFrames.{SaslFrame}
+use Rattle.fe2o3_sasl_core.specs.AnyMechanism.{PartReplies, any_mechanism_machine}
+use Rattle.fe2o3_sasl_core.specs.AnyMechanismLaws.{Machine}
+use Rattle.fe2o3_sasl_core.specs.declared.any_mechanism.Selected.{Selected}
+use Rattle.fe2o3_sasl_core.specs.declared.any_mechanism.Selected.TheVariants.{First, Second}
+use Rattle.fe2o3_sasl_core.specs.ExternalServer.{external_machine}
+use Rattle.fe2o3_sasl_core.specs.ExtraChallenges.{Phase, Idle, Asking, Signing, Unconfirmed, PassesFrame, RepliesIn, extended_machine}
+use Rattle.fe2o3_sasl_core.specs.PlainServer.{plain_machine}
+use Rattle.fe2o3_sasl_core.specs.RestrictMechanisms.{offering_machine}
+use Rattle.fe2o3_sasl_core.specs.SaslAcceptor.{ScramAcceptor, PlainAcceptor, AnonymousAcceptor, acceptor_machine}
+use Rattle.fe2o3_sasl_negotiation.specs.Nonces.{IgnoresResponseNonce}
+
+pub acceptors_ignore_nonces : IgnoresResponseNonce acceptor_machine
+acceptors_ignore_nonces (ScramAcceptor provider state) next nonce other text reply replies = replies
+acceptors_ignore_nonces (PlainAcceptor user password accepted) next nonce other text reply replies = replies
+acceptors_ignore_nonces AnonymousAcceptor next nonce other text reply replies = replies
+
+pub externals_ignore_nonces : IgnoresResponseNonce external_machine
+externals_ignore_nonces external next nonce other text reply replies = replies
+
+pub plains_ignore_nonces : IgnoresResponseNonce plain_machine
+plains_ignore_nonces server next nonce other text reply replies = replies
+
+pub any_mechanisms_ignore_nonces : {S T : Type 0} (names : S → List (List ℕ)) (others : T → List (List ℕ))
+    (machine : Machine S) (second : Machine T) → IgnoresResponseNonce machine → IgnoresResponseNonce second
+    → IgnoresResponseNonce (any_mechanism_machine names others machine second)
+any_mechanisms_ignore_nonces {S} {T} names others machine second same too parts next nonce other text reply replies =
+    by parts.selected replies
+  where
+    by : (part : Option Selected) → PartReplies machine second parts part nonce (frames.Response text) reply next
+        → PartReplies machine second parts part other (frames.Response text) reply next
+    by None replies = replies
+    by (Some First) (moved, answers, is) = (moved, same parts.first moved nonce other text reply answers, is)
+    by (Some Second) (moved, answers, is) = (moved, too parts.second moved nonce other text reply answers, is)
+
+pub restricted_ignore_nonces : {S : Type 0} (names : S → List (List ℕ)) (machine : Machine S)
+    → IgnoresResponseNonce machine → IgnoresResponseNonce (offering_machine names machine)
+restricted_ignore_nonces names machine same offering next nonce other text reply (moved, answers, is) =
+    (moved, same offering.inner moved nonce other text reply answers, is)
+
+pub extra_challenges_ignore_nonces : {S : Type 0} (names : S → List (List ℕ)) (machine : Machine S)
+    → IgnoresResponseNonce machine → IgnoresResponseNonce (extended_machine names machine)
+extra_challenges_ignore_nonces {S} names machine same server next nonce other text reply replies =
+    by server.phase replies
+  where
+    passes : PassesFrame machine server nonce (frames.Response text) reply next
+        → PassesFrame machine server other (frames.Response text) reply next
+    passes (answer, moved, answers, sent, is) =
+        (answer, moved, same server.inner moved nonce other text answer answers, sent, is)
+
+    by : (phase : Phase) → RepliesIn names machine server phase nonce (frames.Response text) reply next
+        → RepliesIn names machine server phase other (frames.Response text) reply next
+    by Idle replies = passes replies
+    by (Asking mechanism hostname kept) replies = replies
+    by Signing replies = replies
+    by Unconfirmed replies = passes replies
