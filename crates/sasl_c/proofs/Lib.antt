@@ -16,3 +16,6 @@ pub mod LoginLemmas
 pub mod SaslprepLemmas
 pub mod StepLemmas
 pub mod StatusTextLemmas
+pub mod FieldLemmas
+pub mod PlainLemmas
+pub mod ExternalLemmas

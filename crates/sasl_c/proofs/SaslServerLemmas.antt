@@ -1,5 +1,5 @@
 -- What structs show of a server of a connection, and of which server they are (AMQP 1.0, part 5, section 5.3.2).
-use Rattle.std.proofs.Common.{arith, refl, sym, ap, inl, inr, ◌∙◌, ◌≡◌, ◌≢◌, ◌≤◌, ◌<◌, ◌+◌, ◌⊎◌, ◌∷◌, ◌++◌, ℕ, List, [], length}
+use Rattle.std.proofs.Common.{arith, refl, sym, ap, inl, inr, ◌∙◌, ◌≡◌, ◌≢◌, ◌≤◌, ◌<◌, ◌+◌, ◌*◌, ◌∷◌, ◌++◌, ℕ, List, [], length}
 use Rattle.std.specs.Prelude.{Bool, true, false, MatchOption, Option, Some, None, Ok, Err, option_map}
 use Rattle.std.specs.Str.{IsUtf8}
 use Rattle.std.proofs.lemmas.List.{append-nil, append_assoc}
@@ -35,7 +35,7 @@ use Rattle.fe2o3_sasl_core.specs.declared.extra_challenges.ExtraChallenges.{Extr
 use Rattle.fe2o3_sasl_core.specs.declared.extra_challenges.WithExtraChallenges.{WithExtraChallenges}
 use Rattle.fe2o3_sasl_core.specs.PasswordServer.{PasswordState, SavedExchange, asked_of, first_asked, opened, password_names, password_server, password_server_in, password_user, second_asked}
 use Rattle.fe2o3_sasl_core.specs.declared.password_server.PasswordServer.{PasswordServer}
-use Rattle.sasl_c.specs.Server.{KeptExchange, NothingKept, ChallengeOpen, SignatureSent, IsAuthenticated, IsPhaseOf, ShowsExchange, phase_for, signed_exchange}
+use Rattle.sasl_c.specs.Server.{KeptExchange, NothingKept, ChallengeOpen, SignatureSent, InitialResponseAsked, IsAuthenticated, IsPhaseOf, ShowsExchange, phase_for, signed_exchange}
 use Rattle.sasl_c.specs.Status.{version_number}
 use Rattle.sasl_c.proofs.ExchangeLemmas.{short}
 use Rattle.sasl_c.proofs.StatusLemmas.{carried}
@@ -65,31 +65,40 @@ sum_small choice = omega (
   form_within choice.passwords,
 )
 
-either : (is : Bool) → (one_where is 1024 ≡ 0) ⊎ (one_where is 1024 ≡ 1024)
-either true = inr refl
-either false = inl refl
-
--- so no choice has a sum above 2047, or one whose rest below 1024 is above 383
+-- so no choice has a sum above 2047, or one whose rest below 512 is above 383
 pub too_large : (sum : ℕ) → 2047 < sum → (choice : Choice) → sum_of choice ≢ sum
-too_large sum large choice same =
-    absurd (omega (arith, large, same, sum_small choice, within choice.signature_by_challenge 1024))
+too_large sum large choice same = absurd (omega (
+  arith,
+  large,
+  same,
+  sum_small choice,
+  within choice.signature_by_challenge 1024,
+  within choice.initial_response_by_challenge 512,
+))
 
-no_rest : (sum signed rest own mechanisms : ℕ) → sum ≡ signed + rest → 383 < rest → rest < 1024 → own + mechanisms ≡ sum
-    → mechanisms ≤ 383 → (signed ≡ 0) ⊎ (signed ≡ 1024) → (own ≡ 0) ⊎ (own ≡ 1024) → ⊥
-no_rest sum signed rest own mechanisms is large small same few (inl none) (inl unsigned) =
-    omega (arith, is, large, small, same, few, none, unsigned)
-no_rest sum signed rest own mechanisms is large small same few (inl none) (inr signs) =
-    omega (arith, is, large, small, same, few, none, signs)
-no_rest sum signed rest own mechanisms is large small same few (inr one) (inl unsigned) =
-    omega (arith, is, large, small, same, few, one, unsigned)
-no_rest sum signed rest own mechanisms is large small same few (inr one) (inr signs) =
-    omega (arith, is, large, small, same, few, one, signs)
+-- the numbers of the two challenges are a multiple of 512
+abbrev challenges : Bool → Bool → ℕ
+challenges signed asked = 512 * (one_where signed 2 + one_where asked 1)
 
-pub between : (sum rest : ℕ) (is : Bool) → sum ≡ one_where is 1024 + rest → 383 < rest → rest < 1024 → (choice : Choice)
-    → sum_of choice ≢ sum
-between sum rest is split large small choice same =
-    no_rest sum (one_where is 1024) rest (one_where choice.signature_by_challenge 1024) (mechanisms_sum choice) split large
-    small same (sum_small choice) (either is) (either choice.signature_by_challenge)
+multiple : (signed asked : Bool) → one_where signed 1024 + one_where asked 512 ≡ challenges signed asked
+multiple true true = refl
+multiple true false = refl
+multiple false true = refl
+multiple false false = refl
+
+pub between : (sum middle rest : ℕ) (signed asked : Bool) → sum ≡ one_where signed 1024 + middle
+    → middle ≡ one_where asked 512 + rest → 383 < rest → rest < 512 → (choice : Choice) → sum_of choice ≢ sum
+between sum middle rest signed asked split then large small choice same = absurd (omega (
+  arith,
+  split,
+  then,
+  large,
+  small,
+  same,
+  sum_small choice,
+  multiple signed asked,
+  multiple choice.signature_by_challenge choice.initial_response_by_challenge,
+))
 
 -- ---- the record of a configuration's user
 
@@ -239,6 +248,7 @@ module _ (config : Config) (choice : Choice) (records : MultiRecords) (signed : 
   stands NothingKept = ((λ version. refl), refl, refl)
   stands (ChallengeOpen version challenge) = stands_at version _
   stands (SignatureSent user) = stands_at signed _
+  stands (InitialResponseAsked init) = ((λ version. refl), refl, refl)
 
   served_in : (exchange : KeptExchange) → served exchange
       ≡ password_server_in (settings_for config choice records None) (opened (saved exchange))
@@ -247,6 +257,7 @@ module _ (config : Config) (choice : Choice) (records : MultiRecords) (signed : 
   served_in NothingKept = refl
   served_in (ChallengeOpen version challenge) = refl
   served_in (SignatureSent user) = refl
+  served_in (InitialResponseAsked init) = refl
 
   -- it keeps just this
   keeps_open : (version : ScramVersion) (challenge : ServerChallenge)
@@ -266,11 +277,13 @@ module _ (config : Config) (choice : Choice) (records : MultiRecords) (signed : 
   keeps NothingKept = refl
   keeps (ChallengeOpen version challenge) = keeps_open version challenge
   keeps (SignatureSent user) = keeps_user signed user
+  keeps (InitialResponseAsked init) = refl
 
   in_phase : (exchange : KeptExchange) → IsPhaseOf exchange (phase_for exchange)
   in_phase NothingKept = inl refl
   in_phase (ChallengeOpen version challenge) = inl refl
-  in_phase (SignatureSent user) = refl
+  in_phase (SignatureSent user) = inl refl
+  in_phase (InitialResponseAsked init) = refl
 
   is_of : (exchange : KeptExchange) → sum_of choice ≡ config.mechanisms → HasRecords config records
       → IsOf config exchange (extended exchange)

@@ -1,6 +1,6 @@
 -- What the server of a configuration replies, and how far it then is (AMQP 1.0, part 5, section 5.3.2).
 use Rattle.std.proofs.Common.{refl, sym, ap, inl, inr, ◌∙◌, ◌≡◌, ◌⊎◌, ◌∷◌, ℕ, List, []}
-use Rattle.std.specs.Prelude.{Bool, true, false, not, ◌&&◌, Option, Some, None, Result, Ok, Err}
+use Rattle.std.specs.Prelude.{Bool, true, false, Option, Some, None, Result, Ok, Err, option_map}
 use Rattle.fe2o3_sasl_wire.specs.declared.amqp_types.SaslCode.{SaslCode}
 use Rattle.fe2o3_sasl_wire.specs.declared.amqp_types.SaslCode.TheVariants as outcomes
 use Rattle.fe2o3_sasl_wire.specs.SaslFrames as frames
@@ -14,19 +14,19 @@ use Rattle.fe2o3_scram.specs.ScramServer.{ChallengesFrom, ConcludesFrom, ServerS
 use Rattle.fe2o3_scram.specs.ServerFirst.{ServerChallenge}
 use Rattle.fe2o3_sasl_core.specs.declared.any_mechanism.Selected.{Selected}
 use Rattle.fe2o3_sasl_core.specs.declared.any_mechanism.Selected.TheVariants.{First, Second}
-use Rattle.fe2o3_sasl_core.specs.ExtraChallenges.{Phase, Idle, Asking, Signing, Unconfirmed, AsksOrPasses, Confirms, PassesFrame, RepliesIn, is_asked, messageless, phase_after, sent_for}
+use Rattle.fe2o3_sasl_core.specs.ExtraChallenges.{Phase, Idle, Asking, Signing, Unconfirmed, AsksOrPasses, Confirms, PassesFrame, RepliesIn, is_asked, phase_after, sent_for}
 use Rattle.fe2o3_sasl_core.specs.declared.extra_challenges.ExtraChallenges.{ExtraChallenges}
 use Rattle.fe2o3_sasl_core.specs.ExternalServer.{External, external_machine}
 use Rattle.fe2o3_sasl_core.specs.RestrictMechanisms.{OfferingReplies, is_passed_on}
-use Rattle.fe2o3_sasl_core.specs.AnyMechanism.{BothStates, PartReplies, has_name, part_for}
+use Rattle.fe2o3_sasl_core.specs.AnyMechanism.{BothStates, PartReplies, part_for}
 use Rattle.fe2o3_sasl_core.specs.PlainServer.{PlainState, plain_machine}
 use Rattle.fe2o3_sasl_core.specs.SaslAcceptor.{Acceptor, ScramAcceptor, AnonymousAcceptor, acceptor_machine, acceptor_names, ends_with, server_frame}
 use Rattle.fe2o3_sasl_negotiation.specs.declared.progress.Progress.TheVariants.{InProgress}
 use Rattle.sasl_c.specs.declared.sasl_server.Choice.{Choice}
 use Rattle.sasl_c.specs.declared.sasl_server.SaslServerConfig.{SaslServerConfig as Config}
-use Rattle.sasl_c.specs.SaslServer.{Asked, HasRecords, IsOf, ServerIsReached, State, extra_for, or_no_record, record_for, server_machine, settings_for, sum_of}
-use Rattle.sasl_c.specs.Server.{KeptExchange, NothingKept, ChallengeOpen, SignatureSent, IsPhaseOf}
-use Rattle.fe2o3_sasl_core.specs.PasswordServer.{OtherStates, PasswordParts, PasswordSettings, PasswordState, ScramStates, external_names, last_machine, last_names, names_for, others_machine, others_names, others_of, parts_machine, parts_names, password_machine, password_names, password_server_in, plain_names, scram_provider, scrams_in, scrams_machine, scrams_names, weaker_machine, weaker_names}
+use Rattle.sasl_c.specs.SaslServer.{Asked, HasRecords, IsOf, ServerIsReached, Stands, State, extra_for, or_no_record, record_for, saved_for, server_machine, settings_for, sum_of}
+use Rattle.sasl_c.specs.Server.{KeptExchange, NothingKept, ChallengeOpen, SignatureSent, InitialResponseAsked, PendingInit, IsAsking, IsPhaseOf}
+use Rattle.fe2o3_sasl_core.specs.PasswordServer.{OtherStates, SavedExchange, PasswordParts, PasswordSettings, PasswordState, ScramStates, external_names, last_machine, last_names, names_for, others_machine, others_names, others_of, parts_machine, parts_names, password_machine, password_names, password_server_in, plain_names, scram_provider, scrams_in, scrams_machine, scrams_names, weaker_machine, weaker_names}
 use Rattle.sasl_c.proofs.StatusLemmas.{carried}
 
 -- ---- a reply ends the login, or SCRAM opens a challenge or logs a user in
@@ -324,6 +324,10 @@ Goes config reply next = Closes reply ⊎ ServerIsReached config InProgress next
 closes_so : (reply : SaslFrame) (code : SaslCode) → reply ≡ ends_with code → Closes reply
 closes_so reply code same = (code, None, same)
 
+-- in this phase a challenge of SCRAM may be open
+abbrev OfChallenge : Phase → Type 0
+OfChallenge phase = (phase ≡ Idle) ⊎ ((phase ≡ Unconfirmed) ⊎ IsAsking phase)
+
 -- an outcome without data is sent as it is
 sent_end : (signature : Bool) (code : SaslCode) → sent_for signature (ends_with code) ≡ ends_with code
 sent_end true outcomes.Ok = refl
@@ -339,16 +343,15 @@ sent_end false outcomes.SysTemp = refl
 
 -- the phase after a challenge
 phase_behind : (signature : Bool) (phase : Phase) (text : List ℕ)
-    → (phase_after signature phase (frames.Challenge text) ≡ Idle)
-    ⊎ (phase_after signature phase (frames.Challenge text) ≡ Unconfirmed)
+    → OfChallenge (phase_after signature phase (frames.Challenge text))
 phase_behind true Idle text = inl refl
-phase_behind true (Asking mechanism hostname kept) text = inr refl
-phase_behind true Signing text = inr refl
-phase_behind true Unconfirmed text = inr refl
+phase_behind true (Asking mechanism hostname kept) text = inr (inl refl)
+phase_behind true Signing text = inr (inl refl)
+phase_behind true Unconfirmed text = inr (inl refl)
 phase_behind false Idle text = inl refl
-phase_behind false (Asking mechanism hostname kept) text = inr refl
-phase_behind false Signing text = inr refl
-phase_behind false Unconfirmed text = inr refl
+phase_behind false (Asking mechanism hostname kept) text = inr (inl refl)
+phase_behind false Signing text = inr (inl refl)
+phase_behind false Unconfirmed text = inr (inl refl)
 
 -- an inner server in this state, after a reply
 record Behind (config : Config) (choice : Choice) (records : MultiRecords) (version : ScramVersion) (state : ServerState)
@@ -367,7 +370,7 @@ module _ (config : Config) (choice : Choice) (records : MultiRecords) (sum : sum
 
   reached_open : (version : ScramVersion) (challenge : ServerChallenge) (state : ServerState) (moved : PasswordState)
       (phase : Phase) → state ≡ ServerFirstSent challenge (record_for records version challenge.user)
-      → (phase ≡ Idle) ⊎ (phase ≡ Unconfirmed) → Behind config choice records version state moved
+      → OfChallenge phase → Behind config choice records version state moved
       → ServerIsReached config InProgress (moved_to moved phase)
   unfolding IsOf
   reached_open version challenge state moved phase same in_phase behind = (
@@ -404,7 +407,7 @@ module _ (config : Config) (choice : Choice) (records : MultiRecords) (sum : sum
       sum,
       has,
       (behind.at_hash ∙ same, behind.asked),
-      refl,
+      inl refl,
       refl,
       behind.is,
     ),
@@ -461,65 +464,92 @@ module _ (config : Config) (choice : Choice) (records : MultiRecords) (sum : sum
             is = is;
           }) sent_so)
 
-  -- no init is asked for its initial response
-  never_asked : (server : State) (frame : SaslFrame) → server.extra ≡ extra_for choice
-      → is_asked password_names server frame ≡ false
-  never_asked server (frames.Init mechanism None hostname) extra = ap (λ (e : ExtraChallenges).
-      e.initial_response && (has_name (password_names server.inner) mechanism && not (has_name messageless mechanism))) extra
-  never_asked server (frames.Init mechanism (Some text) hostname) extra = refl
-  never_asked server (frames.Response text) extra = refl
-  never_asked server (frames.Mechanisms names) extra = refl
-  never_asked server (frames.Challenge text) extra = refl
-  never_asked server (frames.Outcome code more) extra = refl
+  -- a server that keeps this of SCRAM is reached in each phase that fits
+  reached_in : (exchange : KeptExchange) (signed : ScramVersion) (states : ScramVersion → ServerState)
+      (selected weaker : Option Selected) (server : State) (phase : Phase)
+      → Stands (saved_for records signed exchange) states selected weaker → IsPhaseOf exchange phase
+      → server.extra ≡ extra_for choice
+      → server.inner ≡ password_server_in (settings_for config choice records None) states
+      (option_map (λ (saved : SavedExchange). First) (saved_for records signed exchange)) selected weaker
+      → ServerIsReached config InProgress (record server { phase = phase })
+  unfolding IsOf
+  reached_in exchange signed states selected weaker server phase stands in_phase extra inner = (
+    exchange,
+    (choice, records, signed, states, selected, weaker, sum, has, stands, in_phase, extra, inner),
+  )
 
-  asks_or_passes : (server next : State) (states : ScramVersion → ServerState) (at selected weaker : Option Selected)
-      (nonce : List ℕ) (frame reply : SaslFrame) → server.extra ≡ extra_for choice
-      → server.inner ≡ password_server_in (settings_for config choice records None) states at selected weaker
-      → AsksOrPasses password_machine server (is_asked password_names server frame) nonce frame reply next
-      → Goes config reply next
-  asks_or_passes server next states at selected weaker nonce frame reply extra inner held =
-      passes server next states at selected weaker nonce frame reply extra inner
-      (carried (λ (asked : Bool). AsksOrPasses password_machine server asked nonce frame reply next)
-      (is_asked password_names server frame) false (never_asked server frame extra) held)
+  -- where an init is asked, what is kept of SCRAM stays
+  reached_asking : (exchange : KeptExchange) (signed : ScramVersion) (states : ScramVersion → ServerState)
+      (selected weaker : Option Selected) (server : State) (init : PendingInit)
+      → Stands (saved_for records signed exchange) states selected weaker → server.extra ≡ extra_for choice
+      → server.inner ≡ password_server_in (settings_for config choice records None) states
+      (option_map (λ (saved : SavedExchange). First) (saved_for records signed exchange)) selected weaker
+      → ServerIsReached config InProgress (record server { phase = Asking init.mechanism init.hostname init.nonce })
+  reached_asking NothingKept signed states selected weaker server init stands extra inner =
+      reached_in NothingKept signed states selected weaker server _ stands (inr (inr (init, refl))) extra inner
+  reached_asking (ChallengeOpen version challenge) signed states selected weaker server init stands extra inner =
+      reached_in (ChallengeOpen version challenge) signed states selected weaker server _ stands
+      (inr (inr (init, refl))) extra inner
+  reached_asking (SignatureSent user) signed states selected weaker server init stands extra inner =
+      reached_in (SignatureSent user) signed states selected weaker server _ stands (inr (init, refl)) extra inner
+  reached_asking (InitialResponseAsked other) signed states selected weaker server init stands extra inner =
+      reached_in (InitialResponseAsked init) signed states selected weaker server _ stands refl extra inner
+
+  asks_or_passes : (exchange : KeptExchange) (signed : ScramVersion) (states : ScramVersion → ServerState)
+      (selected weaker : Option Selected) (server next : State) (asked : Bool) (nonce : List ℕ) (frame reply : SaslFrame)
+      → Stands (saved_for records signed exchange) states selected weaker → server.extra ≡ extra_for choice
+      → server.inner ≡ password_server_in (settings_for config choice records None) states
+      (option_map (λ (saved : SavedExchange). First) (saved_for records signed exchange)) selected weaker
+      → AsksOrPasses password_machine server asked nonce frame reply next → Goes config reply next
+  asks_or_passes exchange signed states selected weaker server next true nonce
+      (frames.Init mechanism response hostname) reply stands extra inner (same, then) = inr
+      (carried (ServerIsReached config InProgress) _ next (sym then)
+      (reached_asking exchange signed states selected weaker server
+      (record { mechanism = mechanism; hostname = hostname; nonce = nonce }) stands extra inner))
+  asks_or_passes exchange signed states selected weaker server next true nonce (frames.Response text) reply stands
+      extra inner held = passes server next states _ selected weaker nonce (frames.Response text) reply extra inner held
+  asks_or_passes exchange signed states selected weaker server next true nonce (frames.Mechanisms names) reply stands
+      extra inner held =
+      passes server next states _ selected weaker nonce (frames.Mechanisms names) reply extra inner held
+  asks_or_passes exchange signed states selected weaker server next true nonce (frames.Challenge text) reply stands
+      extra inner held = passes server next states _ selected weaker nonce (frames.Challenge text) reply extra inner held
+  asks_or_passes exchange signed states selected weaker server next true nonce (frames.Outcome code more) reply stands
+      extra inner held =
+      passes server next states _ selected weaker nonce (frames.Outcome code more) reply extra inner held
+  asks_or_passes exchange signed states selected weaker server next false nonce frame reply stands extra inner held =
+      passes server next states _ selected weaker nonce frame reply extra inner held
 
 confirms : (config : Config) (server next : State) (text : List ℕ) (reply : SaslFrame)
     → Confirms server text reply next → Goes config reply next
 confirms config server next [] reply (same, then) = inl (closes_so reply outcomes.Ok same)
 confirms config server next (byte ∷ text) reply (same, then) = inl (closes_so reply outcomes.Auth same)
 
--- in no phase with an init that was asked
-NotAsking : Phase → Type 0
-NotAsking (Asking mechanism hostname kept) = ⊥
-NotAsking phase = Unit {0}
-
-not_asking : (exchange : KeptExchange) (phase : Phase) → IsPhaseOf exchange phase → NotAsking phase
-unfolding NotAsking
-not_asking NothingKept phase (inl is) = carried NotAsking Idle phase (sym is) tt
-not_asking NothingKept phase (inr is) = carried NotAsking Unconfirmed phase (sym is) tt
-not_asking (ChallengeOpen version challenge) phase (inl is) = carried NotAsking Idle phase (sym is) tt
-not_asking (ChallengeOpen version challenge) phase (inr is) = carried NotAsking Unconfirmed phase (sym is) tt
-not_asking (SignatureSent user) phase is = carried NotAsking Signing phase (sym is) tt
-
 pub comes_goes : (config : Config) (server next : State) (nonce : List ℕ) (frame reply : SaslFrame)
     → ServerIsReached config InProgress server → server_machine server nonce frame reply next → Goes config reply next
-unfolding IsOf NotAsking
+unfolding IsOf
 comes_goes config server next nonce frame reply
     (exchange, (choice, records, signed, states, selected, weaker, sum, has, stands, in_phase, extra, inner))
-    held = go server.phase frame (not_asking exchange server.phase in_phase) held
+    held = go server.phase frame held
   where
-    go : (phase : Phase) (given : SaslFrame) → NotAsking phase
+    goes_on : (given : SaslFrame)
+        → AsksOrPasses password_machine server (is_asked password_names server given) nonce given reply next
+        → Goes config reply next
+    goes_on given then = asks_or_passes config choice records sum has exchange signed states selected weaker server next
+        (is_asked password_names server given) nonce given reply stands extra inner then
+
+    go : (phase : Phase) (given : SaslFrame)
         → RepliesIn password_names password_machine server phase nonce given reply next → Goes config reply next
-    go (Asking mechanism hostname kept) given not then = absurd not
-    go Signing (frames.Response text) not then = confirms config server next text reply then
-    go Signing (frames.Init mechanism response hostname) not then = asks_or_passes config choice records sum has server next
-        states _ selected weaker nonce (frames.Init mechanism response hostname) reply extra inner then
-    go Signing (frames.Mechanisms names) not then = asks_or_passes config choice records sum has server next states _
-        selected weaker nonce (frames.Mechanisms names) reply extra inner then
-    go Signing (frames.Challenge text) not then = asks_or_passes config choice records sum has server next states _
-        selected weaker nonce (frames.Challenge text) reply extra inner then
-    go Signing (frames.Outcome code more) not then = asks_or_passes config choice records sum has server next states _
-        selected weaker nonce (frames.Outcome code more) reply extra inner then
-    go Idle given not then = asks_or_passes config choice records sum has server next states _ selected weaker nonce given
-        reply extra inner then
-    go Unconfirmed given not then = asks_or_passes config choice records sum has server next states _ selected weaker nonce
-        given reply extra inner then
+    go (Asking mechanism hostname kept) (frames.Response text) then = passes config choice records sum has server next
+        states _ selected weaker kept (frames.Init mechanism (Some text) hostname) reply extra inner then
+    go (Asking mechanism hostname kept) (frames.Init other response name) then =
+        inl (closes_so reply outcomes.Auth then.0)
+    go (Asking mechanism hostname kept) (frames.Mechanisms names) then = inl (closes_so reply outcomes.Auth then.0)
+    go (Asking mechanism hostname kept) (frames.Challenge text) then = inl (closes_so reply outcomes.Auth then.0)
+    go (Asking mechanism hostname kept) (frames.Outcome code more) then = inl (closes_so reply outcomes.Auth then.0)
+    go Signing (frames.Response text) then = confirms config server next text reply then
+    go Signing (frames.Init mechanism response hostname) then = goes_on (frames.Init mechanism response hostname) then
+    go Signing (frames.Mechanisms names) then = goes_on (frames.Mechanisms names) then
+    go Signing (frames.Challenge text) then = goes_on (frames.Challenge text) then
+    go Signing (frames.Outcome code more) then = goes_on (frames.Outcome code more) then
+    go Idle given then = goes_on given then
+    go Unconfirmed given then = goes_on given then

@@ -1,12 +1,16 @@
 -- The user name that a frame claims to a server (RFC 5802, section 7; RFC 4616, section 2).
 use Rattle.std.proofs.Common.{true, arith, refl, sym, ap, inl, inr, ◌∙◌, ◌≡◌, ◌≢◌, ℕ, List, length}
-use Rattle.std.specs.Prelude.{Ok, Err, codes}
+use Rattle.std.specs.Prelude.{IfOk, MatchOption, Option, Some, None, Result, Ok, Err, codes}
 use Rattle.fe2o3_sasl_wire.specs.declared.sasl_frames.error.Error.{Error}
+use Rattle.fe2o3_sasl_wire.specs.SaslFrames as frames
 use Rattle.fe2o3_sasl_wire.specs.SaslFrames.{SaslFrame, ReadsBody}
 use Rattle.fe2o3_scram.specs.declared.hmac.ScramVersion.{ScramVersion}
 use Rattle.fe2o3_scram.specs.declared.hmac.ScramVersion.TheVariants as versions
 use Rattle.fe2o3_scram.specs.declared.scram_messages.error.ServerScramErrorKind.{ServerScramErrorKind}
+use Rattle.fe2o3_scram.specs.declared.scram_messages.channel_binding_flag.ChannelBindingFlag.{ChannelBindingFlag}
+use Rattle.fe2o3_scram.specs.declared.scram_messages.channel_binding_flag.ChannelBindingFlag.TheVariants.{NotSupported, ClientSupports}
 use Rattle.fe2o3_scram.specs.ClientFirst.{ClientFirst, ReadsClientFirst}
+use Rattle.fe2o3_scram.specs.ServerFirst.{ServerChallenge}
 use Rattle.fe2o3_scram.specs.Hmac.{mechanism_name}
 use Rattle.fe2o3_scram.specs.Readings.{IsFirst}
 use Rattle.fe2o3_scram.proofs.lemmas.messages.ClientFirstLemmas.{one_client_first}
@@ -16,6 +20,7 @@ use Rattle.fe2o3_sasl_negotiation.specs.declared.progress.Expected.{Expected}
 use Rattle.fe2o3_sasl_negotiation.specs.declared.progress.Expected.TheVariants.{Frame, Header}
 use Rattle.fe2o3_sasl_negotiation.specs.declared.progress.Progress.TheVariants.{InProgress}
 use Rattle.fe2o3_sasl_negotiation.specs.declared.progress.FrameKind.{FrameKind}
+use Rattle.fe2o3_sasl_negotiation.specs.declared.progress.FrameKind.TheVariants as turns
 use Rattle.fe2o3_sasl_negotiation.specs.Framing.{IsPart}
 use Rattle.fe2o3_sasl_negotiation.specs.Negotiations.{Completes}
 use Rattle.fe2o3_sasl_negotiation.specs.Snapshot.{IsKept, side_kept}
@@ -24,8 +29,8 @@ use Rattle.sasl_c.specs.declared.server.ScramServer.{ScramServer as ScramStruct}
 use Rattle.sasl_c.specs.declared.status.Status.{Status}
 use Rattle.sasl_c.specs.declared.status.Status.TheVariants as statuses
 use Rattle.sasl_c.specs.Connection.{Keeps, side_tests}
-use Rattle.sasl_c.specs.SaslServer.{AwaitsFrame, BodyAsks, BodyNames, BodyNamesNoUser, FrameAsks, FrameNames, InitAsks, InitNames, Named, NotNamed}
-use Rattle.sasl_c.specs.Server.{ReadsFirst}
+use Rattle.sasl_c.specs.SaslServer.{AnswerNeedsMemory, AnswerNames, AwaitsFrame, BodyAsks, BodyNames, BodyNamesNoUser, FrameAsks, FrameNames, InitAsks, InitNames, Named, NotNamed}
+use Rattle.sasl_c.specs.Server.{AsksHostname, HasAsked, IsOpen, PendingInit, ReadsFirst, open_number}
 use Rattle.sasl_c.proofs.ServerCallLemmas.{keeps_no_part, none_holds}
 use Rattle.sasl_c.proofs.StatusLemmas.{carried}
 
@@ -85,6 +90,73 @@ scram_asks mechanism text version is (inr (first, reads)) = inr (first.user, inl
 pub plain_asks : (mechanism text : List ℕ) (parts : PlainParts) → mechanism ≡ codes "PLAIN"
     → SpellsPlain parts text → IsTaken parts → InitAsks mechanism text
 plain_asks mechanism text parts is spells taken = inr (parts.user, inr (is, (parts, spells, taken, refl)))
+
+-- ---- a response
+
+-- a struct in which a challenge is open shows no init that was asked
+other_states : (scram : ScramStruct) (challenge : ServerChallenge) (init : PendingInit) → IsOpen scram challenge
+    → HasAsked scram init → ⊥
+other_states scram challenge init shows asked = differ challenge.header init.hostname shows.0 asked.0
+  where
+    differ : (header : ChannelBindingFlag) (hostname : Option (List ℕ)) → scram.state ≡ open_number header
+        → AsksHostname scram hostname → ⊥
+    differ NotSupported None is asks = absurd (omega (arith, is, asks))
+    differ ClientSupports None is asks = absurd (omega (arith, is, asks))
+    differ NotSupported (Some name) is asks = absurd (omega (arith, is, asks.0))
+    differ ClientSupports (Some name) is asks = absurd (omega (arith, is, asks.0))
+
+-- a struct shows one init
+one_init : (scram : ScramStruct) (init other : PendingInit) → HasAsked scram init → HasAsked scram other
+    → init.mechanism ≡ other.mechanism
+one_init scram init other asked too = asked.4 ∙ sym too.4
+
+-- the response is the initial response of an init that was asked
+pub answer_completes : (scram : ScramStruct) (init : PendingInit) (text name : List ℕ) → HasAsked scram init
+    → InitNames init.mechanism text name → AnswerNames scram text name
+answer_completes scram init text name asked names = inr (init, asked, names)
+
+pub completes_no_user : (scram : ScramStruct) (init : PendingInit) (text : List ℕ) → HasAsked scram init
+    → ((name : List ℕ) → ¬ InitNames init.mechanism text name) → (name : List ℕ) → ¬ AnswerNames scram text name
+completes_no_user scram init text asked none name (inl (challenge, shows, same)) =
+    other_states scram challenge init shows asked
+completes_no_user scram init text asked none name (inr (other, too, names)) =
+    none name (carried (λ mechanism. InitNames mechanism text name) other.mechanism init.mechanism
+    (one_init scram other init too asked) names)
+
+pub completing_asks : (scram : ScramStruct) (init : PendingInit) (text : List ℕ) → HasAsked scram init
+    → InitAsks init.mechanism text → AnswerNeedsMemory scram text
+completing_asks scram init text asked asks = inr (init, asked, asks)
+
+-- or it answers the open challenge
+pub answer_opens : (scram : ScramStruct) (challenge : ServerChallenge) (text name : List ℕ) → IsOpen scram challenge
+    → name ≡ challenge.user → AnswerNames scram text name
+answer_opens scram challenge text name shows same = inl (challenge, shows, same)
+
+pub opens_no_user : (scram : ScramStruct) (text : List ℕ) → ((init : PendingInit) → ¬ HasAsked scram init)
+    → ((challenge : ServerChallenge) → ¬ IsOpen scram challenge) → (name : List ℕ) → ¬ AnswerNames scram text name
+opens_no_user scram text none closed name (inl (challenge, shows, same)) = closed challenge shows
+opens_no_user scram text none closed name (inr (init, asked, names)) = none init asked
+
+pub opening_asks : (scram : ScramStruct) (text : List ℕ) → ((challenge : ServerChallenge) × IsOpen scram challenge)
+    → AnswerNeedsMemory scram text
+opening_asks scram text shows = inl shows
+
+-- a frame that is a response in turn names whom the response names
+pub frame_answers : {A : Type 0} (items : A → List ℕ) (scram : ScramStruct) (turn : FrameKind) (frame : SaslFrame)
+    (text : List ℕ) (result : Result (Option A) Status) → turn ≡ turns.Response → frame ≡ frames.Response text
+    → IfOk result (λ user. MatchOption user ((name : List ℕ) → ¬ AnswerNames scram text name)
+    (λ user. AnswerNames scram text (items user)))
+    → IfOk result (λ user. MatchOption user ((name : List ℕ) → ¬ FrameNames scram turn frame name)
+    (λ user. FrameNames scram turn frame (items user)))
+frame_answers items scram turn frame text result is response held =
+    carried (λ (t : FrameKind). IfOk result (λ user. MatchOption user ((name : List ℕ) → ¬ FrameNames scram t frame name)
+    (λ user. FrameNames scram t frame (items user)))) turns.Response turn (sym is)
+    (carried (λ (f : SaslFrame). IfOk result (λ user. MatchOption user
+    ((name : List ℕ) → ¬ FrameNames scram turns.Response f name)
+    (λ user. FrameNames scram turns.Response f (items user)))) (frames.Response text) frame (sym response) held)
+
+pub ruleset answer_user =
+    (answer_completes, completes_no_user, completing_asks, answer_opens, opens_no_user, opening_asks)
 
 pub body_asks : (scram : ScramStruct) (turn : FrameKind) (body : List ℕ) (frame : SaslFrame) (taken : ℕ)
     → ReadsBody body (Ok (frame, taken)) → FrameAsks scram turn frame → BodyAsks scram turn body

@@ -1,8 +1,11 @@
 pub mod Status
 pub mod Passwords
 pub mod Records
+pub mod RecordFields
 pub mod Keys
 pub mod ServerErrors
+pub mod Plain
+pub mod External
 pub mod Client
 pub mod Server
 pub mod Connection

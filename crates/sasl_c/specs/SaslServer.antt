@@ -45,7 +45,7 @@ use Rattle.sasl_c.specs.declared.status.Status.TheVariants as statuses
 use Rattle.sasl_c.specs.Connection.{IsSideOf, Keeps, KeepsNoPart, side_tests, connection_struct, KeepsNoPartOf}
 use Rattle.sasl_c.specs.Records.{ShowsRecord}
 use Rattle.sasl_c.specs.declared.records.ScramRecord.{ScramRecord as Kept}
-use Rattle.sasl_c.specs.Server.{KeptExchange, NothingKept, ChallengeOpen, SignatureSent, IsAuthenticated, IsOpen, IsPhaseOf, ShowsExchange, authenticated_struct, exchange_in, exchange_struct, fresh_server_struct}
+use Rattle.sasl_c.specs.Server.{KeptExchange, NothingKept, ChallengeOpen, SignatureSent, InitialResponseAsked, PendingInit, HasAsked, IsAuthenticated, IsOpen, IsPhaseOf, ShowsExchange, authenticated_struct, exchange_in, exchange_struct, fresh_server_struct}
 
 -- ---- the server of a configuration
 
@@ -87,13 +87,18 @@ mechanisms_sum choice = one_where choice.sha_512 1 + one_where choice.sha_256 2 
     + one_where choice.plain 8 + one_where choice.anonymous 16 + one_where choice.external 32
     + one_where choice.cbind_flag_y 64 + passwords_number choice.passwords
 
--- and 1024 if the signature is sent in a challenge (RFC 4422, section 5)
+-- and 512 if an init without an initial response is answered by a challenge, and 1024 if the signature is sent in one (RFC
+-- 4422, section 5)
 abbrev pub sum_of : Choice → ℕ
-sum_of choice = one_where choice.signature_by_challenge 1024 + mechanisms_sum choice
+sum_of choice = one_where choice.signature_by_challenge 1024 + one_where choice.initial_response_by_challenge 512
+    + mechanisms_sum choice
 
 -- the challenges that are sent beyond those of the mechanisms
 abbrev pub extra_for : Choice → ExtraChallenges
-extra_for choice = record { initial_response = false; signature = choice.signature_by_challenge }
+extra_for choice = record {
+  initial_response = choice.initial_response_by_challenge;
+  signature = choice.signature_by_challenge;
+}
 
 -- the records that an array of structs shows, in their order, each for this user
 abbrev pub ShowRecords : List ℕ → List Kept → MultiRecords → Type 0
@@ -152,14 +157,15 @@ or_no_record (Some stored) = stored
 abbrev pub record_for : MultiRecords → ScramVersion → List ℕ → Record
 record_for records version user = or_no_record (record_at (provider_for version records).records user)
 
--- what SCRAM continues for what a server keeps: an open challenge, with the record of its user for its hash; or the
--- login of a user, by this hash
+-- what SCRAM continues for what a server keeps: an open challenge, with the record of its user for its hash; the login
+-- of a user, by this hash; or nothing, as for an init that was asked, which begins an exchange of its own
 abbrev pub saved_for : MultiRecords → ScramVersion → KeptExchange → Option SavedExchange
 saved_for records signed NothingKept = None
 saved_for records signed (ChallengeOpen version challenge) = Some (record {
   version = version;
   state = ServerFirstSent challenge (record_for records version challenge.user);
 })
+saved_for records signed (InitialResponseAsked init) = None
 saved_for records signed (SignatureSent user) = Some (record { version = signed; state = ServerFinalSent user })
 
 -- the last init was of this hash, by the parts of SCRAM that are selected
@@ -318,11 +324,16 @@ abbrev pub ResponseNames : List ℕ → Option (List ℕ) → List ℕ → Type 
 ResponseNames mechanism (Some text) name = InitNames mechanism text name
 ResponseNames mechanism None name = ⊥
 
--- a frame in turn names this user: an init, and a response the user of the challenge that is open
+-- a response names this user: that of the challenge that is open, or, where an init was asked for its initial response,
+-- the user that the initial response names
+abbrev pub AnswerNames : ScramStruct → List ℕ → List ℕ → Type 0
+AnswerNames scram text name = ((challenge : ServerChallenge) × IsOpen scram challenge × (name ≡ challenge.user))
+    ⊎ ((init : PendingInit) × HasAsked scram init × InitNames init.mechanism text name)
+
+-- a frame in turn names this user: an init, or a response
 abbrev pub FrameNames : ScramStruct → FrameKind → SaslFrame → List ℕ → Type 0
 FrameNames scram turns.Init (frames.Init mechanism response hostname) name = ResponseNames mechanism response name
-FrameNames scram turns.Response (frames.Response text) name = (challenge : ServerChallenge) × IsOpen scram challenge
-    × (name ≡ challenge.user)
+FrameNames scram turns.Response (frames.Response text) name = AnswerNames scram text name
 FrameNames scram turn frame name = ⊥
 
 -- a body names this user
@@ -345,10 +356,15 @@ abbrev pub ResponseAsks : List ℕ → Option (List ℕ) → Type 0
 ResponseAsks mechanism (Some text) = InitAsks mechanism text
 ResponseAsks mechanism None = ⊥
 
--- and for a frame in turn: an init, and a response where a challenge is open
+-- and for a response: where a challenge is open, or for an initial response
+abbrev pub AnswerNeedsMemory : ScramStruct → List ℕ → Type 0
+AnswerNeedsMemory scram text = ((challenge : ServerChallenge) × IsOpen scram challenge)
+    ⊎ ((init : PendingInit) × HasAsked scram init × InitAsks init.mechanism text)
+
+-- and for a frame in turn: an init, or a response
 abbrev pub FrameAsks : ScramStruct → FrameKind → SaslFrame → Type 0
 FrameAsks scram turns.Init (frames.Init mechanism response hostname) = ResponseAsks mechanism response
-FrameAsks scram turns.Response (frames.Response text) = (challenge : ServerChallenge) × IsOpen scram challenge
+FrameAsks scram turns.Response (frames.Response text) = AnswerNeedsMemory scram text
 FrameAsks scram turn frame = ⊥
 
 -- and for a body

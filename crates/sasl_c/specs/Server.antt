@@ -1,6 +1,7 @@
 -- A SCRAM server that is kept in a struct of C between its calls (RFC 5802, sections 3 and 5).
 use Rattle.std.specs.Prelude.{Bool, true, ◌≡◌, ◌≤◌, ◌⊎◌, ℕ, List, [], ◌∷◌, length, replicate, take, Option, Some, None, Result, Ok, Err}
-use Rattle.std.specs.Str.{IsUtf8}
+use Rattle.std.specs.Str.{IsAscii, IsUtf8}
+use Rattle.fe2o3_sasl_wire.specs.FrameView.{shown}
 use Rattle.fe2o3_scram.specs.declared.hmac.ScramVersion.{ScramVersion}
 use Rattle.fe2o3_scram.specs.declared.scram_messages.error.ServerScramErrorKind.{ServerScramErrorKind}
 use Rattle.fe2o3_scram.specs.declared.scram_messages.error.ServerScramErrorKind.TheVariants.{IllegalAuthenticatorState, OutOfMemory}
@@ -14,8 +15,9 @@ use Rattle.fe2o3_scram.specs.ScramServer.{ConcludesFrom, ServerFirstSent, Server
 use Rattle.fe2o3_scram.specs.ServerFinal.{FinalCosts}
 use Rattle.fe2o3_scram.specs.ServerFirst.{AnswersClientFirst, ServerChallenge}
 use Rattle.fe2o3_scram.specs.Texts.{base64_text}
-use Rattle.fe2o3_sasl_core.specs.ExtraChallenges.{Phase, Idle, Signing, Unconfirmed}
+use Rattle.fe2o3_sasl_core.specs.ExtraChallenges.{Phase, Asking, Idle, Signing, Unconfirmed}
 use Rattle.sasl_c.specs.declared.records.ScramRecord.{ScramRecord as Kept}
+use Rattle.sasl_c.specs.declared.exchange.AskedInit.{AskedInit}
 use Rattle.sasl_c.specs.declared.exchange.ScramExchange.{ScramExchange}
 use Rattle.sasl_c.specs.declared.exchange.ScramExchange.TheVariants as forms
 use Rattle.sasl_c.specs.declared.server.ScramServer.{ScramServer as Struct}
@@ -73,20 +75,50 @@ abbrev pub HasSigned : Struct → List ℕ → Type 0
 HasSigned server user = (server.state ≡ 4) × (server.user_len ≤ 256) × (user ≡ take server.user_len server.user)
     × IsUtf8 user
 
--- what a server keeps of a login that is not complete: nothing, an open challenge of SCRAM with its hash, or the user
--- to whom it has sent its signature in a challenge
+-- an init that has no initial response, and was answered by an empty challenge (AMQP 1.0, part 5, section 5.3.3.2; RFC
+-- 4422, section 5): its mechanism, its hostname, if it has one, and the nonce of 32 bytes that was passed with it
+pub record PendingInit : Type 0 where
+  pub mechanism : List ℕ
+  pub hostname : Option (List ℕ)
+  pub nonce : List ℕ
+
+-- the number of a struct that shows such an init
+abbrev pub asked_number : Option (List ℕ) → ℕ
+asked_number None = 5
+asked_number (Some hostname) = 6
+
+-- the struct shows such an init with this hostname, or with none
+abbrev pub AsksHostname : Struct → Option (List ℕ) → Type 0
+AsksHostname server None = server.state ≡ 5
+AsksHostname server (Some hostname) = (server.state ≡ 6) × (server.bare_len ≤ 1024)
+    × (hostname ≡ take server.bare_len server.bare) × IsUtf8 hostname
+
+-- the struct is that of a server that has asked this init for its initial response
+abbrev pub HasAsked : Struct → PendingInit → Type 0
+HasAsked server init = AsksHostname server init.hostname × (server.nonce_len ≡ 32) × (init.nonce ≡ take 32 server.nonce)
+    × (server.first_len ≤ 1024) × (init.mechanism ≡ take server.first_len server.first) × IsAscii init.mechanism
+
+-- what a server keeps of a login that is not complete: nothing, an open challenge of SCRAM with its hash, the user to
+-- whom it has sent its signature in a challenge, or the init that it has asked for its initial response
 pub data KeptExchange : Type 0 where
   NothingKept : KeptExchange
   ChallengeOpen : (version : ScramVersion) → (challenge : ServerChallenge) → KeptExchange
   SignatureSent : (user : List ℕ) → KeptExchange
+  InitialResponseAsked : (init : PendingInit) → KeptExchange
 
 -- the struct shows that a server keeps this
 abbrev pub ShowsExchange : Struct → KeptExchange → Type 0
 ShowsExchange server NothingKept =
     ((version : ScramVersion) (challenge : ServerChallenge) → ¬ IsOpenBy server version challenge)
-    × ((user : List ℕ) → ¬ HasSigned server user)
+    × ((user : List ℕ) → ¬ HasSigned server user) × ((init : PendingInit) → ¬ HasAsked server init)
 ShowsExchange server (ChallengeOpen version challenge) = IsOpenBy server version challenge
 ShowsExchange server (SignatureSent user) = HasSigned server user
+ShowsExchange server (InitialResponseAsked init) = HasAsked server init
+
+-- the mechanism of an init that was asked is ASCII
+abbrev pub AsksInAscii : KeptExchange → Type 0
+AsksInAscii (InitialResponseAsked init) = IsAscii init.mechanism
+AsksInAscii exchange = Unit {0}
 
 -- an open challenge with its hash, if there is one, as what a server keeps
 abbrev pub open_exchange : Option (ScramVersion × ServerChallenge) → KeptExchange
@@ -101,17 +133,28 @@ signed_exchange (Some user) = SignatureSent user
 -- what a server keeps in this phase, with this open challenge and this user
 abbrev pub exchange_in : Phase → Option (ScramVersion × ServerChallenge) → Option (List ℕ) → KeptExchange
 exchange_in Signing opened user = signed_exchange user
+exchange_in (Asking mechanism hostname nonce) opened user = InitialResponseAsked (record {
+  mechanism = mechanism;
+  hostname = hostname;
+  nonce = nonce;
+})
 exchange_in phase opened user = open_exchange opened
 
 -- the phase in which a server is restored that keeps this
 abbrev pub phase_for : KeptExchange → Phase
 phase_for (SignatureSent user) = Signing
+phase_for (InitialResponseAsked init) = Asking init.mechanism init.hostname init.nonce
 phase_for exchange = Idle
 
--- a server that keeps this is in this phase
+-- an init is asked for its initial response
+abbrev pub IsAsking : Phase → Type 0
+IsAsking phase = (init : PendingInit) × (phase ≡ Asking init.mechanism init.hostname init.nonce)
+
+-- a server whose acceptor keeps this of SCRAM is in this phase: an init may have been asked after it
 abbrev pub IsPhaseOf : KeptExchange → Phase → Type 0
-IsPhaseOf (SignatureSent user) phase = phase ≡ Signing
-IsPhaseOf exchange phase = (phase ≡ Idle) ⊎ (phase ≡ Unconfirmed)
+IsPhaseOf (SignatureSent user) phase = (phase ≡ Signing) ⊎ IsAsking phase
+IsPhaseOf (InitialResponseAsked init) phase = phase ≡ Asking init.mechanism init.hostname init.nonce
+IsPhaseOf exchange phase = (phase ≡ Idle) ⊎ ((phase ≡ Unconfirmed) ⊎ IsAsking phase)
 
 -- ---- the structs that calls write: every field that a state does not name is zero, and so is each byte after a length
 
@@ -168,11 +211,37 @@ authenticated_struct user = user_struct 2 (length user) (zero_filled 256 user)
 abbrev pub signed_struct : List ℕ → Struct
 signed_struct user = user_struct 4 (length user) (zero_filled 256 user)
 
+-- the empty text where there is none
+abbrev pub or_empty : Option (List ℕ) → List ℕ
+or_empty None = []
+or_empty (Some text) = text
+
+-- an init whose mechanism is ASCII, and whose texts have room in a struct
+abbrev pub HasRoomForInit : PendingInit → Type 0
+HasRoomForInit init = IsAscii init.mechanism × (length init.mechanism ≤ 1024) × (length (or_empty init.hostname) ≤ 1024)
+
+-- of one that has asked this init for its initial response: the hostname is where the client-first message is
+-- otherwise, and the mechanism where the server-first message is
+abbrev pub asked_struct : PendingInit → Struct
+asked_struct init = record {
+  state = asked_number init.hostname;
+  version = 0;
+  user_len = 0;
+  bare_len = length (or_empty init.hostname);
+  nonce_len = 32;
+  first_len = length init.mechanism;
+  user = replicate 256 0;
+  bare = zero_filled 1024 (or_empty init.hostname);
+  nonce = zero_filled 512 init.nonce;
+  first = zero_filled 1024 init.mechanism;
+}
+
 -- of one that keeps this
 abbrev pub exchange_struct : KeptExchange → Struct
 exchange_struct NothingKept = fresh_server_struct
 exchange_struct (ChallengeOpen version challenge) = open_struct (version_number version) challenge
 exchange_struct (SignatureSent user) = signed_struct user
+exchange_struct (InitialResponseAsked init) = asked_struct init
 
 -- ---- what the calls return (RFC 5802, section 5), and the struct after them
 
@@ -269,8 +338,13 @@ TellsUser server (Err status) = (status ≡ server_status IllegalAuthenticatorSt
 
 -- ---- the code's values
 
+-- the init that a value is
+abbrev pub init_shown : AskedInit → PendingInit
+init_shown init = record { mechanism = init.mechanism.now; hostname = shown init.hostname; nonce = init.nonce }
+
 -- what a server keeps that a value is
 abbrev pub exchange_shown : ScramExchange → KeptExchange
 exchange_shown forms.NothingKept = NothingKept
 exchange_shown (forms.ChallengeOpen version challenge) = ChallengeOpen version (challenge_kept challenge)
 exchange_shown (forms.SignatureSent user) = SignatureSent user.now
+exchange_shown (forms.InitialResponseAsked init) = InitialResponseAsked (init_shown init)

@@ -1,5 +1,5 @@
-//! SCRAM for C, and for languages that call C: clients, servers, records and keys (RFC 5802, RFC 7677), and SASLprep (RFC
-//! 4013).
+//! SCRAM for C, and for languages that call C: clients, servers, records and keys (RFC 5802, RFC 7677), SASLprep (RFC
+//! 4013), and PLAIN and EXTERNAL over messages (RFC 4616; RFC 4422, appendix A).
 //!
 //! The state of an exchange is a struct of numbers and arrays in the caller's memory. There is no handle and nothing to
 //! free, and a call accepts any value of a struct. All zeros is a fresh one. A call returns a number, 0 if it succeeded,
@@ -20,12 +20,16 @@ mod client_final;
 mod client_steps;
 mod connection;
 mod exchange;
+mod external;
 mod frames;
 mod keys;
 mod lines;
 mod login;
 mod passwords;
+mod plain;
+mod plain_verify;
 mod preparation;
+mod record_fields;
 mod records;
 mod sasl_client;
 mod sasl_server;

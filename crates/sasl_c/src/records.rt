@@ -131,6 +131,9 @@ fn compute_record(
 
 /// Computes the record of a password. `form` is one of enum fe2o3_password_form. A client logs in with exactly the text
 /// of which the record was made.
+///
+/// `salt` is random bytes, fresh for each record, at most 128: 16 suffice. For SCRAM-SHA-256 some clients of MongoDB
+/// require 28.
 #[unsafe(no_mangle)]
 pub extern "C" fn fe2o3_scram_record_make(
     alloc: Global,

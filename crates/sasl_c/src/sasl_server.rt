@@ -7,7 +7,7 @@ ghost use Rattle.fe2o3_scram.specs.Mixed.{MultiRecords};
 ghost use Rattle.fe2o3_scram.specs.Readings.{NoneHolds};
 ghost use Rattle.fe2o3_sasl_core.specs.ExtraChallenges.{phase_of};
 ghost use Rattle.fe2o3_sasl_core.specs.PasswordServer.{password_names, password_server, password_state};
-ghost use Rattle.fe2o3_sasl_core.specs.declared.password_server.BuildError.TheVariants.{NoMechanism as BuildNoMechanism, SaltTooLong as BuildSaltTooLong};
+ghost use Rattle.fe2o3_sasl_core.specs.declared.password_server.builder.BuildError.TheVariants.{NoMechanism as BuildNoMechanism, SaltTooLong as BuildSaltTooLong};
 ghost use Rattle.fe2o3_sasl_negotiation.specs.declared.progress.Progress.TheVariants.{InProgress};
 ghost use Rattle.fe2o3_sasl_negotiation.specs.ServerNegotiation.{ServerReceives};
 ghost use Rattle.fe2o3_sasl_negotiation.specs.Snapshot.{IsServerKept, side_of};
@@ -44,6 +44,8 @@ pub struct SaslServerConfig<'a> {
     /// over TLS only. It rejects every password that is not printable ASCII, unless the sum has FE2O3_PLAIN_PREPARED
     /// or FE2O3_PLAIN_SASLPREP. By the latter it also rejects a password that SASLprep rejects or prepares to the empty
     /// text. With FE2O3_SIGNATURE_BY_CHALLENGE SCRAM's outcome OK follows the client's empty response to a challenge.
+    /// With FE2O3_INITIAL_RESPONSE_BY_CHALLENGE an init for SCRAM or PLAIN without an initial response is answered by
+    /// an empty challenge, and the response is the initial response.
     pub mechanisms: u32,
 
     /// The iteration count with which PLAIN hashes the password of an unknown user.
@@ -86,6 +88,9 @@ struct Choice {
 
     /// Whether SCRAM accepts the GS2 flag `y`.
     cbind_flag_y: bool,
+
+    /// Whether an init without an initial response is answered by an empty challenge.
+    initial_response_by_challenge: bool,
 
     /// Whether the server's signature is sent in a challenge.
     signature_by_challenge: bool,
@@ -131,6 +136,7 @@ impl Choice {
             return None;
         }
         let (signature_by_challenge, rest) = split(sum, 1024);
+        let (initial_response_by_challenge, rest) = split(rest, 512);
         if rest > 383 {
             return None;
         }
@@ -150,6 +156,7 @@ impl Choice {
             anonymous,
             external,
             cbind_flag_y,
+            initial_response_by_challenge,
             signature_by_challenge,
             passwords,
         })
@@ -160,7 +167,7 @@ impl Choice {
         ensures { result ≡ extra_for self }
     {
         ExtraChallenges {
-            initial_response: false,
+            initial_response: self.initial_response_by_challenge,
             signature: self.signature_by_challenge,
         }
     }
@@ -226,16 +233,6 @@ fn add_record(
 /// The library's server of a configuration.
 type Acceptor = WithExtraChallenges<PasswordServer>;
 
-/// The phase of a server that keeps this.
-fn phase_for(exchange: &ScramExchange<'_>) -> ChallengePhase
-    ensures { phase_of result ≡ phase_for (exchange_shown exchange.now) }
-{
-    match exchange {
-        ScramExchange::SignatureSent(_) => ChallengePhase::Signing,
-        _ => ChallengePhase::Idle,
-    }
-}
-
 impl SaslServerConfig<'_> {
     /// The records of the configuration's user. `OutOfMemory` is the only error.
     #[tactic(auto, using(crate::proofs::SaslServerLemmas::store))]
@@ -293,6 +290,7 @@ impl SaslServerConfig<'_> {
             .external(if choice.external { external } else { "" });
         match exchange {
             ScramExchange::NothingKept => builder.build(alloc),
+            ScramExchange::InitialResponseAsked(_) => builder.build(alloc),
             ScramExchange::SignatureSent(user) => builder.authenticated(version, user).build(alloc),
             ScramExchange::ChallengeOpen(hash, challenge) => {
                 let stored = record_for(store, *hash, challenge.username);
@@ -338,7 +336,7 @@ impl SaslServerConfig<'_> {
         };
         let version = self.first_version();
         let exchange = scram.kept_exchange();
-        let phase = phase_for(&exchange);
+        let phase = exchange.phase(alloc)?;
         match self.server(alloc, choice, &store, version, external, &exchange) {
             Ok(server) => Ok(WithExtraChallenges::with_phase(server, choice.extra(), phase)),
             Err(BuildError::NoMechanism) => Err(Status::NoSuchMechanism),

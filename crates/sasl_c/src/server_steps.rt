@@ -199,8 +199,9 @@ fn step(
 /// (`fe2o3_scram_server_authenticated_user`). ANONYMOUS has none.
 ///
 /// This call is for programs that read frames themselves, reject those above 512 bytes, and limit their number. A
-/// login takes an init, and for SCRAM one response, or two with FE2O3_SIGNATURE_BY_CHALLENGE. A client that may send
-/// more can try passwords again and again. A response without a challenge is answered by an outcome that is not OK. A
+/// login takes an init, and for SCRAM one response. FE2O3_SIGNATURE_BY_CHALLENGE adds one response for SCRAM, and
+/// FE2O3_INITIAL_RESPONSE_BY_CHALLENGE one for SCRAM and PLAIN. A client that may send more can try passwords again and
+/// again. A response without a challenge is answered by an outcome that is not OK. A
 /// frame that no client sends returns FE2O3_NO_SASL_FRAME. If a name or a message does not fit into the struct, the
 /// call returns FE2O3_TOO_LONG, and you have to close the connection.
 #[unsafe(no_mangle)]
@@ -241,8 +242,8 @@ fn compute_claimed_user(alloc: Global, server: &ScramServer, body: &[u8]) -> Res
     }
 }
 
-/// Writes the user name that a frame body claims: that of an init for SCRAM or PLAIN, and for a response that of the
-/// open challenge of SCRAM. Nobody is authenticated yet: use it only to look up the record for
+/// Writes the user name that a frame body claims: that of an init for SCRAM or PLAIN, for a response that of the open
+/// challenge of SCRAM, and for the response to an empty challenge that of the initial response. Nobody is authenticated yet: use it only to look up the record for
 /// `fe2o3_sasl_server_step`. Returns FE2O3_NAMES_NO_USER if the body claims no name; then no record is needed.
 #[unsafe(no_mangle)]
 #[tactic(auto, using(crate::proofs::StatusLemmas::written))]

@@ -1,7 +1,7 @@
 //! The user name that the bytes of a connection, or a frame body, claim before a server takes them.
 
 ghost use Rattle.std.specs.Prelude.{true, ◌≡◌, ◌≢◌, ℕ, List, Ok, IfOk, IfErr, OnErr, MatchOption};
-ghost use Rattle.sasl_c.specs.SaslServer.{AwaitsFrame, BodyAsks, BodyNames, BodyNamesNoUser, FrameAsks, FrameNames, InitAsks, InitNames, Named, Names, NotNamed, ResponseAsks, ResponseNames};
+ghost use Rattle.sasl_c.specs.SaslServer.{AnswerNeedsMemory, AnswerNames, AwaitsFrame, BodyAsks, BodyNames, BodyNamesNoUser, FrameAsks, FrameNames, InitAsks, InitNames, Named, Names, NotNamed, ResponseAsks, ResponseNames};
 ghost use Rattle.fe2o3_sasl_wire.specs.FrameView.{shown, viewed_frame};
 ghost use Rattle.fe2o3_scram.specs.ClientFirst.{ClientFirst as FirstValues, ReadsClientFirst};
 ghost use Rattle.fe2o3_scram.specs.ServerFirst.{ServerChallenge};
@@ -88,6 +88,30 @@ fn open_user(alloc: Global, scram: &ScramServer) -> Result<Option<Vec<u8>>, Stat
     }
 }
 
+/// Returns the user name that a response claims: that of the initial response that it is, or of the open challenge; or
+/// `None` if it claims none. `OutOfMemory` is the only error.
+#[tactic(auto, using(crate::proofs::ServerUserLemmas::answer_user))]
+fn answer_user(alloc: Global, scram: &ScramServer, text: &[u8]) -> Result<Option<Vec<u8>>, Status>
+    ensures ok { IfOk result (λ user. MatchOption user
+        ((name : List ℕ) → ¬ AnswerNames scram.now text.now name)
+        (λ user. AnswerNames scram.now text.now user.items)) }
+    ensures err { IfErr result (λ status. status ≡ StatusOutOfMemory) }
+    ensures memory { OnErr result (AnswerNeedsMemory scram.now text.now) }
+{
+    let Some(init) = scram.asked_init() else {
+        return match open_user(alloc, scram) {
+            Ok(Some(name)) => Ok(Some(name)),
+            Ok(None) => Ok(None),
+            Err(status) => Err(status),
+        };
+    };
+    match init_user(alloc, init.mechanism, text) {
+        Ok(Some(name)) => Ok(Some(name)),
+        Ok(None) => Ok(None),
+        Err(status) => Err(status),
+    }
+}
+
 /// Returns the user name that the expected frame claims, or `None` if it claims none. `OutOfMemory` is the only error.
 fn frame_user(
     alloc: Global,
@@ -110,7 +134,7 @@ fn frame_user(
                 ..
             },
         ) => response_user(alloc, mechanism, *initial_response),
-        (FrameKind::Response, FrameView::Response(_)) => open_user(alloc, scram),
+        (FrameKind::Response, FrameView::Response(text)) => answer_user(alloc, scram, *text),
         _ => Ok(None),
     }
 }
@@ -160,8 +184,9 @@ fn compute_claimed_user(alloc: Global, server: &SaslServer, bytes: &[u8]) -> Res
     }
 }
 
-/// Writes the user name that the next frame claims, if `bytes` complete it: that of an init for SCRAM or PLAIN, and
-/// for a response that of the open challenge of SCRAM. Nobody is authenticated yet: use it only to look up the record
+/// Writes the user name that the next frame claims, if `bytes` complete it: that of an init for SCRAM or PLAIN, for a
+/// response that of the open challenge of SCRAM, and for the response to an empty challenge that of the initial
+/// response. Nobody is authenticated yet: use it only to look up the record
 /// for `fe2o3_sasl_server_receive`. Returns FE2O3_NAMES_NO_USER if the frame is not complete or claims no name; then no
 /// record is needed.
 #[unsafe(no_mangle)]

@@ -11,7 +11,7 @@ ghost use Rattle.sasl_c.specs.SaslServer.{ShowsProgress, progress_struct};
 ghost use Rattle.sasl_c.specs.Server.{exchange_in, exchange_shown, open_exchange};
 ghost use Rattle.sasl_c.specs.declared.server.ScramServer.{ScramServer as ScramStruct};
 
-use crate::exchange::ScramExchange;
+use crate::exchange::{AskedInit, ScramExchange};
 use crate::server::ScramServer;
 use fe2o3_sasl_core::{
     AuthenticatedUser, ChallengePhase, HasMechanism, PasswordServer, WithExtraChallenges,
@@ -76,7 +76,15 @@ fn exchange_of<A: OpensChallenges>(server: &WithExtraChallenges<A>) -> ScramExch
             None => ScramExchange::NothingKept,
         },
         ChallengePhase::Idle => open_of(inner),
-        ChallengePhase::Asking { .. } => open_of(inner),
+        ChallengePhase::Asking {
+            mechanism,
+            hostname,
+            nonce,
+        } => ScramExchange::InitialResponseAsked(AskedInit {
+            mechanism: mechanism.as_str(),
+            hostname: hostname.as_deref(),
+            nonce: *nonce,
+        }),
         ChallengePhase::Unconfirmed => open_of(inner),
     }
 }

@@ -54,7 +54,8 @@ pub enum Status {
     /// The struct of the connection has a value that no call writes.
     InvalidSnapshot,
 
-    /// The bytes do not complete a frame that claims a user name.
+    /// The bytes do not complete a frame that claims a user name, the message of PLAIN claims none, or the user name for
+    /// a message of PLAIN is empty.
     NamesNoUser,
 
     /// A client rejects a message of the server.
@@ -117,10 +118,12 @@ pub enum Status {
     /// The server rejected the login because of a temporary system error.
     RefusedSysTemp,
 
-    /// The argument `unassigned` is none of enum fe2o3_unassigned, or a form none of enum fe2o3_password_form.
+    /// The argument `unassigned` is none of enum fe2o3_unassigned, a form none of enum fe2o3_password_form, or
+    /// `passwords` none of enum fe2o3_plain_passwords.
     NoSuchChoice,
 
-    /// The prepared text contains a character that RFC 4013, section 2.3, prohibits.
+    /// The prepared text contains a character that RFC 4013, section 2.3, prohibits, or a word for a message of PLAIN
+    /// contains a zero byte (RFC 4616, section 2).
     ProhibitedCharacter,
 
     /// The prepared text mixes right-to-left and left-to-right characters, or does not begin and end with a

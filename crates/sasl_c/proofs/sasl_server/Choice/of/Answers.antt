@@ -6,5 +6,7 @@ pub returns-then-sum-gt2047 : goal.returns-then-sum-gt2047
 returns-then-sum-gt2047 c = too_large c.args.sum (omega arith)
 
 pub returns-then-rest-gt383 : goal.returns-then-rest-gt383
-returns-then-rest-gt383 c = let split = c.split-signature_by_challenge in
-    between c.args.sum split.result.1 split.result.0 split.ensures.sum (omega arith) split.ensures.rest
+returns-then-rest-gt383 c = let signed = c.split-signature_by_challenge in
+    let asked = c.split-initial_response_by_challenge in
+    between c.args.sum signed.result.1 asked.result.1 signed.result.0 asked.result.0 signed.ensures.sum
+    asked.ensures.sum (omega arith) asked.ensures.rest
