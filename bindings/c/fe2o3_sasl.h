@@ -3,6 +3,10 @@
  * A call returns a status: FE2O3_OK, or why it failed. There is nothing to initialize and nothing to free. The state of
  * an exchange is a struct that you allocate, and the library keeps nothing between calls.
  *
+ * Protocols other than AMQP, such as IMAP, SMTP, XMPP and Kafka, carry the messages of SASL themselves. For them SCRAM,
+ * PLAIN and EXTERNAL have calls over messages. ANONYMOUS needs none: its message is trace information, and the server
+ * accepts any (RFC 4505, section 2).
+ *
  * What you have to ensure, since no call can test it:
  *
  * - Each pointer is valid for as many bytes as its type, or the length after it, says, and for no more than
@@ -89,6 +93,17 @@ enum fe2o3_password_form {
     FE2O3_PREPARED = 1
 };
 
+/* Which password fe2o3_plain_verify tests for the one of a message. User names are compared as received. */
+enum fe2o3_plain_passwords {
+    /* The password as typed, which has to be printable ASCII. Every other password is rejected. */
+    FE2O3_PLAIN_PASSWORDS_TYPED = 0,
+    /* The password as received, as a prepared text. For clients that prepare their passwords. */
+    FE2O3_PLAIN_PASSWORDS_PREPARED = 1,
+    /* The text that SASLprep prepares the password to, with unassigned code points allowed. A password that SASLprep
+     * rejects, or whose prepared text is empty, is rejected. */
+    FE2O3_PLAIN_PASSWORDS_SASLPREP = 2
+};
+
 /* What fe2o3_saslprep does with code points that Unicode 3.2 does not assign. */
 enum fe2o3_unassigned {
     /* Rejects unassigned code points: the call returns FE2O3_UNASSIGNED_CODE_POINT. */
@@ -117,6 +132,9 @@ enum fe2o3_offer {
     FE2O3_PLAIN_PREPARED = 128,
     /* No mechanism: PLAIN tests the text that SASLprep prepares the password to. Not with FE2O3_PLAIN_PREPARED. */
     FE2O3_PLAIN_SASLPREP = 256,
+    /* No mechanism: SCRAM and PLAIN answer an init without an initial response by an empty challenge. The client's
+     * response is then the initial response (RFC 4422, section 5). Without this value such an init fails. */
+    FE2O3_INITIAL_RESPONSE_BY_CHALLENGE = 512,
     /* No mechanism: SCRAM sends the server's signature in a challenge, and the outcome OK follows the client's empty
      * response (RFC 4422, section 5). For clients that do not read the data of an outcome. */
     FE2O3_SIGNATURE_BY_CHALLENGE = 1024
@@ -177,7 +195,13 @@ enum fe2o3_scram_server_state {
     FE2O3_SCRAM_SERVER_CHALLENGE_OPEN_CBIND_FLAG_Y = 3,
     /* The server's signature was sent to the user in a challenge. The user is authenticated once the client has answered
      * it. Only on a connection, and for steps over frame bodies. */
-    FE2O3_SCRAM_SERVER_SIGNATURE_SENT = 4
+    FE2O3_SCRAM_SERVER_SIGNATURE_SENT = 4,
+    /* An empty challenge was sent for an init without an initial response and without a hostname. `first` is the name of
+     * the mechanism, and `nonce` the 32 bytes of the init's nonce. Only on a connection, and for steps over frame
+     * bodies. */
+    FE2O3_SCRAM_SERVER_INITIAL_RESPONSE_ASKED = 5,
+    /* Like FE2O3_SCRAM_SERVER_INITIAL_RESPONSE_ASKED, but the init had a hostname: `bare`. */
+    FE2O3_SCRAM_SERVER_INITIAL_RESPONSE_ASKED_WITH_HOSTNAME = 6
 };
 
 /* The error that a server sends in the place of a message (RFC 5802, section 7, `server-error-value`). */
@@ -284,7 +308,8 @@ enum fe2o3_status {
     FE2O3_ENDED = 13,
     /* The struct of the connection has a value that no call writes. */
     FE2O3_INVALID_SNAPSHOT = 14,
-    /* The bytes do not complete a frame that claims a user name. */
+    /* The bytes do not complete a frame that claims a user name, the message of PLAIN claims none, or the user name for
+     * a message of PLAIN is empty. */
     FE2O3_NAMES_NO_USER = 15,
     /* The message is not UTF-8. */
     FE2O3_CLIENT_UTF8_ERROR = 20,
@@ -395,9 +420,11 @@ enum fe2o3_status {
     FE2O3_REFUSED_SYS_PERM = 83,
     /* The server rejected the login because of a temporary system error. */
     FE2O3_REFUSED_SYS_TEMP = 84,
-    /* The argument `unassigned` is none of enum fe2o3_unassigned, or a form none of enum fe2o3_password_form. */
+    /* The argument `unassigned` is none of enum fe2o3_unassigned, a form none of enum fe2o3_password_form, or
+     * `passwords` none of enum fe2o3_plain_passwords. */
     FE2O3_NO_SUCH_CHOICE = 85,
-    /* The prepared text contains a character that RFC 4013, section 2.3, prohibits. */
+    /* The prepared text contains a character that RFC 4013, section 2.3, prohibits, or a word for a message of PLAIN
+     * contains a zero byte (RFC 4616, section 2). */
     FE2O3_PROHIBITED_CHARACTER = 86,
     /* The prepared text mixes right-to-left and left-to-right characters, or does not begin and end with a
      * right-to-left one (RFC 3454, section 6). */
@@ -466,7 +493,10 @@ struct fe2o3_scram_record {
 };
 
 /* Computes the record of a password. `form` is one of enum fe2o3_password_form. A client logs in with exactly the text
- * of which the record was made. */
+ * of which the record was made.
+ *
+ * `salt` is random bytes, fresh for each record, at most 128: 16 suffice. For SCRAM-SHA-256 some clients of MongoDB
+ * require 28. */
 uint32_t fe2o3_scram_record_make(
     uint32_t version,
     uint32_t form,
@@ -475,6 +505,22 @@ uint32_t fe2o3_scram_record_make(
     const uint8_t *salt,
     size_t salt_len,
     uint32_t iterations,
+    struct fe2o3_scram_record *kept);
+
+/* Makes a record of the fields that another server stores: the salt, the iteration count, the StoredKey and the
+ * ServerKey (RFC 5802, section 3), each as bytes, not in base64.
+ *
+ * The errors are, in this order: FE2O3_NO_SUCH_VERSION; FE2O3_TOO_LONG for a salt of more than 128 bytes;
+ * FE2O3_ZERO_ITERATIONS; and FE2O3_RECORD_KEY_LENGTH_MISMATCH if a key has another length than a digest of the hash. */
+uint32_t fe2o3_scram_record_from_fields(
+    uint32_t version,
+    const uint8_t *salt,
+    size_t salt_len,
+    uint32_t iterations,
+    const uint8_t *stored_key,
+    size_t stored_key_len,
+    const uint8_t *server_key,
+    size_t server_key_len,
     struct fe2o3_scram_record *kept);
 
 /* Computes a mock record for a name that the server does not know, so that it answers unknown users like known ones.
@@ -757,6 +803,64 @@ void fe2o3_scram_server_error_text(uint32_t error, struct fe2o3_text *text);
  * describes has `e=other-error`. */
 uint32_t fe2o3_scram_server_error_message(uint32_t status, uint8_t *out, size_t out_size, size_t *out_len);
 
+/* ---- PLAIN and EXTERNAL, over messages ---- */
+
+/* Writes the message by which a client logs in with PLAIN (RFC 4616, section 2): a zero byte, the user name, a zero
+ * byte and the password. The authorization identity is empty. The message has the password in clear, so send it over
+ * TLS only. Prepare a non-ASCII password first (`fe2o3_saslprep`).
+ *
+ * Returns FE2O3_NOT_UTF8 if a word is not UTF-8, FE2O3_NAMES_NO_USER if the user name is empty, and
+ * FE2O3_PROHIBITED_CHARACTER if a word contains a zero byte. An empty password is written, but RFC 4616 forbids it and
+ * servers reject it. */
+uint32_t fe2o3_plain_message(
+    const uint8_t *username,
+    size_t username_len,
+    const uint8_t *password,
+    size_t password_len,
+    uint8_t *out,
+    size_t out_size,
+    size_t *out_len);
+
+/* Writes the user name that a message of PLAIN claims (RFC 4616, section 2). Nobody is authenticated yet: use it only
+ * to look up the record for `fe2o3_plain_verify`.
+ *
+ * Returns FE2O3_NAMES_NO_USER for a message that `fe2o3_plain_verify` rejects whatever the record is: one that is not
+ * UTF-8 in three parts, whose authorization identity is neither empty nor the user name, whose user name is empty, or
+ * whose password does not have 1 to 1024 bytes. */
+uint32_t fe2o3_plain_claimed_user(
+    const uint8_t *message,
+    size_t message_len,
+    uint8_t *out,
+    size_t out_size,
+    size_t *out_len);
+
+/* Tests a message of PLAIN against the record of the user that it claims (RFC 4616). Only FE2O3_OK means that this
+ * user (`fe2o3_plain_claimed_user`) is authenticated. PLAIN sends the password in clear, so use it over TLS only.
+ *
+ * `records` are those of the claimed user, of any hashes. The first one that can be read counts, so put mock records
+ * last. For an unknown user pass a mock record (`fe2o3_scram_record_mock`), or none: the password is then hashed with
+ * SHA-256 and this iteration count, as often as for a known user with this count, and rejected. `passwords` is one of
+ * enum fe2o3_plain_passwords.
+ *
+ * Returns FE2O3_NO_SUCH_CHOICE if `passwords` is none of the enum, and FE2O3_SERVER_AUTHENTICATION_FAILED for every
+ * message that does not log in: a wrong password, an unknown user, or no acceptable message. */
+uint32_t fe2o3_plain_verify(
+    const struct fe2o3_scram_record *records,
+    size_t records_count,
+    uint32_t passwords,
+    uint32_t iterations,
+    const uint8_t *message,
+    size_t message_len);
+
+/* Tests a message of EXTERNAL (RFC 4422, appendix A) against the name that the transport authenticated, such as the
+ * subject of a client's TLS certificate. Only FE2O3_OK means that this user is authenticated: the message is empty or
+ * equals `authcid`.
+ *
+ * Returns FE2O3_SERVER_AUTHENTICATION_FAILED for every other message, and for each message if `authcid` is empty: then
+ * the transport authenticated no one. Returns FE2O3_NOT_UTF8 if `authcid` is not UTF-8. The message of a client is the
+ * identity itself, so there is no call that writes it. */
+uint32_t fe2o3_external_verify(const uint8_t *authcid, size_t authcid_len, const uint8_t *message, size_t message_len);
+
 /* ---- The client's side of a connection, over bytes ---- */
 
 /* One side of a connection between calls. All zeros is a connection that has received nothing. */
@@ -828,7 +932,9 @@ struct fe2o3_sasl_server_config {
     /* The offered mechanisms: a sum of values of enum fe2o3_offer. PLAIN sends the password in clear, so offer it
      * over TLS only. It rejects every password that is not printable ASCII, unless the sum has FE2O3_PLAIN_PREPARED
      * or FE2O3_PLAIN_SASLPREP. By the latter it also rejects a password that SASLprep rejects or prepares to the empty
-     * text. With FE2O3_SIGNATURE_BY_CHALLENGE SCRAM's outcome OK follows the client's empty response to a challenge. */
+     * text. With FE2O3_SIGNATURE_BY_CHALLENGE SCRAM's outcome OK follows the client's empty response to a challenge.
+     * With FE2O3_INITIAL_RESPONSE_BY_CHALLENGE an init for SCRAM or PLAIN without an initial response is answered by
+     * an empty challenge, and the response is the initial response. */
     uint32_t mechanisms;
     /* The iteration count with which PLAIN hashes the password of an unknown user. */
     uint32_t iterations;
@@ -855,8 +961,9 @@ struct fe2o3_sasl_server {
     struct fe2o3_scram_server scram;
 };
 
-/* Writes the user name that the next frame claims, if `bytes` complete it: that of an init for SCRAM or PLAIN, and
- * for a response that of the open challenge of SCRAM. Nobody is authenticated yet: use it only to look up the record
+/* Writes the user name that the next frame claims, if `bytes` complete it: that of an init for SCRAM or PLAIN, for a
+ * response that of the open challenge of SCRAM, and for the response to an empty challenge that of the initial
+ * response. Nobody is authenticated yet: use it only to look up the record
  * for `fe2o3_sasl_server_receive`. Returns FE2O3_NAMES_NO_USER if the frame is not complete or claims no name; then no
  * record is needed. */
 uint32_t fe2o3_sasl_server_claimed_user(
@@ -947,8 +1054,8 @@ uint32_t fe2o3_sasl_server_offer(
     size_t out_size,
     size_t *out_len);
 
-/* Writes the user name that a frame body claims: that of an init for SCRAM or PLAIN, and for a response that of the
- * open challenge of SCRAM. Nobody is authenticated yet: use it only to look up the record for
+/* Writes the user name that a frame body claims: that of an init for SCRAM or PLAIN, for a response that of the open
+ * challenge of SCRAM, and for the response to an empty challenge that of the initial response. Nobody is authenticated yet: use it only to look up the record for
  * `fe2o3_sasl_server_step`. Returns FE2O3_NAMES_NO_USER if the body claims no name; then no record is needed. */
 uint32_t fe2o3_sasl_server_step_claimed_user(
     const struct fe2o3_scram_server *server,
@@ -969,8 +1076,9 @@ uint32_t fe2o3_sasl_server_step_claimed_user(
  * (`fe2o3_scram_server_authenticated_user`). ANONYMOUS has none.
  *
  * This call is for programs that read frames themselves, reject those above 512 bytes, and limit their number. A
- * login takes an init, and for SCRAM one response, or two with FE2O3_SIGNATURE_BY_CHALLENGE. A client that may send
- * more can try passwords again and again. A response without a challenge is answered by an outcome that is not OK. A
+ * login takes an init, and for SCRAM one response. FE2O3_SIGNATURE_BY_CHALLENGE adds one response for SCRAM, and
+ * FE2O3_INITIAL_RESPONSE_BY_CHALLENGE one for SCRAM and PLAIN. A client that may send more can try passwords again and
+ * again. A response without a challenge is answered by an outcome that is not OK. A
  * frame that no client sends returns FE2O3_NO_SASL_FRAME. If a name or a message does not fit into the struct, the
  * call returns FE2O3_TOO_LONG, and you have to close the connection. */
 uint32_t fe2o3_sasl_server_step(

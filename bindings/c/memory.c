@@ -127,6 +127,22 @@ static uint32_t make_up(void)
 {
     return fe2o3_scram_record_mock(FE2O3_SHA_256, secret, 32, TEXT("who"), 16, 4096, &all.mock);
 }
+static uint32_t make_from_fields(void)
+{
+    return fe2o3_scram_record_from_fields(FE2O3_SHA_256, all.record.salt, all.record.salt_len, all.record.iterations,
+        all.record.stored_key, 32, all.record.server_key, 32, &all.read);
+}
+static uint32_t plain(void) { return fe2o3_plain_message(TEXT("user"), TEXT("pencil"), ROOM(all.out)); }
+static uint32_t plain_user(void) { return fe2o3_plain_claimed_user(TEXT("\0user\0pencil"), ROOM(all.user)); }
+static uint32_t verify_plain(void)
+{
+    return fe2o3_plain_verify(&all.record, 1, FE2O3_PLAIN_PASSWORDS_TYPED, 4096, TEXT("\0user\0pencil"));
+}
+static uint32_t verify_plain_by_saslprep(void)
+{
+    return fe2o3_plain_verify(&all.record, 1, FE2O3_PLAIN_PASSWORDS_SASLPREP, 4096, TEXT("\0user\0pe\xc2\xadncil"));
+}
+static uint32_t verify_external(void) { return fe2o3_external_verify(TEXT("pe,er"), FE2O3_NONE); }
 static uint32_t first(void) { return fe2o3_scram_client_first(&login, &all.client, nonce, ROOM(all.client_first)); }
 static uint32_t user(void) { return fe2o3_scram_server_claimed_user(GIVEN(all.client_first), ROOM(all.user)); }
 static uint32_t challenge(void)
@@ -204,6 +220,26 @@ static void connection(uint32_t mechanism, const char *user_name)
         || (user_name != NULL && (told.len != strlen(user_name) || memcmp(told.bytes, user_name, told.len) != 0));
 }
 
+/* A connection whose init has no initial response. It comes in a response, which names a user. */
+static void late_connection(const uint8_t *init, size_t init_len, const uint8_t *response, size_t response_len)
+{
+    memset(&all.server_side, 0, sizeof all.server_side);
+    config.mechanisms |= FE2O3_INITIAL_RESPONSE_BY_CHALLENGE;
+    config.username_len = 0;
+    came = (struct text){"AMQP\3\1\0\0", 8};
+    tried("server_receive", server_takes);
+    memcpy(came.bytes, init, init_len);
+    came.len = init_len;
+    tried("server_receive", server_takes);
+    memcpy(came.bytes, response, response_len);
+    came.len = response_len;
+    tried("server_user", name);
+    config.username = all.user.bytes;
+    config.username_len = all.user.len;
+    tried("server_receive", server_takes);
+    differences += all.user.len != 5 || memcmp(all.user.bytes, "us,er", 5) != 0 || all.out.len < 16;
+}
+
 int main(void)
 {
     login = (struct fe2o3_login){.version = FE2O3_SHA_256, .min_iterations = 4096, .max_iterations = 4096,
@@ -217,6 +253,12 @@ int main(void)
     tried("record_parse", parse);
     tried("record_verify", verify_password);
     tried("record_mock", make_up);
+    tried("record_from_fields", make_from_fields);
+    tried("plain_message", plain);
+    tried("plain_claimed_user", plain_user);
+    tried("plain_verify", verify_plain);
+    tried("plain_verify, SASLprep", verify_plain_by_saslprep);
+    tried("external_verify", verify_external);
     tried("line", spell_line);
     tried("lines_find", find);
     tried("saslprep", prepare);
@@ -247,5 +289,12 @@ int main(void)
     connection(FE2O3_ANONYMOUS, NULL);
     puts("a connection, EXTERNAL");
     connection(FE2O3_EXTERNAL, "pe,er");
+    puts("a connection, SCRAM-SHA-256 without an initial response");
+    late_connection(TEXT("\0\0\0\x24\2\1\0\0\0\x53\x41\xc0\x17\3\xa3\15SCRAM-SHA-256\x40\xa1\4host"),
+        TEXT("\0\0\0\x22\2\1\0\0\0\x53\x43\xc0\x15\1\xa0\x12n,,n=us=2Cer,r=AAA"));
+    puts("a connection, PLAIN without an initial response");
+    late_connection(TEXT("\0\0\0\x16\2\1\0\0\0\x53\x41\xc0\11\2\xa3\5PLAIN\x40"),
+        TEXT("\0\0\0\x1d\2\1\0\0\0\x53\x43\xc0\x10\1\xa0\15\0us,er\0pencil"));
+    differences += all.server_side.connection.progress != FE2O3_AUTHENTICATED;
     return differences != 0;
 }

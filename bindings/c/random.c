@@ -188,11 +188,28 @@ static void draw_client(struct fe2o3_scram_client *client)
     }
 }
 
+/* A server that has asked for the initial response of a mechanism that takes one. */
+static void draw_asked(struct fe2o3_scram_server *server)
+{
+    const char *mechanism = below(2) ? "PLAIN" : "SCRAM-SHA-256";
+    memset(server, 0, sizeof *server);
+    server->state = ONE_OF(FE2O3_SCRAM_SERVER_INITIAL_RESPONSE_ASKED,
+        FE2O3_SCRAM_SERVER_INITIAL_RESPONSE_ASKED_WITH_HOSTNAME);
+    server->first_len = (uint32_t)strlen(mechanism);
+    memcpy(server->first, mechanism, server->first_len);
+    server->nonce_len = 32;
+    fill(server->nonce, 32);
+    if (server->state == FE2O3_SCRAM_SERVER_INITIAL_RESPONSE_ASKED_WITH_HOSTNAME) {
+        server->bare_len = 4;
+        memcpy(server->bare, "host", 4);
+    }
+}
+
 static void draw_server(struct fe2o3_scram_server *server)
 {
     fill(server, sizeof *server);
     if (below(2)) {
-        server->state = below(3);
+        server->state = below(7);
         server->user_len = below(5);
         memcpy(server->user, "user", 4);
         server->bare_len = below(1026);
@@ -200,6 +217,8 @@ static void draw_server(struct fe2o3_scram_server *server)
         for (size_t at = 0; at < 49; at++)
             server->nonce[at] = (uint8_t)('a' + below(26));
         server->first_len = below(1026);
+    } else if (below(4) == 0) {
+        draw_asked(server);
     }
 }
 
@@ -270,11 +289,28 @@ static void unproved(const struct fe2o3_scram_server *server, struct text *clien
     add_base64(client_final, ONE_OF(20, 32, 64));
 }
 
+/* The initial response of PLAIN or of SCRAM. */
+static void initial_response(int plain, struct text *message)
+{
+    message->len = 0;
+    if (plain) {
+        ADD(message, "\0user\0pencil");
+    } else {
+        ADD(message, "n,,n=user,r=");
+        add_base64(message, 32);
+    }
+}
+
+static int has_asked(const struct fe2o3_scram_server *server)
+{
+    return server->state == FE2O3_SCRAM_SERVER_INITIAL_RESPONSE_ASKED
+        || server->state == FE2O3_SCRAM_SERVER_INITIAL_RESPONSE_ASKED_WITH_HOSTNAME;
+}
+
 static void with_a_server(void)
 {
-    struct text client_first = {{0}, 0}, client_final;
-    ADD(&client_first, "n,,n=user,r=");
-    add_base64(&client_first, 32);
+    struct text client_first, client_final;
+    initial_response(0, &client_first);
     unproved(&drawn.server, &client_final);
     client_first.bytes[0] = below(2) ? 'n' : 'y';
     answered("server_first", fe2o3_scram_server_first(&all.record, &all.server, nonce, GIVEN(client_first), ROOM));
@@ -289,6 +325,7 @@ static void with_a_record(void)
     answered("record_text", fe2o3_scram_record_text(&all.record, ROOM));
     answered("line", fe2o3_scram_line(TEXT("user"), &all.record, ROOM));
     answered("record_verify", fe2o3_scram_record_verify(&all.record, below(3), TEXT("pencil")));
+    answered("plain_verify", fe2o3_plain_verify(&all.record, below(2), below(4), below(9), TEXT("\0user\0pencil")));
 }
 
 /* Some characters of one to four bytes, seldom with a byte among them that begins none. */
@@ -354,33 +391,35 @@ static void with_a_side_of_a_client(void)
 /* What a client sends next, and now and then what is not due. */
 static void to_server(const struct fe2o3_sasl_server *side, struct text *came)
 {
-    struct text body = {{0}, 0}, message = {{0}, 0};
+    struct text body = {{0}, 0}, message;
+    int plain = below(2) == 0;
     switch (below(8) == 0 ? below(6) : side->connection.expected) {
     case 0:
         ADD(came, "AMQP\3\1\0\0");
         break;
     case 4:
-        unproved(&side->scram, &message);
+        if (has_asked(&side->scram))
+            initial_response(plain, &message);
+        else
+            unproved(&side->scram, &message);
         field(&body, 0xa0, message.bytes, message.len);
         frame(came, 0x43, 1, &body);
         break;
     default:
-        if (below(2)) {
-            field(&body, 0xa3, "PLAIN", 5);
-            field(&body, 0xa0, "\0user\0pencil", 12);
-        } else {
-            ADD(&message, "n,,n=user,r=");
-            add_base64(&message, 32);
-            field(&body, 0xa3, "SCRAM-SHA-256", 13);
+        initial_response(plain, &message);
+        field(&body, 0xa3, plain ? "PLAIN" : "SCRAM-SHA-256", plain ? 5 : 13);
+        if (below(4) == 0)
+            ADD(&body, "\x40");
+        else
             field(&body, 0xa0, message.bytes, message.len);
-        }
         frame(came, 0x41, 2, &body);
     }
 }
 
 static void with_a_side_of_a_server(void)
 {
-    struct fe2o3_sasl_server_config config = {.mechanisms = below(129), .iterations = below(9),
+    const uint32_t by_challenge = ONE_OF(0, FE2O3_INITIAL_RESPONSE_BY_CHALLENGE, FE2O3_SIGNATURE_BY_CHALLENGE);
+    struct fe2o3_sasl_server_config config = {.mechanisms = below(129) | by_challenge, .iterations = below(9),
         .username = TEXT("user"), .records = &all.record, .records_count = below(2), .external_authcid = TEXT("peer")};
     struct text came = {{0}, 0};
     uint32_t status;
@@ -392,6 +431,8 @@ static void with_a_side_of_a_server(void)
     never("sasl_server_receive", status == FE2O3_OK && all.server_side.connection.progress == FE2O3_AUTHENTICATED);
     if (status == FE2O3_OK)
         closed("sasl_server_receive, why it closes", &all.server_side.connection);
+    if (status == FE2O3_OK && !has_asked(&drawn.server_side.scram) && has_asked(&all.server_side.scram))
+        noted("sasl_server_receive, which asks", status);
     answered("sasl_server_receive", status);
 }
 
@@ -436,6 +477,7 @@ int main(void)
     never("client_verify", seen("client_verify")->of[FE2O3_OK] != 0);
     never("server_final", seen("server_final")->of[FE2O3_OK] != 0);
     never("record_verify", seen("record_verify")->of[FE2O3_OK] != 0);
+    never("plain_verify", seen("plain_verify")->of[FE2O3_OK] != 0);
     reached("client_first", FE2O3_OK);
     reached("client_final", FE2O3_OK);
     reached("client_verify", FE2O3_CLIENT_SERVER_SIGNATURE_MISMATCH);
@@ -451,6 +493,8 @@ int main(void)
     reached("line", FE2O3_OK);
     reached("record_verify", FE2O3_OTHER_PASSWORD);
     reached("record_verify", FE2O3_NO_SUCH_CHOICE);
+    reached("plain_verify", FE2O3_SERVER_AUTHENTICATION_FAILED);
+    reached("plain_verify", FE2O3_NO_SUCH_CHOICE);
     reached("saslprep", FE2O3_OK);
     reached("saslprep", FE2O3_NOT_UTF8);
     reached("saslprep", FE2O3_NO_SUCH_CHOICE);
@@ -464,6 +508,7 @@ int main(void)
     reached("sasl_client_receive, why it closes", FE2O3_UNEXPECTED_FRAME);
     reached("sasl_server_user", FE2O3_OK);
     reached("sasl_server_receive", FE2O3_OK);
+    reached("sasl_server_receive, which asks", FE2O3_OK);
     reached("sasl_server_receive", FE2O3_ENDED);
     reached("sasl_server_receive", FE2O3_INVALID_SNAPSHOT);
     reached("sasl_server_receive, why it closes", FE2O3_REFUSED_AUTH);

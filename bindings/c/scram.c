@@ -162,6 +162,44 @@ static void cases(uint32_t version)
     told(version, "a room that is too small, and then large enough", rooms(&login, &one));
 }
 
+/* A record of its fields, and PLAIN and EXTERNAL over messages. */
+static void messages(uint32_t version)
+{
+    struct fe2o3_scram_record record = {0}, made = {0}, mock = {0};
+    struct text message = {{0}, 0}, user = {{0}, 0};
+    size_t digest = version == FE2O3_SHA_1 ? 20 : version / 8;
+
+    fe2o3_scram_record_make(version, FE2O3_TYPED, TEXT("pencil"), salt, sizeof salt, 4096, &record);
+    told(version, "a record of its fields",
+        fe2o3_scram_record_from_fields(version, record.salt, record.salt_len, record.iterations, record.stored_key,
+            digest, record.server_key, digest, &made) == FE2O3_OK && memcmp(&made, &record, sizeof made) == 0
+            && fe2o3_scram_record_from_fields(version, salt, sizeof salt, 4096, record.stored_key, digest - 1,
+                record.server_key, digest, &made) == FE2O3_RECORD_KEY_LENGTH_MISMATCH
+            && fe2o3_scram_record_from_fields(version, salt, sizeof salt, 0, record.stored_key, digest - 1,
+                record.server_key, digest, &made) == FE2O3_ZERO_ITERATIONS
+            && memcmp(&made, &record, sizeof made) == 0);
+    told(version, "a message of PLAIN, and its user",
+        fe2o3_plain_message(TEXT("user"), TEXT("pencil"), ROOM(message)) == FE2O3_OK && message.len == 12
+            && memcmp(message.bytes, "\0user\0pencil", 12) == 0
+            && fe2o3_plain_claimed_user(GIVEN(message), ROOM(user)) == FE2O3_OK && spells(&user, "user")
+            && fe2o3_plain_claimed_user(TEXT("root\0user\0pencil"), ROOM(user)) == FE2O3_NAMES_NO_USER);
+    told(version, "a login by PLAIN, a wrong password and an unknown user",
+        fe2o3_plain_verify(&record, 1, FE2O3_PLAIN_PASSWORDS_TYPED, 4096, GIVEN(message)) == FE2O3_OK
+            && fe2o3_plain_verify(&record, 1, FE2O3_PLAIN_PASSWORDS_TYPED, 4096, TEXT("\0user\0pencils"))
+                == FE2O3_SERVER_AUTHENTICATION_FAILED
+            && fe2o3_plain_verify(&record, 0, FE2O3_PLAIN_PASSWORDS_TYPED, 4096, GIVEN(message))
+                == FE2O3_SERVER_AUTHENTICATION_FAILED
+            && fe2o3_scram_record_mock(version, secret, 32, TEXT("user"), sizeof salt, 4096, &mock) == FE2O3_OK
+            && fe2o3_plain_verify(&mock, 1, FE2O3_PLAIN_PASSWORDS_TYPED, 4096, GIVEN(message))
+                == FE2O3_SERVER_AUTHENTICATION_FAILED
+            && fe2o3_plain_verify(&record, 1, 3, 4096, GIVEN(message)) == FE2O3_NO_SUCH_CHOICE);
+    told(version, "EXTERNAL",
+        fe2o3_external_verify(TEXT("peer"), FE2O3_NONE) == FE2O3_OK
+            && fe2o3_external_verify(TEXT("peer"), TEXT("peer")) == FE2O3_OK
+            && fe2o3_external_verify(TEXT("peer"), TEXT("pear")) == FE2O3_SERVER_AUTHENTICATION_FAILED
+            && fe2o3_external_verify(FE2O3_NONE, FE2O3_NONE) == FE2O3_SERVER_AUTHENTICATION_FAILED);
+}
+
 /* A password past ASCII: what it is prepared to, the record of that, and logins by it and by its keys. */
 static void prepared(uint32_t version, const char *words)
 {
@@ -277,6 +315,9 @@ int main(void)
     cases(FE2O3_SHA_1);
     cases(FE2O3_SHA_256);
     cases(FE2O3_SHA_512);
+    messages(FE2O3_SHA_1);
+    messages(FE2O3_SHA_256);
+    messages(FE2O3_SHA_512);
     preparing();
     prepared(FE2O3_SHA_1, prepared_1);
     prepared(FE2O3_SHA_256, prepared_256);

@@ -1,20 +1,24 @@
 /* Serves logins of AMQP 1.0 over TCP on the loopback, by SCRAM-SHA-512, SCRAM-SHA-256 and, as if under TLS, by PLAIN:
  *
- *     server USERS LOGINS [MECHANISM [PEER [challenge]]]
+ *     server USERS LOGINS [MECHANISM [PEER [challenge | ask]..]]
  *
  * or by this mechanism only, where EXTERNAL accepts the name PEER, as if the transport had authenticated it. With
- * `challenge` SCRAM sends the server's signature in a challenge. USERS is a file of users, a line for each
- * (fe2o3_scram_line writes one). It prints the port that it listens on, serves so many
- * connections, one after another, and says of each who has logged in, or why nobody. */
+ * `challenge` SCRAM sends the server's signature in a challenge. With `ask` an init without an initial response is
+ * answered by an empty challenge. USERS is a file of users, a line for each (fe2o3_scram_line writes one). It prints
+ * the port that it listens on, serves so many connections, one after another, and says of each who has logged in, or
+ * why nobody. */
 #define _POSIX_C_SOURCE 200112L
 #include "fe2o3_sasl.h"
 
 #include <arpa/inet.h>
 #include <netinet/in.h>
+#include <signal.h>
 #include <stdio.h>
 #include <stdlib.h>
 #include <string.h>
 #include <sys/socket.h>
+#include <sys/time.h>
+#include <time.h>
 #include <unistd.h>
 
 static const uint32_t versions[3] = {FE2O3_SHA_512, FE2O3_SHA_256, FE2O3_SHA_1};
@@ -39,6 +43,21 @@ static int offer_only(const char *name)
             return 1;
     }
     return 0;
+}
+
+/* Whether each of these words is an option, which the server then has. */
+static int add_options(int count, char **words)
+{
+    int known = 1;
+    for (int i = 0; i < count; i++) {
+        if (strcmp(words[i], "challenge") == 0)
+            mechanisms |= FE2O3_SIGNATURE_BY_CHALLENGE;
+        else if (strcmp(words[i], "ask") == 0)
+            mechanisms |= FE2O3_INITIAL_RESPONSE_BY_CHALLENGE;
+        else
+            known = 0;
+    }
+    return known;
 }
 
 static int random_bytes(uint8_t *bytes, size_t len)
@@ -113,6 +132,26 @@ static int64_t serve(int channel, struct fe2o3_sasl_server *server)
     return FE2O3_OK;
 }
 
+/* Closes a connection: ends the sending side, and discards what arrives until the client ends, for some seconds and
+ * 64 KiB at most. A close with unread bytes resets the connection (RFC 1122, section 4.2.2.13), and the client can lose
+ * the outcome. */
+static void hang_up(int channel)
+{
+    uint8_t unread[4096];
+    size_t left = 65536;
+    struct timeval wait = {2, 0};
+    time_t until = time(NULL) + wait.tv_sec;
+    shutdown(channel, SHUT_WR);
+    setsockopt(channel, SOL_SOCKET, SO_RCVTIMEO, &wait, sizeof wait);
+    while (left > 0 && time(NULL) <= until) {
+        ssize_t some = recv(channel, unread, left < sizeof unread ? left : sizeof unread, 0);
+        if (some <= 0)
+            break;
+        left -= (size_t)some;
+    }
+    close(channel);
+}
+
 static void told(int64_t answer, const struct fe2o3_sasl_server *server)
 {
     struct fe2o3_text text = FE2O3_TEXT_INIT;
@@ -134,17 +173,16 @@ int main(int count, char **words)
 {
     struct sockaddr_in address;
     socklen_t size = sizeof address;
-    int by_challenge = count == 6 && strcmp(words[5], "challenge") == 0;
-    int alone = (count == 4 || count == 5 || by_challenge) && offer_only(words[3]);
+    int alone = count >= 4 && offer_only(words[3]) && (count <= 5 || add_options(count - 5, words + 5));
     int listener, logins = count == 3 || alone ? atoi(words[2]) : 0;
     FILE *file = logins > 0 ? fopen(words[1], "rb") : NULL;
     if (file == NULL || !random_bytes(secret, sizeof secret)) {
-        fputs("server USERS LOGINS [MECHANISM [PEER [challenge]]]\n", stderr);
+        fputs("server USERS LOGINS [MECHANISM [PEER [challenge | ask]..]]\n", stderr);
         return 2;
     }
+    /* (a client that resets the connection must not end the server) */
+    signal(SIGPIPE, SIG_IGN);
     peer = count >= 5 ? words[4] : "";
-    if (by_challenge)
-        mechanisms |= FE2O3_SIGNATURE_BY_CHALLENGE;
     users_len = fread(users, 1, sizeof users, file);
     fclose(file);
     memset(&address, 0, sizeof address);
@@ -163,7 +201,7 @@ int main(int count, char **words)
         told(answer, &server);
         fflush(stdout);
         if (channel >= 0)
-            close(channel);
+            hang_up(channel);
     }
     close(listener);
     return 0;

@@ -40,6 +40,17 @@ static const uint8_t salt[] = {0x5b, 0x6d, 0x99, 0x68, 0x9d, 0x12, 0x35, 0x8e,
 #define SIGNED "\2\1\0\0\0\x53\x42\xc0\x31\1\xa0\x2ev=50uHbJV+ANf1NSOfnBbK910b8IC4PmQ5G06TO7VnXz8="
 #define EMPTY_RESPONSE "\2\1\0\0\0\x53\x43\xc0\3\1\xa0\0"
 
+/* The init of the first login without its initial response, also without a hostname; the empty challenge for it; and the
+ * response that is the initial response. */
+#define LATE_INIT "\2\1\0\0\0\x53\x41\xc0\x17\3\xa3\15SCRAM-SHA-256\x40\xa1\4host"
+#define LATE_INIT_WITHOUT_HOST "\2\1\0\0\0\x53\x41\xc0\x11\2\xa3\15SCRAM-SHA-256\x40"
+#define EMPTY_CHALLENGE "\2\1\0\0\0\x53\x42\xc0\3\1\xa0\0"
+#define LATE_FIRST "\2\1\0\0\0\x53\x43\xc0\x3b\1\xa0\x38n,,n=user,r=" NONCE
+
+/* The same of PLAIN. */
+#define LATE_PLAIN_INIT "\2\1\0\0\0\x53\x41\xc0\11\2\xa3\5PLAIN\x40"
+#define LATE_PLAIN "\2\1\0\0\0\x53\x43\xc0\xf\1\xa0\14\0user\0pencil"
+
 /* An outcome Ok, and one Auth, without more. */
 #define BARE_OK "\2\1\0\0\0\x53\x44\xc0\3\1\x50\0"
 #define BARE_AUTH "\2\1\0\0\0\x53\x44\xc0\3\1\x50\1"
@@ -161,6 +172,46 @@ static int ends(const struct fe2o3_sasl_login *login, const struct fe2o3_sasl_se
         && one->count < 6 && one->sent[one->count].len == 0;
 }
 
+/* An init without its initial response, and the response that is its initial response. */
+static void withhold(const struct body *init, struct body *late, struct body *response)
+{
+    static const uint8_t head[] = {2, 1, 0, 0, 0, 0x53, 0x43, 0xc0, 0, 1};
+    size_t name_end = 12 + (size_t)init->bytes[11], message = 2 + (size_t)init->bytes[name_end + 1];
+    memcpy(late->bytes, init->bytes, name_end);
+    late->bytes[name_end] = 0x40;
+    memcpy(late->bytes + name_end + 1, init->bytes + name_end + message, init->len - name_end - message);
+    late->len = init->len - message + 1;
+    late->bytes[8] = (uint8_t)(late->len - 9);
+    memcpy(response->bytes, head, sizeof head);
+    response->bytes[8] = (uint8_t)(message + 1);
+    memcpy(response->bytes + sizeof head, init->bytes + name_end, message);
+    response->len = sizeof head + message;
+}
+
+/* Whether a login ends so on both sides if the client withholds its initial response until the server asks for it. */
+static int ends_late(const struct fe2o3_sasl_login *login, struct fe2o3_sasl_server_config config, uint32_t progress)
+{
+    struct exchange one;
+    struct body init, late, body, asks;
+    uint32_t number = FE2O3_OK;
+    memset(&one, 0, sizeof one);
+    config.mechanisms |= FE2O3_INITIAL_RESPONSE_BY_CHALLENGE;
+    if (fe2o3_sasl_server_offer(&config, ROOM(body)) != FE2O3_OK
+        || fe2o3_sasl_client_step(
+            login, &one.client, GIVEN(body), client_nonce, &one.client_progress, ROOM(init)) != FE2O3_OK)
+        return 0;
+    withhold(&init, &late, &body);
+    if (served(&one, &config, &late, &asks) != FE2O3_OK || !spells(&asks, TEXT(EMPTY_CHALLENGE)))
+        return 0;
+    for (one.count = 0; number == FE2O3_OK && one.client_progress == FE2O3_IN_PROGRESS && one.count < 4; one.count++) {
+        const struct body came = body;
+        number = one.count % 2 == 0
+            ? served(&one, &config, &came, &body)
+            : fe2o3_sasl_client_step(login, &one.client, GIVEN(came), client_nonce, &one.client_progress, ROOM(body));
+    }
+    return number == FE2O3_OK && one.client_progress == progress && one.server_progress == progress;
+}
+
 /* Each side with a room that is a byte too small, at a body that would bring it further. */
 static int too_little_room(const struct fe2o3_sasl_login *login, const struct fe2o3_sasl_server_config *config,
     const struct exchange *whole)
@@ -223,6 +274,11 @@ static void by_scram(const char *mechanism, uint32_t version)
     stranger.login.username_len--;
     told(mechanism, "an unknown user",
         ends(&stranger, &config, FE2O3_REFUSED_AUTH, &one) && names_no_user(&one.server));
+    told(mechanism, "a login without an initial response", ends_late(&login, config, FE2O3_AUTHENTICATED));
+    told(mechanism, "an unknown user without an initial response", ends_late(&stranger, config, FE2O3_REFUSED_AUTH));
+    stranger = login;
+    stranger.login.password_len--;
+    told(mechanism, "a wrong password without an initial response", ends_late(&stranger, config, FE2O3_REFUSED_AUTH));
     other.server_key[0] ^= 1;
     told(mechanism, "a server without the verifier is not believed",
         run(&one, &login, &without_verifier) == FE2O3_CLIENT_SERVER_SIGNATURE_MISMATCH && one.count == 5
@@ -317,7 +373,9 @@ static void by_others(void)
     told("PLAIN", "whom its init names",
         fe2o3_sasl_server_step_claimed_user(&fresh_server, GIVEN(one.sent[1]), ROOM(name)) == FE2O3_OK
             && spells(&name, TEXT("user")));
+    told("PLAIN", "a login without an initial response", ends_late(&plain, config, FE2O3_AUTHENTICATED));
     plain.login.password_len--;
+    told("PLAIN", "a wrong password without an initial response", ends_late(&plain, config, FE2O3_REFUSED_AUTH));
     told("PLAIN", "a wrong password", ends(&plain, &config, FE2O3_REFUSED_AUTH, &one) && names_no_user(&one.server));
     told("ANONYMOUS", "a login", ends(&anonymous, &config, FE2O3_AUTHENTICATED, &one) && names_no_user(&one.server)
             && spells(&one.sent[1], TEXT("\2\1\0\0\0\x53\x41\xc0\x13\3\xa3\11ANONYMOUS\x40\xa1\4host")));
@@ -419,6 +477,111 @@ static void signature_by_challenge(void)
             && progress == FE2O3_REFUSED_AUTH && spells(&out, TEXT(BARE_AUTH)) && names_no_user(&other));
 }
 
+/* A server that has asked for the initial response of SCRAM-SHA-256, with this hostname or without. */
+static struct fe2o3_scram_server asked_with(const char *hostname)
+{
+    struct fe2o3_scram_server server = fresh_server;
+    server.state = hostname == NULL ? FE2O3_SCRAM_SERVER_INITIAL_RESPONSE_ASKED
+                                    : FE2O3_SCRAM_SERVER_INITIAL_RESPONSE_ASKED_WITH_HOSTNAME;
+    server.first_len = (uint32_t)sizeof "SCRAM-SHA-256" - 1;
+    memcpy(server.first, "SCRAM-SHA-256", server.first_len);
+    server.nonce_len = (uint32_t)sizeof server_nonce;
+    memcpy(server.nonce, server_nonce, sizeof server_nonce);
+    if (hostname != NULL) {
+        server.bare_len = (uint32_t)strlen(hostname);
+        memcpy(server.bare, hostname, server.bare_len);
+    }
+    return server;
+}
+
+/* Whether a server answers a body by this one, with this progress. */
+static int answers(struct fe2o3_scram_server *server, const struct fe2o3_sasl_server_config *config,
+    const uint8_t *came, size_t came_len, const uint8_t *answer, size_t answer_len, uint32_t wanted)
+{
+    struct body out;
+    uint32_t progress = 9;
+    return fe2o3_sasl_server_step(config, server, came, came_len, server_nonce, &progress, ROOM(out)) == FE2O3_OK
+        && progress == wanted && spells(&out, answer, answer_len);
+}
+
+/* The end of a login whose initial response came in a response, at a server that was saved before it. */
+static void after_an_empty_challenge(const struct fe2o3_sasl_server_config *config, struct fe2o3_scram_server saved)
+{
+    struct fe2o3_scram_server server = saved;
+    struct fe2o3_sasl_server_config signing = *config;
+    struct body out;
+    uint32_t progress = 9;
+    told("SCRAM-SHA-256", "the response names the user",
+        fe2o3_sasl_server_step_claimed_user(&server, TEXT(LATE_FIRST), ROOM(out)) == FE2O3_OK
+            && spells(&out, TEXT("user")));
+    told("SCRAM-SHA-256", "the response is the initial response, with the nonce of the init",
+        fe2o3_sasl_server_step(config, &server, TEXT(LATE_FIRST), client_nonce, &progress, ROOM(out)) == FE2O3_OK
+            && progress == FE2O3_IN_PROGRESS && spells(&out, TEXT(CHALLENGE))
+            && answers(&server, config, TEXT(RESPONSE), TEXT(OUTCOME_OK), FE2O3_AUTHENTICATED)
+            && names(&server, TEXT("user")));
+    signing.mechanisms |= FE2O3_SIGNATURE_BY_CHALLENGE;
+    server = saved;
+    told("SCRAM-SHA-256", "the initial response and the signature by challenges",
+        answers(&server, &signing, TEXT(LATE_FIRST), TEXT(CHALLENGE), FE2O3_IN_PROGRESS)
+            && answers(&server, &signing, TEXT(RESPONSE), TEXT(SIGNED), FE2O3_IN_PROGRESS)
+            && answers(&server, &signing, TEXT(EMPTY_RESPONSE), TEXT(BARE_OK), FE2O3_AUTHENTICATED)
+            && names(&server, TEXT("user")));
+    server = saved;
+    told("SCRAM-SHA-256", "a second init after the empty challenge",
+        fe2o3_sasl_server_step_claimed_user(&server, TEXT(LATE_INIT), ROOM(out)) == FE2O3_NAMES_NO_USER
+            && answers(&server, config, TEXT(LATE_INIT), TEXT(BARE_AUTH), FE2O3_REFUSED_AUTH)
+            && names_no_user(&server));
+    server = saved;
+    told("SCRAM-SHA-256", "a second init with an initial response",
+        answers(&server, config, TEXT(INIT), TEXT(BARE_AUTH), FE2O3_REFUSED_AUTH) && names_no_user(&server));
+    server = saved;
+    told("SCRAM-SHA-256", "an empty response to the empty challenge",
+        fe2o3_sasl_server_step_claimed_user(&server, TEXT(EMPTY_RESPONSE), ROOM(out)) == FE2O3_NAMES_NO_USER
+            && answers(&server, config, TEXT(EMPTY_RESPONSE), TEXT(BARE_AUTH), FE2O3_REFUSED_AUTH)
+            && names_no_user(&server));
+}
+
+/* A server that asks for the initial response of an init without one. */
+static void initial_response_by_challenge(void)
+{
+    struct fe2o3_scram_record record = record_by(FE2O3_SHA_256);
+    struct fe2o3_sasl_server_config config = config_of(&record);
+    struct fe2o3_scram_server server = fresh_server, wanted = asked_with("host"), without_host = asked_with(NULL);
+    struct body out;
+    told("SCRAM-SHA-256", "no initial response, which is not asked for",
+        answers(&server, &config, TEXT(LATE_INIT), TEXT(BARE_AUTH), FE2O3_REFUSED_AUTH) && names_no_user(&server));
+    config.mechanisms |= FE2O3_INITIAL_RESPONSE_BY_CHALLENGE;
+    told("SCRAM-SHA-256", "an init without an initial response",
+        fe2o3_sasl_server_step_claimed_user(&server, TEXT(LATE_INIT), ROOM(out)) == FE2O3_NAMES_NO_USER
+            && answers(&server, &config, TEXT(LATE_INIT), TEXT(EMPTY_CHALLENGE), FE2O3_IN_PROGRESS)
+            && memcmp(&server, &wanted, sizeof server) == 0
+            && fe2o3_scram_server_authenticated_user(&server, ROOM(out)) == FE2O3_SERVER_ILLEGAL_AUTHENTICATOR_STATE);
+    after_an_empty_challenge(&config, server);
+    server = fresh_server;
+    told("SCRAM-SHA-256", "an init without a hostname too",
+        answers(&server, &config, TEXT(LATE_INIT_WITHOUT_HOST), TEXT(EMPTY_CHALLENGE), FE2O3_IN_PROGRESS)
+            && memcmp(&server, &without_host, sizeof server) == 0
+            && answers(&server, &config, TEXT(LATE_FIRST), TEXT(CHALLENGE), FE2O3_IN_PROGRESS)
+            && answers(&server, &config, TEXT(RESPONSE), TEXT(OUTCOME_OK), FE2O3_AUTHENTICATED));
+    server = fresh_server;
+    told("SCRAM-SHA-256", "an init with its initial response is not asked for it",
+        answers(&server, &config, TEXT(INIT), TEXT(CHALLENGE), FE2O3_IN_PROGRESS));
+    server = fresh_server;
+    told("PLAIN", "an init without an initial response",
+        answers(&server, &config, TEXT(LATE_PLAIN_INIT), TEXT(EMPTY_CHALLENGE), FE2O3_IN_PROGRESS)
+            && fe2o3_sasl_server_step_claimed_user(&server, TEXT(LATE_PLAIN), ROOM(out)) == FE2O3_OK
+            && spells(&out, TEXT("user"))
+            && answers(&server, &config, TEXT(LATE_PLAIN), TEXT(BARE_OK), FE2O3_AUTHENTICATED)
+            && names(&server, TEXT("user")));
+    server = fresh_server;
+    told("ANONYMOUS", "an init without an initial response is not asked for it",
+        answers(&server, &config, TEXT("\2\1\0\0\0\x53\x41\xc0\14\1\xa3\11ANONYMOUS"), TEXT(BARE_OK),
+            FE2O3_AUTHENTICATED));
+    config.mechanisms = FE2O3_INITIAL_RESPONSE_BY_CHALLENGE;
+    told("nothing", "offered, but to ask for initial responses",
+        fe2o3_sasl_server_offer(&config, ROOM(out)) == FE2O3_NO_SUCH_MECHANISM);
+}
+
 int main(void)
 {
     by_several();
@@ -430,5 +593,6 @@ int main(void)
     out_of_turn();
     cbind_flag_y();
     signature_by_challenge();
+    initial_response_by_challenge();
     return differences != 0;
 }

@@ -4,11 +4,13 @@ server.c by that and by a client that is made here: `tcp.py CLIENT SERVER`.
 
 Prints a line for each login, and ends with 1 where one of them does not end as it should.
 """
+import contextlib
 import socket
 import subprocess
 import sys
 import tempfile
 import threading
+import time
 from pathlib import Path
 
 sys.dont_write_bytecode = True
@@ -65,51 +67,87 @@ def cases():
 USERS = {"user": "pencil", "a,b=c": "pen,cil"}
 
 
-def by_peer(port, by, piece):
-    """Whether a client that is made here is logged in."""
-    by.begin()
+def by_peer(port, by, piece, late=False, unread=0):
+    """Whether a client that is made here is logged in. After that many messages it sends more, before it reads the
+    outcome, and then reads to the end."""
+    by.begin(late=late)
     with socket.create_connection(("127.0.0.1", port), timeout=20) as channel:
         channel.setsockopt(socket.IPPROTO_TCP, socket.TCP_NODELAY, 1)
         to_server = by.open()
         while to_server:
             for at in range(0, len(to_server), piece):
                 channel.sendall(to_server[at : at + piece])
+            unread -= 1
+            for _ in range(3 if unread == 0 else 0):
+                channel.sendall(bytes(10_000))
+                time.sleep(0.02)
             to_server = b""
             while not to_server and by.code is None:
                 if not (came := channel.recv(4096)):
                     return by.logged_in
                 to_server = by.receive(came)
+        while unread == 0 and channel.recv(4096):
+            pass
     return by.logged_in
 
 
-def to_the_server(client, server):
-    """Logins to the program of server.c, each with what the server should say of it."""
+REFUSED = "not logged in: Connection: The login was rejected"
+#: A name, a password, and what the server should say of them.
+WORDS = [*((name, word, f"logged in: {name}") for name, word in USERS.items()),
+         ("user", "pencils", REFUSED), ("nobody", "pencil", REFUSED)]
+
+
+@contextlib.contextmanager
+def server_program(server, logins, *words):
+    """The program of server.c for that many logins, and its port."""
     lines = [
         name.replace("=", "=3D").replace(",", "=2C") + " " + Secret(SHA_256, word, b"a salt of bytes!", 4096).record_text()
         for name, word in USERS.items()
     ]
-    refused = "not logged in: Connection: The login was rejected"
-    words = [(name, word, f"logged in: {name}") for name, word in USERS.items()]
-    words += [("user", "pencils", refused), ("nobody", "pencil", refused)]
     with tempfile.NamedTemporaryFile("w", suffix=".users") as file:
         file.write("".join(line + "\n" for line in lines))
         file.flush()
-        count = len(words) * 6
-        with subprocess.Popen([server, file.name, str(count)], stdout=subprocess.PIPE, text=True) as program:
-            port = int(program.stdout.readline())
-            for name, word, wanted in words:
-                for mechanism in ("SCRAM-SHA-256", "PLAIN"):
-                    done = subprocess.run(
-                        [client, "127.0.0.1", str(port), mechanism, name],
-                        input=word + "\n", capture_output=True, text=True, timeout=60, check=False,
-                    )
+        with subprocess.Popen([server, file.name, str(logins), *words], stdout=subprocess.PIPE, text=True) as program:
+            yield program, int(program.stdout.readline())
+
+
+def peer_of(mechanism, name, word):
+    return Plain(name, word) if mechanism == "PLAIN" else Login(SHA_256, name, word)
+
+
+def to_the_server(client, server):
+    """Logins to the program of server.c, each with what the server should say of it."""
+    with server_program(server, len(WORDS) * 8) as (program, port):
+        for name, word, wanted in WORDS:
+            for mechanism in ("SCRAM-SHA-256", "PLAIN"):
+                done = subprocess.run(
+                    [client, "127.0.0.1", str(port), mechanism, name],
+                    input=word + "\n", capture_output=True, text=True, timeout=60, check=False,
+                )
+                said = program.stdout.readline().strip()
+                yield f"{mechanism}, {name}", (done.returncode, said), (int(wanted == REFUSED), wanted)
+                for piece in (1, 4096):
+                    logged_in = by_peer(port, peer_of(mechanism, name, word), piece)
                     said = program.stdout.readline().strip()
-                    yield f"{mechanism}, {name}", (done.returncode, said), (int(wanted == refused), wanted)
-                    by = Login(SHA_256, name, word) if mechanism != "PLAIN" else Plain(name, word)
+                    yield f"{mechanism} of a peer, {name}", (logged_in, said), (wanted != REFUSED, wanted)
+                unread = 2 if mechanism == "PLAIN" else 3
+                logged_in = by_peer(port, peer_of(mechanism, name, word), 4096, unread=unread)
+                said = program.stdout.readline().strip()
+                yield f"{mechanism} with unread bytes, {name}", (logged_in, said), (wanted != REFUSED, wanted)
+
+
+def without_initial_response(server):
+    """Logins of clients that withhold their initial response until the server asks for it, which it does by option."""
+    for mechanism in ("SCRAM-SHA-256", "PLAIN"):
+        for options in (["ask"], ["challenge", "ask"], []):
+            with server_program(server, len(WORDS) * 2, mechanism, "", *options) as (program, port):
+                for name, word, says in WORDS:
+                    wanted = says if options else REFUSED
                     for piece in (1, 4096):
-                        logged_in = by_peer(port, by, piece)
+                        logged_in = by_peer(port, peer_of(mechanism, name, word), piece, late=True)
                         said = program.stdout.readline().strip()
-                        yield f"{mechanism} of a peer, {name}", (logged_in, said), (wanted != refused, wanted)
+                        what = " ".join([f"{mechanism} without an initial response, {name}", *options])
+                        yield what, (logged_in, said), (wanted != REFUSED, wanted)
 
 
 def main():
@@ -120,7 +158,7 @@ def main():
             found = logged_in(sys.argv[1], mechanism, password, broker_again, piece)
             differ += found != wanted
             print(mechanism, f"in pieces of {piece}:", *found, "" if found == wanted else f"DIFFERS: {wanted}")
-    for what, found, wanted in to_the_server(*sys.argv[1:3]):
+    for what, found, wanted in (*to_the_server(*sys.argv[1:3]), *without_initial_response(sys.argv[2])):
         differ += found != wanted
         print(what, *found, "" if found == wanted else f"DIFFERS: {wanted}")
     return 1 if differ else 0

@@ -21,6 +21,17 @@ A server:
 
 `record_of` returns `Record.mock(..)` for a name that it does not know.
 
+PLAIN and EXTERNAL over messages, for protocols other than AMQP. `ANONYMOUS` needs no call: its message is trace
+information, and a server accepts any (RFC 4505, section 2).
+
+    send(plain_message("user", "pencil"))                               # the client, over TLS only
+    message = receive()                                                 # the server
+    name = plain_claimed_user(message)                                  # nobody is authenticated yet
+    if plain_verify(record_of(name), message):
+        log_in(name)
+    if external_verify(name_from_the_certificate, message):
+        log_in(name_from_the_certificate)
+
 Prepare a non-ASCII password on both sides:
 
     password = saslprep("pe\\u0301ncil")
@@ -77,6 +88,7 @@ __all__ = [
     "Frame",
     "Keys",
     "Offer",
+    "PlainPasswords",
     "Record",
     "Refused",
     "Server",
@@ -84,8 +96,12 @@ __all__ = [
     "ServerSteps",
     "Progress",
     "Status",
+    "external_verify",
     "library_version",
     "offers",
+    "plain_claimed_user",
+    "plain_message",
+    "plain_verify",
     "saslprep",
     "view_frame",
 ]
@@ -190,7 +206,8 @@ class Offer(enum.IntFlag):
     PLAIN_PREPARED and PLAIN_SASLPREP, of which one is allowed, say which passwords PLAIN tests: the password as received,
     or as the server prepares it by SASLprep. Without them it rejects non-ASCII passwords.
     SIGNATURE_BY_CHALLENGE: SCRAM sends the server's signature in a challenge, and the outcome follows the client's empty
-    response."""
+    response. INITIAL_RESPONSE_BY_CHALLENGE: SCRAM and PLAIN answer an init without an initial response by an
+    empty challenge, and the client's response is then the initial response."""
 
     SCRAM_SHA_512 = 1
     SCRAM_SHA_256 = 2
@@ -201,7 +218,18 @@ class Offer(enum.IntFlag):
     ACCEPT_CBIND_FLAG_Y = 64
     PLAIN_PREPARED = 128
     PLAIN_SASLPREP = 256
+    INITIAL_RESPONSE_BY_CHALLENGE = 512
     SIGNATURE_BY_CHALLENGE = 1024
+
+
+class PlainPasswords(enum.IntEnum):
+    """Which password `plain_verify` tests for the one of a message. TYPED: the password as typed, which has to be
+    printable ASCII. PREPARED: the password as received, from a client that prepares it. SASLPREP: the text that
+    SASLprep prepares the received password to."""
+
+    TYPED = 0
+    PREPARED = 1
+    SASLPREP = 2
 
 
 class _Mechanism(enum.IntEnum):
@@ -245,6 +273,8 @@ class _ServerState(enum.IntEnum):
     AUTHENTICATED = 2
     CHALLENGE_OPEN_CBIND_FLAG_Y = 3
     SIGNATURE_SENT = 4
+    INITIAL_RESPONSE_ASKED = 5
+    INITIAL_RESPONSE_ASKED_WITH_HOSTNAME = 6
 
 
 class _TextStruct(ctypes.Structure):
@@ -421,6 +451,20 @@ _EXPORTS: dict[str, tuple[Any, list[Any]]] = {
             ctypes.c_char_p,
             ctypes.c_size_t,
             ctypes.c_uint32,
+            ctypes.POINTER(_ScramRecordStruct),
+        ],
+    ),
+    "fe2o3_scram_record_from_fields": (
+        ctypes.c_uint32,
+        [
+            ctypes.c_uint32,
+            ctypes.c_char_p,
+            ctypes.c_size_t,
+            ctypes.c_uint32,
+            ctypes.c_char_p,
+            ctypes.c_size_t,
+            ctypes.c_char_p,
+            ctypes.c_size_t,
             ctypes.POINTER(_ScramRecordStruct),
         ],
     ),
@@ -606,6 +650,40 @@ _EXPORTS: dict[str, tuple[Any, list[Any]]] = {
             ctypes.POINTER(ctypes.c_size_t),
         ],
     ),
+    "fe2o3_plain_message": (
+        ctypes.c_uint32,
+        [
+            ctypes.c_char_p,
+            ctypes.c_size_t,
+            ctypes.c_char_p,
+            ctypes.c_size_t,
+            ctypes.c_void_p,
+            ctypes.c_size_t,
+            ctypes.POINTER(ctypes.c_size_t),
+        ],
+    ),
+    "fe2o3_plain_claimed_user": (
+        ctypes.c_uint32,
+        [
+            ctypes.c_char_p,
+            ctypes.c_size_t,
+            ctypes.c_void_p,
+            ctypes.c_size_t,
+            ctypes.POINTER(ctypes.c_size_t),
+        ],
+    ),
+    "fe2o3_plain_verify": (
+        ctypes.c_uint32,
+        [
+            ctypes.POINTER(_ScramRecordStruct),
+            ctypes.c_size_t,
+            ctypes.c_uint32,
+            ctypes.c_uint32,
+            ctypes.c_char_p,
+            ctypes.c_size_t,
+        ],
+    ),
+    "fe2o3_external_verify": (ctypes.c_uint32, [ctypes.c_char_p, ctypes.c_size_t, ctypes.c_char_p, ctypes.c_size_t]),
     "fe2o3_sasl_client_open": (ctypes.c_uint32, [ctypes.c_void_p, ctypes.c_size_t, ctypes.POINTER(ctypes.c_size_t)]),
     "fe2o3_sasl_client_receive": (
         ctypes.c_uint32,
@@ -822,8 +900,8 @@ def _number(value: int, most: int = 0xFFFFFFFF) -> int:
     return number
 
 
-def _salt(given: Optional[Bytes]) -> bytes:
-    return secrets.token_bytes(16) if given is None else _bytes(given)
+def _salt(given: Optional[Bytes], length: int) -> bytes:
+    return secrets.token_bytes(_number(length, 128)) if given is None else _bytes(given)
 
 
 def _form(prepared: bool) -> int:
@@ -942,7 +1020,7 @@ class Record:
     __slots__ = ("_struct",)
 
     def __init__(self) -> None:
-        raise TypeError("a record is made by Record.make, Record.parse or Record.mock")
+        raise TypeError("a record is made by Record.make, Record.from_fields, Record.parse or Record.mock")
 
     @classmethod
     def _of(cls, struct: _ScramRecordStruct) -> Record:
@@ -960,12 +1038,31 @@ class Record:
         *,
         prepared: bool = False,
         salt: Optional[Bytes] = None,
+        salt_length: int = 16,
         iterations: int = 4096,
     ) -> Record:
         """Computes the record of a password. The password is a typed one, of printable ASCII; `prepared` takes any text,
-        without change (`saslprep`), and a client logs in with exactly that text. The salt defaults to 16 random bytes."""
-        struct = _ScramRecordStruct()
-        _make(_library.fe2o3_scram_record_make, struct, version, password, prepared, _salt(salt), iterations)
+        without change (`saslprep`), and a client logs in with exactly that text. The salt defaults to `salt_length`
+        random bytes, at most 128. For SCRAM-SHA-256 some clients of MongoDB require a salt of 28 bytes."""
+        struct, salt = _ScramRecordStruct(), _salt(salt, salt_length)
+        _make(_library.fe2o3_scram_record_make, struct, version, password, prepared, salt, iterations)
+        return cls._of(struct)
+
+    @classmethod
+    def from_fields(
+        cls, version: int, salt: Bytes, iterations: int, stored_key: Bytes, server_key: Bytes
+    ) -> Record:
+        """Returns the record of the fields that another server stores (RFC 5802, section 3), each as bytes, not in
+        base64. Raises `Refused`, in this order: with NO_SUCH_VERSION; with TOO_LONG for a salt of more than 128 bytes;
+        with ZERO_ITERATIONS; and with RECORD_KEY_LENGTH_MISMATCH if a key is not as long as a digest of the hash."""
+        struct, salt, count = _ScramRecordStruct(), _bytes(salt), _number(iterations)
+        stored_key, server_key = _bytes(stored_key), _bytes(server_key)
+        keys = stored_key, len(stored_key), server_key, len(server_key)
+        _done(
+            _library.fe2o3_scram_record_from_fields(
+                _number(version), salt, len(salt), count, *keys, ctypes.byref(struct)
+            )
+        )
         return cls._of(struct)
 
     @classmethod
@@ -1050,6 +1147,16 @@ class Record:
     def salt(self) -> bytes:
         """The salt."""
         return bytes(self._struct.salt)[: self._struct.salt_len]
+
+    @property
+    def stored_key(self) -> bytes:
+        """The StoredKey. Anyone who has it can try passwords."""
+        return bytes(self._struct.stored_key)[: _DIGEST_LENGTHS[self.version]]
+
+    @property
+    def server_key(self) -> bytes:
+        """The ServerKey. Anyone who has it can impersonate the server."""
+        return bytes(self._struct.server_key)[: _DIGEST_LENGTHS[self.version]]
 
     def __repr__(self) -> str:
         return f"Record(version={self.version}, iterations={self.iterations})"
@@ -1514,8 +1621,9 @@ class ServerConnection(_Connection, _ServerSide):
 class ServerSteps(_Steps, _ServerSide):
     """The server's side of one login over frame bodies, like `ClientSteps`.
 
-    A login takes two bodies of the client: its init, and for SCRAM a response, or two with SIGNATURE_BY_CHALLENGE. If you
-    pass more of them, the client can try passwords again and again.
+    A login takes two bodies of the client: its init, and for SCRAM a response. It takes one more with each of
+    `Offer.SIGNATURE_BY_CHALLENGE` and `Offer.INITIAL_RESPONSE_BY_CHALLENGE`. If you pass more of them, the client can
+    try passwords again and again.
     """
 
     __slots__ = ("_progress",)
@@ -1604,3 +1712,60 @@ class Server:
 
     def __repr__(self) -> str:
         return "Server()"
+
+
+def plain_message(username: Text, password: Text) -> bytes:
+    """Returns the message by which a client logs in with PLAIN (RFC 4616, section 2). It has the password in clear, so
+    send it over TLS only. Prepare a non-ASCII password first (`saslprep`).
+
+    Raises `Refused` with NOT_UTF8 if a word is not UTF-8, with NAMES_NO_USER if the user name is empty, and with
+    PROHIBITED_CHARACTER if a word contains a zero byte. An empty password is written, but servers reject it."""
+    name, secret = _text(username), _text(password)
+    given = name, len(name), secret, len(secret)
+    return _written(len(name) + len(secret) + 2, lambda *room: _library.fe2o3_plain_message(*given, *room))
+
+
+def plain_claimed_user(message: Bytes) -> str:
+    """Returns the user name that a message of PLAIN claims. Nobody is authenticated yet: use it only to look up the
+    record for `plain_verify`. Raises `Refused` with NAMES_NO_USER for a message that `plain_verify` rejects whatever
+    the record is."""
+    given = _bytes(message)
+    name = _written(len(given), lambda *room: _library.fe2o3_plain_claimed_user(given, len(given), *room))
+    return name.decode("utf-8")
+
+
+def plain_verify(
+    record: Optional[Record],
+    message: Bytes,
+    *,
+    passwords: int = PlainPasswords.TYPED,
+    iterations: int = 4096,
+) -> bool:
+    """Returns whether a message of PLAIN has the password of the user that it claims (`plain_claimed_user`), and so
+    authenticates that user.
+
+    The record is that of the claimed user. For an unknown user pass a `Record.mock`, or None: the password is then
+    hashed with SHA-256 and this iteration count, and rejected. That takes as many HMAC values as the login of a known
+    user whose record has this count. `passwords`, one of `PlainPasswords`, says which password is tested for the
+    received one: by default the typed one, of printable ASCII."""
+    given = _bytes(message)
+    records = (_ScramRecordStruct * 1)() if record is None else (_ScramRecordStruct * 1)(record._struct)
+    status = _library.fe2o3_plain_verify(
+        records, 0 if record is None else 1, _number(passwords), _number(iterations), given, len(given)
+    )
+    if status == Status.SERVER_AUTHENTICATION_FAILED:
+        return False
+    _done(status)
+    return True
+
+
+def external_verify(authcid: Text, message: Bytes) -> bool:
+    """Returns whether a message of EXTERNAL (RFC 4422, appendix A) logs in as the user whom the transport
+    authenticated, whose name is `authcid`: the message is empty, or the name. False for each message if the name is
+    empty: then the transport authenticated no one. Raises `Refused` with NOT_UTF8 if the name is not UTF-8."""
+    name, given = _text(authcid), _bytes(message)
+    status = _library.fe2o3_external_verify(name, len(name), given, len(given))
+    if status == Status.SERVER_AUTHENTICATION_FAILED:
+        return False
+    _done(status)
+    return True

@@ -163,9 +163,11 @@ class Side:
 
     mechanism = ""
 
-    def begin(self, ask: bool = False) -> None:
-        """Starts afresh; `ask` asks for the mechanism also where the server does not offer it."""
+    def begin(self, ask: bool = False, late: bool = False) -> None:
+        """Starts afresh; `ask` asks for the mechanism also where the server does not offer it. `late` withholds the
+        initial response until an empty challenge asks for it."""
         self.held, self.ask, self.logged_in, self.code = b"", ask, False, None
+        self.late, self.withheld = late, None
 
     def open(self) -> bytes:
         return SASL_HEADER
@@ -189,7 +191,15 @@ class Side:
         if code == MECHANISMS_CODE:
             if self.mechanism.encode() not in unit and not self.ask:
                 return b""
-            return frame_of(INIT, short(0xA3, self.mechanism.encode()), self.first(), NULL)
+            first, name = self.first(), short(0xA3, self.mechanism.encode())
+            if not self.late:
+                return frame_of(INIT, name, first, NULL)
+            self.withheld = first
+            return frame_of(INIT, name, NULL, short(0xA1, b"host"))
+        if code == CHALLENGE and self.withheld is not None:
+            assert fields_of(unit)[1] == [b""]
+            response, self.withheld = self.withheld, None
+            return frame_of(RESPONSE, response)
         if code == CHALLENGE:
             return frame_of(RESPONSE, short(0xA0, self.answer(fields_of(unit)[1][0] or b"")))
         # (the code is a byte behind its constructor)
@@ -238,15 +248,18 @@ class Login(Side):
         self.header = header
 
     def first(self) -> bytes:
-        self.bare = bare_of(self.name, bytes(32))
+        self.bare, self.signed = bare_of(self.name, bytes(32)), False
         message = self.header + self.bare
         return short(0xA0, message) if len(message) < 200 else NULL
 
     def answer(self, challenge: bytes) -> bytes:
+        if challenge[:2] == b"v=":
+            self.signed = challenge == self.server_final
+            return b""
         _, salt, count = challenge.split(b",")
         secret = Secret(self.version, self.password, base64.b64decode(salt[2:]), int(count[2:]))
         client_final, self.server_final = secret.finals(self.bare, challenge, self.header)
         return client_final
 
     def believes(self, unit: bytes) -> bool:
-        return unit.endswith(short(0xA0, self.server_final))
+        return self.signed or unit.endswith(short(0xA0, self.server_final))

@@ -137,9 +137,9 @@ def stepped(side: ClientSteps, broker: Broker) -> None:
         answer = broker.frame(*fields_of(sized(sent))) if sent else b""
 
 
-def steps_served(side: ServerSteps, by: Any, *, ask: bool = False) -> None:
+def steps_served(side: ServerSteps, by: Any, *, ask: bool = False, late: bool = False) -> None:
     """Joins a server and a client that is made here, body by body."""
-    by.begin(ask)
+    by.begin(ask, late)
     answer = sized(side.offer())
     while sent := by.frame(answer[10], answer):
         answer = sized(side.on_frame(sent[4:]))
@@ -557,9 +557,65 @@ class Connections(Case):
         self.refused(Status.NO_SUCH_MECHANISM, server(64).receive, b"A")
         self.refused(Status.NO_SUCH_MECHANISM, server(128).receive, b"A")
         both_forms = Offer.PLAIN | Offer.PLAIN_PREPARED | Offer.PLAIN_SASLPREP
-        for mechanisms in (both_forms, Offer.PLAIN | 512):
+        for mechanisms in (512, 1024, both_forms, Offer.PLAIN | 2048):
             self.refused(Status.NO_SUCH_MECHANISM, server(mechanisms).receive, b"A")
         self.refused(Status.NOT_UTF8, ServerConnection(nobody, external_authcid=b"\xff").receive, b"A")
+
+    def rejected(self, side: ServerConnection, status: int) -> None:
+        self.assertEqual(side.progress, Progress.FAILED)
+        assert side.why is not None
+        self.assertEqual(side.why.status, status)
+        self.refused(Status.SERVER_ILLEGAL_AUTHENTICATOR_STATE, side.authenticated_user)
+
+    def test_servers_that_ask_for_the_initial_response(self) -> None:
+        for version in VERSIONS:
+            known = of({name: Record.make(version, "pencil", salt=SALT) for name in ("user", "a=b,c")})
+            offer = OFFERS[version] | Offer.PLAIN | Offer.INITIAL_RESPONSE_BY_CHALLENGE
+            for name, password, logged_in in (
+                ("user", "pencil", True),
+                ("a=b,c", "pencil", True),
+                ("user", "pencils", False),
+                ("nobody", "pencil", False),
+            ):
+                for by in (Login(version, name, password), Plain(name, password)):
+                    for piece, signs in ((1, 0), (7, Offer.SIGNATURE_BY_CHALLENGE), (4096, 0)):
+                        side = ServerConnection(known, mechanisms=offer | signs)
+                        by.begin(late=True)
+                        served(side, by, piece)
+                        progress = Progress.AUTHENTICATED if logged_in else Progress.FAILED
+                        self.assertEqual((side.progress, by.logged_in), (progress, logged_in), (name, piece, signs))
+                        if logged_in:
+                            self.assertEqual(side.authenticated_user(), name)
+                        else:
+                            self.rejected(side, Status.REFUSED_AUTH)
+                    side = ServerConnection(known, mechanisms=OFFERS[version] | Offer.PLAIN)
+                    by.begin(late=True)
+                    served(side, by, 4096)
+                    self.rejected(side, Status.REFUSED_AUTH)
+                    self.assertEqual((by.logged_in, by.code), (False, 1))
+
+    def test_a_saved_server_that_has_asked(self) -> None:
+        known = of({"user": Record.make(SHA_256, "pencil", salt=SALT)})
+        offer = OFFERS[SHA_256] | Offer.PLAIN | Offer.INITIAL_RESPONSE_BY_CHALLENGE
+        init, refused = frame_of(INIT, short(0xA3, b"PLAIN"), NULL, short(0xA1, b"host")), frame_of(OUTCOME, b"\x50\1")
+        saved = ServerConnection(known, mechanisms=offer)
+        self.assertTrue(saved.receive(SASL_HEADER + init)[0].endswith(frame_of(CHALLENGE, short(0xA0, b""))))
+        self.assertEqual((saved.progress, saved._struct.scram.state), (Progress.IN_PROGRESS, 6))
+        self.refused(Status.SERVER_ILLEGAL_AUTHENTICATOR_STATE, saved.authenticated_user)
+        for frame, sent, why in (
+            (frame_of(RESPONSE, short(0xA0, b"\0user\0pencil")), frame_of(OUTCOME, b"\x50\0"), None),
+            (frame_of(RESPONSE, short(0xA0, b"\0user\0pencils")), refused, Status.REFUSED_AUTH),
+            (frame_of(RESPONSE, short(0xA0, b"pencil")), refused, Status.REFUSED_AUTH),
+            (frame_of(RESPONSE, short(0xA0, b"")), refused, Status.REFUSED_AUTH),
+            (init, b"", Status.UNEXPECTED_FRAME),
+        ):
+            side = ServerConnection(known, mechanisms=offer)
+            side._struct = type(saved._struct).from_buffer_copy(bytes(saved._struct))
+            self.assertEqual(side.receive(frame), (sent, b""))
+            if why is None:
+                self.assertEqual((side.progress, side.authenticated_user()), (Progress.AUTHENTICATED, "user"))
+            else:
+                self.rejected(side, why)
 
     def test_plain_passwords(self) -> None:
         # (RFC 4013, section 3, prepares two of these texts to "IX"; "\xad" alone to nothing; and rejects the last one)
@@ -777,6 +833,77 @@ class Steps(Case):
             self.assertEqual((client.progress, server.progress), (Progress.AUTHENTICATED, Progress.AUTHENTICATED))
             self.assertEqual(server.authenticated_user(), "user")
 
+    def test_a_server_that_asks_for_the_initial_response(self) -> None:
+        empty, refused = body_of(CHALLENGE, short(0xA0, b"")), body_of(OUTCOME, b"\x50\1")
+        init_nonce, client_nonce = os.urandom(32), os.urandom(32)
+        for (version, mechanism), host in ((of_hash, host) for of_hash in MECHANISMS.items() for host in (b"", b"host")):
+            known, bare = Secret(version, "pencil", SALT, 4096), bare_of("user", client_nonce)
+            server_first = known.server_first(client_nonce, init_nonce)
+            client_final, server_final = known.finals(bare, server_first)
+            names: list[str] = []
+
+            def records_of(name: str) -> list[Record]:
+                names.append(name)
+                return [Record.make(version, "pencil", salt=SALT)]
+
+            def server(state: bytes = b"", offer: int = Offer.INITIAL_RESPONSE_BY_CHALLENGE) -> ServerSteps:
+                side = ServerSteps(records_of, mechanisms=OFFERS[version] | offer)
+                if state:
+                    side._struct = type(side._struct).from_buffer_copy(state)
+                return side
+
+            init = body_of(INIT, short(0xA3, mechanism.encode()), NULL, short(0xA1, host) if host else NULL)
+            first, final = (body_of(RESPONSE, short(0xA0, text)) for text in (b"n,,%s" % bare, client_final))
+            self.assertEqual(server(offer=0).on_frame(init), refused)
+            asked = server()
+            with nonces(init_nonce):
+                self.assertEqual((asked.on_frame(init), asked.progress, names), (empty, Progress.IN_PROGRESS, []))
+            self.refused(Status.SERVER_ILLEGAL_AUTHENTICATOR_STATE, asked.authenticated_user)
+            saved = fe2o3_sasl._ScramServerStruct(state=6 if host else 5)
+            for field, text in (("first", mechanism.encode()), ("nonce", init_nonce), ("bare", host)):
+                setattr(saved, field + "_len", len(text))
+                ctypes.memmove(getattr(saved, field), text, len(text))
+            self.assertEqual(bytes(asked._struct), bytes(saved))
+
+            side = server(bytes(saved))
+            self.assertEqual(side.on_frame(first), body_of(CHALLENGE, short(0xA0, server_first)))
+            self.assertEqual(side.on_frame(final), body_of(OUTCOME, b"\x50\0", short(0xA0, server_final)))
+            self.assertEqual((side.progress, side.authenticated_user()), (Progress.AUTHENTICATED, "user"))
+            self.assertEqual(names, ["user", "user"])
+            with_message = body_of(INIT, short(0xA3, mechanism.encode()), short(0xA0, b"n,," + bare), NULL)
+            for body in (init, with_message, body_of(RESPONSE, short(0xA0, b"")), body_of(RESPONSE, short(0xA0, bare))):
+                side = server(bytes(saved))
+                self.assertEqual(side.on_frame(body), refused)
+                self.closed(side, Status.REFUSED_AUTH)
+                self.assertEqual(bytes(side._struct), bytes(ctypes.sizeof(side._struct)))
+
+    def test_clients_that_withhold_their_initial_response(self) -> None:
+        for version in VERSIONS:
+            known = of({name: Record.make(version, "pencil", salt=SALT) for name in NAMES[1:-1]})
+            offer = OFFERS[version] | Offer.PLAIN | Offer.INITIAL_RESPONSE_BY_CHALLENGE
+            for name, password, signs in (
+                (name, password, signs)
+                for name in NAMES[:-1]
+                for password in ("pencil", "pencils")
+                for signs in (0, Offer.SIGNATURE_BY_CHALLENGE)
+            ):
+                for by in (Login(version, name, password), Plain(name, password)):
+                    side = ServerSteps(known, mechanisms=offer | signs)
+                    steps_served(side, by, late=True)
+                    # (PLAIN has no empty name, and "user" has no record)
+                    logged_in = password == "pencil" and name in NAMES[1:] and (name != "" or isinstance(by, Login))
+                    self.assertEqual((side.progress == Progress.AUTHENTICATED, by.logged_in), (logged_in, logged_in))
+                    if logged_in:
+                        self.assertEqual(side.authenticated_user(), name)
+                    else:
+                        self.closed(side, Status.REFUSED_AUTH)
+        # Inits of ANONYMOUS and EXTERNAL may go without a message, and are not asked for one.
+        for by in (Other("ANONYMOUS"), Other("EXTERNAL")):
+            offer = ALL_OTHERS | Offer.INITIAL_RESPONSE_BY_CHALLENGE
+            side = ServerSteps(nobody, mechanisms=offer, external_authcid="peer")
+            steps_served(side, by)
+            self.assertEqual((side.progress, by.logged_in), (Progress.AUTHENTICATED, True))
+
     def test_clients_of_other_mechanisms(self) -> None:
         known = Secret(SHA_1, "pencil", SALT, 1)
         for side_of, init in (
@@ -913,6 +1040,8 @@ class Steps(Case):
             (server(0), Status.NO_SUCH_MECHANISM),
             (server(64), Status.NO_SUCH_MECHANISM),
             (server(128), Status.NO_SUCH_MECHANISM),
+            (server(512), Status.NO_SUCH_MECHANISM),
+            (server(Offer.PLAIN | 2048), Status.NO_SUCH_MECHANISM),
             (ServerSteps(nobody, external_authcid=b"\xff"), Status.NOT_UTF8),
         ):
             self.refused(status, side.offer)
@@ -946,7 +1075,7 @@ class Steps(Case):
                 keys=ctypes.pointer(keys),
             ),
         )
-        host = ServerSteps(of({"u": Record.make(SHA_256, "p", salt=SALT, iterations=1)}), mechanisms=63)._config("u")
+        host = ServerSteps(of({"u": Record.make(SHA_256, "p", salt=SALT, iterations=1)}), mechanisms=63 | 512)._config("u")
 
         def filled(kind: Any) -> Any:
             size = ctypes.sizeof(kind)
@@ -974,9 +1103,15 @@ class Steps(Case):
             login.login.signature_by_challenge = bits.randrange(2)
             client, server = filled(fe2o3_sasl._ScramClientStruct), filled(fe2o3_sasl._ScramServerStruct)
             client.state, client.signature_len = bits.randrange(5), bits.choice((32, bits.randrange(66)))
-            server.state, server.user_len = bits.randrange(5), 1
+            server.state, server.user_len = bits.randrange(7), 1
             server.bare_len, server.nonce_len = bits.randrange(1026), bits.randrange(514)
             server.first_len, server.user[0] = bits.randrange(1026), ord("u")
+            if server.state in (5, 6) and bits.randrange(2):
+                # (a server that has asked for the initial response of SCRAM)
+                server = fe2o3_sasl._ScramServerStruct(state=server.state, first_len=13, nonce_len=32)
+                ctypes.memmove(server.first, b"SCRAM-SHA-256", 13)
+                server.bare_len = 4 * (server.state - 5)
+                ctypes.memmove(server.bare, b"host", server.bare_len)
             any_bytes = bytes(bits.randrange(256) for _ in range(bits.randrange(20)))
             signature = base64_of(bytes(client.signature)[:32])
             asked("fe2o3_sasl_client_step", login, client, bits.choice((
@@ -990,8 +1125,10 @@ class Steps(Case):
             asked("fe2o3_sasl_server_step", host, server, bits.choice((
                 body_of(INIT, short(0xA3, b"SCRAM-SHA-256"), short(0xA0, b"n,,n=u,r=" + base64_of(bytes(32)))),
                 body_of(INIT, short(0xA3, b"PLAIN"), short(0xA0, b"\0u\0p")),
+                body_of(INIT, short(0xA3, b"PLAIN")),
                 body_of(RESPONSE, short(0xA0, b"c=biws,r=x,p=AAAA")),
                 body_of(RESPONSE, short(0xA0, b"")),
+                body_of(RESPONSE, short(0xA0, b"n,,n=u,r=" + base64_of(bytes(32)))),
                 any_bytes,
             )))
         for export in ("fe2o3_sasl_client_step", "fe2o3_sasl_server_step"):
@@ -1014,6 +1151,31 @@ class Records(Case):
                         self.assertFalse(record.verify("\u00e9"))
                         self.assertEqual((record.version, record.iterations, record.salt), (version, iterations, salt))
         self.assertNotEqual(Record.make(SHA_1, "a").salt, Record.make(SHA_1, "a").salt)
+        for length in (0, 16, 28, 128):
+            self.assertEqual(len(Record.make(SHA_256, "a", salt_length=length).salt), length)
+        self.assertEqual(len(Record.make(SHA_256, "a").salt), 16)
+        self.assertEqual(Record.make(SHA_256, "a", salt=SALT, salt_length=28).salt, SALT)
+
+    def test_fields(self) -> None:
+        for version in VERSIONS:
+            for salt in (b"", SALT, os.urandom(28), os.urandom(128)):
+                secret = Secret(version, "pencil", salt, 4096)
+                fields = version, salt, 4096, secret.stored_key, secret.server_key
+                record = Record.from_fields(*fields)
+                self.assertEqual(record.text(), secret.record_text())
+                self.assertTrue(record.verify("pencil"))
+                again = record.version, record.salt, record.iterations, record.stored_key, record.server_key
+                self.assertEqual(again, fields)
+        key = bytes(32)
+        for status, given in (
+            (Status.NO_SUCH_VERSION, (2, bytes(129), 0, b"", b"")),
+            (Status.TOO_LONG, (SHA_256, bytes(129), 0, b"", b"")),
+            (Status.ZERO_ITERATIONS, (SHA_256, bytes(128), 0, b"", b"")),
+            (Status.RECORD_KEY_LENGTH_MISMATCH, (SHA_256, SALT, 1, key[1:], key)),
+            (Status.RECORD_KEY_LENGTH_MISMATCH, (SHA_256, SALT, 1, key, key + b"\0")),
+            (Status.RECORD_KEY_LENGTH_MISMATCH, (SHA_512, SALT, 1, key, key)),
+        ):
+            self.refused(status, Record.from_fields, *given)
 
     def test_example_of_the_standard(self) -> None:
         # RFC 7677, section 3. Its messages cannot be met, since its nonces are not 32 bytes in base64; its record can.
@@ -1093,6 +1255,91 @@ class Records(Case):
         self.refused(Status.NOT_UTF8, records[SHA_1].line, b"\xff")
 
 
+class Messages(Case):
+    """PLAIN and EXTERNAL over messages (RFC 4616; RFC 4422, appendix A)."""
+
+    # Texts that are no message of PLAIN which a server accepts for a test.
+    NONE = [
+        b"",
+        b"user\0pencil",
+        b"\0user\0pencil\0",
+        b"\0\0pencil",
+        b"\0user\0",
+        b"root\0user\0pencil",
+        b"\0user\0" + b"x" * 1025,
+        b"\xff\0user\0pencil",
+        b"\0user\0pencil\xff",
+    ]
+
+    def test_plain_messages(self) -> None:
+        for name in filter(None, NAMES):
+            for password in ("pencil", "p\xe4sswort", " ", "x" * 1024):
+                message = fe2o3_sasl.plain_message(name, password)
+                self.assertEqual(message, f"\0{name}\0{password}".encode())
+                self.assertEqual(fe2o3_sasl.plain_claimed_user(message), name)
+                self.assertEqual(fe2o3_sasl.plain_claimed_user(name.encode() + message), name)
+        self.assertEqual(fe2o3_sasl.plain_message("user", ""), b"\0user\0")
+        for status, name, password in (
+            (Status.NOT_UTF8, b"\xff", "a"),
+            (Status.NOT_UTF8, "", b"\xff"),
+            (Status.NAMES_NO_USER, "", "\0"),
+            (Status.PROHIBITED_CHARACTER, "a\0b", "a"),
+            (Status.PROHIBITED_CHARACTER, "a", "\0a"),
+        ):
+            self.refused(status, fe2o3_sasl.plain_message, name, password)
+        for message in self.NONE:
+            self.refused(Status.NAMES_NO_USER, fe2o3_sasl.plain_claimed_user, message)
+
+    def test_plain_logins(self) -> None:
+        message = fe2o3_sasl.plain_message("user", "pencil")
+        for version in VERSIONS:
+            record = Record.parse(Secret(version, "pencil", SALT, 4096).record_text())
+            self.assertTrue(fe2o3_sasl.plain_verify(record, message))
+            self.assertTrue(fe2o3_sasl.plain_verify(record, b"user" + message, iterations=0))
+            self.assertFalse(fe2o3_sasl.plain_verify(record, message + b"s"))
+            self.assertFalse(fe2o3_sasl.plain_verify(Record.mock(version, bytes(32), "user"), message))
+            for none in self.NONE:
+                self.assertFalse(fe2o3_sasl.plain_verify(record, none))
+        for iterations in (0, 1, 4096):
+            self.assertFalse(fe2o3_sasl.plain_verify(None, message, iterations=iterations))
+        # A struct of zeros is no record, so the user is unknown.
+        self.assertFalse(fe2o3_sasl.plain_verify(Record._of(fe2o3_sasl._ScramRecordStruct()), message))
+        self.refused(Status.NO_SUCH_CHOICE, lambda: fe2o3_sasl.plain_verify(None, message, passwords=3))
+        with self.assertRaises(ValueError):
+            fe2o3_sasl.plain_verify(None, message, iterations=2**32)
+
+    def test_plain_passwords(self) -> None:
+        # (RFC 4013, section 3, prepares two of these texts to "IX"; "\xad" alone to nothing; and rejects the last one)
+        typed, prepared, by_saslprep = fe2o3_sasl.PlainPasswords
+        for passwords, known, password, logged_in in (
+            (typed, "IX", "IX", True),
+            (typed, "IX", "I\xadX", False),
+            (typed, "p\xe4ss", "p\xe4ss", False),
+            (prepared, "IX", "I\xadX", False),
+            (prepared, "p\xe4ss", "p\xe4ss", True),
+            (by_saslprep, "IX", "IX", True),
+            (by_saslprep, "IX", "I\xadX", True),
+            (by_saslprep, "IX", "\u2168", True),
+            (by_saslprep, "p\xe4ss", "pa\u0308ss", True),
+            (by_saslprep, "IX", "\xad", False),
+            (by_saslprep, "IX", "\u06271", False),
+        ):
+            record = Record.parse(Secret(SHA_256, known, SALT, 4096).record_text())
+            message = fe2o3_sasl.plain_message("user", password)
+            answer = fe2o3_sasl.plain_verify(record, message, passwords=passwords)
+            self.assertEqual(answer, logged_in, (passwords, known, password))
+
+    def test_external(self) -> None:
+        for name in ("CN=client", "J\u00fcrgen"):
+            self.assertTrue(fe2o3_sasl.external_verify(name, b""))
+            self.assertTrue(fe2o3_sasl.external_verify(name, name.encode()))
+            for other in (b"CN=other!", name.encode() + b"s", name.encode()[1:], b"\0", b"\xff"):
+                self.assertFalse(fe2o3_sasl.external_verify(name, other))
+        for message in (b"", b"CN=client"):
+            self.assertFalse(fe2o3_sasl.external_verify("", message))
+        self.refused(Status.NOT_UTF8, fe2o3_sasl.external_verify, b"\xff", b"\xff")
+
+
 class Frames(Case):
     def test_each_kind(self) -> None:
         long = bytes(300)
@@ -1149,6 +1396,11 @@ class Arguments(Case):
                 Client(SHA_1, "a", "a", max_iterations=number)
             with self.assertRaises(ValueError):
                 Record.mock(SHA_1, bytes(32), "a", salt_length=number)
+            with self.assertRaises(ValueError):
+                Record.from_fields(SHA_1, SALT, number, bytes(20), bytes(20))
+        for number in (-1, 129, 2**32):
+            with self.assertRaises(ValueError):
+                Record.make(SHA_1, "a", salt_length=number)
         for unfit in (None, 5, 5.0, object()):
             for call in (record.verify, Record.parse, Server.claimed_user, Client(SHA_1, "a", "a").verify, Server().final):
                 with self.assertRaises(TypeError):
@@ -1419,7 +1671,7 @@ class RandomStructs(Case):
         for _ in range(self.COUNT):
             server, record = self.filled(fe2o3_sasl._ScramServerStruct), self.filled(fe2o3_sasl._ScramRecordStruct)
             if self.chance():
-                server.state = self.random.randrange(5)
+                server.state = self.random.randrange(7)
             # (3 is an open challenge to a client whose GS2 header is `y,,`)
             header = b"y,," if server.state == 3 else b"n,,"
             for field, most in (("user", 256), ("bare", 1024), ("nonce", 512), ("first", 1024)):

@@ -29,8 +29,8 @@ SECTIONS = [  # in the order of use: a title, the structs, and the functions aft
     ("The library", "Text", "version size status_text"),
     ("Passwords", "", "saslprep"),
     ("Records, which a server stores in place of passwords", "ScramRecord",
-     "scram_record_make scram_record_mock scram_record_parse scram_record_text scram_record_verify"
-     " scram_lines_find scram_line"),
+     "scram_record_make scram_record_from_fields scram_record_mock scram_record_parse scram_record_text"
+     " scram_record_verify scram_lines_find scram_line"),
     ("Keys, which a client can cache in place of a password", "ScramKeys", "scram_keys_make"),
     ("A SCRAM client, over messages", "Login ScramClient",
      "scram_client_first scram_client_final scram_client_verify scram_client_get_keys"),
@@ -39,6 +39,7 @@ SECTIONS = [  # in the order of use: a title, the structs, and the functions aft
      " scram_server_authenticated_user"),
     ("Errors that a server sends in the place of a message", "",
      "scram_server_error scram_server_error_text scram_server_error_message"),
+    ("PLAIN and EXTERNAL, over messages", "", "plain_message plain_claimed_user plain_verify external_verify"),
     ("The client's side of a connection, over bytes", "Connection SaslLogin SaslClient",
      "sasl_client_open sasl_client_receive"),
     ("The server's side of a connection, over bytes", "SaslServerConfig SaslServer",
@@ -363,8 +364,16 @@ def python_block(reader):
                             " with `accept_cbind_flag_y`.\n    PLAIN_PREPARED and PLAIN_SASLPREP, of which one is allowed, say which"
                             " passwords PLAIN tests: the password as received,\n    or as the server prepares it by SASLprep."
                             " Without them it rejects non-ASCII passwords.\n    SIGNATURE_BY_CHALLENGE: SCRAM sends the server's"
-                            " signature in a challenge, and the outcome follows the client's empty\n    response.",
+                            " signature in a challenge, and the outcome follows the client's empty\n    response."
+                            " INITIAL_RESPONSE_BY_CHALLENGE: SCRAM and PLAIN answer an init without an initial response by"
+                            " an\n    empty challenge, and the client's response is then the initial response.",
                             [(one.name.replace("OFFER_", ""), one.number) for one in enums["offer"].values]))
+    out.append(python_class("IntEnum", "PlainPasswords", "Which password `plain_verify` tests for the one of a message."
+                            " TYPED: the password as typed, which has to be\n    printable ASCII. PREPARED: the password as"
+                            " received, from a client that prepares it. SASLPREP: the text that\n    SASLprep prepares the"
+                            " received password to.",
+                            [(one.name.replace("PLAIN_PASSWORDS_", ""), one.number)
+                             for one in enums["plain_passwords"].values]))
     for name, title, prefix in [("mechanism", "_Mechanism", ""), ("secret", "_Secret", ""), ("password_form", "_Form", ""),
                                 ("unassigned", "_Unassigned", "UNASSIGNED_"), ("scram_server_state", "_ServerState",
                                                                                "SCRAM_SERVER_")]:

@@ -3,6 +3,10 @@
  * A call returns a status: FE2O3_OK, or why it failed. There is nothing to initialize and nothing to free. The state of
  * an exchange is a struct that you allocate, and the library keeps nothing between calls.
  *
+ * Protocols other than AMQP, such as IMAP, SMTP, XMPP and Kafka, carry the messages of SASL themselves. For them SCRAM,
+ * PLAIN and EXTERNAL have calls over messages. ANONYMOUS needs none: its message is trace information, and the server
+ * accepts any (RFC 4505, section 2).
+ *
  * What you have to ensure, since no call can test it:
  *
  * - Each pointer is valid for as many bytes as its type, or the length after it, says, and for no more than
@@ -89,6 +93,17 @@ enum fe2o3_password_form {
     FE2O3_PREPARED = 1
 };
 
+/* Which password fe2o3_plain_verify tests for the one of a message. User names are compared as received. */
+enum fe2o3_plain_passwords {
+    /* The password as typed, which has to be printable ASCII. Every other password is rejected. */
+    FE2O3_PLAIN_PASSWORDS_TYPED = 0,
+    /* The password as received, as a prepared text. For clients that prepare their passwords. */
+    FE2O3_PLAIN_PASSWORDS_PREPARED = 1,
+    /* The text that SASLprep prepares the password to, with unassigned code points allowed. A password that SASLprep
+     * rejects, or whose prepared text is empty, is rejected. */
+    FE2O3_PLAIN_PASSWORDS_SASLPREP = 2
+};
+
 /* What fe2o3_saslprep does with code points that Unicode 3.2 does not assign. */
 enum fe2o3_unassigned {
     /* Rejects unassigned code points: the call returns FE2O3_UNASSIGNED_CODE_POINT. */
@@ -117,6 +132,9 @@ enum fe2o3_offer {
     FE2O3_PLAIN_PREPARED = 128,
     /* No mechanism: PLAIN tests the text that SASLprep prepares the password to. Not with FE2O3_PLAIN_PREPARED. */
     FE2O3_PLAIN_SASLPREP = 256,
+    /* No mechanism: SCRAM and PLAIN answer an init without an initial response by an empty challenge. The client's
+     * response is then the initial response (RFC 4422, section 5). Without this value such an init fails. */
+    FE2O3_INITIAL_RESPONSE_BY_CHALLENGE = 512,
     /* No mechanism: SCRAM sends the server's signature in a challenge, and the outcome OK follows the client's empty
      * response (RFC 4422, section 5). For clients that do not read the data of an outcome. */
     FE2O3_SIGNATURE_BY_CHALLENGE = 1024
@@ -177,7 +195,13 @@ enum fe2o3_scram_server_state {
     FE2O3_SCRAM_SERVER_CHALLENGE_OPEN_CBIND_FLAG_Y = 3,
     /* The server's signature was sent to the user in a challenge. The user is authenticated once the client has answered
      * it. Only on a connection, and for steps over frame bodies. */
-    FE2O3_SCRAM_SERVER_SIGNATURE_SENT = 4
+    FE2O3_SCRAM_SERVER_SIGNATURE_SENT = 4,
+    /* An empty challenge was sent for an init without an initial response and without a hostname. `first` is the name of
+     * the mechanism, and `nonce` the 32 bytes of the init's nonce. Only on a connection, and for steps over frame
+     * bodies. */
+    FE2O3_SCRAM_SERVER_INITIAL_RESPONSE_ASKED = 5,
+    /* Like FE2O3_SCRAM_SERVER_INITIAL_RESPONSE_ASKED, but the init had a hostname: `bare`. */
+    FE2O3_SCRAM_SERVER_INITIAL_RESPONSE_ASKED_WITH_HOSTNAME = 6
 };
 
 /* The error that a server sends in the place of a message (RFC 5802, section 7, `server-error-value`). */

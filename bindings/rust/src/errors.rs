@@ -177,6 +177,18 @@ kinds! {
 }
 
 kinds! {
+    /// Why no message of PLAIN can be made of a user name and a password.
+    PlainError {
+        /// The user name is empty.
+        NamesNoUser = NAMES_NO_USER,
+        /// The user name or the password contains a zero byte.
+        ProhibitedCharacter = PROHIBITED_CHARACTER,
+        /// An allocation failed.
+        OutOfMemory = OUT_OF_MEMORY,
+    }
+}
+
+kinds! {
     /// Why a text cannot be parsed as a record.
     RecordTextError {
         /// The text does not have five fields: parts are missing or left over.

@@ -34,6 +34,7 @@ mod client;
 mod connection;
 mod errors;
 mod keys;
+mod messages;
 mod password;
 mod preparation;
 mod records;
@@ -50,9 +51,11 @@ pub use calls::{fits, generate_nonce, library_version};
 pub use client::ScramClient;
 pub use connection::{ClientNegotiation, Progress, Received, SaslProfile};
 pub use errors::{
-    ConnectionError, RecordError, RecordTextError, SaslprepError, ScramErrorKind, ServerScramErrorKind, Status,
+    ConnectionError, PlainError, RecordError, RecordTextError, SaslprepError, ScramErrorKind, ServerScramErrorKind,
+    Status,
 };
 pub use keys::CachedKeys;
+pub use messages::{external_verify, plain_claimed_user, plain_message, plain_verify};
 pub use password::Password;
 pub use preparation::{saslprep, Unassigned};
 pub use records::{ScramRecord, StoredPassword};

@@ -1,6 +1,6 @@
 //! What a server stores of a password.
 
-use crate::calls::{done, filled, head, made, put};
+use crate::calls::{done, filled, head, made};
 use crate::{sys, Password, RecordError, RecordTextError, ScramVersion};
 use std::fmt;
 use std::str::FromStr;
@@ -57,7 +57,8 @@ pub struct ScramRecord(pub(crate) sys::ScramRecord);
 
 impl ScramRecord {
     /// Computes the record of a password. A text is a typed password. The salt has to be random, and fresh for each
-    /// record.
+    /// record: 16 bytes of [`generate_nonce`](crate::generate_nonce) suffice. For SCRAM-SHA-256 some clients of MongoDB
+    /// require 28.
     pub fn from_password<'a>(
         version: ScramVersion,
         password: impl Into<Password<'a>>,
@@ -67,18 +68,27 @@ impl ScramRecord {
         made(sys::fe2o3_scram_record_make, NO_RECORD, version, password.into(), salt, iterations).map(Self)
     }
 
-    /// Returns the record of these parts.
+    /// Returns the record of the parts that another server stores (RFC 5802, section 3), each as bytes, not in base64.
+    ///
+    /// The errors are, in this order: `TooLong` for a salt of more than 128 bytes, `ZeroIterations`, and
+    /// `KeyLengthMismatch`.
     pub fn from_parts(version: ScramVersion, stored: &StoredPassword<'_>) -> Result<Self, RecordError> {
-        if stored.iterations == 0 {
-            return Err(RecordError::ZeroIterations);
-        }
-        if stored.stored_key.len() != version.digest_len() || stored.server_key.len() != version.digest_len() {
-            return Err(RecordError::KeyLengthMismatch);
-        }
-        let mut record = sys::ScramRecord { version: version.number(), iterations: stored.iterations, ..NO_RECORD };
-        record.salt_len = put(stored.salt, &mut record.salt).ok_or(RecordError::TooLong)?;
-        put(stored.stored_key, &mut record.stored_key).ok_or(RecordError::TooLong)?;
-        put(stored.server_key, &mut record.server_key).ok_or(RecordError::TooLong)?;
+        let mut record = NO_RECORD;
+        // SAFETY: the parts are slices that live through the call, and the struct is one of this function.
+        let status = unsafe {
+            sys::fe2o3_scram_record_from_fields(
+                version.number(),
+                stored.salt.as_ptr(),
+                stored.salt.len(),
+                stored.iterations,
+                stored.stored_key.as_ptr(),
+                stored.stored_key.len(),
+                stored.server_key.as_ptr(),
+                stored.server_key.len(),
+                &mut record,
+            )
+        };
+        done(status).map_err(RecordError::of)?;
         Ok(Self(record))
     }
 

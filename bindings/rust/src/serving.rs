@@ -160,6 +160,12 @@ impl<R: UserRecords + Clone> PasswordServer<R> {
         self.with(sys::SIGNATURE_BY_CHALLENGE, by_challenge)
     }
 
+    /// With `by_challenge`, makes SCRAM and PLAIN answer an init without an initial response by an empty challenge. The
+    /// client's response is then the initial response (RFC 4422, section 5). Otherwise such an init is rejected.
+    pub fn initial_response_by_challenge(self, by_challenge: bool) -> Self {
+        self.with(sys::INITIAL_RESPONSE_BY_CHALLENGE, by_challenge)
+    }
+
     /// Returns the records of the claimed user, and after them a mock record for each other offered hash.
     pub(crate) fn records(&self, name: Option<&str>) -> Result<Vec<sys::ScramRecord>, ConnectionError> {
         let Some(name) = name else { return Ok(Vec::new()) };

@@ -171,8 +171,9 @@ impl fmt::Debug for ClientSteps {
 
 /// The server's side of one login over frame bodies, like [`ClientSteps`].
 ///
-/// A login takes two bodies of the client: its init, and for SCRAM a response. It takes a third with
-/// [`PasswordServer::signature_by_challenge`]. If you pass more of them, the client can try passwords again and again.
+/// A login takes two bodies of the client: its init, and for SCRAM a response. It takes one more with each of
+/// [`PasswordServer::signature_by_challenge`] and [`PasswordServer::initial_response_by_challenge`]. If you pass more
+/// of them, the client can try passwords again and again.
 ///
 /// ```
 /// use fe2o3_sasl_proved::*;

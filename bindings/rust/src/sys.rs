@@ -46,7 +46,8 @@ pub const ENDED: u32 = 13;
 /// The struct of the connection has a value that no call writes.
 pub const INVALID_SNAPSHOT: u32 = 14;
 
-/// The bytes do not complete a frame that claims a user name.
+/// The bytes do not complete a frame that claims a user name, the message of PLAIN claims none, or the user name for a
+/// message of PLAIN is empty.
 pub const NAMES_NO_USER: u32 = 15;
 
 /// The message is not UTF-8.
@@ -210,10 +211,12 @@ pub const REFUSED_SYS_PERM: u32 = 83;
 /// The server rejected the login because of a temporary system error.
 pub const REFUSED_SYS_TEMP: u32 = 84;
 
-/// The argument `unassigned` is none of the `unassigned` constants, or a form none of the `password_form` constants.
+/// The argument `unassigned` is none of the `unassigned` constants, a form none of the `password_form` constants, or
+/// `passwords` none of the `plain_passwords` constants.
 pub const NO_SUCH_CHOICE: u32 = 85;
 
-/// The prepared text contains a character that RFC 4013, section 2.3, prohibits.
+/// The prepared text contains a character that RFC 4013, section 2.3, prohibits, or a word for a message of PLAIN
+/// contains a zero byte (RFC 4616, section 2).
 pub const PROHIBITED_CHARACTER: u32 = 86;
 
 /// The prepared text mixes right-to-left and left-to-right characters, or does not begin and end with a right-to-left
@@ -271,6 +274,16 @@ pub const TYPED: u32 = 0;
 /// `password_form`: The password as you prepared it (fe2o3_saslprep): any text, used without change.
 pub const PREPARED: u32 = 1;
 
+/// `plain_passwords`: The password as typed, which has to be printable ASCII. Every other password is rejected.
+pub const PLAIN_PASSWORDS_TYPED: u32 = 0;
+
+/// `plain_passwords`: The password as received, as a prepared text. For clients that prepare their passwords.
+pub const PLAIN_PASSWORDS_PREPARED: u32 = 1;
+
+/// `plain_passwords`: The text that SASLprep prepares the password to, with unassigned code points allowed. A password
+/// that SASLprep rejects, or whose prepared text is empty, is rejected.
+pub const PLAIN_PASSWORDS_SASLPREP: u32 = 2;
+
 /// `unassigned`: Rejects unassigned code points: the call returns UNASSIGNED_CODE_POINT.
 pub const UNASSIGNED_REFUSED: u32 = 0;
 
@@ -303,6 +316,10 @@ pub const PLAIN_PREPARED: u32 = 128;
 
 /// `offer`: No mechanism: PLAIN tests the text that SASLprep prepares the password to. Not with PLAIN_PREPARED.
 pub const PLAIN_SASLPREP: u32 = 256;
+
+/// `offer`: No mechanism: SCRAM and PLAIN answer an init without an initial response by an empty challenge. The
+/// client's response is then the initial response (RFC 4422, section 5). Without this value such an init fails.
+pub const INITIAL_RESPONSE_BY_CHALLENGE: u32 = 512;
 
 /// `offer`: No mechanism: SCRAM sends the server's signature in a challenge, and the outcome OK follows the client's
 /// empty response (RFC 4422, section 5). For clients that do not read the data of an outcome.
@@ -369,6 +386,14 @@ pub const SCRAM_SERVER_CHALLENGE_OPEN_CBIND_FLAG_Y: u32 = 3;
 /// `scram_server_state`: The server's signature was sent to the user in a challenge. The user is authenticated once the
 /// client has answered it. Only on a connection, and for steps over frame bodies.
 pub const SCRAM_SERVER_SIGNATURE_SENT: u32 = 4;
+
+/// `scram_server_state`: An empty challenge was sent for an init without an initial response and without a hostname.
+/// `first` is the name of the mechanism, and `nonce` the 32 bytes of the init's nonce. Only on a connection, and for
+/// steps over frame bodies.
+pub const SCRAM_SERVER_INITIAL_RESPONSE_ASKED: u32 = 5;
+
+/// `scram_server_state`: Like SCRAM_SERVER_INITIAL_RESPONSE_ASKED, but the init had a hostname: `bare`.
+pub const SCRAM_SERVER_INITIAL_RESPONSE_ASKED_WITH_HOSTNAME: u32 = 6;
 
 /// `server_error`: The message is no error.
 pub const SERVER_ERROR_NONE: u32 = 0;
@@ -611,7 +636,9 @@ pub struct SaslServerConfig {
     /// The offered mechanisms: a sum of values of the `offer` constants. PLAIN sends the password in clear, so offer it
     /// over TLS only. It rejects every password that is not printable ASCII, unless the sum has PLAIN_PREPARED or
     /// PLAIN_SASLPREP. By the latter it also rejects a password that SASLprep rejects or prepares to the empty text.
-    /// With SIGNATURE_BY_CHALLENGE SCRAM's outcome OK follows the client's empty response to a challenge.
+    /// With SIGNATURE_BY_CHALLENGE SCRAM's outcome OK follows the client's empty response to a challenge. With
+    /// INITIAL_RESPONSE_BY_CHALLENGE an init for SCRAM or PLAIN without an initial response is answered by an empty
+    /// challenge, and the response is the initial response.
     pub mechanisms: u32,
     /// The iteration count with which PLAIN hashes the password of an unknown user.
     pub iterations: u32,
@@ -710,6 +737,9 @@ extern "C" {
 
     /// Computes the record of a password. `form` is one of the `password_form` constants. A client logs in with exactly
     /// the text of which the record was made.
+    ///
+    /// `salt` is random bytes, fresh for each record, at most 128: 16 suffice. For SCRAM-SHA-256 some clients of
+    /// MongoDB require 28.
     pub fn fe2o3_scram_record_make(
         version: u32,
         form: u32,
@@ -718,6 +748,22 @@ extern "C" {
         salt: *const u8,
         salt_len: usize,
         iterations: u32,
+        kept: *mut ScramRecord) -> u32;
+
+    /// Makes a record of the fields that another server stores: the salt, the iteration count, the StoredKey and the
+    /// ServerKey (RFC 5802, section 3), each as bytes, not in base64.
+    ///
+    /// The errors are, in this order: NO_SUCH_VERSION; TOO_LONG for a salt of more than 128 bytes; ZERO_ITERATIONS; and
+    /// RECORD_KEY_LENGTH_MISMATCH if a key has another length than a digest of the hash.
+    pub fn fe2o3_scram_record_from_fields(
+        version: u32,
+        salt: *const u8,
+        salt_len: usize,
+        iterations: u32,
+        stored_key: *const u8,
+        stored_key_len: usize,
+        server_key: *const u8,
+        server_key_len: usize,
         kept: *mut ScramRecord) -> u32;
 
     /// Computes a mock record for a name that the server does not know, so that it answers unknown users like known
@@ -906,6 +952,65 @@ extern "C" {
     /// RFC 5802 describes has `e=other-error`.
     pub fn fe2o3_scram_server_error_message(status: u32, out: *mut u8, out_size: usize, out_len: *mut usize) -> u32;
 
+    /// Writes the message by which a client logs in with PLAIN (RFC 4616, section 2): a zero byte, the user name, a
+    /// zero byte and the password. The authorization identity is empty. The message has the password in clear, so send
+    /// it over TLS only. Prepare a non-ASCII password first (`fe2o3_saslprep`).
+    ///
+    /// Returns NOT_UTF8 if a word is not UTF-8, NAMES_NO_USER if the user name is empty, and PROHIBITED_CHARACTER if a
+    /// word contains a zero byte. An empty password is written, but RFC 4616 forbids it and servers reject it.
+    pub fn fe2o3_plain_message(
+        username: *const u8,
+        username_len: usize,
+        password: *const u8,
+        password_len: usize,
+        out: *mut u8,
+        out_size: usize,
+        out_len: *mut usize) -> u32;
+
+    /// Writes the user name that a message of PLAIN claims (RFC 4616, section 2). Nobody is authenticated yet: use it
+    /// only to look up the record for `fe2o3_plain_verify`.
+    ///
+    /// Returns NAMES_NO_USER for a message that `fe2o3_plain_verify` rejects whatever the record is: one that is not
+    /// UTF-8 in three parts, whose authorization identity is neither empty nor the user name, whose user name is empty,
+    /// or whose password does not have 1 to 1024 bytes.
+    pub fn fe2o3_plain_claimed_user(
+        message: *const u8,
+        message_len: usize,
+        out: *mut u8,
+        out_size: usize,
+        out_len: *mut usize) -> u32;
+
+    /// Tests a message of PLAIN against the record of the user that it claims (RFC 4616). Only OK means that this user
+    /// (`fe2o3_plain_claimed_user`) is authenticated. PLAIN sends the password in clear, so use it over TLS only.
+    ///
+    /// `records` are those of the claimed user, of any hashes. The first one that can be read counts, so put mock
+    /// records last. For an unknown user pass a mock record (`fe2o3_scram_record_mock`), or none: the password is then
+    /// hashed with SHA-256 and this iteration count, as often as for a known user with this count, and rejected.
+    /// `passwords` is one of the `plain_passwords` constants.
+    ///
+    /// Returns NO_SUCH_CHOICE if `passwords` is none of the enum, and SERVER_AUTHENTICATION_FAILED for every message
+    /// that does not log in: a wrong password, an unknown user, or no acceptable message.
+    pub fn fe2o3_plain_verify(
+        records: *const ScramRecord,
+        records_count: usize,
+        passwords: u32,
+        iterations: u32,
+        message: *const u8,
+        message_len: usize) -> u32;
+
+    /// Tests a message of EXTERNAL (RFC 4422, appendix A) against the name that the transport authenticated, such as
+    /// the subject of a client's TLS certificate. Only OK means that this user is authenticated: the message is empty
+    /// or equals `authcid`.
+    ///
+    /// Returns SERVER_AUTHENTICATION_FAILED for every other message, and for each message if `authcid` is empty: then
+    /// the transport authenticated no one. Returns NOT_UTF8 if `authcid` is not UTF-8. The message of a client is the
+    /// identity itself, so there is no call that writes it.
+    pub fn fe2o3_external_verify(
+        authcid: *const u8,
+        authcid_len: usize,
+        message: *const u8,
+        message_len: usize) -> u32;
+
     /// Writes the SASL protocol header, with which a client begins a connection.
     pub fn fe2o3_sasl_client_open(out: *mut u8, out_size: usize, out_len: *mut usize) -> u32;
 
@@ -926,10 +1031,10 @@ extern "C" {
         out_size: usize,
         out_len: *mut usize) -> u32;
 
-    /// Writes the user name that the next frame claims, if `bytes` complete it: that of an init for SCRAM or PLAIN, and
-    /// for a response that of the open challenge of SCRAM. Nobody is authenticated yet: use it only to look up the
-    /// record for `fe2o3_sasl_server_receive`. Returns NAMES_NO_USER if the frame is not complete or claims no name;
-    /// then no record is needed.
+    /// Writes the user name that the next frame claims, if `bytes` complete it: that of an init for SCRAM or PLAIN, for
+    /// a response that of the open challenge of SCRAM, and for the response to an empty challenge that of the initial
+    /// response. Nobody is authenticated yet: use it only to look up the record for `fe2o3_sasl_server_receive`.
+    /// Returns NAMES_NO_USER if the frame is not complete or claims no name; then no record is needed.
     pub fn fe2o3_sasl_server_claimed_user(
         server: *const SaslServer,
         bytes: *const u8,
@@ -988,9 +1093,10 @@ extern "C" {
         out_size: usize,
         out_len: *mut usize) -> u32;
 
-    /// Writes the user name that a frame body claims: that of an init for SCRAM or PLAIN, and for a response that of
-    /// the open challenge of SCRAM. Nobody is authenticated yet: use it only to look up the record for
-    /// `fe2o3_sasl_server_step`. Returns NAMES_NO_USER if the body claims no name; then no record is needed.
+    /// Writes the user name that a frame body claims: that of an init for SCRAM or PLAIN, for a response that of the
+    /// open challenge of SCRAM, and for the response to an empty challenge that of the initial response. Nobody is
+    /// authenticated yet: use it only to look up the record for `fe2o3_sasl_server_step`. Returns NAMES_NO_USER if the
+    /// body claims no name; then no record is needed.
     pub fn fe2o3_sasl_server_step_claimed_user(
         server: *const ScramServer,
         body: *const u8,
@@ -1010,10 +1116,11 @@ extern "C" {
     /// none.
     ///
     /// This call is for programs that read frames themselves, reject those above 512 bytes, and limit their number. A
-    /// login takes an init, and for SCRAM one response, or two with SIGNATURE_BY_CHALLENGE. A client that may send more
-    /// can try passwords again and again. A response without a challenge is answered by an outcome that is not OK. A
-    /// frame that no client sends returns NO_SASL_FRAME. If a name or a message does not fit into the struct, the call
-    /// returns TOO_LONG, and you have to close the connection.
+    /// login takes an init, and for SCRAM one response. SIGNATURE_BY_CHALLENGE adds one response for SCRAM, and
+    /// INITIAL_RESPONSE_BY_CHALLENGE one for SCRAM and PLAIN. A client that may send more can try passwords again and
+    /// again. A response without a challenge is answered by an outcome that is not OK. A frame that no client sends
+    /// returns NO_SASL_FRAME. If a name or a message does not fit into the struct, the call returns TOO_LONG, and you
+    /// have to close the connection.
     pub fn fe2o3_sasl_server_step(
         config: *const SaslServerConfig,
         server: *mut ScramServer,

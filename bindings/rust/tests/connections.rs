@@ -4,7 +4,9 @@ use fe2o3_sasl_proved::*;
 use std::collections::HashMap;
 
 const HEADER: &[u8] = b"AMQP\x03\x01\x00\x00";
+const INIT: u8 = 0x41;
 const CHALLENGE: u8 = 0x42;
+const RESPONSE: u8 = 0x43;
 const OUTCOME: u8 = 0x44;
 
 /// A frame of a described list with these fields.
@@ -184,6 +186,71 @@ fn both_sides() {
         joined(&mut client, &mut side);
         assert_eq!((client.progress(), side.progress()), (progress, progress));
         assert_eq!(side.authenticated_user().as_deref(), user);
+    }
+}
+
+/// The frames of an init without its initial response, and of the response that is its initial response.
+fn withheld(init: &[u8]) -> (Vec<u8>, Vec<u8>) {
+    let found = fields(init);
+    let [Some(name), Some(message), Some(host)] = &found[..] else { panic!("an init of three fields") };
+    let value = |constructor: u8, bytes: &[u8]| [&[constructor, bytes.len() as u8], bytes].concat();
+    let late = frame(INIT, &[&value(0xa3, name), &[0x40], &value(0xa1, host)]);
+    (late, frame(RESPONSE, &[&binary(message)]))
+}
+
+/// A connection of a client that withholds its initial response until the server asks for it. The server is saved
+/// before the response, of which it takes a byte at a time.
+fn joined_late(
+    client: &mut ClientNegotiation,
+    server: PasswordServer<SingleScramCredential>,
+) -> ServerNegotiation<SingleScramCredential> {
+    let mut side = ServerNegotiation::new(server);
+    let offer = side.receive(&ClientNegotiation::open()).unwrap().sent;
+    let (init, response) = withheld(&client.receive(&offer).unwrap().sent);
+    assert_eq!(side.receive(&init).unwrap().sent, frame(CHALLENGE, &[&binary(b"")]));
+    assert_eq!((side.progress(), side.authenticated_user()), (Progress::InProgress, None));
+    let mut again = side.clone();
+    again.receive(&init).unwrap();
+    assert_eq!(again.progress(), Progress::Failed(ConnectionError::UnexpectedFrame));
+    let mut side = side.clone();
+    let mut to_client = Vec::new();
+    for byte in response {
+        to_client.extend(side.receive(&[byte]).unwrap().sent);
+    }
+    while !to_client.is_empty() {
+        let to_server = client.receive(&to_client).unwrap().sent;
+        to_client = side.receive(&to_server).unwrap().sent;
+    }
+    side
+}
+
+#[test]
+fn clients_that_withhold_their_initial_response() {
+    let plain = |password: &str| SaslProfile::Plain { username: "user".to_owned(), password: password.to_owned() };
+    for version in [ScramVersion::Sha1, ScramVersion::Sha256, ScramVersion::Sha512] {
+        let scram = |user: &str, password: &str| SaslProfile::from(ScramClient::new(user, password, version));
+        let server = offering(version).plain_under_tls(true);
+        for (profile, user) in [
+            (scram("user", "pencil"), Some("user")),
+            (plain("pencil"), Some("user")),
+            (scram("user", "pencils"), None),
+            (scram("nobody", "pencil"), None),
+            (plain("pencils"), None),
+        ] {
+            let mut client = ClientNegotiation::new(profile.clone(), Some("host"));
+            let side = joined_late(&mut client, server.clone().initial_response_by_challenge(true));
+            let refused = Progress::Failed(ConnectionError::RefusedAuth);
+            let progress = if user.is_some() { Progress::Authenticated } else { refused };
+            assert_eq!((client.progress(), side.progress()), (progress, progress));
+            assert_eq!(side.authenticated_user().as_deref(), user);
+            // without the option the init is rejected
+            let mut client = ClientNegotiation::new(profile, Some("host"));
+            let mut side = ServerNegotiation::new(server.clone());
+            let offer = side.receive(&ClientNegotiation::open()).unwrap().sent;
+            let (init, _) = withheld(&client.receive(&offer).unwrap().sent);
+            assert_eq!(side.receive(&init).unwrap().sent, frame(OUTCOME, &[&[0x50, 1]]));
+            assert_eq!(side.progress(), refused);
+        }
     }
 }
 

@@ -144,6 +144,67 @@ fn records() {
 }
 
 #[test]
+fn records_of_fields() {
+    for version in VERSIONS {
+        let whole = record(version, &[7; 28]);
+        let stored = whole.as_stored_password();
+        let again = ScramRecord::from_parts(version, &stored).unwrap();
+        assert_eq!(again.to_text(), whole.to_text());
+        let fails = |salt, iterations, stored_key| {
+            let parts = StoredPassword { salt, iterations, stored_key, server_key: stored.server_key };
+            ScramRecord::from_parts(version, &parts).err()
+        };
+        assert_eq!(fails(&[0; 129], 0, &[]), Some(RecordError::TooLong));
+        assert_eq!(fails(&[0; 128], 0, &[]), Some(RecordError::ZeroIterations));
+        assert_eq!(fails(&SALT, 1, &stored.stored_key[1..]), Some(RecordError::KeyLengthMismatch));
+        assert_eq!(fails(&SALT, 1, &[0; 65]), Some(RecordError::KeyLengthMismatch));
+    }
+}
+
+#[test]
+fn plain_over_messages() {
+    let message = plain_message("user", "pencil").unwrap();
+    assert_eq!(message, b"\0user\0pencil");
+    assert_eq!(plain_claimed_user(&message).as_deref(), Some("user"));
+    let failed = Err(ServerScramErrorKind::AuthenticationFailed);
+    for version in VERSIONS {
+        let known = record(version, &SALT);
+        let unknown = ScramRecord::mock(version, &SECRET, "user", 16, 4096).unwrap();
+        for passwords in [PlainPasswords::Typed, PlainPasswords::Prepared, PlainPasswords::Saslprep] {
+            let tested = |kept, message: &[u8]| plain_verify(kept, passwords, 4096, message);
+            assert_eq!(tested(Some(&known), &message), Ok(()));
+            assert_eq!(tested(Some(&known), b"user\0user\0pencil"), Ok(()));
+            assert_eq!(tested(Some(&unknown), &message), failed);
+            assert_eq!(tested(None, &message), failed);
+            for other in [&b"\0user\0pencils"[..], b"root\0user\0pencil", b"\0user\0", b"\0\0pencil", b"user", b""] {
+                assert_eq!(tested(Some(&known), other), failed);
+            }
+        }
+        let spelled = plain_message("user", "p\u{ad}encil").unwrap();
+        assert_eq!(plain_verify(Some(&known), PlainPasswords::Typed, 4096, &spelled), failed);
+        assert_eq!(plain_verify(Some(&known), PlainPasswords::Prepared, 4096, &spelled), failed);
+        assert_eq!(plain_verify(Some(&known), PlainPasswords::Saslprep, 4096, &spelled), Ok(()));
+    }
+    for none in [&b""[..], b"\0user\0", b"\0\0pencil", b"root\0user\0pencil", b"\0user\0pen\0cil", b"\0\xff\0pencil"] {
+        assert_eq!(plain_claimed_user(none), None);
+    }
+    assert_eq!(plain_message("", "\0"), Err(PlainError::NamesNoUser));
+    assert_eq!(plain_message("us\0er", "pencil"), Err(PlainError::ProhibitedCharacter));
+    assert_eq!(plain_message("user", "pencil\0"), Err(PlainError::ProhibitedCharacter));
+    assert_eq!(plain_message("user", "").as_deref(), Ok(&b"\0user\0"[..]));
+}
+
+#[test]
+fn external_over_messages() {
+    assert!(external_verify("CN=client", b""));
+    assert!(external_verify("CN=client", b"CN=client"));
+    for other in [&b"CN=other!"[..], b"CN=client ", b"CN=", b"\0"] {
+        assert!(!external_verify("CN=client", other));
+    }
+    assert!(!external_verify("", b"") && !external_verify("", b"CN=client"));
+}
+
+#[test]
 fn the_record_of_the_example_in_rfc_7677() {
     let text = "SCRAM-SHA-256$4096:W22ZaJ0SNY7soEsUEjb6gQ==$\
         WG5d8oPm3OtcPnkdi4Uo7BkeZkBFzpcXkuLmtbsT4qY=:wfPLwcE6nTWhTAmQ7tl2KeoiWGPlZqQxSrmfPwDl2dU=";

@@ -102,7 +102,33 @@ fn plain(password: &str) -> SaslProfile {
 
 /// Joins both sides up to the outcome, or to what the client refuses.
 fn joined(client: &mut ClientSteps, server: &mut ServerSteps<Store>) -> Result<(), ConnectionError> {
-    let mut to_client = server.sasl_mechanisms().unwrap();
+    let offer = server.sasl_mechanisms().unwrap();
+    joined_from(client, server, offer)
+}
+
+/// Like `joined`, but the client withholds its initial response until the server asks for it.
+fn joined_late(client: &mut ClientSteps, server: &mut ServerSteps<Store>) -> Result<(), ConnectionError> {
+    let init = client.on_frame(&server.sasl_mechanisms().unwrap())?.body;
+    let name = &init[10..12 + init[11] as usize];
+    let rest = &init[10 + name.len()..];
+    let (message, hostname) = rest.split_at(2 + rest[1] as usize);
+    assert_eq!(server.on_frame(&body(INIT, &[name, NULL, hostname])), Ok(asks()));
+    assert_eq!((server.progress(), server.authenticated_user()), (Progress::InProgress, None));
+    let to_client = server.on_frame(&body(RESPONSE, &[message])).unwrap().body;
+    joined_from(client, server, to_client)
+}
+
+/// The empty challenge of a server that asks for an initial response.
+fn asks() -> Answered {
+    Answered { body: body(CHALLENGE, &[&binary("")]), progress: Progress::InProgress }
+}
+
+/// Joins both sides from a body of the server on.
+fn joined_from(
+    client: &mut ClientSteps,
+    server: &mut ServerSteps<Store>,
+    mut to_client: Vec<u8>,
+) -> Result<(), ConnectionError> {
     loop {
         let answered = client.on_frame(&to_client)?;
         assert_eq!(answered.progress, client.progress());
@@ -187,6 +213,70 @@ fn a_server_that_sends_its_signature_in_a_challenge() {
         let mut side = ServerSteps::new(scram(version).signature_by_challenge(true));
         let mut client = ClientSteps::new(ScramClient::new("user", "pencil", version), None);
         assert!(joined(&mut client, &mut side).is_err());
+    }
+}
+
+#[test]
+fn a_server_that_asks_for_the_initial_response() {
+    let both = format!("r={CLIENT_NONCE_TEXT}{SERVER_NONCE_TEXT}");
+    let asking = ServerSteps::new(with_all(scram(ScramVersion::Sha256)).initial_response_by_challenge(true));
+    let mechanism = symbol("SCRAM-SHA-256");
+    let first = body(RESPONSE, &[&binary(&format!("n,,n=user,r={CLIENT_NONCE_TEXT}"))]);
+    let response = body(RESPONSE, &[&binary(&format!("c=biws,{both},p={PROOF}"))]);
+    let refused = Answered { body: outcome(1), progress: REFUSED };
+    for init in [body(INIT, &[&mechanism, NULL, &short(0xa1, b"host")]), body(INIT, &[&mechanism])] {
+        assert_eq!(server(ScramVersion::Sha256).on_frame(&init), Ok(refused.clone()));
+        let mut asked = asking.clone();
+        assert_eq!(asked.on_frame_with(&init, &nonce(2)), Ok(asks()));
+        assert_eq!((asked.progress(), asked.authenticated_user()), (Progress::InProgress, None));
+        let garbage = body(RESPONSE, &[&binary("n,,n=user")]);
+        let with_message = body(INIT, &[&mechanism, &binary(&format!("n,,n=user,r={CLIENT_NONCE_TEXT}"))]);
+        for other in [&init, &with_message, &garbage, &body(RESPONSE, &[&binary("")])] {
+            let mut side = asked.clone();
+            assert_eq!(side.on_frame(other), Ok(refused.clone()), "{other:?}");
+            assert_eq!(side.authenticated_user(), None);
+        }
+        // (with the nonce of the init)
+        let mut side = asked.clone();
+        let challenge = side.on_frame_with(&first, &nonce(9)).unwrap();
+        assert_eq!(challenge.body, body(CHALLENGE, &[&binary(&format!("{both},s={SALT_TEXT},i=4096"))]));
+        let last = side.on_frame(&response).unwrap();
+        assert_eq!(last.body, body(OUTCOME, &[&[0x50, 0], &binary(&format!("v={SIGNATURE}"))]));
+        assert_eq!((side.progress(), side.authenticated_user().as_deref()), (Progress::Authenticated, Some("user")));
+    }
+    let mut side = asking.clone();
+    assert_eq!(side.on_frame(&body(INIT, &[&symbol("PLAIN"), NULL])), Ok(asks()));
+    let last = side.clone().on_frame(&body(RESPONSE, &[&binary("\0user\0pencil")])).unwrap();
+    assert_eq!(last, Answered { body: outcome(0), progress: Progress::Authenticated });
+    assert_eq!(side.on_frame(&body(RESPONSE, &[&binary("\0user\0pencils")])), Ok(refused));
+    let mut side = asking.clone();
+    assert_eq!(side.on_frame(&body(INIT, &[&symbol("ANONYMOUS")])).unwrap().body, outcome(0));
+}
+
+#[test]
+fn clients_that_withhold_their_initial_response() {
+    let hashes = [ScramVersion::Sha1, ScramVersion::Sha256, ScramVersion::Sha512];
+    for (version, signs) in hashes.into_iter().flat_map(|version| [(version, false), (version, true)]) {
+        let by = |user: &str, password: &str| ScramClient::new(user, password, version).signature_by_challenge(signs);
+        let known =
+            scram(version).plain_under_tls(true).signature_by_challenge(signs).initial_response_by_challenge(true);
+        let hiding = known.clone().mock_unknown_users([3; 32], SALT.len(), 4096);
+        for (profile, user) in [
+            (SaslProfile::from(by("user", "pencil")), Some("user")),
+            (plain("pencil"), Some("user")),
+            (by("user", "pencils").into(), None),
+            (by("nobody", "pencil").into(), None),
+            (plain("pencils"), None),
+        ] {
+            for server in [&known, &hiding] {
+                let mut side = ServerSteps::new(server.clone());
+                let mut client = ClientSteps::new(profile.clone(), Some("host"));
+                assert_eq!(joined_late(&mut client, &mut side), Ok(()));
+                let progress = if user.is_some() { Progress::Authenticated } else { REFUSED };
+                assert_eq!((client.progress(), side.progress()), (progress, progress));
+                assert_eq!(side.authenticated_user().as_deref(), user);
+            }
+        }
     }
 }
 
