@@ -105,6 +105,7 @@ rust: build/libfe2o3_sasl.a
 
 python: build/libfe2o3_sasl.so
 	FE2O3_SASL_LIB=$(abspath build/libfe2o3_sasl.so) python3 -B bindings/python/test_fe2o3_sasl.py
+	FE2O3_SASL_LIB=$(abspath build/libfe2o3_sasl.so) python3 -B bindings/python/test_examples.py
 
 install: $(LIBRARY)
 	install -d $(DESTDIR)$(LIBDIR)/pkgconfig $(DESTDIR)$(INCLUDEDIR) $(DESTDIR)$(DOCDIR)

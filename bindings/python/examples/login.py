@@ -1,8 +1,11 @@
-"""Logs in over a connected socket, as an AMQP 1.0 client and as a server."""
+"""Logs in over a connected socket, as an AMQP 1.0 client and as a server, and closes it."""
 
 from __future__ import annotations
 
+import contextlib
 import socket
+import ssl
+import time
 from typing import Callable, Optional, Union
 
 from fe2o3_sasl import SHA_256, Client, ClientConnection, Offer, Progress, Record, ServerConnection
@@ -36,3 +39,19 @@ def finish(side: Union[ClientConnection, ServerConnection], sock: socket.socket)
     if side.why is not None:
         raise side.why
     return rest
+
+
+def hang_up(sock: socket.socket, seconds: float = 2, size: int = 65536) -> None:
+    """Closes a connection, also after a failed login. First discards what arrives, up to that time and that many bytes:
+    a close with unread bytes resets the connection (RFC 1122, section 4.2.2.13), and the peer can lose the outcome."""
+    until, left = time.monotonic() + seconds, size
+    with sock:
+        with contextlib.suppress(OSError):
+            sock.settimeout(seconds)
+            if isinstance(sock, ssl.SSLSocket):
+                sock.unwrap()  # sends close_notify
+        with contextlib.suppress(OSError):
+            sock.shutdown(socket.SHUT_WR)
+            while left > 0 and (wait := until - time.monotonic()) > 0:
+                sock.settimeout(wait)
+                left -= len(sock.recv(4096)) or left

@@ -1,5 +1,8 @@
-//! The program `example_broker RECORDS [tls]`: `example_broker_lib` over standard input and output. It keeps the secret of mock
-//! records in `RECORDS.secret`.
+//! The program `example_broker RECORDS [tls]`: `example_broker_lib` over standard input and output. It keeps the secret of
+//! mock records in `RECORDS.secret`.
+//!
+//! Each run serves one connection, with up to three logins one after another. It opens and closes no socket: the program
+//! that passes the bytes closes it, as docs/GUIDE.md says.
 #![tactic(auto)]
 
 use anyhow::{Context, Result};

@@ -25,8 +25,8 @@ struct Broker<'a, R, I, O> {
     tls: bool,
 }
 
-/// Serves connections by a file of records until a user has logged in: who, and how many logins were wrong before.
-/// The third wrong login, and a connection that ends otherwise, are errors. The secret of mock records is that of the
+/// Serves logins over one connection by a file of records until a user has logged in: who, and how many logins were wrong
+/// before. Each login begins with a protocol header. The third wrong login, and one that ends otherwise, are errors. The secret of mock records is that of the
 /// file beside the records, so every process and every start answers an unknown user by the same salt.
 pub fn log_in<'a, R: Files + RandomSource + AllocGlobal, I: BufRead, O: Write>(
     rt: &'a R,
@@ -53,7 +53,7 @@ pub fn log_in<'a, R: Files + RandomSource + AllocGlobal, I: BufRead, O: Write>(
 }
 
 impl<R: RandomSource + AllocGlobal, I: BufRead, O: Write> Broker<'_, R, I, O> {
-    /// Serves one connection: who has logged in, or `None` if that was refused.
+    /// Serves one login: who has logged in, or `None` if that was refused.
     fn serve(&mut self) -> Result<Option<String>> {
         let server = PasswordServerBuilder::new(&self.records)
             .mock_unknown_users(&self.secret, 16, 4096)

@@ -1,0 +1,149 @@
+"""A broker's logins over TCP or TLS: SCRAM, PLAIN under TLS, and EXTERNAL by client certificate.
+
+    broker.py PORT USERS [CERTIFICATE KEY AUTHORITY]
+
+USERS has a line for each user and hash (`Record.line`). `USERS.secret` is made at the first start. It has the secret of
+mock records. AUTHORITY issues the certificates of clients, which need none. Prints the port and a line for each login.
+Then it closes the connection, since it speaks no AMQP.
+"""
+
+from __future__ import annotations
+
+import asyncio
+import contextlib
+import secrets
+import ssl
+import sys
+import time
+from pathlib import Path
+
+from fe2o3_sasl import SHA_1, SHA_256, SHA_512, Offer, Progress, Record, Refused, ServerConnection, Status
+
+SCRAM = {SHA_512: Offer.SCRAM_SHA_512, SHA_256: Offer.SCRAM_SHA_256, SHA_1: Offer.SCRAM_SHA_1}
+#: The limits: of open connections, of bytes and seconds for a login, and of bytes and seconds for a close.
+CONNECTIONS, LOGIN_BYTES, LOGIN_SECONDS, CLOSE_BYTES, CLOSE_SECONDS = 1000, 8192, 10, 65536, 2
+#: That many refused logins lock a user for that many seconds. The counts of that many names are kept.
+REFUSALS, LOCK_SECONDS, NAMES = 5, 60, 100_000
+
+
+class Broker:
+    """What the connections share: the users, and the counts of refused logins."""
+
+    def __init__(self, users: Path, is_tls: bool) -> None:
+        self.records: dict[str, list[Record]] = {}
+        for line in users.read_bytes().decode().removesuffix("\n").split("\n"):
+            name, _, text = line.rpartition(" ")
+            self.records.setdefault(name.replace("=2C", ",").replace("=3D", "="), []).append(Record.parse(text))
+        for records in self.records.values():
+            records.sort(key=lambda record: -record.version)  # PLAIN takes the first
+        forms = {tuple((one.version, len(one.salt), one.iterations) for one in user) for user in self.records.values()}
+        if len(forms) != 1:
+            raise ValueError("the hashes, salt lengths and iteration counts of all users have to be the same")
+        secret, self.form = Path(f"{users}.secret"), forms.pop()
+        with contextlib.suppress(FileExistsError):
+            secret.touch(0o600, exist_ok=False)
+            secret.write_bytes(secrets.token_bytes(32))
+        self.secret, self.connections = secret.read_bytes(), 0
+        self.mechanisms = sum(SCRAM[version] for version, _, _ in self.form) | (Offer.PLAIN if is_tls else 0)
+        self.refusals: dict[str, tuple[int, float]] = {}
+        self.records_of("")  # raises if the secret is too short
+
+    def records_of(self, name: str) -> list[Record]:
+        """Returns the records of a user, and mock records for an unknown name or a locked one. Both take as long."""
+        mocks = [Record.mock(hash, self.secret, name, salt_length=size, iterations=n) for hash, size, n in self.form]
+        return self.records.get(name, mocks) if self.refused(name) < REFUSALS else mocks
+
+    def refused(self, name: str) -> int:
+        """Returns the number of refused logins of a name over all connections. It ends LOCK_SECONDS after the last."""
+        count, last = self.refusals.get(name, (0, 0.0))
+        return count if time.monotonic() - last < LOCK_SECONDS else 0
+
+    def refuse(self, name: str) -> int:
+        """Counts a refused login of a name, known or not. At a locked name nothing changes, so that the lock ends."""
+        count = self.refused(name)
+        if count < REFUSALS:
+            self.refusals.pop(name, None)
+            self.refusals[name] = count + 1, time.monotonic()
+        if len(self.refusals) > NAMES:
+            del self.refusals[next(iter(self.refusals))]
+        return self.refused(name)
+
+    async def serve(self, reader: asyncio.StreamReader, writer: asyncio.StreamWriter) -> None:
+        """Serves a connection: reports how its login ended, and closes it."""
+        if self.connections >= CONNECTIONS:
+            return writer.transport.abort()
+        self.connections += 1
+        try:
+            print(await self.login(reader, writer), flush=True)
+            await hang_up(reader, writer)
+        finally:
+            self.connections -= 1
+
+    async def login(self, reader: asyncio.StreamReader, writer: asyncio.StreamWriter) -> str:
+        """Serves a login, and returns how it ended. Names are quoted, since they may hold line feeds."""
+        claimed = identity = certified_name(writer)
+
+        def records_of(name: str) -> list[Record]:
+            nonlocal claimed
+            claimed = name
+            return self.records_of(name)
+
+        mechanisms = self.mechanisms | (Offer.EXTERNAL if identity else 0)
+        side = ServerConnection(records_of, mechanisms=mechanisms, external_authcid=identity)
+        try:
+            await asyncio.wait_for(carry(side, reader, writer), LOGIN_SECONDS)
+        except (OSError, Refused, asyncio.TimeoutError) as why:
+            return f"no login: {str(why) or 'it took too long'}"
+        if side.progress == Progress.AUTHENTICATED:
+            return f"logged in: {side.authenticated_user()!r}"
+        count = f", {self.refuse(claimed)} of {claimed!r}" if side.why.status == Status.REFUSED_AUTH else ""
+        return f"not logged in: {side.why.text}{count}"
+
+
+def certified_name(writer: asyncio.StreamWriter) -> str:
+    """Returns the common name in the certificate that TLS has verified; empty unless there is exactly one."""
+    subject = (writer.get_extra_info("peercert") or {}).get("subject", ())
+    names = [value for part in subject for kind, value in part if kind == "commonName"]
+    return names[0] if len(names) == 1 else ""
+
+
+async def carry(side: ServerConnection, reader: asyncio.StreamReader, writer: asyncio.StreamWriter) -> bytes:
+    """Receives and sends until the login ends. Returns the bytes that belong to AMQP."""
+    left, rest = LOGIN_BYTES, b""
+    while side.progress == Progress.IN_PROGRESS:
+        data = await reader.read(min(left, 4096))
+        if not data:
+            raise ConnectionError("the client ended the connection" if left else "it has too many bytes")
+        left -= len(data)
+        answer, rest = await asyncio.to_thread(side.receive, data)  # PLAIN hashes the password here
+        writer.write(answer)
+        await writer.drain()
+    return rest
+
+
+async def hang_up(reader: asyncio.StreamReader, writer: asyncio.StreamWriter) -> None:
+    """Discards what still arrives, and closes. With unread bytes a close resets the connection (RFC 1122, 4.2.2.13)."""
+    until, left = time.monotonic() + CLOSE_SECONDS, CLOSE_BYTES
+    with contextlib.suppress(OSError, asyncio.TimeoutError):
+        if writer.can_write_eof():  # not under TLS: there the client ends first, or the time does
+            writer.write_eof()
+        while left > 0 and (data := await asyncio.wait_for(reader.read(4096), until - time.monotonic())):
+            left -= len(data)
+    writer.close()
+    asyncio.get_running_loop().call_later(CLOSE_SECONDS, writer.transport.abort)  # if TLS does not end
+
+
+async def main(port: str, users: str, *tls: str) -> None:
+    context = ssl.create_default_context(ssl.Purpose.CLIENT_AUTH, cafile=tls[2]) if tls else None
+    if context is not None:
+        context.verify_mode = ssl.CERT_OPTIONAL
+        context.load_cert_chain(*tls[:2])
+    limits = {"limit": 4096, "ssl_handshake_timeout": LOGIN_SECONDS if tls else None}
+    serve = Broker(Path(users), is_tls=bool(tls)).serve
+    server = await asyncio.start_server(serve, "127.0.0.1", int(port), ssl=context, **limits)
+    print(server.sockets[0].getsockname()[1], flush=True)
+    await server.serve_forever()
+
+
+if __name__ == "__main__":
+    asyncio.run(main(*sys.argv[1:]))
