@@ -25,7 +25,8 @@ class Cell:
     #: it.
     kept: Optional[User] = None
     #: The word of our side in the rows of such vectors, where it is not `client` or `server`: `prepared` for a client
-    #: with a prepared password, `unbound` for a server that takes `y,,`, `records` for one that has a record alone.
+    #: with a prepared password, `unbound` for a server that takes `y,,`, `records` for one that has a record alone. Over
+    #: frames, the words of a server's options: it `asks` for an initial response, and `signs` in a challenge.
     kept_as: str = ""
     #: Whether the logins are made at once, since the peer lets each wait.
     at_once: bool = False
@@ -43,6 +44,8 @@ class Peer:
     package = ""
     #: Whether our programs speak frames to it, and not lines.
     by_frames = False
+    #: The languages of our programs for it.
+    languages: tuple[str, ...] = ("C", "Rust")
 
     def missing(self) -> bool:
         raise NotImplementedError

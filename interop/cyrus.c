@@ -1,12 +1,15 @@
 /* A login by libsasl2 over standard input and output, a message a line, as lines.c has it:
  *
- *     cyrus client PLUGINS MECHANISM USER PASSWORD [may | choose | must]
- *     cyrus server PLUGINS MECHANISM SASLDB COUNT
+ *     cyrus client PLUGINS MECHANISM USER PASSWORD [may | choose | must | late | as IDENTITY]
+ *     cyrus server PLUGINS MECHANISM SASLDB COUNT [NAME]
  *     cyrus version
  *
- * PLUGINS is a folder of plugins, and SASLDB a file of users in the realm localhost. With a last word the client has a
- * binding of its channel, made up, which it may use, or must; with `choose` it may, and has another mechanism to choose
- * from. The status is 0 where the login is done; standard error says why it is not. */
+ * PLUGINS is a folder of plugins, and SASLDB a file of users in the realm localhost. With `may`, `choose` and `must`
+ * the client has a binding of its channel, made up, which it may use, or must; with `choose` it may, and has another
+ * mechanism to choose from. With `late` it sends no initial response: its first message answers an empty line of the
+ * server. IDENTITY is the authorization identity, or the trace information of ANONYMOUS. NAME is the name that the
+ * transport authenticated, for EXTERNAL; on the client's side it is USER. The status is 0 where the login is done;
+ * standard error says why it is not. */
 #define _POSIX_C_SOURCE 200112L
 #include <sasl/sasl.h>
 #include <sasl/saslutil.h>
@@ -15,6 +18,7 @@
 #include <string.h>
 
 static char **words;
+static const char *identity = "";
 
 static int get_path(void *context, const char **path)
 {
@@ -26,7 +30,7 @@ static int get_path(void *context, const char **path)
 static int get_name(void *context, int id, const char **name, unsigned *len)
 {
     (void)context;
-    *name = id == SASL_CB_USER ? "" : words[4];
+    *name = id == SASL_CB_USER ? identity : words[4];
     if (len != NULL)
         *len = (unsigned)strlen(*name);
     return SASL_OK;
@@ -112,31 +116,37 @@ static int ended(sasl_conn_t *connection, int status)
     return status != SASL_OK;
 }
 
-static int run_client(const char *binds)
+static int run_client(const char *how)
 {
-    const sasl_channel_binding_t binding = {"tls-unique", strcmp(binds, "must") == 0, 4, (const unsigned char *)"made"};
+    const sasl_channel_binding_t binding = {"tls-unique", strcmp(how, "must") == 0, 4, (const unsigned char *)"made"};
+    int late = strcmp(how, "late") == 0;
     sasl_conn_t *connection = NULL;
     const char *out = NULL, *mechanism = NULL;
     char offered[64];
     unsigned len = 0;
     int status = sasl_client_init(of_client);
-    snprintf(offered, sizeof offered, "%s%s", words[3], strcmp(binds, "choose") == 0 ? " SCRAM-SHA-0" : "");
+    snprintf(offered, sizeof offered, "%s%s", words[3], strcmp(how, "choose") == 0 ? " SCRAM-SHA-0" : "");
     if (status == SASL_OK)
         status = sasl_client_new("amqp", "localhost", NULL, NULL, of_client, SASL_SUCCESS_DATA, &connection);
-    if (status == SASL_OK && *binds != '\0')
+    if (status == SASL_OK && *how != '\0' && !late)
         status = sasl_setprop(connection, SASL_CHANNEL_BINDING, &binding);
+    if (status == SASL_OK && strcmp(words[3], "EXTERNAL") == 0)
+        status = sasl_setprop(connection, SASL_AUTH_EXTERNAL, words[4]);
+    /* (without a place for it there is no initial response) */
     if (status == SASL_OK)
-        status = sasl_client_start(connection, offered, NULL, &out, &len, &mechanism);
-    if (status == SASL_CONTINUE)
-        printf("%s\n", mechanism);
-    while (status == SASL_CONTINUE && say(out, len) && hear())
+        status = sasl_client_start(
+            connection, offered, NULL, late ? NULL : &out, late ? NULL : &len, &mechanism);
+    /* (a mechanism with one message is done by it) */
+    if ((status == SASL_OK || status == SASL_CONTINUE) && (printf("%s\n", mechanism) < 0 || fflush(stdout) != 0))
+        status = SASL_FAIL;
+    for (; status == SASL_CONTINUE && (late || say(out, len)) && hear(); late = 0)
         status = sasl_client_step(connection, message, message_len, NULL, &out, &len);
-    if (status == SASL_OK && !(say("", 0) && hear()))
+    if (status == SASL_OK && !(say(out, len) && hear()))
         status = SASL_FAIL;
     return ended(connection, status);
 }
 
-static int run_server(void)
+static int run_server(const char *name)
 {
     sasl_conn_t *connection = NULL;
     const char *out = NULL;
@@ -145,6 +155,8 @@ static int run_server(void)
     if (status == SASL_OK)
         status = sasl_server_new(
             "amqp", "localhost", "localhost", NULL, NULL, of_server, SASL_SUCCESS_DATA, &connection);
+    if (status == SASL_OK && *name != '\0')
+        status = sasl_setprop(connection, SASL_AUTH_EXTERNAL, name);
     printf("%s\n\n", words[3]);
     fflush(stdout);
     if (status == SASL_OK)
@@ -166,7 +178,13 @@ int main(int count, char **given)
         puts(version);
         return 0;
     }
+    if (strcmp(what, "client") == 0 && count == 8 && strcmp(given[6], "as") == 0) {
+        identity = given[7];
+        count = 6;
+    }
     if (strcmp(what, "client") == 0 && (count == 6 || count == 7))
         return run_client(count == 7 ? given[6] : "");
-    return strcmp(what, "server") == 0 && count == 6 ? run_server() : 2;
+    if (strcmp(what, "server") == 0 && (count == 6 || count == 7))
+        return run_server(count == 7 ? given[6] : "");
+    return 2;
 }

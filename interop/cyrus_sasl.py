@@ -1,4 +1,4 @@
-"""Cyrus SASL with its own plugin of SCRAM: the program of `cyrus.c`, whose standard input and output are a socket."""
+"""Cyrus SASL with its own plugins: the program of `cyrus.c`, whose standard input and output are a socket."""
 
 from __future__ import annotations
 
@@ -8,8 +8,10 @@ import subprocess
 from pathlib import Path
 from typing import Iterator, Optional
 
+import messages
 from cells import Cell, Peer, none
-from sides import COMMA, HARD, PAST, PATIENCE, SCRAM, SOFT, USER, Client, Ending, Side, User, marred
+from messages import DONE, ENDED, NO_ONE, by_client
+from sides import COMMA, PAST, PATIENCE, SCRAM, SOFT, USER, Client, Ending, Side, User, marred
 
 PLUGINS = [Path("/usr/lib/x86_64-linux-gnu/sasl2"), Path("/usr/lib/aarch64-linux-gnu/sasl2"), Path("/usr/lib/sasl2")]
 #: The highest count that its client answers.
@@ -57,6 +59,15 @@ class CyrusSasl(Peer):
         )
         return done.returncode == 0
 
+    def run_client(self, channel: socket.socket, mechanism: str, user: str, password: str, identity: str) -> bool:
+        return self.run(channel, "client", mechanism, user, password, "as", identity)
+
+    def log_in_by_message(self, client: Client, known: User):
+        """A login of our client by PLAIN, ANONYMOUS or EXTERNAL to a server of libsasl2."""
+        words = ["server", client.mechanism, str(self.passwords), "4096"]
+        words += [known.name] if client.mechanism == "EXTERNAL" else []
+        return lambda side: side.log_in(client, lambda channel: self.run(channel, *words))
+
     def log_in(self, client: Client, count: int = 4096, users: Optional[Path] = None, mar=None):
         """A login of our client to a server of libsasl2."""
 
@@ -74,7 +85,8 @@ class CyrusSasl(Peer):
 
         def login(side: Side) -> Ending:
             records = {known.name: side.record(mechanism, known)}
-            return side.serve(mechanism, records, lambda channel: self.run(channel, *words), mar, unbound)
+            more = ("unbound",) if unbound else ()
+            return side.serve(mechanism, records, lambda channel: self.run(channel, *words), mar, more)
 
         return login
 
@@ -82,8 +94,16 @@ class CyrusSasl(Peer):
         for mechanism in SCRAM:
             yield from self.our_clients(mechanism)
             yield from self.our_servers(mechanism)
-        for ours in ("client", "server"):
-            yield none(ours, "PLAIN, ANONYMOUS, EXTERNAL", "a login", "we have these only over AMQP: see Qpid Proton")
+        yield from messages.our_clients(self.log_in_by_message, PAST_USER)
+        soft = SOFT_USER._replace(prepared=True)
+        for what, user, ends in (
+            ("unknown user", User("nobody", "pencil"), ENDED),
+            ("password with a soft hyphen, which it does not prepare", soft, ENDED),
+            ("password with a soft hyphen, as typed", SOFT_USER, DONE),
+        ):
+            yield by_client(self.log_in_by_message, "PLAIN", what, user, ends=ends)
+        yield by_client(self.log_in_by_message, "ANONYMOUS", "no trace information", NO_ONE)
+        yield from messages.our_servers(self.run_client)
 
     def our_clients(self, mechanism: str) -> Iterator[Cell]:
         done, refused = Ending("logged in: Done", True), Ending("not logged in: the other side ended", False)

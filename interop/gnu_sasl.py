@@ -1,4 +1,4 @@
-"""GNU SASL: the program `gsasl`, whose standard input and output are a socket."""
+"""GNU SASL: the program `gsasl`, or its library in `gnu_worker.py`, whose standard input and output are a socket."""
 
 from __future__ import annotations
 
@@ -7,14 +7,18 @@ import re
 import shutil
 import socket
 import subprocess
+import sys
+from pathlib import Path
 from typing import Iterator, Optional
 
+import messages
 from cells import Cell, Peer, none
+from messages import ENDED, NO_ONE, by_client
 from sides import COMMA, HARD, PAST, PATIENCE, SALT, SOFT, USER, Client, Ending, Side, User, marred
 
 MECHANISMS = ("SCRAM-SHA-1", "SCRAM-SHA-256")
 FORGED = "not logged in: Client: Server signature mismatch"
-ENDED = "not logged in: the other side ended"
+WORKER = Path(__file__).resolve().parent / "gnu_worker.py"
 
 
 def gsasl(channel: socket.socket, words: list[str]) -> bool:
@@ -48,6 +52,27 @@ def client(mechanism: str, user: User, known: User, record_of=None, mar=None):
     return login
 
 
+def worker(channel: socket.socket, *words: str) -> bool:
+    """Returns whether a login by the library ends well over a connection."""
+    done = subprocess.run(
+        [sys.executable, "-B", str(WORKER), *words], stdin=channel, stdout=channel, stderr=subprocess.DEVNULL,
+        timeout=PATIENCE, check=False,
+    )
+    return done.returncode == 0
+
+
+def run_client(channel: socket.socket, *words: str) -> bool:
+    """A client of the library by PLAIN, ANONYMOUS or EXTERNAL."""
+    return worker(channel, "client", *words)
+
+
+def log_in_by_message(client: Client, known: User):
+    """A login of our client by PLAIN to a server of gsasl, or by ANONYMOUS or EXTERNAL to one of its library."""
+    if client.mechanism == "PLAIN":
+        return server(client, known.password)
+    return lambda side: side.log_in(client, lambda channel: worker(channel, "server", client.mechanism, known.name))
+
+
 def made_by_gsasl(mechanism: str, user: User) -> str:
     """The text of a record that gsasl makes."""
     salt = base64.b64encode(SALT).decode()
@@ -76,7 +101,18 @@ class GnuSasl(Peer):
             yield from self.our_servers(mechanism)
         for ours in ("client", "server"):
             yield none(ours, "SCRAM-SHA-512", "a login", "it has only SHA-1 and SHA-256")
-            yield none(ours, "PLAIN, ANONYMOUS, EXTERNAL", "a login", "we have these only over AMQP")
+        yield from messages.our_clients(log_in_by_message, PAST)
+        yield none("client", "PLAIN", "unknown user", "its server takes any name")
+        for what, user, known in (
+            ("password with a soft hyphen, prepared", SOFT._replace(prepared=True), HARD),
+            ("password with a soft hyphen, which it prepares", HARD, SOFT),
+            ("password with a soft hyphen, as typed", SOFT, HARD),
+        ):
+            yield by_client(log_in_by_message, "PLAIN", what, user, known)
+        # (RFC 4505, section 2, allows an empty message)
+        yield by_client(log_in_by_message, "ANONYMOUS", "no trace information, which it rejects", NO_ONE, ends=ENDED)
+        yield from messages.our_servers(run_client)
+        yield messages.anonymous(run_client, "no trace information", "")
 
     def our_clients(self, mechanism: str) -> Iterator[Cell]:
         kept = COMMA if mechanism == "SCRAM-SHA-256" else None
@@ -90,7 +126,7 @@ class GnuSasl(Peer):
 
         yield cell("a login", server(of, "pencil"), done)
         yield cell("a name with `,` and `=`", server(of._replace(user=COMMA), COMMA.password), done, kept)
-        yield cell("wrong password", server(of, "pencils"), Ending(ENDED, False))
+        yield cell("wrong password", server(of, "pencils"), ENDED)
         yield none("client", mechanism, "unknown user", "its server takes any name")
         yield cell("count 1", server(of._replace(least=1), "pencil", 1), done)
         yield cell("count 100,000", server(of, "pencil", 100_000), done)

@@ -1,4 +1,4 @@
-# Logins to other programs and by them, over sockets of the loopback, through the bindings for C and for Rust. The
+# Logins to other programs and by them, over sockets of the loopback, through the bindings for C, Rust and Python. The
 # repository's Makefile includes this file. It needs the archive of `make lib`, a C compiler and Python 3. It uses cargo
 # and Debian's packages if they are installed.
 #
@@ -8,9 +8,9 @@ INTEROP ?=
 
 .PHONY: interop build/interop/rust
 
-build/interop/lines: interop/lines.c $(HEADER) build/libfe2o3_sasl.a
+build/interop/lines: interop/lines.c interop/channel.c interop/channel.h $(HEADER) build/libfe2o3_sasl.a
 	@mkdir -p $(@D)
-	$(CC) -std=c99 $(WARNINGS) -O2 -Ibindings/c -o $@ $< build/libfe2o3_sasl.a $(LDLIBS)
+	$(CC) -std=c99 $(WARNINGS) -O2 -Ibindings/c -o $@ interop/lines.c interop/channel.c build/libfe2o3_sasl.a $(LDLIBS)
 
 build/interop/client build/interop/server: build/interop/%: bindings/c/%.c $(HEADER) build/libfe2o3_sasl.a
 	@mkdir -p $(@D)
@@ -25,5 +25,6 @@ build/interop/cyrus: interop/cyrus.c
 	@mkdir -p $(@D)
 	@if [ -e /usr/include/sasl/sasl.h ]; then $(CC) -std=c99 $(WARNINGS) -O2 -o $@ $< -lsasl2; fi
 
-interop: build/interop/lines build/interop/client build/interop/server build/interop/rust build/interop/cyrus
+interop: build/interop/lines build/interop/client build/interop/server build/interop/rust build/interop/cyrus \
+    build/libfe2o3_sasl.so
 	python3 interop/run.py $(INTEROP)

@@ -1,9 +1,12 @@
-/* SCRAM over TCP on the loopback, one base64 line per message, as GNU SASL's program has it. The server writes the name
- * of the mechanism and an empty challenge first, the client the name. After a login each writes an empty line, the
- * client first.
+/* SCRAM, PLAIN, ANONYMOUS and EXTERNAL over TCP on the loopback, one base64 line per message, as GNU SASL's program has
+ * it. The server writes the name of the mechanism and an empty challenge first, the client the name. After a login each
+ * writes an empty line, the client first. A server that accepts the only message of a mechanism writes an empty line
+ * before these.
  *
  *     lines client PORT MECHANISM USER LEAST MOST [prepared] [again]
  *     lines server USERS MECHANISM LOGINS [unbound]
+ *     lines server USERS PLAIN LOGINS [prepared | saslprep]
+ *     lines server USERS EXTERNAL LOGINS NAME
  *     lines record MECHANISM SALT COUNT [prepared]
  *     lines verify RECORD [prepared]
  *
@@ -11,95 +14,47 @@
  * take the password from the first line of standard input; with `prepared` it is what SASLprep prepares that to, for a
  * record without code points that Unicode 3.2 does not assign. With `again` a second login goes by the keys that the
  * first one handed out, without the password. With `unbound` the server takes the GS2 header `y,,` too. The server
- * prints its port; each login has a line that says how it ended. */
+ * prints its port; each login has a line that says how it ended.
+ *
+ * For ANONYMOUS the USER is the trace information, and for EXTERNAL the authorization identity; both can be empty. NAME
+ * is the name that the transport authenticated. With `prepared` a server of PLAIN expects a prepared password, and with
+ * `saslprep` it prepares the received password itself. */
 #define _POSIX_C_SOURCE 200112L
-#include "fe2o3_sasl.h"
+#include "channel.h"
 
-#include <arpa/inet.h>
 #include <netinet/in.h>
 #include <signal.h>
-#include <stdio.h>
 #include <stdlib.h>
 #include <string.h>
 #include <sys/socket.h>
 #include <unistd.h>
 
-/* Where the other side's bytes end, beside the numbers of the library. */
-#define OTHER_SIDE_ENDED UINT32_MAX
-
-struct text {
-    uint8_t bytes[2048];
-    size_t len;
-};
-
 static const struct text empty;
-static const char digits[] = "ABCDEFGHIJKLMNOPQRSTUVWXYZabcdefghijklmnopqrstuvwxyz0123456789+/";
-
-static void write_base64(FILE *out, const struct text *text)
-{
-    size_t at;
-    for (at = 0; at < text->len; at += 3) {
-        size_t left = text->len - at;
-        unsigned long group = (unsigned long)text->bytes[at] << 16;
-        group |= left > 1 ? (unsigned long)text->bytes[at + 1] << 8 : 0;
-        group |= left > 2 ? (unsigned long)text->bytes[at + 2] : 0;
-        fputc(digits[group >> 18 & 63], out);
-        fputc(digits[group >> 12 & 63], out);
-        fputc(left > 1 ? digits[group >> 6 & 63] : '=', out);
-        fputc(left > 2 ? digits[group & 63] : '=', out);
-    }
-    fputc('\n', out);
-    fflush(out);
-}
-
-static int read_base64(const char *line, struct text *text)
-{
-    unsigned long group = 0;
-    int bits = 0;
-    text->len = 0;
-    for (; *line != '\0' && *line != '='; line++) {
-        const char *digit = strchr(digits, *line);
-        if (digit == NULL || text->len == sizeof text->bytes)
-            return 0;
-        group = (group << 6 | (unsigned long)(digit - digits)) & 0xffffff;
-        bits += 6;
-        if (bits >= 8) {
-            bits -= 8;
-            text->bytes[text->len++] = (uint8_t)(group >> bits & 255);
-        }
-    }
-    return 1;
-}
-
-/* A line without its end. */
-static int read_line(FILE *in, char *line, size_t room)
-{
-    if (fgets(line, (int)room, in) == NULL)
-        return 0;
-    line[strcspn(line, "\r\n")] = '\0';
-    return 1;
-}
-
-static uint32_t read_message(FILE *in, struct text *message)
-{
-    char line[4096];
-    return read_line(in, line, sizeof line) && read_base64(line, message) ? FE2O3_OK : OTHER_SIDE_ENDED;
-}
-
-static int random_bytes(uint8_t *bytes, size_t len)
-{
-    FILE *source = fopen("/dev/urandom", "rb");
-    size_t read = source == NULL ? 0 : fread(bytes, 1, len, source);
-    if (source != NULL)
-        fclose(source);
-    return read == len;
-}
 
 static uint32_t version_of(const char *mechanism)
 {
     return strcmp(mechanism, "SCRAM-SHA-1") == 0 ? FE2O3_SHA_1
         : strcmp(mechanism, "SCRAM-SHA-256") == 0 ? FE2O3_SHA_256
         : strcmp(mechanism, "SCRAM-SHA-512") == 0 ? FE2O3_SHA_512 : 0;
+}
+
+/* Returns whether a mechanism has one message only, that of the client. */
+static int has_one_message(const char *mechanism)
+{
+    return strcmp(mechanism, "PLAIN") == 0 || strcmp(mechanism, "ANONYMOUS") == 0
+        || strcmp(mechanism, "EXTERNAL") == 0;
+}
+
+static int is_known(const char *mechanism)
+{
+    return version_of(mechanism) != 0 || has_one_message(mechanism);
+}
+
+/* Sets a text to these bytes, of which it has room for 2048. */
+static void set_text(struct text *text, const uint8_t *bytes, size_t len)
+{
+    text->len = len < sizeof text->bytes ? len : sizeof text->bytes;
+    memcpy(text->bytes, bytes, text->len);
 }
 
 static void told(const char *what, uint32_t status)
@@ -110,33 +65,13 @@ static void told(const char *what, uint32_t status)
     fflush(stdout);
 }
 
-static int loopback(const char *port, int listens)
-{
-    struct sockaddr_in address;
-    const struct sockaddr *where = (const struct sockaddr *)&address;
-    int channel = socket(AF_INET, SOCK_STREAM, 0), failed;
-    memset(&address, 0, sizeof address);
-    address.sin_family = AF_INET;
-    address.sin_addr.s_addr = htonl(INADDR_LOOPBACK);
-    address.sin_port = htons((uint16_t)atoi(port));
-    if (channel < 0)
-        return -1;
-    if (listens)
-        failed = bind(channel, where, sizeof address) != 0 || listen(channel, 8) != 0;
-    else
-        failed = connect(channel, where, sizeof address) != 0;
-    if (failed)
-        close(channel);
-    return failed ? -1 : channel;
-}
-
-static uint32_t log_in(FILE *in, FILE *out, const struct fe2o3_login *login, struct fe2o3_scram_client *client)
+static uint32_t log_in_by_scram(
+    FILE *in, FILE *out, const struct fe2o3_login *login, struct fe2o3_scram_client *client)
 {
     struct text message, answer;
-    char line[256];
     uint8_t nonce[32];
     uint32_t status;
-    if (!read_line(in, line, sizeof line) || !read_line(in, line, sizeof line) || !random_bytes(nonce, sizeof nonce))
+    if (!random_bytes(nonce, sizeof nonce))
         return OTHER_SIDE_ENDED;
     status = fe2o3_scram_client_first(login, client, nonce, answer.bytes, sizeof answer.bytes, &answer.len);
     if (status != FE2O3_OK)
@@ -157,12 +92,41 @@ static uint32_t log_in(FILE *in, FILE *out, const struct fe2o3_login *login, str
     return status;
 }
 
+/* Logs in by a mechanism with one message: that of PLAIN, or the user name itself. */
+static uint32_t log_in_by_message(FILE *in, FILE *out, const char *mechanism, const struct fe2o3_login *login)
+{
+    struct text message = {{0}, 0}, answer;
+    uint32_t status = FE2O3_OK;
+    if (strcmp(mechanism, "PLAIN") == 0)
+        status = fe2o3_plain_message(login->username, login->username_len, login->password, login->password_len,
+            message.bytes, sizeof message.bytes, &message.len);
+    else
+        set_text(&message, login->username, login->username_len);
+    if (status != FE2O3_OK)
+        return status;
+    write_base64(out, &message);
+    if ((status = read_message(in, &answer)) == FE2O3_OK)
+        write_base64(out, &empty);
+    return status;
+}
+
+static uint32_t log_in(
+    FILE *in, FILE *out, const char *mechanism, const struct fe2o3_login *login, struct fe2o3_scram_client *client)
+{
+    char line[256];
+    if (!read_line(in, line, sizeof line) || !read_line(in, line, sizeof line))
+        return OTHER_SIDE_ENDED;
+    return has_one_message(mechanism) ? log_in_by_message(in, out, mechanism, login)
+                                      : log_in_by_scram(in, out, login, client);
+}
+
 /* A login over a connection, which it closes. */
-static uint32_t connected(int channel, const struct fe2o3_login *login, struct fe2o3_scram_client *client)
+static uint32_t connected(
+    int channel, const char *mechanism, const struct fe2o3_login *login, struct fe2o3_scram_client *client)
 {
     int other = channel < 0 ? -1 : dup(channel);
     FILE *in = channel < 0 ? NULL : fdopen(channel, "r"), *out = other < 0 ? NULL : fdopen(other, "w");
-    uint32_t status = in == NULL || out == NULL ? OTHER_SIDE_ENDED : log_in(in, out, login, client);
+    uint32_t status = in == NULL || out == NULL ? OTHER_SIDE_ENDED : log_in(in, out, mechanism, login, client);
     if (in != NULL)
         fclose(in);
     if (out != NULL)
@@ -198,7 +162,7 @@ static int run_client(char **words, int prepared, int again, const char *typed)
     login.password_len = password.len;
     login.keys = &keys;
     if (status == FE2O3_OK)
-        status = connected(loopback(words[0], 0), &login, &client);
+        status = connected(loopback(words[0], 0), words[1], &login, &client);
     told(status == FE2O3_OK ? "logged in" : "not logged in", status);
     if (status != FE2O3_OK || !again)
         return status != FE2O3_OK;
@@ -206,7 +170,7 @@ static int run_client(char **words, int prepared, int again, const char *typed)
     login.secret = FE2O3_BY_KEYS;
     login.password_len = 0;
     if (status == FE2O3_OK)
-        status = connected(loopback(words[0], 0), &login, &client);
+        status = connected(loopback(words[0], 0), words[1], &login, &client);
     told(status == FE2O3_OK ? "logged in by keys" : "not logged in by keys", status);
     return status != FE2O3_OK;
 }
@@ -214,6 +178,8 @@ static int run_client(char **words, int prepared, int again, const char *typed)
 static uint8_t users[65536], secret[32];
 static size_t users_len;
 static int takes_unbound;
+static uint32_t plain_passwords = FE2O3_PLAIN_PASSWORDS_TYPED;
+static const char *transport_name = "";
 
 /* The record of a name: that of its line, or one that is made up, so that nobody learns which names there are. */
 static void fetch(const struct text *name, uint32_t version, struct fe2o3_scram_record *record)
@@ -223,32 +189,77 @@ static void fetch(const struct text *name, uint32_t version, struct fe2o3_scram_
         fe2o3_scram_record_mock(version, secret, sizeof secret, name->bytes, name->len, 16, 4096, record);
 }
 
-static uint32_t serve(FILE *in, FILE *out, const char *mechanism, struct fe2o3_scram_server *server)
+/* Lets the client log in that sent this first message, and writes its name. */
+static uint32_t serve_scram(
+    FILE *in, FILE *out, const char *mechanism, const struct text *first, struct text *name)
 {
+    struct fe2o3_scram_server server = {0};
     struct fe2o3_scram_record record = {0};
-    struct text message, answer, name;
-    char line[256];
+    struct text message, answer;
     uint8_t nonce[32];
     uint32_t status;
-    if (!read_line(in, line, sizeof line) || strcmp(line, mechanism) != 0 || !random_bytes(nonce, sizeof nonce))
-        return OTHER_SIDE_ENDED;
-    if ((status = read_message(in, &message)) != FE2O3_OK)
-        return status;
-    status = fe2o3_scram_server_claimed_user(message.bytes, message.len, name.bytes, sizeof name.bytes, &name.len);
+    status = fe2o3_scram_server_claimed_user(first->bytes, first->len, name->bytes, sizeof name->bytes, &name->len);
     if (status != FE2O3_OK)
         return status;
-    fetch(&name, version_of(mechanism), &record);
+    if (!random_bytes(nonce, sizeof nonce))
+        return OTHER_SIDE_ENDED;
+    fetch(name, version_of(mechanism), &record);
     status = (takes_unbound ? fe2o3_scram_server_first_with_cbind_flag_y : fe2o3_scram_server_first)(
-        &record, server, nonce, message.bytes, message.len, answer.bytes, sizeof answer.bytes, &answer.len);
+        &record, &server, nonce, first->bytes, first->len, answer.bytes, sizeof answer.bytes, &answer.len);
     if (status != FE2O3_OK)
         return status;
     write_base64(out, &answer);
     if ((status = read_message(in, &message)) != FE2O3_OK)
         return status;
     status = fe2o3_scram_server_final(
-        &record, server, message.bytes, message.len, answer.bytes, sizeof answer.bytes, &answer.len);
+        &record, &server, message.bytes, message.len, answer.bytes, sizeof answer.bytes, &answer.len);
+    if (status != FE2O3_OK)
+        return status;
+    write_base64(out, &answer);
+    return fe2o3_scram_server_authenticated_user(&server, name->bytes, sizeof name->bytes, &name->len);
+}
+
+/* Tests a message of PLAIN, and writes the name of its user. */
+static uint32_t serve_plain(const struct text *message, struct text *name)
+{
+    struct fe2o3_scram_record record = {0};
+    uint32_t claims = fe2o3_plain_claimed_user(
+        message->bytes, message->len, name->bytes, sizeof name->bytes, &name->len);
+    if (claims == FE2O3_OK)
+        fetch(name, FE2O3_SHA_256, &record);
+    return fe2o3_plain_verify(&record, claims == FE2O3_OK, plain_passwords, 4096, message->bytes, message->len);
+}
+
+/* Tests the only message of a mechanism, and writes the name of its user: an empty one for ANONYMOUS. */
+static uint32_t serve_message(FILE *out, const char *mechanism, const struct text *message, struct text *name)
+{
+    const uint8_t *transport = (const uint8_t *)transport_name;
+    size_t len = strlen(transport_name);
+    uint32_t status = FE2O3_OK;
+    name->len = 0;
+    if (strcmp(mechanism, "PLAIN") == 0)
+        status = serve_plain(message, name);
+    if (strcmp(mechanism, "EXTERNAL") == 0) {
+        status = fe2o3_external_verify(transport, len, message->bytes, message->len);
+        set_text(name, transport, len);
+    }
+    if (status == FE2O3_OK)
+        write_base64(out, &empty);
+    return status;
+}
+
+static uint32_t serve(FILE *in, FILE *out, const char *mechanism, struct text *name)
+{
+    struct text message;
+    char line[256];
+    uint32_t status;
+    if (!read_line(in, line, sizeof line) || strcmp(line, mechanism) != 0)
+        return OTHER_SIDE_ENDED;
+    if ((status = read_message(in, &message)) != FE2O3_OK)
+        return status;
+    status = has_one_message(mechanism) ? serve_message(out, mechanism, &message, name)
+                                        : serve_scram(in, out, mechanism, &message, name);
     if (status == FE2O3_OK) {
-        write_base64(out, &answer);
         read_message(in, &message);
         write_base64(out, &empty);
     }
@@ -257,13 +268,10 @@ static uint32_t serve(FILE *in, FILE *out, const char *mechanism, struct fe2o3_s
 
 static void served(int channel, const char *mechanism)
 {
-    struct fe2o3_scram_server server = {0};
     struct text name;
     int other = channel < 0 ? -1 : dup(channel);
     FILE *in = channel < 0 ? NULL : fdopen(channel, "r"), *out = other < 0 ? NULL : fdopen(other, "w");
-    uint32_t status = in == NULL || out == NULL ? OTHER_SIDE_ENDED : serve(in, out, mechanism, &server);
-    if (status == FE2O3_OK)
-        status = fe2o3_scram_server_authenticated_user(&server, name.bytes, sizeof name.bytes, &name.len);
+    uint32_t status = in == NULL || out == NULL ? OTHER_SIDE_ENDED : serve(in, out, mechanism, &name);
     if (status == FE2O3_OK)
         printf("logged in: %.*s\n", (int)name.len, (const char *)name.bytes);
     else
@@ -333,16 +341,22 @@ int main(int count, char **words)
     char password[1024] = "";
     const char *what = count > 1 ? words[1] : "", *last = words[count - 1];
     int again = strcmp(what, "client") == 0 && strcmp(last, "again") == 0, prepared;
+    int prepares = strcmp(last, "saslprep") == 0;
     count -= again;
     prepared = strcmp(words[count - 1], "prepared") == 0;
     takes_unbound = strcmp(last, "unbound") == 0;
-    count -= prepared + takes_unbound;
+    count -= prepared + takes_unbound + prepares;
     signal(SIGPIPE, SIG_IGN);
-    if (strcmp(what, "server") == 0 && count == 5 && version_of(words[3]) != 0)
+    if (strcmp(what, "server") == 0 && count == 6 && strcmp(words[3], "EXTERNAL") == 0)
+        transport_name = words[--count];
+    if (strcmp(what, "server") == 0 && count == 5 && is_known(words[3])) {
+        plain_passwords = prepared ? FE2O3_PLAIN_PASSWORDS_PREPARED
+            : prepares ? FE2O3_PLAIN_PASSWORDS_SASLPREP : FE2O3_PLAIN_PASSWORDS_TYPED;
         return run_server(words + 2);
+    }
     if (!read_line(stdin, password, sizeof password))
         return 2;
-    if (strcmp(what, "client") == 0 && count == 7 && version_of(words[3]) != 0)
+    if (strcmp(what, "client") == 0 && count == 7 && is_known(words[3]))
         return run_client(words + 2, prepared, again, password);
     if (strcmp(what, "record") == 0 && count == 5)
         return run_record(words + 2, prepared, password);

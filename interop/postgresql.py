@@ -266,7 +266,8 @@ class PostgreSql(Peer):
         def login(side: Side) -> Ending:
             record = self.made(known) if of_server else side.record(MECHANISM, known)
             words = (user, context if tls else None, tls or CANNOT_BIND)
-            return side.serve(MECHANISM, {"": record}, lambda channel: from_psql(channel, *words), mar, unbound)
+            more = ("unbound",) if unbound else ()
+            return side.serve(MECHANISM, {"": record}, lambda channel: from_psql(channel, *words), mar, more)
 
         return login
 

@@ -5,6 +5,8 @@
     {"side": "server", "mechanisms": NAMES, "settings": FOLDER}
 
 and writes {"in": BOOL} once it has ended; a server first {"port": PORT}, and then also {"user": NAME, "acts_as": NAME}.
+A client also writes the code of the outcome, and what is wrong with the connection: {"outcome": CODE, "error": NAME}.
+With "to_the_end" it sends its first frame of AMQP after a login, and reads until the server ends.
 The settings of a server's libsasl2 are the file proton-server.conf of that folder. A login is made over TLS with
 
     "tls": {"authority": FILE, "certificate": FILE, "key": FILE}
@@ -12,7 +14,6 @@ The settings of a server's libsasl2 are the file proton-server.conf of that fold
 and a client's authorization identity is "acts_as", if there is one.
 """
 
-import contextlib
 import json
 import socket
 import sys
@@ -26,19 +27,28 @@ def say(**words):
     print(json.dumps(words), flush=True)
 
 
-def run(transport, channel):
-    """Sends and takes bytes until the login has ended, or the connection; and then what is still to be sent."""
-    with contextlib.suppress(OSError, ProtonException):
+def run(transport, channel, to_the_end=False):
+    """Sends and takes bytes until the login has ended, or the connection, and then what is still to be sent. `to_the_end`
+    also reads until the server ends. Returns the name of the connection's error, if there is one."""
+    try:
         while not transport.closed:
             while transport.pending() > 0:
                 count = channel.send(transport.peek(transport.pending()))
                 transport.pop(count)
             if transport.sasl().outcome is not None:
-                return
+                # (another outcome is its own, where the server offers no mechanism that it can use)
+                while to_the_end and transport.sasl().outcome in (SASL.OK, SASL.AUTH) and channel.recv(4096):
+                    pass
+                return ""
             came = channel.recv(min(transport.capacity(), 4096))
             if not came:
-                return
+                return ""
             transport.push(came)
+    except OSError as why:
+        return type(why).__name__
+    except ProtonException:
+        pass
+    return ""
 
 
 def begin_tls(transport, mode, files):
@@ -67,8 +77,8 @@ def client(job):
     transport.bind(connection)
     connection.open()
     with socket.create_connection(("127.0.0.1", job["port"]), timeout=PATIENCE) as channel:
-        run(transport, channel)
-    say(**{"in": sasl.outcome == SASL.OK})
+        error = run(transport, channel, job.get("to_the_end", False))
+    say(**{"in": sasl.outcome == SASL.OK, "outcome": sasl.outcome, "error": error})
 
 
 def server(job):

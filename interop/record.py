@@ -8,11 +8,10 @@ import hashlib
 import hmac
 import re
 import sys
-from pathlib import Path
 
-from sides import SALT, Tap, User
+from sides import PYTHON, SALT, Tap, User
 
-sys.path.insert(0, str(Path(__file__).resolve().parent.parent / "bindings" / "python"))
+sys.path.insert(0, str(PYTHON))
 from peers import CHALLENGE, INIT, OUTCOME, RESPONSE, frame_of, mechanisms_frame, short  # noqa: E402
 
 ZEROS = "00" * 32
@@ -82,8 +81,8 @@ def server_run(side: str, mechanism: str, user: User, tap: Tap) -> list[str]:
             f"{ZEROS} {body(RESPONSE, data(lasts[0]))} => Outcome:Ok {outcome}"]
 
 
-def stream(side: str, mechanism: str, user: User, tap: Tap) -> list[str]:
-    """What came to our side, and what it sent, in order."""
+def stream(side: str, mechanism: str, user: User, tap: Tap, options: str) -> list[str]:
+    """What came to our side with these options, and what it sent, in order."""
     name, password = hexed(user.name.encode()), hexed(user.password.encode())
     if side == "client":
         rows = [f"client {mechanism} {name} {password} 1000000 {b'127.0.0.1'.hex()}"]
@@ -91,6 +90,7 @@ def stream(side: str, mechanism: str, user: User, tap: Tap) -> list[str]:
         rows = [f"server {mechanism} {name} {password} {SALT.hex()} {user.count}"]
     else:
         rows = [f"server {mechanism}" + ("" if mechanism == "ANONYMOUS" else f" {name} {password}")]
+    rows[0] += f" {options}" if options else ""
     sent = b"".join(came for whose, came in tap.kept if whose == side)
     found = re.search(rb"\xa0.(n,,n=[^,]*,r=[A-Za-z0-9+/]{43}=)" if side == "client" else
                       rb"\xa0.(r=[^,]*,s=[^,]*,i=\d+)", sent, re.DOTALL)

@@ -1,5 +1,5 @@
 #!/usr/bin/env python3
-"""Logs in to other programs and lets them log in, through the library's bindings for C and for Rust.
+"""Logs in to other programs and lets them log in, through the library's bindings for C, Rust and Python.
 
     run.py [--only PEER] [--what WORDS] [--logins N] [--table FILE] [--record FILE] [--proton FOLDER]
 
@@ -27,11 +27,13 @@ sys.path.insert(0, str(Path(__file__).resolve().parent))
 import record  # noqa: E402
 from cells import Cell, Peer  # noqa: E402
 from cyrus_sasl import CyrusSasl  # noqa: E402
+from example_broker import ExampleBroker  # noqa: E402
 from gnu_sasl import GnuSasl  # noqa: E402
+from late import LateCyrus, LateGnu  # noqa: E402
 from postgresql import PostgreSql  # noqa: E402
 from qpid_proton import ProtonWithCyrus, QpidProton  # noqa: E402
 from rabbitmq import RabbitMq  # noqa: E402
-from sides import Side  # noqa: E402
+from sides import PYTHON, Side  # noqa: E402
 
 #: The head of a file of results.
 HEAD = "# Logins to other programs and by them\n\nWritten by `interop/run.py --table`.\n\n"
@@ -39,19 +41,26 @@ HEAD = "# Logins to other programs and by them\n\nWritten by `interop/run.py --t
 
 def peers(built: Path, proton: Optional[Path]) -> list[Peer]:
     """The peers, in the order of the table."""
-    return [GnuSasl(), CyrusSasl(built), PostgreSql(), QpidProton(), ProtonWithCyrus(proton), RabbitMq()]
+    with_sasl_alone = [GnuSasl(), CyrusSasl(built), PostgreSql()]
+    proton_peers = [QpidProton(), ProtonWithCyrus(proton), ExampleBroker(proton)]
+    return [*with_sasl_alone, *proton_peers, LateCyrus(built), LateGnu(), RabbitMq()]
 
 
 def sides(built: Path, folder: Path) -> list[Side]:
-    """Our side in C and in Rust."""
-    in_c = Side("C", built / "lines", [str(built / "client")], [str(built / "server")], folder)
+    """Our side in C, in Rust and in Python. In Python it has no program over lines."""
     rust = built / "rust" / "release"
-    frames = str(rust / "frames")
-    in_rust = Side("Rust", rust / "lines", [frames, "client"], [frames, "server"], folder)
-    if not (rust / "lines").exists():
-        print("- our programs in Rust: not built (they need cargo)")
-        return [in_c]
-    return [in_c, in_rust]
+    frames, examples = str(rust / "frames"), PYTHON / "examples"
+    programs = [[sys.executable, "-B", str(examples / name)] for name in ("client.py", "broker.py")]
+    library = Path(os.environ.setdefault("FE2O3_SASL_LIB", str(built.parent / "libfe2o3_sasl.so")))
+    found = [
+        (rust / "lines", Side("Rust", rust / "lines", [frames, "client"], [frames, "server"], folder)),
+        (library, Side("Python", Path("-"), *programs, folder)),
+    ]
+    missing = [side.language for program, side in found if not program.exists()]
+    for language in missing:
+        print(f"- our programs in {language}: not built")
+    in_c = Side("C", built / "lines", [str(built / "client")], [str(built / "server")], folder)
+    return [in_c, *(side for _, side in found if side.language not in missing)]
 
 
 def one(cell: Cell, side: Side) -> str:
@@ -85,7 +94,7 @@ def recorded(cell: Cell, peer: Peer, side: Side) -> str:
     other = "server" if cell.ours == "client" else "client"
     head = f"# {peer.name} {peer.version()} as the {other}: {cell.what}"
     if peer.by_frames:
-        rows = record.stream(cell.ours, cell.mechanism, cell.kept, tap)
+        rows = record.stream(cell.ours, cell.mechanism, cell.kept, tap, cell.kept_as)
     else:
         run = record.client_run if cell.ours == "client" else record.server_run
         rows = run(cell.kept_as or cell.ours, cell.mechanism, cell.kept, tap)
@@ -105,11 +114,13 @@ def run_peer(peer: Peer, ours: list[Side], told: argparse.Namespace) -> tuple[li
     for cell in peer.cells():
         if told.what and told.what not in f"{cell.ours} {cell.mechanism} {cell.what}":
             continue
-        results = []
+        results = {side.language: "none" for side in ours}
         for side in ours:
+            if side.language not in peer.languages:
+                continue
             began = time.monotonic()
             result, right = counted(cell, side, told.logins)
-            results.append(result)
+            results[side.language] = "none" if cell.login is None else result
             if told.record and side.language == "C":
                 with told.record.open("a") as file:
                     file.write(recorded(cell, peer, side))
@@ -117,8 +128,7 @@ def run_peer(peer: Peer, ours: list[Side], told: argparse.Namespace) -> tuple[li
             took = "" if cell.login is None else f" ({time.monotonic() - began:.1f} s)"
             words = (peer.name, f"ours is {cell.ours}", side.language, cell.mechanism, cell.what, result)
             print(" | ".join(words) + took, flush=True)
-        results = ["none"] * len(ours) if cell.login is None else results
-        rows.append([peer.name, cell.ours, cell.mechanism, cell.what, *wanted(cell), *results])
+        rows.append([peer.name, cell.ours, cell.mechanism, cell.what, *wanted(cell), *results.values()])
     return rows, all_right
 
 

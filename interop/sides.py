@@ -16,11 +16,15 @@ from typing import Callable, Iterator, NamedTuple, Optional
 #: No login takes longer, in seconds.
 PATIENCE = 60
 
+#: The folder of the module for Python, and of its examples.
+PYTHON = Path(__file__).resolve().parent.parent / "bindings" / "python"
 SCRAM = ("SCRAM-SHA-1", "SCRAM-SHA-256", "SCRAM-SHA-512")
 #: What our programs over frames call EXTERNAL and ANONYMOUS with the user's name as the initial response.
 EXTERNAL_AS, ANONYMOUS_AS = "EXTERNAL as", "ANONYMOUS as"
 #: The word with which our client over frames accepts the server's signature in a challenge, and our server sends it there.
 BY_CHALLENGE = "challenge"
+#: The word with which our server over frames asks for the initial response of an init without one.
+ASK = "ask"
 #: As long as the rows of stored vectors have it.
 SALT = b"a salt of thirty-two bytes, so!!"
 #: The frame of an outcome of code Ok without data.
@@ -55,7 +59,8 @@ SOFT, HARD = User("user", "I\u00adX"), User("user", "IX")
 
 
 class Client(NamedTuple):
-    """Who logs in by a client of ours, with its bounds of the count; `again` logs in by the keys once more."""
+    """Who logs in by a client of ours, with its bounds of the count; `again` logs in by the keys once more. The name is
+    the trace information of ANONYMOUS, and the authorization identity of EXTERNAL."""
 
     mechanism: str
     user: User = USER
@@ -173,7 +178,7 @@ class Tap:
 
 
 class Side:
-    """The programs of one language: `lines` speaks SCRAM alone, the other two AMQP's frames."""
+    """The programs of one language: `lines` speaks SASL without frames, the other two AMQP's frames."""
 
     def __init__(self, language: str, lines: Path, client: list[str], server: list[str], folder: Path) -> None:
         self.language, self.lines, self.folder = language, str(lines), folder
@@ -234,11 +239,11 @@ class Side:
 
     def serve(
         self, mechanism: str, records: dict[str, str], peer: Callable[[socket.socket], Optional[bool]], mar=None,
-        unbound: bool = False,
+        more=(),
     ) -> Ending:
-        """A login at our server over lines, which takes `y,,` where it is `unbound`. The peer is called with its end of
-        the connection."""
-        words = [self.lines, "server", str(self.users(records)), mechanism, "1", *(["unbound"] if unbound else [])]
+        """A login at our server over lines, for which it has more words. The peer is called with its end of the
+        connection."""
+        words = [self.lines, "server", str(self.users(records)), mechanism, "1", *more]
         with ended_after(subprocess.Popen(words, stdout=subprocess.PIPE, text=True)) as program:
             with dialled(self.tapped(int(program.stdout.readline()), mar)) as channel:
                 seen = peer(channel)

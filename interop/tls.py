@@ -33,6 +33,8 @@ class Authority:
         self.pair = Pair(folder / "authority.pem", folder / "authority.key")
         self.issued: dict[str, Pair] = {}
         words = ["req", "-x509", "-nodes", "-days", "2", "-newkey", "rsa:2048", "-subj", "/CN=authority"]
+        # (Python 3.13 and later require it)
+        words += ["-addext", "keyUsage=critical,keyCertSign,cRLSign"]
         self.openssl(*words, "-keyout", self.pair.key, "-out", self.pair.certificate)
 
     def openssl(self, *words: object) -> None:

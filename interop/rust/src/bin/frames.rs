@@ -3,17 +3,19 @@
 //!
 //! ```text
 //! frames client HOST PORT MECHANISM USER [challenge]
-//! frames server USERS LOGINS MECHANISM [PEER [challenge]]
+//! frames server USERS LOGINS MECHANISM [PEER [challenge | ask]..]
 //! ```
 //!
 //! The client takes the password from standard input. `EXTERNAL as` and `ANONYMOUS as` send USER as the initial
 //! response, which can be empty. With `challenge` the client also accepts the server's signature in a challenge, and the
-//! server sends it there. The server offers this mechanism only, where EXTERNAL accepts the name PEER.
+//! server sends it there. With `ask` the server answers an init without an initial response by an empty challenge. The
+//! server offers this mechanism only, where EXTERNAL accepts the name PEER.
 
 use fe2o3_sasl_proved::{ClientNegotiation, Progress, SaslProfile, ScramClient, ScramVersion, ServerNegotiation};
 use interop::{password, told, version_of, Failure, Users};
 use std::io::{Read, Write};
-use std::net::{TcpListener, TcpStream};
+use std::net::{Shutdown, TcpListener, TcpStream};
+use std::time::{Duration, Instant};
 
 fn profile(mechanism: &str, user: &str, by_challenge: bool) -> Result<SaslProfile, Failure> {
     Ok(match mechanism {
@@ -72,14 +74,17 @@ fn run_client(words: &[&str]) -> Result<i32, Failure> {
     }
 }
 
-/// What the server offers: a mechanism, the name that EXTERNAL accepts, and whether its signature goes into a challenge.
+/// What the server offers: a mechanism, the name that EXTERNAL accepts, and its options.
 struct Offer<'a> {
     mechanism: &'a str,
     peer: &'a str,
-    by_challenge: bool,
+    options: &'a [&'a str],
 }
 
-fn serve(mut channel: TcpStream, users: Users, offer: &Offer) -> Result<String, Failure> {
+/// The options of a server: its signature goes into a challenge, and it asks for an initial response.
+const OPTIONS: [&str; 2] = ["challenge", "ask"];
+
+fn serve(channel: &mut TcpStream, users: Users, offer: &Offer) -> Result<String, Failure> {
     let mechanism = offer.mechanism;
     let hashes: Vec<_> = version_of(mechanism).into_iter().collect();
     let server = users
@@ -88,11 +93,12 @@ fn serve(mut channel: TcpStream, users: Users, offer: &Offer) -> Result<String, 
         .plain_under_tls(mechanism == "PLAIN")
         .anonymous(mechanism == "ANONYMOUS")
         .external(offer.peer)
-        .signature_by_challenge(offer.by_challenge);
+        .signature_by_challenge(offer.options.contains(&OPTIONS[0]))
+        .initial_response_by_challenge(offer.options.contains(&OPTIONS[1]));
     let mut side = ServerNegotiation::new(server);
     let mut room = [0; 4096];
     while side.progress() == Progress::InProgress {
-        let len = came(&mut channel, &mut room)?;
+        let len = came(channel, &mut room)?;
         let received = side.receive(&room[..len])?;
         channel.write_all(&received.sent)?;
     }
@@ -100,19 +106,37 @@ fn serve(mut channel: TcpStream, users: Users, offer: &Offer) -> Result<String, 
     Ok(side.authenticated_user().unwrap_or_default())
 }
 
+/// Closes a connection like `bindings/c/server.c`: ends the sending side, and discards what arrives until the client
+/// ends, for two seconds and 64 KiB at most.
+fn hang_up(mut channel: TcpStream) {
+    let (until, mut left, mut room) = (Instant::now() + Duration::from_secs(2), 65536_usize, [0; 4096]);
+    let _ = channel.shutdown(Shutdown::Write);
+    while left > 0 {
+        let wait = until.saturating_duration_since(Instant::now());
+        if wait.is_zero() || channel.set_read_timeout(Some(wait)).is_err() {
+            return;
+        }
+        match channel.read(&mut room) {
+            Ok(len @ 1..) => left = left.saturating_sub(len),
+            _ => return,
+        }
+    }
+}
+
 fn run_server(words: &[&str]) -> Result<i32, Failure> {
     let version = version_of(words[2]).unwrap_or(ScramVersion::Sha256);
     let peer = words.get(3).copied().unwrap_or("");
-    let offer = Offer { mechanism: words[2], peer, by_challenge: words.len() == 5 };
+    let offer = Offer { mechanism: words[2], peer, options: words.get(4..).unwrap_or_default() };
     let listener = TcpListener::bind(("127.0.0.1", 0))?;
     println!("{}", listener.local_addr()?.port());
     for _ in 0..words[1].parse()? {
-        let (channel, _) = listener.accept()?;
-        match serve(channel, Users::read(words[0], version)?, &offer) {
+        let (mut channel, _) = listener.accept()?;
+        match serve(&mut channel, Users::read(words[0], version)?, &offer) {
             Ok(name) => println!("logged in: {name}"),
             Err(why) if why.to_string() == NO_CONNECTION => println!("{NO_CONNECTION}"),
             Err(why) => println!("not logged in: {why}"),
         }
+        hang_up(channel);
     }
     Ok(0)
 }
@@ -123,8 +147,7 @@ fn main() -> Result<(), Failure> {
     let status = match (words.first().copied(), words.len()) {
         (Some("client"), 5) => run_client(&words[1..])?,
         (Some("client"), 6) if words[5] == "challenge" => run_client(&words[1..])?,
-        (Some("server"), 4 | 5) => run_server(&words[1..])?,
-        (Some("server"), 6) if words[5] == "challenge" => run_server(&words[1..])?,
+        (Some("server"), 4..) if words.iter().skip(5).all(|word| OPTIONS.contains(word)) => run_server(&words[1..])?,
         _ => 2,
     };
     std::process::exit(status)

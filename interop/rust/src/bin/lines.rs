@@ -1,11 +1,15 @@
 //! The program of `../lines.c`, by the crate for Rust: the same words, the same lines.
 
-use fe2o3_sasl_proved::{saslprep, Password, ScramClient, ScramRecord, ScramVersion, Unassigned};
+use fe2o3_sasl_proved::{external_verify, plain_claimed_user, plain_message, plain_verify, saslprep};
+use fe2o3_sasl_proved::{Password, PlainPasswords, ScramClient, ScramRecord, ScramVersion, ServerScramErrorKind};
+use fe2o3_sasl_proved::{Unassigned, UserRecords};
 use interop::{from_base64, password, to_base64, told, version_of, Failure, Users};
 use std::io::{BufRead, BufReader, Write};
 use std::net::{TcpListener, TcpStream};
 
 const ENDED: &str = "the other side ended";
+/// The mechanisms with one message only, that of the client.
+const ONE_MESSAGE: [&str; 3] = ["PLAIN", "ANONYMOUS", "EXTERNAL"];
 
 /// A connection, a line at a time.
 struct Lines {
@@ -31,10 +35,23 @@ impl Lines {
     }
 }
 
-fn log_in(port: u16, client: &mut ScramClient) -> Result<(), Failure> {
+/// A connection to a server, after its first two lines.
+fn connected(port: u16) -> Result<Lines, Failure> {
     let mut lines = Lines { channel: BufReader::new(TcpStream::connect(("127.0.0.1", port))?) };
     lines.line()?;
     lines.line()?;
+    Ok(lines)
+}
+
+fn log_in_by_message(port: u16, message: &[u8]) -> Result<(), Failure> {
+    let mut lines = connected(port)?;
+    lines.say(message)?;
+    lines.message()?;
+    lines.say(b"")
+}
+
+fn log_in(port: u16, client: &mut ScramClient) -> Result<(), Failure> {
+    let mut lines = connected(port)?;
     let first = client.compute_client_first_message();
     lines.say(&first)?;
     let challenge = lines.message()?;
@@ -42,6 +59,16 @@ fn log_in(port: u16, client: &mut ScramClient) -> Result<(), Failure> {
     lines.say(&last)?;
     client.validate_server_final(&lines.message()?)?;
     lines.say(b"")
+}
+
+/// The message of a mechanism with one message: that of PLAIN, or the user name itself.
+fn message_of(mechanism: &str, user: &str, prepared: bool) -> Result<Vec<u8>, Failure> {
+    let password = password()?;
+    Ok(match (mechanism, prepared) {
+        ("PLAIN", true) => plain_message(user, saslprep(&password, Unassigned::Allowed)?.as_ref())?,
+        ("PLAIN", false) => plain_message(user, &password)?,
+        _ => user.as_bytes().to_vec(),
+    })
 }
 
 fn client_of(user: &str, version: ScramVersion, prepared: bool) -> Result<ScramClient, Failure> {
@@ -57,6 +84,10 @@ fn client_of(user: &str, version: ScramVersion, prepared: bool) -> Result<ScramC
 
 fn run_client(words: &[&str], options: &[&str]) -> Result<i32, Failure> {
     let (port, user) = (words[0].parse()?, words[2]);
+    if ONE_MESSAGE.contains(&words[1]) {
+        let message = message_of(words[1], user, options.contains(&"prepared"))?;
+        return Ok(told("logged in", &log_in_by_message(port, &message)));
+    }
     let (least, most) = (words[3].parse()?, words[4].parse()?);
     let version = version_of(words[1]).ok_or("no such mechanism")?;
     let mut client =
@@ -73,34 +104,75 @@ fn run_client(words: &[&str], options: &[&str]) -> Result<i32, Failure> {
     Ok(told("logged in by keys", &again))
 }
 
-fn serve(channel: TcpStream, users: Users, mechanism: &str, unbound: bool) -> Result<String, Failure> {
+/// Lets the client log in that sent this first message, and returns its name.
+fn serve_scram(lines: &mut Lines, first: &[u8], users: Users, unbound: bool) -> Result<String, Failure> {
     let mut server = users.authenticator();
     if unbound {
         server = server.accept_cbind_flag_y();
     }
-    let mut lines = Lines { channel: BufReader::new(channel) };
-    if lines.line()? != mechanism {
-        return Err(ENDED.into());
-    }
-    let first = lines.message()?;
-    let challenge = server.compute_server_first_message(&first)?.ok_or("no such user")?;
+    let challenge = server.compute_server_first_message(first)?.ok_or("no such user")?;
     lines.say(&challenge)?;
     let last = lines.message()?;
     let answer = server.compute_server_final_message(&last)?.ok_or("no such user")?;
     lines.say(&answer)?;
-    // (whether the client believes it is no matter of the server's)
-    let _ = lines.line().and_then(|_| lines.say(b""));
     server.authenticated_user().ok_or_else(|| "no name".into())
 }
 
+/// Tests a message of PLAIN, and returns the name of its user.
+fn serve_plain(message: &[u8], users: &Users, passwords: PlainPasswords) -> Result<String, ServerScramErrorKind> {
+    let name = plain_claimed_user(message).unwrap_or_default();
+    let record = users.records(&name).pop();
+    plain_verify(record.as_ref(), passwords, 4096, message)?;
+    Ok(name)
+}
+
+/// Tests a message of EXTERNAL against the name that the transport authenticated, and returns this name.
+fn serve_external(message: &[u8], name: &str) -> Result<String, ServerScramErrorKind> {
+    match external_verify(name, message) {
+        true => Ok(name.to_owned()),
+        false => Err(ServerScramErrorKind::AuthenticationFailed),
+    }
+}
+
+fn serve(channel: TcpStream, users: Users, words: &[&str], options: &[&str]) -> Result<String, Failure> {
+    let mut lines = Lines { channel: BufReader::new(channel) };
+    if lines.line()? != words[1] {
+        return Err(ENDED.into());
+    }
+    let message = lines.message()?;
+    let name = match words[1] {
+        "PLAIN" => serve_plain(&message, &users, passwords(options))?,
+        "ANONYMOUS" => String::new(),
+        "EXTERNAL" => serve_external(&message, words.get(3).unwrap_or(&""))?,
+        _ => serve_scram(&mut lines, &message, users, options.contains(&"unbound"))?,
+    };
+    if ONE_MESSAGE.contains(&words[1]) {
+        lines.say(b"")?;
+    }
+    // (the server does not depend on whether the client accepts its signature)
+    let _ = lines.line().and_then(|_| lines.say(b""));
+    Ok(name)
+}
+
+/// Which passwords a server of PLAIN expects.
+fn passwords(options: &[&str]) -> PlainPasswords {
+    match options {
+        ["prepared"] => PlainPasswords::Prepared,
+        ["saslprep"] => PlainPasswords::Saslprep,
+        _ => PlainPasswords::Typed,
+    }
+}
+
 fn run_server(words: &[&str], options: &[&str]) -> Result<i32, Failure> {
-    let unbound = options.contains(&"unbound");
-    let version = version_of(words[1]).ok_or("no such mechanism")?;
+    let version = match ONE_MESSAGE.contains(&words[1]) {
+        true => ScramVersion::Sha256,
+        false => version_of(words[1]).ok_or("no such mechanism")?,
+    };
     let listener = TcpListener::bind(("127.0.0.1", 0))?;
     println!("{}", listener.local_addr()?.port());
     for _ in 0..words[2].parse()? {
         let (channel, _) = listener.accept()?;
-        match serve(channel, Users::read(words[0], version)?, words[1], unbound) {
+        match serve(channel, Users::read(words[0], version)?, words, options) {
             Ok(name) => println!("logged in: {name}"),
             Err(why) => println!("not logged in: {why}"),
         }
@@ -148,12 +220,12 @@ fn run_verify(words: &[&str], options: &[&str]) -> Result<i32, Failure> {
 fn main() -> Result<(), Failure> {
     let words: Vec<String> = std::env::args().skip(1).collect();
     let words: Vec<&str> = words.iter().map(String::as_str).collect();
-    let is_option = |word: &&str| ["prepared", "again", "unbound"].contains(word);
+    let is_option = |word: &&str| ["prepared", "again", "unbound", "saslprep"].contains(word);
     let count = words.len() - words.iter().rev().take_while(|word| is_option(word)).count();
     let (words, options) = words.split_at(count);
     let status = match (words.first().copied(), words.len()) {
         (Some("client"), 6) => run_client(&words[1..], options)?,
-        (Some("server"), 4) => run_server(&words[1..], options)?,
+        (Some("server"), 4 | 5) => run_server(&words[1..], options)?,
         (Some("record"), 4) => run_record(&words[1..], options)?,
         (Some("verify"), 2) => run_verify(&words[1..], options)?,
         _ => 2,

@@ -1,0 +1,128 @@
+#!/usr/bin/python3
+"""A login by libgsasl over standard input and output, a message a line in base64, by PLAIN, ANONYMOUS or EXTERNAL:
+
+    gnu_worker.py client MECHANISM USER PASSWORD IDENTITY
+    gnu_worker.py server MECHANISM NAME
+
+The program `gsasl` cannot do these: as a client it ends with the status 0 before the server has accepted its message,
+and as a server it has no callbacks for ANONYMOUS and EXTERNAL. IDENTITY is the authorization identity, or the trace
+information of ANONYMOUS. NAME is the trace information that the server expects, or the name that the transport
+authenticated. The library passes both to a callback, which accepts NAME, and an empty identity of EXTERNAL. The status
+is 0 if the login succeeds.
+"""
+
+import ctypes
+import sys
+
+OK, NEEDS_MORE, AUTHENTICATION_ERROR, NO_CALLBACK = 0, 1, 31, 51
+#: Properties of gsasl.h.
+AUTHID, AUTHZID, PASSWORD, ANONYMOUS_TOKEN, VALIDATE_EXTERNAL, VALIDATE_ANONYMOUS = 1, 2, 3, 4, 501, 502
+
+CALLBACK = ctypes.CFUNCTYPE(ctypes.c_int, ctypes.c_void_p, ctypes.c_void_p, ctypes.c_int)
+
+
+class Failure(Exception):
+    """A call of the library fails, or the other side has ended."""
+
+
+def library():
+    """The library, with the types of its calls."""
+    gsasl = ctypes.CDLL("libgsasl.so.18")
+    gsasl.gsasl_init.argtypes = [ctypes.POINTER(ctypes.c_void_p)]
+    gsasl.gsasl_callback_set.argtypes = [ctypes.c_void_p, CALLBACK]
+    gsasl.gsasl_callback_set.restype = None
+    for start in (gsasl.gsasl_client_start, gsasl.gsasl_server_start):
+        start.argtypes = [ctypes.c_void_p, ctypes.c_char_p, ctypes.POINTER(ctypes.c_void_p)]
+    gsasl.gsasl_property_set.argtypes = [ctypes.c_void_p, ctypes.c_int, ctypes.c_char_p]
+    gsasl.gsasl_property_fast.argtypes = [ctypes.c_void_p, ctypes.c_int]
+    gsasl.gsasl_property_fast.restype = ctypes.c_char_p
+    gsasl.gsasl_step64.argtypes = [ctypes.c_void_p, ctypes.c_char_p, ctypes.POINTER(ctypes.c_char_p)]
+    gsasl.gsasl_strerror.restype = ctypes.c_char_p
+    return gsasl
+
+
+class Session:
+    """A session of the library, of a client or of a server."""
+
+    def __init__(self, side, mechanism, callback):
+        self.gsasl, self.context, self.session = library(), ctypes.c_void_p(), ctypes.c_void_p()
+        # (the library keeps only its address)
+        self.callback = CALLBACK(callback)
+        self.done(self.gsasl.gsasl_init(ctypes.byref(self.context)))
+        self.gsasl.gsasl_callback_set(self.context, self.callback)
+        start = self.gsasl.gsasl_client_start if side == "client" else self.gsasl.gsasl_server_start
+        self.done(start(self.context, mechanism.encode(), ctypes.byref(self.session)))
+
+    def done(self, status, *expected):
+        if status not in (OK, *expected):
+            raise Failure(self.gsasl.gsasl_strerror(status).decode())
+        return status
+
+    def set(self, name, text):
+        self.gsasl.gsasl_property_set(self.session, name, text.encode())
+
+    def step(self, line):
+        """Takes a line, and returns the status and the next line."""
+        out = ctypes.c_char_p()
+        status = self.gsasl.gsasl_step64(self.session, None if line is None else line.encode(), ctypes.byref(out))
+        return self.done(status, NEEDS_MORE), (out.value or b"").decode()
+
+
+def hear():
+    line = sys.stdin.readline()
+    if not line:
+        raise Failure("the other side ended")
+    return line.rstrip("\r\n")
+
+
+def say(line):
+    print(line, flush=True)
+
+
+def run_client(mechanism, user, password, identity):
+    session = Session("client", mechanism, lambda *_: NO_CALLBACK)
+    session.set(AUTHID, user)
+    session.set(PASSWORD, password)
+    if identity or mechanism == "ANONYMOUS":
+        session.set(ANONYMOUS_TOKEN if mechanism == "ANONYMOUS" else AUTHZID, identity)
+    status, message = session.step(None)
+    say(mechanism)
+    say(message)
+    if status != OK or hear():
+        raise Failure("more than one message")
+    say("")
+    hear()
+
+
+def run_server(mechanism, name):
+    def validate(_, session, asked):
+        given = {VALIDATE_EXTERNAL: (AUTHZID, ("", name)), VALIDATE_ANONYMOUS: (ANONYMOUS_TOKEN, (name,))}.get(asked)
+        if given is None:
+            return NO_CALLBACK
+        which, accepted = given
+        text = server.gsasl.gsasl_property_fast(session, which) or b""
+        return OK if text.decode() in accepted else AUTHENTICATION_ERROR
+
+    server = Session("server", mechanism, validate)
+    say(mechanism)
+    say(server.step(None)[1])
+    status, answer = server.step(hear())
+    if status != OK:
+        raise Failure("more than one message")
+    say(answer)
+    hear()
+    say("")
+
+
+def main():
+    side, *words = sys.argv[1:]
+    try:
+        (run_client if side == "client" else run_server)(*words)
+    except (Failure, BrokenPipeError) as why:
+        print(why, file=sys.stderr)
+        return 1
+    return 0
+
+
+if __name__ == "__main__":
+    sys.exit(main())
