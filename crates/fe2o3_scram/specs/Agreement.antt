@@ -1,16 +1,17 @@
 -- What an exchange of texts means to both of its sides, in the words of the headline (RFC 5802, section 5). The law is
 -- the clause `agreement` of `laws::accepted_messages`.
-use Rattle.std.specs.Prelude.{ℕ, List, ◌≡◌, ◌≢◌, ◌⊎◌, Some, Ok, length}
-use Rattle.fe2o3_scram.specs.ClientFinal.{ClientFinal, ReadsClientFinal, keys_for, without_proof}
+use Rattle.std.specs.Prelude.{ℕ, List, ◌≡◌, ◌≢◌, ◌⊎◌, T, Some, Ok, length}
+use Rattle.fe2o3_scram.specs.declared.scram_messages.client_channel.ClientChannel.{ClientChannel}
+use Rattle.fe2o3_scram.specs.ClientFinal.{ClientFinal, ReadsClientFinal, keys_for, without_proof_with}
 use Rattle.fe2o3_scram.specs.ClientFirst.{ClientFirst, ReadsClientFirst, client_first_bare}
 use Rattle.fe2o3_scram.specs.ClientKeys.{ClientKeys}
 use Rattle.fe2o3_scram.specs.Credentials.{Provider, Record}
-use Rattle.fe2o3_scram.specs.declared.scram_messages.channel_binding_flag.ChannelBindingFlag.TheVariants.{NotSupported}
+use Rattle.fe2o3_scram.specs.ChannelBinding.{HoldsChannelBytes, cbind_data, expected_channel, flag_of, is_strict}
 use Rattle.fe2o3_scram.specs.Extensions.{NoneMisplaced}
 use Rattle.fe2o3_scram.specs.Hmac.{hmac_of}
 use Rattle.fe2o3_scram.specs.Keys.{auth_message}
 use Rattle.fe2o3_scram.specs.Laws.{HoldsBytes}
-use Rattle.fe2o3_scram.specs.ScramClient.{ClientSide, AnswersIn, VerifiesIn, started}
+use Rattle.fe2o3_scram.specs.ScramClient.{ClientSide, AnswersIn, VerifiesIn, holding, is_strict_client, started}
 use Rattle.fe2o3_scram.specs.ScramServer.{ServerState, ChallengesFrom, ConcludesFrom, server_against}
 use Rattle.fe2o3_scram.specs.ServerFirst.{ServerChallenge, ServerFirst, ReadsServerFirst, challenge_of}
 use Rattle.fe2o3_scram.specs.Texts.{Part, Parts, base64_text}
@@ -32,12 +33,12 @@ pub record AcceptedTexts (provider : Provider) (nonce init response last : List 
   pub done : ServerState
   pub first : List ℕ
   pub challenges : ChallengesFrom state provider nonce init (Ok (Some first)) waiting
-  pub accepts : ConcludesFrom waiting provider.version response (Ok (Some last)) done
+  pub accepts : ConcludesFrom waiting provider.version provider.rules response (Ok (Some last)) done
 
 -- what the client knows: what the server-first message named to it
 pub record ClientKnows (side : ClientSide) (nonce text : List ℕ) : Type 0 where
   pub first : ServerFirst
-  pub reads : ReadsServerFirst (base64_text nonce) side.secret side.limits text (Ok first)
+  pub reads : ReadsServerFirst (holding side (base64_text nonce)) text (Ok first)
 
 -- what the server knows: what the client-first message named, the record of its user, and what the client-final message
 -- named
@@ -45,10 +46,10 @@ pub record ServerKnows (provider : Provider) (nonce init response : List ℕ) : 
   pub client : ClientFirst
   pub stored : Record
   pub final : ClientFinal
-  pub reads_init : ReadsClientFirst provider.cbind_flag_y init (Ok client)
+  pub reads_init : ReadsClientFirst provider.rules init (Ok client)
   pub known : provider.records client.user ≡ Some stored
   pub reads : let challenge = challenge_of client (base64_text nonce) stored in
-      ReadsClientFinal (server_against provider.version challenge stored) response (Ok final)
+      ReadsClientFinal (server_against provider.version provider.rules challenge stored) response (Ok final)
 
 -- the keys that the client answered by (RFC 5802, section 3)
 abbrev pub keys_known : {side : ClientSide} {nonce text : List ℕ} → ClientKnows side nonce text → ClientKeys
@@ -57,7 +58,7 @@ keys_known {side} client = keys_for side.version side.secret client.first
 -- AuthMessage of the messages as the client has them (RFC 5802, section 3)
 abbrev pub client_auth_message : {side : ClientSide} {nonce text : List ℕ} → ClientKnows side nonce text → List ℕ
 client_auth_message {side} {nonce} {text} client =
-    auth_message (client_first_bare side.user (base64_text nonce)) text (without_proof client.first.nonce)
+    auth_message (client_first_bare side.user (base64_text nonce)) text (without_proof_with side.channel client.first.nonce)
 
 -- the challenge that the server sent
 abbrev pub challenge_known : {provider : Provider} {nonce init response : List ℕ}
@@ -82,13 +83,21 @@ abbrev pub NoneMisplacedInTexts : {side : ClientSide} {provider : Provider} {own
     → ClientKnows side own text → ServerKnows provider its init response → Type 0
 NoneMisplacedInTexts {text} client server = NoneMisplaced text server.client.bare server.final.without
 
+-- the channel that the server expected
+abbrev pub channel_known : {provider : Provider} {nonce init response : List ℕ}
+    → ServerKnows provider nonce init response → ClientChannel
+channel_known {provider} server = expected_channel provider.rules.channels server.client.header
+
 -- both sides mean one login: one version of keys, user name and client nonce. Where the client-first message was plain,
 -- or one side received no misplaced attribute, also one nonce of both sides, salt and count; in the second case also one
--- GS2 header, which is `n,,`, as this client sends it
+-- GS2 header, that of the client, and the data of one channel
 pub record TextsAgree {side : ClientSide} {provider : Provider} {own text its init response : List ℕ}
     (client : ClientKnows side own text) (server : ServerKnows provider its init response) : Type 0 where
   pub version : (keys_known client).version ≡ provider.version
-  pub header : NoneMisplacedInTexts client server → NotSupported ≡ server.client.header
+  pub header : HoldsChannelBytes side.channel → NoneMisplacedInTexts client server
+      → flag_of side.channel ≡ server.client.header
+  pub channel : HoldsChannelBytes side.channel → NoneMisplacedInTexts client server
+      → cbind_data side.channel ≡ cbind_data (channel_known server)
   pub user : side.user ≡ server.client.user
   pub nonce : base64_text own ≡ server.client.nonce
   pub full_nonce : IsPlain server.client.bare ⊎ NoneMisplacedInTexts client server
@@ -112,3 +121,10 @@ VerifiedTextsAgree = (side : ClientSide) (provider : Provider) (own text last it
     × (HoldsBytes (server.client.user, server.stored)
     → (client_auth_message client ≡ server_auth_message server → TextsAgree client server)
     × (client_auth_message client ≢ server_auth_message server → Collide client server))
+
+-- one strict side is enough: where the client is strict, or the server is, as each that binds a channel is, one side received no misplaced attribute, so
+-- that both agree on the whole login
+abbrev pub OneStrictSideOfTextsIsEnough : Type 0
+OneStrictSideOfTextsIsEnough = (side : ClientSide) (provider : Provider) (own text its init response : List ℕ)
+    (client : ClientKnows side own text) (server : ServerKnows provider its init response)
+    → T (is_strict_client side) ⊎ T (is_strict provider.rules) → NoneMisplacedInTexts client server

@@ -1,13 +1,16 @@
 -- The client-first message (RFC 5802, section 7), as the client writes it and as the server reads it.
-use Rattle.std.specs.Prelude.{ℕ, List, [], ◌∷◌, ◌++◌, ◌≡◌, Bool, T, codes, Result}
+use Rattle.std.specs.Prelude.{ℕ, List, [], ◌∷◌, ◌++◌, ◌≡◌, T, codes, Result, None, true, false}
 use Rattle.std.specs.Cow.{cow_str_bytes}
 use Rattle.std.specs.Str.{IsUtf8}
 use Rattle.fe2o3_scram.specs.declared.scram_messages.error.ServerScramErrorKind.{ServerScramErrorKind}
-use Rattle.fe2o3_scram.specs.declared.scram_messages.error.ServerScramErrorKind.TheVariants.{Utf8Error, CannotParseGs2Header, CannotParseUsername, CannotParseClientNonce}
+use Rattle.fe2o3_scram.specs.declared.scram_messages.error.ServerScramErrorKind.TheVariants.{Utf8Error, CannotParseGs2Header, CannotParseUsername, CannotParseClientNonce, MisplacedAttribute}
+use Rattle.fe2o3_scram.specs.declared.scram_messages.server_rules.ServerRules.{ServerRules}
 use Rattle.fe2o3_scram.specs.declared.scram_messages.client_first_reading.ClientFirst.{ClientFirst as CodeClientFirst}
 use Rattle.fe2o3_scram.specs.declared.scram_messages.channel_binding_flag.ChannelBindingFlag.{ChannelBindingFlag}
-use Rattle.fe2o3_scram.specs.declared.scram_messages.channel_binding_flag.ChannelBindingFlag.TheVariants.{NotSupported, ClientSupports}
+use Rattle.fe2o3_scram.specs.declared.scram_messages.channel_binding_flag.ChannelBindingFlag.TheVariants.{NotSupported}
+use Rattle.fe2o3_scram.specs.ChannelBinding.{TakesHeader, header_text, is_strict}
 use Rattle.fe2o3_scram.specs.Escape.{escaped, NoEquals}
+use Rattle.fe2o3_scram.specs.Extensions.{HasAttributeFrom}
 use Rattle.fe2o3_scram.specs.Readings.{Reads}
 use Rattle.fe2o3_scram.specs.Texts.{joined, Part, StartsWith}
 
@@ -15,20 +18,21 @@ use Rattle.fe2o3_scram.specs.Texts.{joined, Part, StartsWith}
 abbrev pub client_first_bare : List ℕ → List ℕ → List ℕ
 client_first_bare username nonce = joined ((codes "n=" ++ escaped username) ∷ (codes "r=" ++ nonce) ∷ [])
 
--- the GS2 header of a client that binds no channel and acts for itself (RFC 5802, sections 6 and 7): the client does
--- not support it, or it does and assumes that the server does not
-abbrev pub header_text : ChannelBindingFlag → List ℕ
-header_text NotSupported = codes "n,,"
-header_text ClientSupports = codes "y,,"
+-- a server that accepts no `y,,`, is not strict and binds no channel
+abbrev pub default_rules : ServerRules
+default_rules = record { accept_cbind_flag_y = false; strict = false; channels = None }
 
--- a server accepts the header (RFC 5802, section 6): `y,,` only if it is set to
-abbrev pub TakesHeader : Bool → ChannelBindingFlag → Type 0
-TakesHeader cbind_flag_y NotSupported = Unit {0}
-TakesHeader cbind_flag_y ClientSupports = T cbind_flag_y
+-- a reader that accepts both GS2 headers of clients that bind no channel, and is not strict
+abbrev pub either_header : ServerRules
+either_header = record { accept_cbind_flag_y = true; strict = false; channels = None }
+
+-- client-first-message with a GS2 header (RFC 5802, section 7)
+abbrev pub client_first_with : ChannelBindingFlag → List ℕ → List ℕ → List ℕ
+client_first_with header username nonce = header_text header ++ client_first_bare username nonce
 
 -- client-first-message of a client that cannot bind a channel (RFC 5802, section 7)
 abbrev pub client_first : List ℕ → List ℕ → List ℕ
-client_first username nonce = header_text NotSupported ++ client_first_bare username nonce
+client_first username nonce = client_first_with NotSupported username nonce
 
 -- what a client-first message names (RFC 5802, section 7): its GS2 header, the user, the client's nonce, and the
 -- message without its GS2 header
@@ -49,32 +53,39 @@ client_first_values first = record {
 }
 
 -- after a GS2 header that is accepted, the message has this part at place k (RFC 5802, section 7)
-abbrev pub BarePart : Bool → List ℕ → ℕ → List ℕ → Type 0
-BarePart cbind_flag_y text k part = (header : ChannelBindingFlag) × (bare : List ℕ) × TakesHeader cbind_flag_y header
+abbrev pub BarePart : ServerRules → List ℕ → ℕ → List ℕ → Type 0
+BarePart rules text k part = (header : ChannelBindingFlag) × (bare : List ℕ) × TakesHeader rules header
     × (text ≡ header_text header ++ bare) × Part bare k part
 
 -- the message names these values (RFC 5802, section 5.1)
-pub record NamesClientFirst (cbind_flag_y : Bool) (text : List ℕ) (first : ClientFirst) : Type 0 where
-  pub header : TakesHeader cbind_flag_y first.header
+pub record NamesClientFirst (rules : ServerRules) (text : List ℕ) (first : ClientFirst) : Type 0 where
+  pub header : TakesHeader rules first.header
   pub bare : text ≡ header_text first.header ++ first.bare
   pub user : Part first.bare 0 (codes "n=" ++ escaped first.user)
   pub nonce : Part first.bare 1 (codes "r=" ++ first.nonce)
 
+-- after a GS2 header that is accepted, the message has an attribute that RFC 5802 defines in the place of an extension:
+-- after the nonce (RFC 5802, section 7)
+abbrev pub HasMisplacedAfterNonce : ServerRules → List ℕ → Type 0
+HasMisplacedAfterNonce rules text = (header : ChannelBindingFlag) × (bare : List ℕ) × TakesHeader rules header
+    × (text ≡ header_text header ++ bare) × HasAttributeFrom 2 bare
+
 -- the server's tests, in order (RFC 5802, section 5.1; UTF-8: RFC 3629, section 3)
-abbrev pub client_first_tests : Bool → List ℕ → List (ServerScramErrorKind × Type 0)
-client_first_tests cbind_flag_y text =
+abbrev pub client_first_tests : ServerRules → List ℕ → List (ServerScramErrorKind × Type 0)
+client_first_tests rules text =
     (Utf8Error, ¬ IsUtf8 text)
-    ∷ (CannotParseGs2Header, (header : ChannelBindingFlag) → TakesHeader cbind_flag_y header → ¬ StartsWith text (header_text header))
-    ∷ (CannotParseUsername, (user : List ℕ) → ¬ BarePart cbind_flag_y text 0 (codes "n=" ++ escaped user))
-    ∷ (CannotParseClientNonce, (nonce : List ℕ) → ¬ BarePart cbind_flag_y text 1 (codes "r=" ++ nonce))
+    ∷ (CannotParseGs2Header, (header : ChannelBindingFlag) → TakesHeader rules header → ¬ StartsWith text (header_text header))
+    ∷ (CannotParseUsername, (user : List ℕ) → ¬ BarePart rules text 0 (codes "n=" ++ escaped user))
+    ∷ (CannotParseClientNonce, (nonce : List ℕ) → ¬ BarePart rules text 1 (codes "r=" ++ nonce))
+    ∷ (MisplacedAttribute, T (is_strict rules) × HasMisplacedAfterNonce rules text)
     ∷ []
 
 -- the server allocates for a name that is sent with escapes (RFC 5802, section 5.1)
-abbrev pub HasEscapes : Bool → List ℕ → Type 0
-HasEscapes cbind_flag_y text = IsUtf8 text
-    × ((user : List ℕ) × BarePart cbind_flag_y text 0 (codes "n=" ++ escaped user) × ¬ NoEquals (escaped user))
+abbrev pub HasEscapes : ServerRules → List ℕ → Type 0
+HasEscapes rules text = IsUtf8 text
+    × ((user : List ℕ) × BarePart rules text 0 (codes "n=" ++ escaped user) × ¬ NoEquals (escaped user))
 
--- what the server reads (RFC 5802, section 5.1): the first error that applies, or the values that are named; further
--- parts are ignored
-unfoldable pub ReadsClientFirst : Bool → List ℕ → Result ClientFirst ServerScramErrorKind → Type 0
-ReadsClientFirst cbind_flag_y text answer = Reads (client_first_tests cbind_flag_y text) (NamesClientFirst cbind_flag_y text) answer
+-- what the server reads (RFC 5802, section 5.1): the first error that applies, or the values that are named; extensions
+-- are ignored
+unfoldable pub ReadsClientFirst : ServerRules → List ℕ → Result ClientFirst ServerScramErrorKind → Type 0
+ReadsClientFirst rules text answer = Reads (client_first_tests rules text) (NamesClientFirst rules text) answer

@@ -1,6 +1,5 @@
 -- The secret of a client (RFC 5802, section 3), and the iteration counts that it accepts.
 use Rattle.std.specs.Prelude.{ℕ, ◌≡◌}
-use Rattle.std.specs.String.{string_bytes}
 use Rattle.fe2o3_scram.specs.declared.client_secret.ClientSecret.{ClientSecret}
 use Rattle.fe2o3_scram.specs.declared.client_secret.ClientSecret.TheVariants as code
 use Rattle.fe2o3_scram.specs.declared.client_secret.IterationLimits.{IterationLimits}
@@ -33,8 +32,8 @@ IsOfVersion version (Both password keys) = keys.version ≡ version
 
 -- the password that a client keeps
 abbrev pub kept_password : KeptPassword → PasswordText
-kept_password (passwords.Typed text) = Typed (string_bytes text)
-kept_password (passwords.Prepared text) = Prepared (string_bytes text)
+kept_password (passwords.Typed text) = Typed text
+kept_password (passwords.Prepared text) = Prepared text
 
 -- the secret that a client keeps
 abbrev pub kept_secret : KeptSecret → Secret

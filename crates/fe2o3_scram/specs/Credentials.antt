@@ -1,8 +1,9 @@
 -- What a server stores for its users (RFC 5802, section 3).
-use Rattle.std.specs.Prelude.{ℕ, List, Bool, [], ◌∷◌, ◌≡◌, ◌≤◌, ◌+◌, Option, Some, None, Result, Ok, Err, if◌then◌else◌, filter, nat_eq, not}
+use Rattle.std.specs.Prelude.{ℕ, List, [], ◌∷◌, ◌≡◌, ◌≤◌, ◌+◌, Option, Some, None, Result, Ok, Err, if◌then◌else◌, filter, nat_eq, not}
 use Rattle.std.specs.Cmp.Lexicographic.{pointwise}
 use Rattle.fe2o3_scram.specs.declared.hmac.ScramVersion.{ScramVersion}
 use Rattle.fe2o3_scram.specs.declared.provider.StoredPassword.{StoredPassword}
+use Rattle.fe2o3_scram.specs.declared.scram_messages.server_rules.ServerRules.{ServerRules}
 use Rattle.fe2o3_scram.specs.declared.keys.RecordError.{RecordError}
 use Rattle.fe2o3_scram.specs.declared.keys.RecordError.TheVariants.{NormalizeError, ZeroIterations, OutOfMemory}
 use Rattle.fe2o3_scram.specs.Keys.{client_key, stored_key, server_key}
@@ -28,6 +29,15 @@ record_of version password salt count =
       server_key =
           server_key version salted;
     }
+
+-- the record of a salted password (RFC 5802, section 3), which was computed with this salt and this count
+abbrev pub record_of_salted : ScramVersion → List ℕ → List ℕ → ℕ → Record
+record_of_salted version salted salt count = record {
+  salt = salt;
+  count = count;
+  stored_key = stored_key version (client_key version salted);
+  server_key = server_key version salted;
+}
 
 -- a record and the version that it is for
 pub record VersionedRecord : Type 0 where
@@ -91,21 +101,21 @@ pub record Store : Type 0 where
   pub version : ScramVersion
   pub records : Records
 
--- what a server answers by: a version, the record of each user name, how many HMAC values a look-up makes, and whether
--- it accepts the GS2 header `y,,` (RFC 5802, section 6)
+-- what a server answers by: a version, the record of each user name, how many HMAC values a look-up makes, and what it
+-- accepts in a client's messages (RFC 5802, sections 6 and 7)
 pub record Provider : Type 0 where
   pub version : ScramVersion
   pub records : List ℕ → Option Record
   pub look_up_cost : ℕ
-  pub cbind_flag_y : Bool
+  pub rules : ServerRules
 
 -- a server over this store
-abbrev pub serving : Bool → Store → Provider
-serving cbind_flag_y store = record {
+abbrev pub serving : ServerRules → Store → Provider
+serving rules store = record {
   version = store.version;
   records = record_at store.records;
   look_up_cost = 0;
-  cbind_flag_y = cbind_flag_y;
+  rules = rules;
 }
 
 -- the record that a stored password is

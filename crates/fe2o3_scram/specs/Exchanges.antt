@@ -3,10 +3,12 @@ use Rattle.std.specs.Prelude.{ℕ, List, [], ◌∷◌, codes, Bool, ◌++◌, �
 use Rattle.std.specs.Str.{IsUtf8}
 use Rattle.base64.specs.GeneralPurpose.{IsBytes}
 use Rattle.fe2o3_scram.specs.declared.hmac.ScramVersion.{ScramVersion}
-use Rattle.fe2o3_scram.specs.ServerFirst.{server_first_of, ServerFirst, ReadsServerFirst}
-use Rattle.fe2o3_scram.specs.ClientFinal.{Answer, answer_by, keys_for, Server, server_of, ClientFinal, ReadsClientFinal}
-use Rattle.fe2o3_scram.specs.declared.scram_messages.channel_binding_flag.ChannelBindingFlag.{ChannelBindingFlag}
-use Rattle.fe2o3_scram.specs.ClientFirst.{TakesHeader, client_first_bare, header_text, ReadsClientFirst}
+use Rattle.fe2o3_scram.specs.declared.scram_messages.server_rules.ServerRules.{ServerRules}
+use Rattle.fe2o3_scram.specs.ServerFirst.{server_first_of, Client, ServerFirst, ReadsServerFirst, client_of}
+use Rattle.fe2o3_scram.specs.ClientFinal.{Answer, answer_by, keys_for, Server, server_of, ClientFinal, ReadsClientFinal, without_proof_with}
+use Rattle.fe2o3_scram.specs.declared.scram_messages.client_channel.ClientChannel.{ClientChannel}
+use Rattle.fe2o3_scram.specs.ClientFirst.{client_first_bare, client_first_with, ReadsClientFirst}
+use Rattle.fe2o3_scram.specs.ChannelBinding.{HoldsChannelBytes, TakesHeader, cbind_input, expected_channel, flag_of, is_strict}
 use Rattle.fe2o3_scram.specs.ClientKeys.{keys_of}
 use Rattle.fe2o3_scram.specs.ClientSecret.{Secret, Password, Keys, Both}
 use Rattle.fe2o3_scram.specs.declared.client_secret.IterationLimits.{IterationLimits}
@@ -27,25 +29,32 @@ OpensRecord version (Both own keys) password salt count =
     (keys ≡ keys_of version password salt count)
     ⊎ (((salt ≢ keys.salt) ⊎ (count ≢ keys.count)) × (password_bytes own ≡ password) × IsNormal own)
 
--- the start of an exchange (RFC 5802, section 5): the client's GS2 header, user, secret and limits, whether the server
--- accepts the GS2 header `y,,`, the password, the salt and the count of the record, and the nonces
+-- the start of an exchange (RFC 5802, section 5): what the client says of its channel, its user, secret and limits, whether
+-- it is set to be strict, what the server accepts, the password, the salt and the count of the record, and the nonces
 pub record Exchange : Type 0 where
   pub version : ScramVersion
-  pub header : ChannelBindingFlag
-  pub cbind_flag_y : Bool
+  pub channel : ClientChannel
+  pub rules : ServerRules
   pub user : List ℕ
   pub secret : Secret
   pub limits : IterationLimits
+  pub strict : Bool
   pub password : List ℕ
   pub salt : List ℕ
   pub count : ℕ
   pub client_nonce : List ℕ
   pub server_nonce : List ℕ
 
+-- the channel binding that the server expects after the client's flag
+abbrev pub channel_expected : Exchange → List ℕ
+channel_expected x = cbind_input (expected_channel x.rules.channels (flag_of x.channel))
+
 -- the server accepts the header, the secret opens the record, the client accepts the count, and names, nonces and salts
 -- are what the code holds
 pub record IsSound (x : Exchange) : Type 0 where
-  pub header : TakesHeader x.cbind_flag_y x.header
+  pub header : TakesHeader x.rules (flag_of x.channel)
+  pub channel : channel_expected x ≡ cbind_input x.channel
+  pub bytes : HoldsChannelBytes x.channel
   pub opens : OpensRecord x.version x.secret x.password x.salt x.count
   pub some : 1 ≤ x.count
   pub least : x.limits.min_iterations ≤ x.count
@@ -57,16 +66,6 @@ pub record IsSound (x : Exchange) : Type 0 where
   pub server_text : IsUtf8 x.server_nonce
   pub client_plain : NoComma x.client_nonce
   pub server_plain : NoComma x.server_nonce
-
--- client-first-message with a GS2 header (RFC 5802, section 7)
-abbrev pub client_first_with : ChannelBindingFlag → List ℕ → List ℕ → List ℕ
-client_first_with header username nonce = header_text header ++ client_first_bare username nonce
-
--- client-final-message-without-proof with a GS2 header (RFC 5802, section 7): the header in base64, and the nonce of
--- both sides
-abbrev pub without_proof_with : ChannelBindingFlag → List ℕ → List ℕ
-without_proof_with header nonce =
-    joined ((codes "c=" ++ base64_text (header_text header)) ∷ (codes "r=" ++ nonce) ∷ [])
 
 -- the nonce of both sides
 abbrev pub nonce_in : Exchange → List ℕ
@@ -84,6 +83,10 @@ record_in x = record_of x.version x.password x.salt x.count
 abbrev pub first_in : Exchange → List ℕ
 first_in x = server_first_of (nonce_in x) (record_in x)
 
+-- what the client knows when it reads the server-first message
+abbrev pub client_in : Exchange → Client
+client_in x = client_of x.client_nonce x.secret x.limits x.channel x.strict
+
 -- the values that the server-first message names
 abbrev pub named_in : Exchange → ServerFirst
 named_in x = record { nonce = nonce_in x; salt = x.salt; count = x.count }
@@ -91,25 +94,26 @@ named_in x = record { nonce = nonce_in x; salt = x.salt; count = x.count }
 -- the client-final message, and the signature that the client waits for
 abbrev pub answer_in : Exchange → Answer
 answer_in x = answer_by (keys_for x.version x.secret (named_in x)) (bare_in x) (first_in x)
-    (without_proof_with x.header (nonce_in x))
+    (without_proof_with x.channel (nonce_in x))
 
 -- what the server knows when it reads the client-final message
 abbrev pub server_in : Exchange → Server
-server_in x = server_of x.version x.header (bare_in x) (first_in x) (nonce_in x) (record_in x)
+server_in x = server_of x.version (expected_channel x.rules.channels (flag_of x.channel)) (is_strict x.rules) (bare_in x)
+    (first_in x) (nonce_in x) (record_in x)
 
 -- the values that the client-final message names
 abbrev pub final_in : Exchange → ClientFinal
 final_in x = record {
-  without = without_proof_with x.header (nonce_in x);
+  without = without_proof_with x.channel (nonce_in x);
   proof =
       client_proof x.version (client_key x.version (salted_of x.version x.password x.salt x.count))
-      (auth_message (bare_in x) (first_in x) (without_proof_with x.header (nonce_in x)));
+      (auth_message (bare_in x) (first_in x) (without_proof_with x.channel (nonce_in x)));
 }
 
 -- each side accepts what the other wrote (RFC 5802, section 5)
 pub record Succeeds (x : Exchange) : Type 0 where
-  pub client_first : ReadsClientFirst x.cbind_flag_y (client_first_with x.header x.user x.client_nonce)
-      (Ok (record { header = x.header; user = x.user; nonce = x.client_nonce; bare = bare_in x }))
-  pub server_first : ReadsServerFirst x.client_nonce x.secret x.limits (first_in x) (Ok (named_in x))
+  pub client_first : ReadsClientFirst x.rules (client_first_with (flag_of x.channel) x.user x.client_nonce)
+      (Ok (record { header = flag_of x.channel; user = x.user; nonce = x.client_nonce; bare = bare_in x }))
+  pub server_first : ReadsServerFirst (client_in x) (first_in x) (Ok (named_in x))
   pub client_final : ReadsClientFinal (server_in x) (answer_in x).message (Ok (final_in x))
   pub server_final : ReadsServerFinal (answer_in x).signature (server_final_of (server_in x) (final_in x)) (Ok tt)

@@ -3,8 +3,9 @@ use Rattle.std.specs.Prelude.{ℕ, List, Bool, ◌≡◌, ◌≤◌, ◌<◌, �
 use Rattle.base64.specs.Engines.{standard}
 use Rattle.base64.specs.GeneralPurpose.{IsBytes, decode_of}
 use Rattle.fe2o3_scram.specs.declared.hmac.ScramVersion.{ScramVersion}
-use Rattle.fe2o3_scram.specs.declared.scram_messages.channel_binding_flag.ChannelBindingFlag.{ChannelBindingFlag}
+use Rattle.fe2o3_scram.specs.declared.scram_messages.client_channel.ClientChannel.{ClientChannel}
 use Rattle.fe2o3_scram.specs.declared.scram_messages.error.ScramErrorKind.{ScramErrorKind}
+use Rattle.fe2o3_scram.specs.declared.scram_messages.server_rules.ServerRules.{ServerRules}
 use Rattle.fe2o3_scram.specs.Texts.{base64_text, IsBase64, NoComma, Parts}
 use Rattle.fe2o3_scram.specs.declared.scram_messages.error.ServerScramErrorKind.{ServerScramErrorKind}
 use Rattle.fe2o3_scram.specs.ClientFirst.{ClientFirst, ReadsClientFirst}
@@ -79,13 +80,12 @@ NoCommaInEscapedNames = (name : List ℕ) → NoComma (escaped name)
 -- a server-first message has at most one answer
 abbrev pub OneServerFirst : Type 0
 OneServerFirst = (client : Client) (text : List ℕ) (answer other : Result ServerFirst ScramErrorKind)
-    → ReadsServerFirst client.nonce client.secret client.limits text answer
-    → ReadsServerFirst client.nonce client.secret client.limits text other → answer ≡ other
+    → ReadsServerFirst client text answer → ReadsServerFirst client text other → answer ≡ other
 
 -- a client-first message has at most one answer
 abbrev pub OneClientFirst : Type 0
-OneClientFirst = (cbind_flag_y : Bool) (text : List ℕ) (answer other : Result ClientFirst ServerScramErrorKind)
-    → ReadsClientFirst cbind_flag_y text answer → ReadsClientFirst cbind_flag_y text other → answer ≡ other
+OneClientFirst = (rules : ServerRules) (text : List ℕ) (answer other : Result ClientFirst ServerScramErrorKind)
+    → ReadsClientFirst rules text answer → ReadsClientFirst rules text other → answer ≡ other
 
 -- a client-final message has at most one answer
 abbrev pub OneClientFinal : Type 0
@@ -94,8 +94,9 @@ OneClientFinal = (server : Server) (text : List ℕ) (answer other : Result Clie
 
 -- a client-final message has at most one reading of its text (before the keys are tested)
 abbrev pub OneFinalText : Type 0
-OneFinalText = (header : ChannelBindingFlag) (nonce text : List ℕ) (answer other : Result ClientFinal ServerScramErrorKind)
-    → ReadsFinalText header nonce text answer → ReadsFinalText header nonce text other → answer ≡ other
+OneFinalText = (channel : ClientChannel) (strict : Bool) (nonce text : List ℕ)
+    (answer other : Result ClientFinal ServerScramErrorKind)
+    → ReadsFinalText channel strict nonce text answer → ReadsFinalText channel strict nonce text other → answer ≡ other
 
 -- a server-final message has at most one answer
 abbrev pub OneServerFinal : Type 0
@@ -127,14 +128,13 @@ UnalteredExchangesSucceed = (x : Exchange) → IsSound x → Succeeds x
 
 -- a client-first message has an answer, whatever the text
 abbrev pub SomeClientFirst : Type 0
-SomeClientFirst = (cbind_flag_y : Bool) (text : List ℕ)
-    → (answer : Result ClientFirst ServerScramErrorKind) × ReadsClientFirst cbind_flag_y text answer
+SomeClientFirst = (rules : ServerRules) (text : List ℕ)
+    → (answer : Result ClientFirst ServerScramErrorKind) × ReadsClientFirst rules text answer
 
 -- a server-first message has an answer
 abbrev pub SomeServerFirst : Type 0
 SomeServerFirst = (client : Client) (text : List ℕ)
-    → (answer : Result ServerFirst ScramErrorKind)
-    × ReadsServerFirst client.nonce client.secret client.limits text answer
+    → (answer : Result ServerFirst ScramErrorKind) × ReadsServerFirst client text answer
 
 -- a client-final message has an answer
 abbrev pub SomeClientFinal : Type 0
@@ -176,28 +176,28 @@ AreKeysOf keys password = keys ≡ keys_of keys.version password keys.salt keys.
 -- what is answered by the keys of a password is answered by the password
 abbrev pub KeysStandForPassword : Type 0
 KeysStandForPassword = (keys : ClientKeys) (password : PasswordText) (nonce bare text : List ℕ)
-    (limits : IterationLimits) (answer : Result Answer ScramErrorKind) → IsNormal password
+    (limits : IterationLimits) (channel : ClientChannel) (strict : Bool) (answer : Result Answer ScramErrorKind) → IsNormal password
     → AreKeysOf keys (password_bytes password)
     → answer ≢ Err StaleKeys
-    → AnswersServerFirst keys.version (client_of nonce (Keys keys) limits) bare text answer
-    → AnswersServerFirst keys.version (client_of nonce (Password password) limits) bare text answer
+    → AnswersServerFirst keys.version (client_of nonce (Keys keys) limits channel strict) bare text answer
+    → AnswersServerFirst keys.version (client_of nonce (Password password) limits channel strict) bare text answer
 
 -- what is answered by the password is answered by its keys, unless they are of another salt or another count
 abbrev pub KeysAnswerAsPassword : Type 0
 KeysAnswerAsPassword = (keys : ClientKeys) (password : PasswordText) (nonce bare text : List ℕ)
-    (limits : IterationLimits) (answer : Result Answer ScramErrorKind) → IsNormal password
+    (limits : IterationLimits) (channel : ClientChannel) (strict : Bool) (answer : Result Answer ScramErrorKind) → IsNormal password
     → AreKeysOf keys (password_bytes password)
-    → AnswersServerFirst keys.version (client_of nonce (Password password) limits) bare text answer
-    → AnswersServerFirst keys.version (client_of nonce (Keys keys) limits) bare text answer
-    ⊎ AnswersServerFirst keys.version (client_of nonce (Keys keys) limits) bare text (Err StaleKeys)
+    → AnswersServerFirst keys.version (client_of nonce (Password password) limits channel strict) bare text answer
+    → AnswersServerFirst keys.version (client_of nonce (Keys keys) limits channel strict) bare text answer
+    ⊎ AnswersServerFirst keys.version (client_of nonce (Keys keys) limits channel strict) bare text (Err StaleKeys)
 
 -- a client with both answers like the one with the password, if its keys are those of the password
 abbrev pub BothAnswerAsPassword : Type 0
 BothAnswerAsPassword = (keys : ClientKeys) (password : PasswordText) (nonce bare text : List ℕ)
-    (limits : IterationLimits) (answer : Result Answer ScramErrorKind) → IsNormal password
+    (limits : IterationLimits) (channel : ClientChannel) (strict : Bool) (answer : Result Answer ScramErrorKind) → IsNormal password
     → AreKeysOf keys (password_bytes password)
-    → AnswersServerFirst keys.version (client_of nonce (Both password keys) limits) bare text answer
-    ↔ AnswersServerFirst keys.version (client_of nonce (Password password) limits) bare text answer
+    → AnswersServerFirst keys.version (client_of nonce (Both password keys) limits channel strict) bare text answer
+    ↔ AnswersServerFirst keys.version (client_of nonce (Password password) limits channel strict) bare text answer
 
 -- a password of printable ASCII gives one record, whether it is passed as typed or prepared
 abbrev pub OneRecordOfPassword : Type 0
@@ -208,9 +208,9 @@ OneRecordOfPassword = (version : ScramVersion) (text salt : List ℕ) (count : �
 -- a client with a typed password of printable ASCII answers like one with it prepared
 abbrev pub OneAnswerOfPassword : Type 0
 OneAnswerOfPassword = (version : ScramVersion) (password nonce bare text : List ℕ) (limits : IterationLimits)
-    (answer : Result Answer ScramErrorKind) → IsPrintable password
-    → AnswersServerFirst version (client_of nonce (Password (Prepared password)) limits) bare text answer
-    ↔ AnswersServerFirst version (client_of nonce (Password (Typed password)) limits) bare text answer
+    (channel : ClientChannel) (strict : Bool) (answer : Result Answer ScramErrorKind) → IsPrintable password
+    → AnswersServerFirst version (client_of nonce (Password (Prepared password)) limits channel strict) bare text answer
+    ↔ AnswersServerFirst version (client_of nonce (Password (Typed password)) limits channel strict) bare text answer
 
 -- what the code holds of a user: the count has 32 bits, and salt and keys are bytes
 abbrev pub HoldsBytes : List ℕ × Record → Type 0

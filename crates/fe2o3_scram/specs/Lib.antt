@@ -4,6 +4,7 @@ pub mod Escape
 pub mod SaslprepAscii
 pub mod Passwords
 pub mod Hmac
+pub mod ChannelBinding
 pub mod Pbkdf2Hi
 pub mod Keys
 pub mod Credentials
@@ -28,6 +29,7 @@ pub mod ScramServer
 pub mod Exchanges
 pub mod Logins
 pub mod Agreement
+pub mod BoundChannels
 pub mod Laws
 pub mod examples
 pub mod private

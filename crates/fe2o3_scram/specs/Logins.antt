@@ -5,6 +5,7 @@ use Rattle.fe2o3_scram.specs.ClientFinal.{ClientFinal, ReadsClientFinal}
 use Rattle.fe2o3_scram.specs.ClientKeys.{ClientKeys}
 use Rattle.fe2o3_scram.specs.Credentials.{Record}
 use Rattle.fe2o3_scram.specs.declared.hmac.ScramVersion.{ScramVersion}
+use Rattle.fe2o3_scram.specs.declared.scram_messages.server_rules.ServerRules.{ServerRules}
 use Rattle.fe2o3_scram.specs.ScramClient.{ClientSide, ClientState, ClientFinalSent, VerifiesIn}
 use Rattle.fe2o3_scram.specs.ScramServer.{ServerState, ServerFirstSent, ServerFinalSent, ConcludesFrom, server_against}
 use Rattle.fe2o3_scram.specs.ServerFinal.{ReadsServerFinal}
@@ -12,19 +13,20 @@ use Rattle.fe2o3_scram.specs.ServerFirst.{ServerChallenge}
 
 -- the text logs this user in: a challenge to this user is open, and the text is a client-final message to it that
 -- passes every test; the last is that its proof meets the stored key of the challenge's record
-pub record TextLogsIn (version : ScramVersion) (state : ServerState) (text user : List ℕ) : Type 0 where
+pub record TextLogsIn (version : ScramVersion) (rules : ServerRules) (state : ServerState) (text user : List ℕ)
+    : Type 0 where
   pub challenge : ServerChallenge
   pub stored : Record
   pub final : ClientFinal
   pub opened : state ≡ ServerFirstSent challenge stored
   pub named : user ≡ challenge.user
-  pub reads : ReadsClientFinal (server_against version challenge stored) text (Ok final)
+  pub reads : ReadsClientFinal (server_against version rules challenge stored) text (Ok final)
 
 -- a server accepts only a text that logs a user in, and then names that user
 abbrev pub AcceptedTextsLogIn : Type 0
-AcceptedTextsLogIn = (state next : ServerState) (version : ScramVersion) (text : List ℕ) (answer : Option (List ℕ))
-    → ConcludesFrom state version text (Ok answer) next
-    → (user : List ℕ) × TextLogsIn version state text user × (next ≡ ServerFinalSent user)
+AcceptedTextsLogIn = (state next : ServerState) (version : ScramVersion) (rules : ServerRules) (text : List ℕ)
+    (answer : Option (List ℕ)) → ConcludesFrom state version rules text (Ok answer) next
+    → (user : List ℕ) × TextLogsIn version rules state text user × (next ≡ ServerFinalSent user)
 
 -- the text shows the signature that a client waits for: the client has answered a challenge, and the first part of the
 -- text is the signature of that answer

@@ -42,5 +42,5 @@ mocking settings provider = record {
   version = provider.version;
   records = λ name. stored_or (option_map (λ mock. mock_record mock name) settings) (provider.records name);
   look_up_cost = mock_cost settings;
-  cbind_flag_y = provider.cbind_flag_y;
+  rules = provider.rules;
 }

@@ -1,11 +1,14 @@
 -- A SCRAM client from message to message (RFC 5802, section 5).
-use Rattle.std.specs.Prelude.{ℕ, Bool, true, false, ◌&&◌, List, Option, Some, None, ◌≡◌, Result, Ok, Err}
+use Rattle.std.specs.Prelude.{ℕ, Bool, true, false, ◌&&◌, ◌||◌, List, Option, Some, None, ◌≡◌, Result, Ok, Err}
 use Rattle.fe2o3_scram.specs.declared.client_secret.IterationLimits.{IterationLimits}
 use Rattle.fe2o3_scram.specs.declared.hmac.ScramVersion.{ScramVersion}
 use Rattle.fe2o3_scram.specs.declared.scram_client.ScramClientState.{ScramClientState}
 use Rattle.fe2o3_scram.specs.declared.scram_client.ScramClientState.TheVariants.{Initial as CodeInitial, ClientFirstSent as CodeClientFirstSent, ClientFinalSent as CodeClientFinalSent, SignatureVerified as CodeSignatureVerified, Complete as CodeComplete}
 use Rattle.fe2o3_scram.specs.declared.scram_messages.error.ScramErrorKind.{ScramErrorKind}
 use Rattle.fe2o3_scram.specs.declared.scram_messages.error.ScramErrorKind.TheVariants.{IllegalClientState, ServerSignatureMismatch}
+use Rattle.fe2o3_scram.specs.declared.scram_messages.client_channel.ClientChannel.{ClientChannel}
+use Rattle.fe2o3_scram.specs.declared.scram_messages.client_channel.ClientChannel.TheVariants.{Absent}
+use Rattle.fe2o3_scram.specs.ChannelBinding.{is_bound}
 use Rattle.fe2o3_scram.specs.Texts.{base64_text}
 use Rattle.fe2o3_scram.specs.ClientFinal.{Answer}
 use Rattle.fe2o3_scram.specs.ClientKeys.{ClientKeys}
@@ -24,23 +27,28 @@ pub data ClientState : Type 0 where
   SignatureVerified : (keys : Option ClientKeys) → ClientState
   Complete : (keys : Option ClientKeys) → ClientState
 
--- a client (RFC 5802, section 5): its user and its secret, its version, the counts that it accepts, whether it accepts the
--- server's signature in a challenge too (RFC 4422, section 5), and its state
+-- a client (RFC 5802, section 5): its user and its secret, its version, the counts that it accepts, what it says of its
+-- channel, whether it rejects an attribute that RFC 5802 defines in the place of an extension without a channel too,
+-- whether it accepts the server's signature in a challenge too (RFC 4422, section 5), and its state
 pub record ClientSide : Type 0 where
   pub user : List ℕ
   pub secret : Secret
   pub version : ScramVersion
   pub limits : IterationLimits
+  pub channel : ClientChannel
+  pub strict : Bool
   pub signature_by_challenge : Bool
   pub state : ClientState
 
--- a client of the user by this secret, which has sent nothing and accepts every count
+-- a client of the user by this secret, which has sent nothing, accepts every count and has no channel
 abbrev pub fresh_client : List ℕ → ScramVersion → Secret → ClientSide
 fresh_client user version secret = record {
   user = user;
   secret = secret;
   version = version;
   limits = up_to no_limit;
+  channel = Absent;
+  strict = false;
   signature_by_challenge = false;
   state = ClientInitial;
 }
@@ -52,6 +60,8 @@ with_state side state = record {
   secret = side.secret;
   version = side.version;
   limits = side.limits;
+  channel = side.channel;
+  strict = side.strict;
   signature_by_challenge = side.signature_by_challenge;
   state = state;
 }
@@ -63,6 +73,34 @@ with_limits side limits = record {
   secret = side.secret;
   version = side.version;
   limits = limits;
+  channel = side.channel;
+  strict = side.strict;
+  signature_by_challenge = side.signature_by_challenge;
+  state = side.state;
+}
+
+-- a client that says this of its channel
+abbrev pub with_channel : ClientSide → ClientChannel → ClientSide
+with_channel side channel = record {
+  user = side.user;
+  secret = side.secret;
+  version = side.version;
+  limits = side.limits;
+  channel = channel;
+  strict = side.strict;
+  signature_by_challenge = side.signature_by_challenge;
+  state = side.state;
+}
+
+-- a client that rejects misplaced attributes, or does not
+abbrev pub with_strict : ClientSide → Bool → ClientSide
+with_strict side strict = record {
+  user = side.user;
+  secret = side.secret;
+  version = side.version;
+  limits = side.limits;
+  channel = side.channel;
+  strict = strict;
   signature_by_challenge = side.signature_by_challenge;
   state = side.state;
 }
@@ -74,6 +112,8 @@ with_signature_by_challenge side accept = record {
   secret = side.secret;
   version = side.version;
   limits = side.limits;
+  channel = side.channel;
+  strict = side.strict;
   signature_by_challenge = accept;
   state = side.state;
 }
@@ -83,9 +123,13 @@ abbrev pub started : ClientSide → List ℕ → ClientSide
 started side nonce = with_state side (ClientFirstSent (base64_text nonce)
     (client_first_bare side.user (base64_text nonce)))
 
+-- a client is strict if it binds a channel, or is set to
+abbrev pub is_strict_client : ClientSide → Bool
+is_strict_client side = is_bound side.channel || side.strict
+
 -- what a client knows when it reads a server-first message
 abbrev pub holding : ClientSide → List ℕ → Client
-holding side nonce = client_of nonce side.secret side.limits
+holding side nonce = client_of nonce side.secret side.limits side.channel side.strict
 
 -- what a client in this state answers to a server-first message (RFC 5802, section 5), and the client after it: one
 -- that has sent its first message answers it, any other rejects it unread, and an error changes nothing
@@ -94,7 +138,7 @@ AnswersIn (ClientFirstSent nonce bare) side text (Ok message) next =
     (answer : Answer) × AnswersServerFirst side.version (holding side nonce) bare text (Ok answer)
     × (message ≡ answer.message) × (next ≡ with_state side (ClientFinalSent answer.signature (Some answer.keys)))
 AnswersIn (ClientFirstSent nonce bare) side text (Err fault) next =
-    ReadsServerFirst nonce side.secret side.limits text (Err fault) × (next ≡ side)
+    ReadsServerFirst (holding side nonce) text (Err fault) × (next ≡ side)
 AnswersIn state side text (Ok message) next = ⊥
 AnswersIn state side text (Err fault) next = (fault ≡ IllegalClientState) × (next ≡ side)
 

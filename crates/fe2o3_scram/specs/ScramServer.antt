@@ -1,11 +1,13 @@
 -- A SCRAM server from message to message (RFC 5802, section 5).
-use Rattle.std.specs.Prelude.{ℕ, List, Bool, ◌≡◌, ◌≤◌, ◌+◌, Option, Some, None, Result, Ok, Err}
+use Rattle.std.specs.Prelude.{ℕ, List, ◌≡◌, ◌≤◌, ◌+◌, Option, Some, None, Result, Ok, Err}
 use Rattle.std.specs.String.{string_bytes}
 use Rattle.fe2o3_scram.specs.declared.scram_messages.error.ServerScramErrorKind.{ServerScramErrorKind}
 use Rattle.fe2o3_scram.specs.declared.scram_messages.error.ServerScramErrorKind.TheVariants.{IllegalAuthenticatorState, OutOfMemory}
 use Rattle.fe2o3_scram.specs.declared.hmac.ScramVersion.{ScramVersion}
+use Rattle.fe2o3_scram.specs.declared.scram_messages.server_rules.ServerRules.{ServerRules}
 use Rattle.fe2o3_scram.specs.declared.scram_server.ScramAuthenticatorState.{ScramAuthenticatorState}
 use Rattle.fe2o3_scram.specs.declared.scram_server.ScramAuthenticatorState.TheVariants.{Initial as CodeInitial, ServerFirstSent as CodeServerFirstSent, ServerFinalSent as CodeServerFinalSent}
+use Rattle.fe2o3_scram.specs.ChannelBinding.{expected_channel, is_strict}
 use Rattle.fe2o3_scram.specs.Texts.{base64_text}
 use Rattle.fe2o3_scram.specs.ClientFirst.{ReadsClientFirst}
 use Rattle.fe2o3_scram.specs.ServerFirst.{ServerChallenge, AnswersClientFirst}
@@ -62,41 +64,42 @@ ChallengesFrom state provider nonce text (Err fault) next =
 abbrev pub FirstCosts : {A : Type 0} → Provider → List ℕ → Result A ServerScramErrorKind → ℕ → ℕ → Type 0
 FirstCosts provider text (Ok answer) before after = after ≡ before + provider.look_up_cost
 FirstCosts provider text (Err OutOfMemory) before after = (before ≤ after) × (after ≤ before + provider.look_up_cost)
-    × ((fault : ServerScramErrorKind) → ReadsClientFirst provider.cbind_flag_y text (Err fault) → after ≡ before)
+    × ((fault : ServerScramErrorKind) → ReadsClientFirst provider.rules text (Err fault) → after ≡ before)
 FirstCosts provider text (Err fault) before after = after ≡ before
 
 -- what a server knows when it reads a client-final message, from an open challenge and the record that it was made with
-abbrev pub server_against : ScramVersion → ServerChallenge → Record → Server
-server_against version challenge stored =
-    server_of version challenge.header challenge.bare challenge.first challenge.nonce stored
+abbrev pub server_against : ScramVersion → ServerRules → ServerChallenge → Record → Server
+server_against version rules challenge stored = server_of version (expected_channel rules.channels challenge.header)
+    (is_strict rules) challenge.bare challenge.first challenge.nonce stored
 
 -- what a server answers to a client-final message (RFC 5802, section 5), and its state after it: an accepted one closes
 -- the challenge and logs its user in, a rejected one changes nothing, and without an open challenge it is rejected
 -- unread
-abbrev pub ConcludesFrom : ServerState → ScramVersion → List ℕ → Result (Option (List ℕ)) ServerScramErrorKind
-    → ServerState → Type 0
-ConcludesFrom (ServerFirstSent challenge stored) version text (Ok (Some message)) next =
-    AnswersClientFinal (server_against version challenge stored) text (Ok message)
+abbrev pub ConcludesFrom : ServerState → ScramVersion → ServerRules → List ℕ
+    → Result (Option (List ℕ)) ServerScramErrorKind → ServerState → Type 0
+ConcludesFrom (ServerFirstSent challenge stored) version rules text (Ok (Some message)) next =
+    AnswersClientFinal (server_against version rules challenge stored) text (Ok message)
     × (next ≡ ServerFinalSent challenge.user)
-ConcludesFrom (ServerFirstSent challenge stored) version text (Err fault) next =
-    AnswersClientFinal (server_against version challenge stored) text (Err fault)
+ConcludesFrom (ServerFirstSent challenge stored) version rules text (Err fault) next =
+    AnswersClientFinal (server_against version rules challenge stored) text (Err fault)
     × (next ≡ ServerFirstSent challenge stored)
-ConcludesFrom state version text (Ok message) next = ⊥
-ConcludesFrom state version text (Err fault) next = (fault ≡ IllegalAuthenticatorState) × (next ≡ state)
+ConcludesFrom state version rules text (Ok message) next = ⊥
+ConcludesFrom state version rules text (Err fault) next = (fault ≡ IllegalAuthenticatorState) × (next ≡ state)
 
 -- a server in this state allocates for its answer to a client-final message (RFC 5802, section 5): with an open
 -- challenge it does if it reaches a base64 text, and otherwise never
-abbrev pub ReachesBase64In : ServerState → List ℕ → Type 0
-ReachesBase64In (ServerFirstSent challenge stored) text = ReachesBase64 challenge.header challenge.nonce text
-ReachesBase64In state text = ⊥
+abbrev pub ReachesBase64In : ServerState → ServerRules → List ℕ → Type 0
+ReachesBase64In (ServerFirstSent challenge stored) rules text =
+    ReachesBase64 (expected_channel rules.channels challenge.header) challenge.nonce text
+ReachesBase64In state rules text = ⊥
 
 -- the HMAC values of a server's answer to a client-final message (RFC 5802, section 3), as a meter shows them before
 -- and after the call: those of the proof and the signature if a challenge is open, and otherwise none
-abbrev pub FinalCostsFrom : {A : Type 0} → ServerState → ScramVersion → List ℕ → Result A ServerScramErrorKind → ℕ → ℕ
-    → Type 0
-FinalCostsFrom (ServerFirstSent challenge stored) version text result before after =
-    FinalCosts (server_against version challenge stored) text result before after
-FinalCostsFrom state version text result before after = after ≡ before
+abbrev pub FinalCostsFrom : {A : Type 0} → ServerState → ScramVersion → ServerRules → List ℕ
+    → Result A ServerScramErrorKind → ℕ → ℕ → Type 0
+FinalCostsFrom (ServerFirstSent challenge stored) version rules text result before after =
+    FinalCosts (server_against version rules challenge stored) text result before after
+FinalCostsFrom state version rules text result before after = after ≡ before
 
 -- the state that the code's state is
 abbrev pub server_state_of : ScramAuthenticatorState → ServerState
@@ -119,9 +122,9 @@ challenge_kept kept = record {
 abbrev pub provider_in : {C : Type 0} → ScramAuthenticator C → C
 provider_in authenticator = authenticator.credentials
 
--- whether a server accepts the GS2 header `y,,` (RFC 5802, section 6)
-abbrev pub cbind_flag_y_in : {C : Type 0} → ScramAuthenticator C → Bool
-cbind_flag_y_in authenticator = authenticator.accept_cbind_flag_y
+-- what a server accepts in a client's messages (RFC 5802, sections 6 and 7)
+abbrev pub rules_in : {C : Type 0} → ScramAuthenticator C → ServerRules
+rules_in authenticator = authenticator.rules
 
 -- a server's settings of mock authentication, if it has them
 abbrev pub mock_in : {C : Type 0} → ScramAuthenticator C → Option MockSettings
@@ -130,7 +133,7 @@ mock_in authenticator = authenticator.mock
 -- the provider that a server answers by, for this meaning of its store
 abbrev pub served_by : {C : Type 0} → (C → Store) → ScramAuthenticator C → Provider
 served_by meaning authenticator =
-    mocking (mock_in authenticator) (serving (cbind_flag_y_in authenticator) (meaning (provider_in authenticator)))
+    mocking (mock_in authenticator) (serving (rules_in authenticator) (meaning (provider_in authenticator)))
 
 -- the state of a server
 abbrev pub state_in : {C : Type 0} → ScramAuthenticator C → ServerState

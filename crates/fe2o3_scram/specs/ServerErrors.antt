@@ -55,4 +55,5 @@ kind_error kinds.NormalizeError = errors.OtherError
 kind_error kinds.CannotParseClientFinalMessage = errors.OtherError
 kind_error kinds.IncorrectClientFinalNonce = errors.OtherError
 kind_error kinds.ProofNotFoundInClientFinal = errors.OtherError
+kind_error kinds.MisplacedAttribute = errors.OtherError
 kind_error kinds.IllegalAuthenticatorState = errors.OtherError

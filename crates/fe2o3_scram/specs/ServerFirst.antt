@@ -1,7 +1,7 @@
 -- The server-first message (RFC 5802, section 7), as the client reads it and as the server writes it.
-use Rattle.std.specs.Prelude.{ℕ, List, [], ◌∷◌, ◌++◌, ◌<◌, codes, Result, ◌≡◌, ◌⊎◌, Option, Some, None, Ok, Err}
+use Rattle.std.specs.Prelude.{ℕ, List, [], ◌∷◌, ◌++◌, ◌<◌, codes, Result, ◌≡◌, ◌⊎◌, Option, Some, None, Ok, Err, Bool, ◌||◌, T}
 use Rattle.fe2o3_scram.specs.declared.scram_messages.error.ScramErrorKind.{ScramErrorKind}
-use Rattle.fe2o3_scram.specs.declared.scram_messages.error.ScramErrorKind.TheVariants.{InsufficientParts, ExtensionNotSupported, NonceNotFound, ClientNonceMismatch, SaltNotFound, Base64DecodeError, IterationCountNotFound, IterationCountParseError, IterationCountTooSmall, IterationCountTooLarge, NormalizeError, StaleKeys}
+use Rattle.fe2o3_scram.specs.declared.scram_messages.error.ScramErrorKind.TheVariants.{InsufficientParts, ExtensionNotSupported, NonceNotFound, ClientNonceMismatch, SaltNotFound, Base64DecodeError, IterationCountNotFound, IterationCountParseError, IterationCountTooSmall, IterationCountTooLarge, NormalizeError, StaleKeys, MisplacedAttribute}
 use Rattle.fe2o3_scram.specs.declared.scram_messages.server_first.ServerFirstMessage.{ServerFirstMessage}
 use Rattle.fe2o3_scram.specs.declared.scram_messages.server_first_reading.ServerFirst.{ServerFirst as CodeServerFirst}
 use Rattle.std.specs.Cow.{cow_str_bytes}
@@ -10,6 +10,9 @@ use Rattle.fe2o3_scram.specs.Readings.{NoneHolds, Reads}
 use Rattle.fe2o3_scram.specs.Passwords.{IsNormal}
 use Rattle.std.specs.Fmt.{decimal}
 use Rattle.fe2o3_scram.specs.declared.scram_messages.error.ServerScramErrorKind.{ServerScramErrorKind}
+use Rattle.fe2o3_scram.specs.declared.scram_messages.client_channel.ClientChannel.{ClientChannel}
+use Rattle.fe2o3_scram.specs.ChannelBinding.{is_bound}
+use Rattle.fe2o3_scram.specs.Extensions.{HasAttributeFrom}
 use Rattle.fe2o3_scram.specs.ClientFirst.{ClientFirst, ReadsClientFirst, HasEscapes}
 use Rattle.fe2o3_scram.specs.declared.scram_messages.channel_binding_flag.ChannelBindingFlag.{ChannelBindingFlag}
 use Rattle.fe2o3_scram.specs.Credentials.{Record, Provider}
@@ -37,15 +40,24 @@ pub record NamesServerFirst (text : List ℕ) (first : ServerFirst) : Type 0 whe
   pub salt : HasBase64 text 1 (codes "s=") first.salt
   pub count : HasCount text first.count
 
--- what a client knows when it reads a server-first message (RFC 5802, section 5)
+-- what a client knows when it reads a server-first message (RFC 5802, section 5), what it says of its channel, and whether
+-- it is strict: it rejects an attribute that RFC 5802 defines in the place of an extension
 pub record Client : Type 0 where
   pub nonce : List ℕ
   pub secret : Secret
   pub limits : IterationLimits
+  pub channel : ClientChannel
+  pub strict : Bool
 
--- a client with these values
-abbrev pub client_of : List ℕ → Secret → IterationLimits → Client
-client_of nonce secret limits = record { nonce = nonce; secret = secret; limits = limits }
+-- a client with these values; one that binds a channel is strict
+abbrev pub client_of : List ℕ → Secret → IterationLimits → ClientChannel → Bool → Client
+client_of nonce secret limits channel strict = record {
+  nonce = nonce;
+  secret = secret;
+  limits = limits;
+  channel = channel;
+  strict = is_bound channel || strict;
+}
 
 -- the client's tests of the nonce, in order (RFC 5802, section 5.1)
 abbrev pub nonce_tests : List ℕ → List ℕ → List (ScramErrorKind × Type 0)
@@ -67,17 +79,18 @@ secret_tests (Password password) text = (NormalizeError, ¬ IsNormal password) �
 secret_tests (Keys keys) text = (StaleKeys, NamesOther keys text) ∷ []
 secret_tests (Both password keys) text = (NormalizeError, NamesOther keys text × ¬ IsNormal password) ∷ []
 
--- all tests of the client, in order: of the nonce, the salt and the iteration count (RFC 5802, section 5.1), and of its
--- secret
-abbrev pub server_first_tests : List ℕ → Secret → IterationLimits → List ℕ → List (ScramErrorKind × Type 0)
-server_first_tests client_nonce secret limits text = nonce_tests client_nonce text ++
+-- all tests of the client, in order: of the nonce, the salt and the iteration count (RFC 5802, section 5.1), of
+-- attributes after the count (RFC 5802, section 7), and of its secret
+abbrev pub server_first_tests : Client → List ℕ → List (ScramErrorKind × Type 0)
+server_first_tests client text = nonce_tests client.nonce text ++
     ((SaltNotFound, (rest : List ℕ) → ¬ Part text 1 (codes "s=" ++ rest))
     ∷ (Base64DecodeError, (salt : List ℕ) → ¬ HasBase64 text 1 (codes "s=") salt)
     ∷ (IterationCountNotFound, (rest : List ℕ) → ¬ Part text 2 (codes "i=" ++ rest))
     ∷ (IterationCountParseError, (count : ℕ) → ¬ HasCount text count)
-    ∷ (IterationCountTooSmall, (count : ℕ) × HasCount text count × (count < limits.min_iterations))
-    ∷ (IterationCountTooLarge, (count : ℕ) × HasCount text count × (limits.max_iterations < count))
-    ∷ secret_tests secret text)
+    ∷ (IterationCountTooSmall, (count : ℕ) × HasCount text count × (count < client.limits.min_iterations))
+    ∷ (IterationCountTooLarge, (count : ℕ) × HasCount text count × (client.limits.max_iterations < count))
+    ∷ (MisplacedAttribute, T client.strict × HasAttributeFrom 3 text)
+    ∷ secret_tests client.secret text)
 
 -- the client reaches the salt, for which it allocates: the nonce has passed its tests, and the second part is a salt
 -- (RFC 5802, section 5.1)
@@ -85,12 +98,10 @@ abbrev pub ReachesSalt : List ℕ → List ℕ → Type 0
 ReachesSalt client_nonce text =
     NoneHolds (nonce_tests client_nonce text) × ((rest : List ℕ) × Part text 1 (codes "s=" ++ rest))
 
--- what the client reads (RFC 5802, section 5.1): the first error that applies, or the values that are named; parts
--- after the third are ignored
-unfoldable pub ReadsServerFirst : List ℕ → Secret → IterationLimits → List ℕ → Result ServerFirst ScramErrorKind
-    → Type 0
-ReadsServerFirst client_nonce secret limits text answer =
-    Reads (server_first_tests client_nonce secret limits text) (NamesServerFirst text) answer
+-- what the client reads (RFC 5802, section 5.1): the first error that applies, or the values that are named; extensions
+-- after the third part are ignored
+unfoldable pub ReadsServerFirst : Client → List ℕ → Result ServerFirst ScramErrorKind → Type 0
+ReadsServerFirst client text answer = Reads (server_first_tests client text) (NamesServerFirst text) answer
 
 -- server-first-message (RFC 5802, section 7): the nonce of both sides, and the salt and the count of the record, in
 -- decimal without leading zeros
@@ -131,16 +142,16 @@ challenge_of client server_nonce stored =
 
 -- the server allocates: for an escaped name, or for the challenge to a known user (RFC 5802, section 5.1)
 abbrev pub ReachesChallenge : Provider → List ℕ → Type 0
-ReachesChallenge provider text = HasEscapes provider.cbind_flag_y text
-    ⊎ ((client : ClientFirst) × (stored : Record) × ReadsClientFirst provider.cbind_flag_y text (Ok client)
+ReachesChallenge provider text = HasEscapes provider.rules text
+    ⊎ ((client : ClientFirst) × (stored : Record) × ReadsClientFirst provider.rules text (Ok client)
     × (provider.records client.user ≡ Some stored))
 
 -- what the server answers to a client-first message (RFC 5802, section 5): the first error, nothing to an unknown user,
 -- or the challenge
 abbrev pub AnswersClientFirst : Provider → List ℕ → List ℕ → Result (Option ServerChallenge) ServerScramErrorKind → Type 0
 AnswersClientFirst provider server_nonce text (Ok None) = (client : ClientFirst)
-    × ReadsClientFirst provider.cbind_flag_y text (Ok client) × (provider.records client.user ≡ None)
+    × ReadsClientFirst provider.rules text (Ok client) × (provider.records client.user ≡ None)
 AnswersClientFirst provider server_nonce text (Ok (Some challenge)) =
-    (client : ClientFirst) × (stored : Record) × ReadsClientFirst provider.cbind_flag_y text (Ok client)
+    (client : ClientFirst) × (stored : Record) × ReadsClientFirst provider.rules text (Ok client)
     × (provider.records client.user ≡ Some stored) × (challenge ≡ challenge_of client server_nonce stored)
-AnswersClientFirst provider server_nonce text (Err fault) = ReadsClientFirst provider.cbind_flag_y text (Err fault)
+AnswersClientFirst provider server_nonce text (Err fault) = ReadsClientFirst provider.rules text (Err fault)

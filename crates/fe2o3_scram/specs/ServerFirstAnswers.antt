@@ -11,10 +11,10 @@ use Rattle.fe2o3_scram.specs.ServerFirst.{Client, ServerFirst, ReadsServerFirst}
 -- to the values that it names
 abbrev pub AnswersServerFirst : ScramVersion → Client → List ℕ → List ℕ → Result Answer ScramErrorKind → Type 0
 AnswersServerFirst version client bare text (Ok answer) =
-    (first : ServerFirst) × ReadsServerFirst client.nonce client.secret client.limits text (Ok first)
-    × (answer ≡ answer_of version client.secret bare text first)
+    (first : ServerFirst) × ReadsServerFirst client text (Ok first)
+    × (answer ≡ answer_of version client.secret client.channel bare text first)
 AnswersServerFirst version client bare text (Err fault) =
-    ReadsServerFirst client.nonce client.secret client.limits text (Err fault)
+    ReadsServerFirst client text (Err fault)
 
 -- the message and the signature that the code's pair is
 abbrev pub pair_values : Vec ℕ Global × Vec ℕ Global → List ℕ × List ℕ
@@ -27,7 +27,7 @@ SendsServerFirst version client bare text (Ok sent) =
     (answer : Answer) × AnswersServerFirst version client bare text (Ok answer)
     × (sent ≡ (answer.message, answer.signature))
 SendsServerFirst version client bare text (Err fault) =
-    ReadsServerFirst client.nonce client.secret client.limits text (Err fault)
+    ReadsServerFirst client text (Err fault)
 
 -- the HMAC values of an answer (RFC 5802, section 3): two by the client's own keys, and by its password two for the
 -- keys and those of the iteration count besides
@@ -40,11 +40,11 @@ hmac_count (Both password keys) first = if fit keys first then 2 else first.coun
 -- those of the answer for one that is answered, at most that many if memory ran out, and never fewer than before
 pub record AnswerCosts {A F : Type 0} (client : Client) (text : List ℕ) (result : Result A F)
     (before after : ℕ) : Type 0 where
-  pub refused : (fault : ScramErrorKind) → ReadsServerFirst client.nonce client.secret client.limits text (Err fault)
+  pub refused : (fault : ScramErrorKind) → ReadsServerFirst client text (Err fault)
       → after ≡ before
-  pub answered : (first : ServerFirst) → ReadsServerFirst client.nonce client.secret client.limits text (Ok first)
+  pub answered : (first : ServerFirst) → ReadsServerFirst client text (Ok first)
       → OnOk result (after ≡ before + hmac_count client.secret first)
-  pub at_most : (first : ServerFirst) → ReadsServerFirst client.nonce client.secret client.limits text (Ok first)
+  pub at_most : (first : ServerFirst) → ReadsServerFirst client text (Ok first)
       → after ≤ before + hmac_count client.secret first
   pub limited : after ≤ before + (client.limits.max_iterations + 4)
   pub never_falls : before ≤ after

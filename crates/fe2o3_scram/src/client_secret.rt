@@ -9,6 +9,7 @@ use crate::OutOfMemory;
 use crate::hmac::ScramVersion;
 use crate::keys::CachedKeys;
 use crate::passwords::Password;
+use crate::secrets::SecretText;
 use std::alloc::{AllocError, Global};
 use thiserror::Error;
 
@@ -98,8 +99,8 @@ impl IterationLimits {
 /// An owned copy of a client's password.
 #[derive(Drop)]
 pub(crate) enum KeptPassword {
-    Typed(String),
-    Prepared(String),
+    Typed(SecretText),
+    Prepared(SecretText),
 }
 
 impl KeptPassword {
@@ -108,8 +109,8 @@ impl KeptPassword {
         ensures { IfOk result (λ kept. kept_password kept ≡ password_of password.entry) }
     {
         Ok(match password {
-            Password::Typed(text) => KeptPassword::Typed(String::from_str(alloc, text)?),
-            Password::Prepared(text) => KeptPassword::Prepared(String::from_str(alloc, text)?),
+            Password::Typed(text) => KeptPassword::Typed(SecretText::from_str(alloc, text)?),
+            Password::Prepared(text) => KeptPassword::Prepared(SecretText::from_str(alloc, text)?),
         })
     }
 
@@ -118,8 +119,8 @@ impl KeptPassword {
         ensures { password_of result ≡ kept_password self.now }
     {
         match self {
-            KeptPassword::Typed(text) => Password::Typed(text),
-            KeptPassword::Prepared(text) => Password::Prepared(text),
+            KeptPassword::Typed(text) => Password::Typed(text.as_str()),
+            KeptPassword::Prepared(text) => Password::Prepared(text.as_str()),
         }
     }
 

@@ -2,6 +2,7 @@
 
 ghost use Rattle.std.specs.Prelude.{◌≡◌, ◌≢◌, IfOk, MatchOption, MatchResult};
 ghost use Rattle.fe2o3_scram.specs.declared.hmac.ScramVersion.{ScramVersion};
+ghost use Rattle.fe2o3_scram.specs.ChannelBinding.{mechanism_of};
 ghost use Rattle.fe2o3_scram.specs.Hmac.{mechanism_name, digest, digest_len, block_len, hmac_of};
 
 pub(crate) mod hasher;
@@ -25,6 +26,15 @@ pub const SCRAM_SHA_256: &str = "SCRAM-SHA-256";
 
 /// The mechanism name of SCRAM with SHA-512.
 pub const SCRAM_SHA_512: &str = "SCRAM-SHA-512";
+
+/// The mechanism name of SCRAM with SHA-1 and channel binding.
+pub const SCRAM_SHA_1_PLUS: &str = "SCRAM-SHA-1-PLUS";
+
+/// The mechanism name of SCRAM with SHA-256 and channel binding.
+pub const SCRAM_SHA_256_PLUS: &str = "SCRAM-SHA-256-PLUS";
+
+/// The mechanism name of SCRAM with SHA-512 and channel binding.
+pub const SCRAM_SHA_512_PLUS: &str = "SCRAM-SHA-512-PLUS";
 
 /// The name is not that of a known SCRAM mechanism.
 #[derive(Debug, Clone, Copy, PartialEq, Eq, Error)]
@@ -54,6 +64,20 @@ impl ScramVersion {
             ScramVersion::Sha1 => SCRAM_SHA_1,
             ScramVersion::Sha256 => SCRAM_SHA_256,
             ScramVersion::Sha512 => SCRAM_SHA_512,
+        }
+    }
+
+    /// Returns the name of the SASL mechanism, or with `plus` that of the one with channel binding (RFC 5802, section 4).
+    pub fn mechanism_with(&self, plus: bool) -> &'static str
+        ensures { result.now ≡ mechanism_of self.now plus }
+    {
+        if !plus {
+            return self.mechanism();
+        }
+        match self {
+            ScramVersion::Sha1 => SCRAM_SHA_1_PLUS,
+            ScramVersion::Sha256 => SCRAM_SHA_256_PLUS,
+            ScramVersion::Sha512 => SCRAM_SHA_512_PLUS,
         }
     }
 

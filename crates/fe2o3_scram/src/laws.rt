@@ -2,7 +2,9 @@
 //! which the check has proved.
 
 ghost use Rattle.std.specs.Prelude.{◌≡◌};
-ghost use Rattle.fe2o3_scram.specs.Agreement.{VerifiedTextsAgree};
+ghost use Rattle.fe2o3_scram.specs.Agreement.{OneStrictSideOfTextsIsEnough, VerifiedTextsAgree};
+ghost use Rattle.fe2o3_scram.specs.BoundChannels.{ShownTextsAgree, ShownTextsBindOneChannel, VerifiedTextsBindOneChannel};
+ghost use Rattle.fe2o3_scram.specs.examples.MovedChannels.{MovedChannelsPass};
 ghost use Rattle.fe2o3_scram.specs.Logins.{AcceptedTextsLogIn, VerifiedTextsAreSigned};
 ghost use Rattle.fe2o3_scram.specs.Laws.{OneVersion, OneFinalText, OneSignature, DigestsAreSized, MacsAreSized, OneBytesOfBase64, Base64IsReadAgain, NoCommaInBase64, PartsExist, OneListOfParts, OneEscapedName, NoCommaInEscapedNames, OneClientFirst, OneServerFirst, OneClientFinal, OneServerFinal, SomeClientFirst, SomeServerFirst, SomeClientFinal, SomeServerFinal, UnalteredExchangesSucceed, MadeRecordsAreReadable, OneRecord, OneSpelling, RecordsAreReadAgain, SomeRecord, OneUsersAnswer, SomeUsersAnswer, UsersAreReadAgain, OneMixedAnswer, SomeMixedAnswer, MixedAreReadAgain, MixedAreWrittenBack, NoMismatch, KeysStandForPassword, KeysAnswerAsPassword, BothAnswerAsPassword, OneRecordOfPassword, OneAnswerOfPassword, ServerErrorsAreReadAgain, OneServerError, ServerErrorsAreNoSignature};
 ghost use Rattle.fe2o3_scram.specs.ScramServer.{StatesAreReported};
@@ -73,11 +75,28 @@ pub fn server_errors()
 /// If a client accepted the message by which a server accepted, both agree on version, user name and
 /// client nonce, or their own differing AuthMessages share one HMAC value. They agree on the nonce of
 /// both sides, salt and count if the client-first message had two parts, or if one side received no
-/// attribute that RFC 5802 defines in the place of an extension; in the second case also on the header.
+/// attribute that RFC 5802 defines in the place of an extension; in the second case also on the header and the data of the
+/// channel. One strict side is enough for that: `ScramClient::strict` or `ScramAuthenticator::strict`.
 pub fn accepted_messages()
     ensures server { AcceptedTextsLogIn }
     ensures client { VerifiedTextsAreSigned }
     ensures agreement { VerifiedTextsAgree }
+    ensures strict { OneStrictSideOfTextsIsEnough }
+{}
+
+/// States what channel binding protects against: someone who has one channel to the client and another to the server, as
+/// with a false certificate. A client that has a channel sends `y,,` or binds it, whatever mechanisms it was offered. If
+/// the server accepts no `y,,` and one side is strict, as each is that binds a channel, then both bind one channel, of one
+/// kind and with the same data: if the client verified the message by which the server accepted, or if the server accepted
+/// the proof that the client showed. Otherwise two different AuthMessages share one HMAC value, or two keys one digest.
+///
+/// The last clause says why such a side has to be strict: between two sides that are not, someone on the way can move
+/// attributes from one message to another, so that each side reads the channel that it expects.
+pub fn bound_channels()
+    ensures verified { VerifiedTextsBindOneChannel }
+    ensures shown { ShownTextsAgree }
+    ensures shown_channel { ShownTextsBindOneChannel }
+    ensures moved { MovedChannelsPass }
 {}
 
 /// A client and a server with the same password log in if nothing is altered on the way.

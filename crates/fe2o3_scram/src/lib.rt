@@ -14,6 +14,7 @@
 #![tactic(auto)]
 
 pub mod cached_keys;
+pub mod channel_binding;
 pub mod client_secret;
 pub mod credentials;
 pub mod hmac;
@@ -27,8 +28,12 @@ pub mod saslprep_ascii;
 pub mod scram_client;
 pub mod scram_messages;
 pub mod scram_server;
+pub mod secrets;
 mod texts;
 
+pub use crate::channel_binding::{
+    ChannelBinding, ChannelBindings, ChannelData, ChannelDataLength, ChannelKind,
+};
 pub use crate::client_secret::{ClientSecret, ClientSecretError, IterationLimits};
 pub use crate::credentials::{
     AddRecordError, DEFAULT_SCRAM_ITERATIONS, MultiRecordStore, ReadLinesError, ReadLinesErrorKind,
@@ -42,9 +47,9 @@ pub use crate::provider::{ScramCredentialProvider, StoredPassword};
 pub use crate::saslprep_ascii::{NormalizeError, saslprep};
 pub use crate::scram_client::ScramClient;
 pub use crate::scram_messages::{
-    ChannelBindingFlag, ClientAnswer, ClientFinal, ClientFirst, ScramErrorKind, ServerError,
-    ServerFinal, ServerFirst, ServerFirstMessage, ServerScramErrorKind, UnescapeError,
-    escape_username, unescape_username,
+    ChannelBindingFlag, ClientAnswer, ClientChannel, ClientFinal, ClientFirst, ScramErrorKind,
+    ServerError, ServerFinal, ServerFirst, ServerFirstMessage, ServerRules, ServerScramErrorKind,
+    UnescapeError, escape_username, unescape_username,
 };
 pub use crate::scram_server::open_challenge::OpenChallenge;
 pub use crate::scram_server::{SaltTooLong, ScramAuthenticator};

@@ -3,11 +3,12 @@
 ghost use Rattle.std.specs.Prelude.{◌≡◌, ◌≢◌, ◌≤◌, ◌^◌, ◌↔◌, ℕ, List, Option, Some, IfOk, OnOk, OnErr, MatchOption};
 ghost use Rattle.std.specs.String.{string_bytes};
 ghost use Rattle.fe2o3_scram.specs.Texts.{base64_text};
-ghost use Rattle.fe2o3_scram.specs.ClientFirst.{client_first};
+ghost use Rattle.fe2o3_scram.specs.ChannelBinding.{flag_of, is_bound, mechanism_of};
+ghost use Rattle.fe2o3_scram.specs.ClientFirst.{client_first_with};
 ghost use Rattle.fe2o3_scram.specs.ClientKeys.{ClientKeys};
 ghost use Rattle.fe2o3_scram.specs.ClientSecret.{Password as ByPassword, IsOfVersion, kept_secret, secret_of};
 ghost use Rattle.fe2o3_scram.specs.Passwords.{Typed};
-ghost use Rattle.fe2o3_scram.specs.ScramClient.{ClientFirstSent, ClientFinalSent, SignatureVerified, AnswersIn, AnswerCostsIn, ChecksSignatureIn, ConcludesIn, VerifiesIn, ReachesSaltIn, ReachesVerifierIn, expects_signature, fresh_client, started, client_state_of, answer_keys, is_complete, is_signature_verified, login_keys, with_signature_by_challenge, with_state, with_limits};
+ghost use Rattle.fe2o3_scram.specs.ScramClient.{ClientFirstSent, ClientFinalSent, SignatureVerified, AnswersIn, AnswerCostsIn, ChecksSignatureIn, ConcludesIn, VerifiesIn, ReachesSaltIn, ReachesVerifierIn, expects_signature, fresh_client, started, client_state_of, answer_keys, is_complete, is_signature_verified, login_keys, with_channel, with_signature_by_challenge, with_state, with_limits, with_strict};
 ghost use Rattle.fe2o3_scram.specs.Readings.{Gives};
 
 use crate::OutOfMemory;
@@ -16,7 +17,9 @@ use crate::client_secret::{
 };
 use crate::hmac::{Meter, ScramVersion};
 use crate::keys::CachedKeys;
+use crate::scram_messages::ClientChannel;
 use crate::scram_messages::error::ScramErrorKind;
+use crate::secrets::SecretText;
 use crate::texts::base64_of_nonce;
 use bytes::Bytes;
 use std::alloc::{AllocError, Global};
@@ -73,6 +76,8 @@ pub struct ScramClient {
     secret: KeptSecret,
     scram: ScramVersion,
     limits: IterationLimits,
+    channel: ClientChannel,
+    strict: bool,
     signature_by_challenge: bool,
     state: ScramClientState,
 
@@ -92,6 +97,8 @@ impl Model for ScramClient {
       secret = kept_secret client.secret;
       version = client.scram;
       limits = client.limits;
+      channel = client.channel;
+      strict = client.strict;
       signature_by_challenge = client.signature_by_challenge;
       state = client_state_of client.state client.keys;
     } };
@@ -106,7 +113,7 @@ impl ScramClient {
         ensures { result ≡ fresh_client (string_bytes username) scram_version
             (ByPassword (Typed (string_bytes password))) }
     {
-        let secret = KeptSecret::Password(KeptPassword::Typed(password));
+        let secret = KeptSecret::Password(KeptPassword::Typed(SecretText::new(password)));
         ScramClient::by(username, secret, scram_version)
     }
 
@@ -149,6 +156,8 @@ impl ScramClient {
             secret,
             scram,
             limits: IterationLimits::none(),
+            channel: ClientChannel::Absent,
+            strict: false,
             signature_by_challenge: false,
             state: ScramClientState::Initial,
             keys: None,
@@ -189,6 +198,54 @@ impl ScramClient {
             secret: self.secret,
             scram: self.scram,
             limits,
+            channel: self.channel,
+            strict: self.strict,
+            signature_by_challenge: self.signature_by_challenge,
+            state: self.state,
+            keys: self.keys,
+        }
+    }
+
+    /// Returns this client, but it says this of its channel (RFC 5802, section 6), in its next client-first message. Set
+    /// it before that message is sent. With [`ClientChannel::Bound`] the client selects the mechanism with `-PLUS`, and
+    /// is always strict.
+    pub fn with_channel(self, channel: ClientChannel) -> Self
+        ensures { result ≡ with_channel self channel }
+    {
+        Self {
+            username: self.username,
+            secret: self.secret,
+            scram: self.scram,
+            limits: self.limits,
+            channel,
+            strict: self.strict,
+            signature_by_challenge: self.signature_by_challenge,
+            state: self.state,
+            keys: self.keys,
+        }
+    }
+
+    /// Returns what the client says of its channel.
+    pub fn channel(&self) -> ClientChannel
+        ensures { result ≡ self.now.channel }
+    {
+        self.channel
+    }
+
+    /// Returns this client, but with this option: whether it is strict. A client that binds a channel is strict in any
+    /// case. A strict client rejects an attribute that RFC 5802 defines in the place of an extension of the server-first message, by `MisplacedAttribute`. If it verifies
+    /// the signature, both agree on the whole login, collisions of HMAC values aside (`laws::accepted_messages`),
+    /// whether the server is strict or not. Servers that follow RFC 5802 send no such attribute.
+    pub fn strict(self, strict: bool) -> Self
+        ensures { result ≡ with_strict self strict }
+    {
+        Self {
+            username: self.username,
+            secret: self.secret,
+            scram: self.scram,
+            limits: self.limits,
+            channel: self.channel,
+            strict,
             signature_by_challenge: self.signature_by_challenge,
             state: self.state,
             keys: self.keys,
@@ -206,6 +263,8 @@ impl ScramClient {
             secret: self.secret,
             scram: self.scram,
             limits: self.limits,
+            channel: self.channel,
+            strict: self.strict,
             signature_by_challenge: accept,
             state: self.state,
             keys: self.keys,
@@ -219,11 +278,19 @@ impl ScramClient {
         self.signature_by_challenge
     }
 
-    /// Returns the version, which names the client's mechanism (RFC 5802, section 4).
+    /// Returns the version, which is that of the client's mechanism (RFC 5802, section 4).
     pub fn version(&self) -> ScramVersion
         ensures { result ≡ self.now.version }
     {
         self.scram
+    }
+
+    /// Returns the name of the client's mechanism (RFC 5802, sections 4 and 6), which ends with `-PLUS` if the client
+    /// binds a channel.
+    pub fn mechanism(&self) -> &'static str
+        ensures { result.now ≡ mechanism_of self.now.version (is_bound self.now.channel) }
+    {
+        self.scram.mechanism_with(self.channel.is_bound())
     }
 
     /// Writes the client-first message (RFC 5802, section 7), with its GS2 header, and restarts the exchange in every
@@ -235,7 +302,8 @@ impl ScramClient {
         alloc: Global,
         nonce: &[u8; 32],
     ) -> Result<Bytes, OutOfMemory>
-        ensures message { IfOk result (λ message. message ≡ client_first self.old.user (base64_text nonce.now)) }
+        ensures message { IfOk result (λ message. message
+            ≡ client_first_with (flag_of self.old.channel) self.old.user (base64_text nonce.now)) }
         ensures started { OnOk result (self.new ≡ started self.old nonce.now) }
         ensures err { OnErr result (self.new ≡ self.old) }
     {
@@ -243,7 +311,12 @@ impl ScramClient {
         let client_nonce = base64_of_nonce(nonce, &mut room);
         let (client_first_message, client_first_message_bare) = self
             .scram
-            .client_first_message(alloc, self.username.as_bytes(), client_nonce.as_bytes())?;
+            .client_first_message_with(
+                alloc,
+                self.channel.flag(),
+                self.username.as_bytes(),
+                client_nonce.as_bytes(),
+            )?;
         self.state = ScramClientState::ClientFirstSent {
             nonce: *nonce,
             client_first_message_bare: client_first_message_bare.to_vec(alloc)?,
@@ -299,6 +372,8 @@ impl ScramClient {
                     server_first,
                     client_first_message_bare,
                     self.limits,
+                    &self.channel,
+                    self.strict,
                     meter,
                 )?;
                 self.state = ScramClientState::ClientFinalSent {
@@ -475,6 +550,8 @@ impl ScramClient {
             secret: self.secret,
             scram: self.scram,
             limits: self.limits,
+            channel: self.channel,
+            strict: self.strict,
             signature_by_challenge: self.signature_by_challenge,
             state: ScramClientState::ClientFinalSent { server_signature },
             keys,
@@ -491,6 +568,8 @@ impl ScramClient {
             secret: self.secret,
             scram: self.scram,
             limits: self.limits,
+            channel: self.channel,
+            strict: self.strict,
             signature_by_challenge: self.signature_by_challenge,
             state: ScramClientState::SignatureVerified,
             keys,
@@ -518,6 +597,8 @@ impl Clone for ScramClient {
             secret: self.secret.clone()?,
             scram: self.scram,
             limits: self.limits,
+            channel: self.channel,
+            strict: self.strict,
             signature_by_challenge: self.signature_by_challenge,
             state: self.state.copy()?,
             keys: self.keys.clone()?,

@@ -2,19 +2,23 @@
 
 pub(crate) mod attributes;
 mod channel_binding_flag;
+mod client_channel;
 mod client_final;
 mod client_final_reading;
 mod client_first;
 mod client_first_reading;
 pub mod error;
 pub mod escape;
+mod extensions;
 mod server_error;
 mod server_final;
 mod server_final_reading;
 mod server_first;
 mod server_first_reading;
+mod server_rules;
 
 pub use crate::scram_messages::channel_binding_flag::ChannelBindingFlag;
+pub use crate::scram_messages::client_channel::ClientChannel;
 pub use crate::scram_messages::client_final::ClientAnswer;
 pub use crate::scram_messages::client_final_reading::ClientFinal;
 pub use crate::scram_messages::client_first_reading::ClientFirst;
@@ -25,3 +29,4 @@ pub use crate::scram_messages::server_final_reading::ServerFinal;
 pub use crate::scram_messages::server_first::ServerFirstMessage;
 pub(crate) use crate::scram_messages::server_first::challenge_to;
 pub use crate::scram_messages::server_first_reading::ServerFirst;
+pub use crate::scram_messages::server_rules::ServerRules;

@@ -1,9 +1,10 @@
 //! The SCRAM server as a state machine over messages (RFC 5802, section 5).
 
-ghost use Rattle.std.specs.Prelude.{◌≡◌, ◌≤◌, ◌^◌, IfOk, OnErr, None, false, option_map};
-ghost use Rattle.fe2o3_scram.specs.ClientFirst.{client_first_values};
+ghost use Rattle.std.specs.Prelude.{◌≡◌, ◌≤◌, ◌^◌, IfOk, OnErr, Some, None, option_map};
+ghost use Rattle.fe2o3_scram.specs.ClientFirst.{client_first_values, default_rules};
+ghost use Rattle.fe2o3_scram.specs.ChannelBinding.{server_mechanism};
 ghost use Rattle.fe2o3_scram.specs.Credentials.{Record, kept};
-ghost use Rattle.fe2o3_scram.specs.ScramServer.{provider_in, served_by, state_in, cbind_flag_y_in, mock_in, Initial, ServerFirstSent, ServerFinalSent, logged_in, ChallengesFrom, ConcludesFrom, FirstCosts, FinalCostsFrom, ReachesBase64In, server_state_of};
+ghost use Rattle.fe2o3_scram.specs.ScramServer.{provider_in, served_by, state_in, rules_in, mock_in, Initial, ServerFirstSent, ServerFinalSent, logged_in, ChallengesFrom, ConcludesFrom, FirstCosts, FinalCostsFrom, ReachesBase64In, server_state_of};
 ghost use Rattle.fe2o3_scram.specs.ServerFirst.{ServerChallenge, ReachesChallenge, challenge_of, challenge_values};
 ghost use Rattle.fe2o3_scram.specs.Readings.{Gives};
 
@@ -12,10 +13,13 @@ mod mock_users;
 pub mod open_challenge;
 
 use crate::OutOfMemory;
+use crate::channel_binding::ChannelBindings;
 use crate::hmac::Meter;
 use crate::provider::{ScramCredentialProvider, StoredPassword};
 use crate::scram_messages::error::ServerScramErrorKind;
-use crate::scram_messages::{ChannelBindingFlag, ClientFirst, ServerFirstMessage, challenge_to};
+use crate::scram_messages::{
+    ChannelBindingFlag, ClientFirst, ServerFirstMessage, ServerRules, challenge_to,
+};
 use crate::scram_server::kept_record::KeptRecord;
 pub use crate::scram_server::mock_users::SaltTooLong;
 use crate::scram_server::mock_users::{MockUsers, look_up, mock_values};
@@ -149,23 +153,23 @@ fn opened(
 #[derive(Drop)]
 pub struct ScramAuthenticator<C: ScramCredentialProvider> {
     credentials: C,
-    accept_cbind_flag_y: bool,
+    rules: ServerRules,
     mock: Option<MockUsers>,
     state: ScramAuthenticatorState,
 }
 
 impl<C: ScramCredentialProvider> ScramAuthenticator<C> {
-    /// Returns a server without an open challenge. It accepts clients whose GS2 header is `n,,`, and answers an unknown
-    /// user with `None`.
+    /// Returns a server without an open challenge. It accepts clients whose GS2 header is `n,,`, is not strict, and
+    /// answers an unknown user with `None`.
     pub fn new(credentials: C) -> Self
         ensures provider { provider_in result ≡ credentials }
-        ensures cbind_flag_y { cbind_flag_y_in result ≡ false }
+        ensures rules { rules_in result ≡ default_rules }
         ensures mock { mock_in result ≡ None }
         ensures state { state_in result ≡ Initial }
     {
         Self {
             credentials,
-            accept_cbind_flag_y: false,
+            rules: ServerRules::new(),
             mock: None,
             state: ScramAuthenticatorState::Initial,
         }
@@ -177,13 +181,72 @@ impl<C: ScramCredentialProvider> ScramAuthenticator<C> {
     /// the header. A server that offers such a mechanism must not accept that client.
     pub fn accept_cbind_flag_y(self, accept: bool) -> Self
         ensures provider { provider_in result ≡ provider_in self }
-        ensures cbind_flag_y { cbind_flag_y_in result ≡ accept }
+        ensures rules { rules_in result ≡ record (rules_in self) { accept_cbind_flag_y = accept } }
+        ensures mock { mock_in result ≡ mock_in self }
+        ensures state { state_in result ≡ state_in self }
+    {
+        let rules = ServerRules {
+            accept_cbind_flag_y: accept,
+            ..self.rules
+        };
+        self.with_rules(rules)
+    }
+
+    /// Returns this server, but with this option: whether it is strict. A server that binds channels is strict in any
+    /// case. A strict server rejects an attribute that RFC 5802 defines in the place of an extension, by `MisplacedAttribute`, as the last of the errors of the text. If a
+    /// client verifies its signature, both agree on the whole login, collisions of HMAC values aside
+    /// (`laws::accepted_messages`), whether the client is strict or not. Clients that follow RFC 5802 send no such
+    /// attribute.
+    pub fn strict(self, strict: bool) -> Self
+        ensures provider { provider_in result ≡ provider_in self }
+        ensures rules { rules_in result ≡ record (rules_in self) { strict = strict } }
+        ensures mock { mock_in result ≡ mock_in self }
+        ensures state { state_in result ≡ state_in self }
+    {
+        let rules = ServerRules {
+            strict,
+            ..self.rules
+        };
+        self.with_rules(rules)
+    }
+
+    /// Returns this server, but it is one of the mechanism with `-PLUS` (RFC 5802, section 6): it accepts only clients
+    /// that bind this channel, by a kind of which it has the data, and is always strict. Offer it beside a server without
+    /// channel binding that does not accept `y,,`: a client that has a channel then cannot be talked out of binding it
+    /// (`laws::bound_channels`).
+    pub fn with_channels(self, channels: ChannelBindings) -> Self
+        ensures provider { provider_in result ≡ provider_in self }
+        ensures rules { rules_in result ≡ record (rules_in self) { channels = Some channels } }
+        ensures mock { mock_in result ≡ mock_in self }
+        ensures state { state_in result ≡ state_in self }
+    {
+        let rules = ServerRules {
+            channels: Some(channels),
+            ..self.rules
+        };
+        self.with_rules(rules)
+    }
+
+    /// Returns the name of the server's mechanism (RFC 5802, sections 4 and 6), which ends with `-PLUS` if the server
+    /// binds a channel.
+    pub fn mechanism(&self) -> &'static str
+        ensures { result.now ≡ server_mechanism (C.meaning (provider_in self.now)).version (rules_in self.now) }
+    {
+        self.credentials
+            .scram_version()
+            .mechanism_with(self.rules.channels.is_some())
+    }
+
+    /// Returns this server, but with these rules for the messages of a client.
+    pub fn with_rules(self, rules: ServerRules) -> Self
+        ensures provider { provider_in result ≡ provider_in self }
+        ensures rules { rules_in result ≡ rules }
         ensures mock { mock_in result ≡ mock_in self }
         ensures state { state_in result ≡ state_in self }
     {
         Self {
             credentials: self.credentials,
-            accept_cbind_flag_y: accept,
+            rules,
             mock: self.mock,
             state: self.state,
         }
@@ -228,7 +291,7 @@ impl<C: ScramCredentialProvider> ScramAuthenticator<C> {
             (λ answer. ChallengesFrom (state_in self.old) (served_by C.meaning self.old) nonce.now
             client_first_message.now answer (state_in self.new)) }
         ensures provider { provider_in self.new ≡ provider_in self.old }
-        ensures cbind_flag_y { cbind_flag_y_in self.new ≡ cbind_flag_y_in self.old }
+        ensures rules { rules_in self.new ≡ rules_in self.old }
         ensures mock { mock_in self.new ≡ mock_in self.old }
         ensures err { OnErr result (state_in self.new ≡ state_in self.old) }
     {
@@ -257,18 +320,14 @@ impl<C: ScramCredentialProvider> ScramAuthenticator<C> {
             (λ answer. ChallengesFrom (state_in self.old) (served_by C.meaning self.old) nonce.now
             client_first_message.now answer (state_in self.new)) }
         ensures provider { provider_in self.new ≡ provider_in self.old }
-        ensures cbind_flag_y { cbind_flag_y_in self.new ≡ cbind_flag_y_in self.old }
+        ensures rules { rules_in self.new ≡ rules_in self.old }
         ensures mock { mock_in self.new ≡ mock_in self.old }
         ensures err { OnErr result (state_in self.new ≡ state_in self.old) }
         ensures cost { FirstCosts (served_by C.meaning self.old) client_first_message.now result meter.old meter.new }
     {
         let mut room = [0; 44];
         let nonce = base64_of_nonce(nonce, &mut room);
-        let client_first = ClientFirst::parse_with_cbind_flag_y(
-            alloc,
-            client_first_message,
-            self.accept_cbind_flag_y,
-        )?;
+        let client_first = ClientFirst::parse_with_rules(alloc, client_first_message, self.rules)?;
         // Only functions without a store allocate: the parser before the look-up, and `challenged` after it. So known
         // users and mock users make the same allocations.
         let mock = mock_values(&self.mock, &client_first.username, meter);
@@ -295,12 +354,12 @@ impl<C: ScramCredentialProvider> ScramAuthenticator<C> {
         client_final_message: &[u8],
     ) -> Result<Option<Vec<u8>>, ServerScramErrorKind>
         ensures answer { Gives ServerScramErrorKind.OutOfMemory
-            (ReachesBase64In (state_in self.old) client_final_message.now)
+            (ReachesBase64In (state_in self.old) (rules_in self.old) client_final_message.now)
             (option_map (λ message. message.items)) result
             (λ answer. ConcludesFrom (state_in self.old) (served_by C.meaning self.old).version
-            client_final_message.now answer (state_in self.new)) }
+            (rules_in self.old) client_final_message.now answer (state_in self.new)) }
         ensures provider { provider_in self.new ≡ provider_in self.old }
-        ensures cbind_flag_y { cbind_flag_y_in self.new ≡ cbind_flag_y_in self.old }
+        ensures rules { rules_in self.new ≡ rules_in self.old }
         ensures mock { mock_in self.new ≡ mock_in self.old }
         ensures err { OnErr result (state_in self.new ≡ state_in self.old) }
     {
@@ -316,16 +375,16 @@ impl<C: ScramCredentialProvider> ScramAuthenticator<C> {
     ) -> Result<Option<Vec<u8>>, ServerScramErrorKind>
         requires { meter.old ≤ 2 ^ 63 }
         ensures answer { Gives ServerScramErrorKind.OutOfMemory
-            (ReachesBase64In (state_in self.old) client_final_message.now)
+            (ReachesBase64In (state_in self.old) (rules_in self.old) client_final_message.now)
             (option_map (λ message. message.items)) result
             (λ answer. ConcludesFrom (state_in self.old) (served_by C.meaning self.old).version
-            client_final_message.now answer (state_in self.new)) }
+            (rules_in self.old) client_final_message.now answer (state_in self.new)) }
         ensures provider { provider_in self.new ≡ provider_in self.old }
-        ensures cbind_flag_y { cbind_flag_y_in self.new ≡ cbind_flag_y_in self.old }
+        ensures rules { rules_in self.new ≡ rules_in self.old }
         ensures mock { mock_in self.new ≡ mock_in self.old }
         ensures err { OnErr result (state_in self.new ≡ state_in self.old) }
         ensures cost { FinalCostsFrom (state_in self.old) (served_by C.meaning self.old).version
-            client_final_message.now result meter.old meter.new }
+            (rules_in self.old) client_final_message.now result meter.old meter.new }
     {
         match &self.state {
             ScramAuthenticatorState::ServerFirstSent {
@@ -339,9 +398,10 @@ impl<C: ScramCredentialProvider> ScramAuthenticator<C> {
                 let server_final_message = self
                     .credentials
                     .scram_version()
-                    .compute_server_final_message_with_gs2_header(
+                    .compute_server_final_message_with_channel(
                         alloc,
-                        *header,
+                        &self.rules.expected_channel(*header),
+                        self.rules.is_strict(),
                         client_final_message,
                         client_server_nonce,
                         client_first_message_bare,
@@ -368,13 +428,13 @@ impl<C: ScramCredentialProvider> fmt::Debug for ScramAuthenticator<C> {
 
 impl<C: ScramCredentialProvider> Clone for ScramAuthenticator<C> {
     ghost is_clone = { λ authenticator copy. C.is_clone (provider_in authenticator) (provider_in copy)
-        × (cbind_flag_y_in copy ≡ cbind_flag_y_in authenticator) × (state_in copy ≡ state_in authenticator)
+        × (rules_in copy ≡ rules_in authenticator) × (state_in copy ≡ state_in authenticator)
         × (mock_in copy ≡ mock_in authenticator) };
 
     fn clone(&self) -> Result<Self, AllocError> {
         Ok(Self {
             credentials: self.credentials.clone()?,
-            accept_cbind_flag_y: self.accept_cbind_flag_y,
+            rules: self.rules,
             mock: self.mock.clone()?,
             state: self.state.copy()?,
         })

@@ -3,7 +3,7 @@
 use fe2o3_sasl::runs::{ClientReply, Event, ServerReply};
 use fe2o3_sasl::sasl_acceptor::SaslServerFrame;
 use fe2o3_sasl::sasl_profile::Negotiation;
-use fe2o3_sasl_wire::{Frame, view_frame};
+use fe2o3_sasl_wire::{Frame, SaslCode, view_frame};
 use std::alloc::Global;
 use std::test::Fail;
 
@@ -69,6 +69,9 @@ pub fn is_sent(reply: SaslServerFrame, wanted: &Frame) -> bool {
     match (&reply, wanted) {
         (SaslServerFrame::Challenge(challenge), Frame::Challenge(wanted)) => challenge == wanted,
         (SaslServerFrame::Outcome(outcome), Frame::Outcome(wanted)) => outcome == wanted,
+        (SaslServerFrame::Rejected(_), Frame::Outcome(wanted)) => {
+            wanted.code == SaslCode::Auth && wanted.additional_data.is_none()
+        }
         _ => false,
     }
 }

@@ -7,7 +7,8 @@ use crate::published::VERSION;
 use fe2o3_scram::hmac::Meter;
 use fe2o3_scram::provider::{ScramCredentialProvider, StoredPassword};
 use fe2o3_scram::scram_messages::{
-    ChannelBindingFlag, ClientFinal, ClientFirst, ServerFirstMessage, ServerScramErrorKind,
+    ChannelBindingFlag, ClientFinal, ClientFirst, ServerFirstMessage, ServerRules,
+    ServerScramErrorKind,
 };
 use fe2o3_scram::{ScramAuthenticator, SingleScramCredential};
 use std::alloc::Global;
@@ -33,6 +34,13 @@ const CLIENT_FINAL: &[u8] = b"c=eSws,r=AQEBAQEBAQEBAQEBAQEBAQEBAQEBAQEBAQEBAQEBA
 
 /// The server's last message.
 const SERVER_FINAL: &[u8] = b"v=Kvirjct/nXdXyX/mrBd1MWQvbo2zHXO3Sr2OjJqQ7ys=";
+
+/// The rules of a server that accepts the header.
+const RULES: ServerRules = ServerRules {
+    accept_cbind_flag_y: true,
+    strict: false,
+    channels: None,
+};
 
 /// Returns the one user of a server.
 fn credential<R: Abort + AllocGlobal>(rt: &R) -> SingleScramCredential {
@@ -61,7 +69,7 @@ fn opens<C: ScramCredentialProvider>(alloc: Global, server: &mut ScramAuthentica
 
 /// Returns the second server with the open challenge of the first and the record of its user, or `None` if there is
 /// none.
-fn taken_up<C: ScramCredentialProvider + Drop>(
+pub fn taken_up<C: ScramCredentialProvider + Drop>(
     alloc: Global,
     first: &ScramAuthenticator<C>,
     second: ScramAuthenticator<C>,
@@ -115,20 +123,27 @@ fn so_does_one_with_mock_authentication(rt: HostRuntime) {
 
 #[test]
 fn the_readings_take_a_header(rt: HostRuntime) {
-    let first = ClientFirst::parse_with_cbind_flag_y(rt.alloc(), CLIENT_FIRST, true);
+    let first = ClientFirst::parse_with_rules(rt.alloc(), CLIENT_FIRST, RULES);
     let first = first.expect(&rt, "a message");
     let header = first.header;
     assert!(rt; first.username.as_str() == "user" && header.text() == "y,,");
-    let last = ClientFinal::parse_with_gs2_header(rt.alloc(), header, BOTH_NONCES, CLIENT_FINAL);
+    let last = ClientFinal::parse_with_channel(
+        rt.alloc(),
+        &RULES.expected_channel(header),
+        false,
+        BOTH_NONCES,
+        CLIENT_FINAL,
+    );
     let last = last.expect(&rt, "a message");
     assert!(rt; last.without_proof.starts_with("c=eSws,r="));
 }
 
 /// Returns whether the last message is answered after this first one.
 fn ends(alloc: Global, first: &ServerFirstMessage<'_>, kept: &StoredPassword<'_>) -> bool {
-    let last = VERSION.compute_server_final_message_with_gs2_header(
+    let last = VERSION.compute_server_final_message_with_channel(
         alloc,
-        first.header,
+        &RULES.expected_channel(first.header),
+        false,
         CLIENT_FINAL,
         &first.client_server_nonce,
         first.client_first_message_bare.as_bytes(),
@@ -147,11 +162,11 @@ fn answers<C: ScramCredentialProvider>(alloc: Global, users: &C) -> bool {
     let Some(kept) = users.get_stored_password("user") else {
         return false;
     };
-    match &VERSION.compute_server_first_message_with_cbind_flag_y(
+    match &VERSION.compute_server_first_message_with_rules(
         alloc,
         CLIENT_FIRST,
         SERVER_NONCE,
-        true,
+        RULES,
         users,
     ) {
         Ok(Some(first)) => ends(alloc, first, &kept),

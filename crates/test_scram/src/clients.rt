@@ -14,7 +14,7 @@ use std::alloc::Global;
 use std::process::Abort;
 
 /// The server's challenge.
-const SERVER_FIRST: &str = "r=AQEBAQEBAQEBAQEBAQEBAQEBAQEBAQEBAQEBAQEBAQE=\
+pub const SERVER_FIRST: &str = "r=AQEBAQEBAQEBAQEBAQEBAQEBAQEBAQEBAQEBAQEBAQE=\
     AgICAgICAgICAgICAgICAgICAgICAgICAgICAgICAgI=,\
     s=AwMDAwMDAwMDAwMDAwMDAwMDAwMDAwMDAwMDAwMDAwM=,i=4096";
 
@@ -24,7 +24,7 @@ const CLIENT_FINAL: &[u8] = b"c=biws,r=AQEBAQEBAQEBAQEBAQEBAQEBAQEBAQEBAQEBAQEBA
     p=BCNcOZg0+DjVmOYbquTj+7JaBIvtH0PUtQer0ntwLxQ=";
 
 /// The server's answer.
-const SERVER_FINAL: &[u8] = b"v=X3wMIzagbJ5+sxd0FRk7lZ5X07UBZA8KFKL41BMrTwo=";
+pub const SERVER_FINAL: &[u8] = b"v=X3wMIzagbJ5+sxd0FRk7lZ5X07UBZA8KFKL41BMrTwo=";
 
 /// Keys in base64: their salt, the ClientKey and the ServerKey.
 #[derive(Clone, Copy)]

@@ -10,7 +10,7 @@ use fe2o3_scram::scram_messages::{
 use std::alloc::Global;
 use std::fmt::Display;
 
-static SCRAM_ERROR_KINDS: [(ScramErrorKind, &str); 18] = [
+static SCRAM_ERROR_KINDS: [(ScramErrorKind, &str); 19] = [
     (ScramErrorKind::Utf8Error, "Invalid UTF-8"),
     (ScramErrorKind::InsufficientParts, "InsufficientParts"),
     (
@@ -46,6 +46,10 @@ static SCRAM_ERROR_KINDS: [(ScramErrorKind, &str); 18] = [
         ScramErrorKind::IterationCountTooLarge,
         "Iteration count too large",
     ),
+    (
+        ScramErrorKind::MisplacedAttribute,
+        "Attribute in the place of an extension",
+    ),
     (ScramErrorKind::NormalizeError, "Error normalizing password"),
     (
         ScramErrorKind::StaleKeys,
@@ -74,7 +78,7 @@ fn texts_of_refused_messages(rt: HostRuntime) {
     }
 }
 
-static SERVER_SCRAM_ERROR_KINDS: [(ServerScramErrorKind, &str); 15] = [
+static SERVER_SCRAM_ERROR_KINDS: [(ServerScramErrorKind, &str); 16] = [
     (ServerScramErrorKind::Utf8Error, "Invalid UTF-8"),
     (
         ServerScramErrorKind::CannotParseGs2Header,
@@ -116,6 +120,10 @@ static SERVER_SCRAM_ERROR_KINDS: [(ServerScramErrorKind, &str); 15] = [
     (
         ServerScramErrorKind::ProofNotFoundInClientFinal,
         "Client final message doesnt' have a proof",
+    ),
+    (
+        ServerScramErrorKind::MisplacedAttribute,
+        "Attribute in the place of an extension",
     ),
     (
         ServerScramErrorKind::AuthenticationFailed,
@@ -207,7 +215,7 @@ static UNESCAPE_ERRORS: [(UnescapeError, &str); 2] = [
 ];
 
 /// Returns whether the error has this text.
-fn says<D: Display>(alloc: Global, fault: &D, wanted: &str) -> bool {
+pub fn says<D: Display>(alloc: Global, fault: &D, wanted: &str) -> bool {
     match fault.to_string(alloc) {
         Ok(text) => text.as_str() == wanted,
         Err(_) => false,

@@ -9,6 +9,8 @@ mod broker;
 #[cfg(test)]
 mod cbind_flag_y;
 #[cfg(test)]
+mod channels;
+#[cfg(test)]
 mod clients;
 #[cfg(test)]
 mod debug_texts;
@@ -30,5 +32,7 @@ mod prepared;
 mod published;
 #[cfg(test)]
 mod stores;
+#[cfg(test)]
+mod strict;
 #[cfg(test)]
 mod values;

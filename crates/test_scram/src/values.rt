@@ -81,4 +81,8 @@ fn a_record_of_a_password_has_the_keys(rt: HostRuntime) {
     assert!(rt; spells(rt.alloc(), STORED_KEY, kept.stored_key) && meter.count() == 4098);
     assert!(rt; spells(rt.alloc(), SERVER_KEY, kept.server_key));
     assert!(rt; kept.verify_password(VERSION, password, &mut meter));
+    let salted_password = bytes_of(&rt, SALTED_PASSWORD);
+    assert!(rt; kept.verify_salted_password(VERSION, &salted_password, &mut meter));
+    assert!(rt; meter.count() == 8198);
+    assert!(rt; !kept.verify_salted_password(VERSION, &salt, &mut meter));
 }

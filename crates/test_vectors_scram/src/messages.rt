@@ -6,7 +6,7 @@ use fe2o3_scram::client_secret::{ClientSecret, IterationLimits};
 use fe2o3_scram::credentials::{RecordStore, StoredPassword};
 use fe2o3_scram::hmac::Meter;
 use fe2o3_scram::passwords::Password;
-use fe2o3_scram::scram_messages::ServerError;
+use fe2o3_scram::scram_messages::{ClientChannel, ServerError};
 
 /// Says the answer of a server with these lines of users: `VERSION LINES SERVER-NONCE MESSAGE`.
 pub fn client_first(row: &mut Row<'_>) {
@@ -82,7 +82,15 @@ pub fn client_secret(row: &mut Row<'_>) {
     );
     let (bare, mut meter) = (bare.as_bytes(), Meter::new());
     let answer = version.answer_server_first(
-        alloc, nonce, secret, message, bare, limits, &mut meter,
+        alloc,
+        nonce,
+        secret,
+        message,
+        bare,
+        limits,
+        &ClientChannel::Absent,
+        false,
+        &mut meter,
     );
     match &answer {
         Ok(answer) => {

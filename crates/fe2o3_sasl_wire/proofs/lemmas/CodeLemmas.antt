@@ -1,4 +1,4 @@
--- The code that a byte stands for, as the answer of the conversion.
+-- The code of a byte, as the answer of the conversion.
 use Rattle.std.proofs.Common.{◌≡◌, ℕ, None, Result, Ok, Err, refl, sym}
 use Rattle.std.specs.Result.{result_ok}
 use Rattle.std.proofs.lemmas.Bool.{ne_eqb}
@@ -7,7 +7,7 @@ use Rattle.fe2o3_sasl_wire.specs.declared.amqp_types.SaslCode.TheVariants as sas
 use Rattle.fe2o3_sasl_wire.specs.AmqpTypes.{DecodesCode}
 use Rattle.fe2o3_sasl_wire.specs.private.Reading.{sasl_code}
 
--- a byte that is handed back stands for no code
+-- a byte that is returned has no code
 pub no_code : (byte : ℕ) (answer : Result SaslCode ℕ) → DecodesCode byte answer → result_ok answer ≡ None
     → sasl_code byte ≡ None
 no_code byte (Ok code) gives none = absurd cc

@@ -1,1 +1,2 @@
 pub mod MemoryExampleLemmas
+pub mod MovedChannelLemmas

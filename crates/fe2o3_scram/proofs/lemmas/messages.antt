@@ -1,6 +1,8 @@
 pub mod AgreementLemmas
 pub mod AnswerCostLemmas
+pub mod BoundChannelLemmas
 pub mod ClientFinalLemmas
+pub mod HeaderLemmas
 pub mod ClientFirstLemmas
 pub mod ExchangeLemmas
 pub mod FirstCostLemmas
@@ -21,4 +23,5 @@ pub mod ServerFinalLemmas
 pub mod ServerFirstLemmas
 pub mod SomeReadingLemmas
 pub mod SomeUsersLemmas
+pub mod StrictSideLemmas
 pub mod TestListLemmas

@@ -1,4 +1,5 @@
 pub mod AsciiLemmas
+pub mod AttributeTestLemmas
 pub mod Base64Lemmas
 pub mod BlockLemmas
 pub mod CountLemmas
@@ -8,4 +9,5 @@ pub mod EachByteLemmas
 pub mod EscapingLemmas
 pub mod JoinedTextLemmas
 pub mod PartsLemmas
+pub mod PrefixLemmas
 pub mod ExtensionLemmas

@@ -1,8 +1,9 @@
 -- Worked examples of texts for which a call never runs out of memory, since each is rejected before the call allocates.
 -- The law is `laws::texts_without_memory`.
-use Rattle.std.specs.Prelude.{ℕ, List, [], ◌∷◌, ◌++◌, Bool, Option, codes}
+use Rattle.std.specs.Prelude.{ℕ, List, [], ◌∷◌, ◌++◌, Option, codes}
 use Rattle.fe2o3_scram.specs.declared.hmac.ScramVersion.{ScramVersion}
 use Rattle.fe2o3_scram.specs.declared.scram_messages.channel_binding_flag.ChannelBindingFlag.TheVariants.{NotSupported}
+use Rattle.fe2o3_scram.specs.declared.scram_messages.server_rules.ServerRules.{ServerRules}
 use Rattle.fe2o3_scram.specs.ClientFinal.{client_final_of, without_proof}
 use Rattle.fe2o3_scram.specs.ClientKeys.{ClientKeys}
 use Rattle.fe2o3_scram.specs.Credentials.{Record, serving}
@@ -24,8 +25,8 @@ AnsweredClientsTakeNone = (signature text : List ℕ) (keys : Option ClientKeys)
 
 -- a client-first message without escapes, of an unknown user (RFC 5802, section 5.1)
 abbrev pub UnknownUsersTakeNone : Type 0
-UnknownUsersTakeNone = (version : ScramVersion) (cbind_flag_y : Bool)
-    → ¬ ReachesChallenge (serving cbind_flag_y (record { version = version; records = [] })) (codes "n,,n=user,r=abc")
+UnknownUsersTakeNone = (version : ScramVersion) (rules : ServerRules)
+    → ¬ ReachesChallenge (serving rules (record { version = version; records = [] })) (codes "n,,n=user,r=abc")
 
 -- the challenge with the nonce abc, to any user
 abbrev pub challenge_abc : List ℕ → List ℕ → List ℕ → ServerChallenge
@@ -34,14 +35,14 @@ challenge_abc user bare first =
 
 -- a client-final message with the nonce of another exchange (RFC 5802, section 5.1)
 abbrev pub OtherNoncesTakeNone : Type 0
-OtherNoncesTakeNone = (stored : Record) (user bare first : List ℕ)
-    → ¬ ReachesBase64In (ServerFirstSent (challenge_abc user bare first) stored)
+OtherNoncesTakeNone = (rules : ServerRules) (stored : Record) (user bare first : List ℕ)
+    → ¬ ReachesBase64In (ServerFirstSent (challenge_abc user bare first) stored) rules
     (client_final_of (without_proof (codes "abd")) [])
 
 -- a client-final message without a channel binding (RFC 5802, section 7)
 abbrev pub UnboundTextsTakeNone : Type 0
-UnboundTextsTakeNone = (stored : Record) (user bare first : List ℕ)
-    → ¬ ReachesBase64In (ServerFirstSent (challenge_abc user bare first) stored) (codes "r=abc,p=AA==")
+UnboundTextsTakeNone = (rules : ServerRules) (stored : Record) (user bare first : List ℕ)
+    → ¬ ReachesBase64In (ServerFirstSent (challenge_abc user bare first) stored) rules (codes "r=abc,p=AA==")
 
 -- a record of an unknown mechanism (RFC 5803, section 2)
 abbrev pub UnknownMechanismsTakeNone : Type 0

@@ -19,6 +19,7 @@ use crate::credentials::users::User;
 use crate::hmac::ScramVersion;
 use crate::provider::{ScramCredentialProvider, StoredPassword};
 use crate::scram_messages::escape::{UnescapeError, push_escaped, unescape_username};
+use crate::secrets::SecretText;
 use crate::texts::cut;
 use std::alloc::{AllocError, AllocFailed, Global};
 use thiserror::Error;
@@ -279,10 +280,10 @@ pub(crate) fn push_line(
     ensures { OnOk result (text.new.items ≡ text.old.items
         ++ (user_line scram_version (username.now, kept stored_password.now) ++ (10 ∷ []))) }
 {
-    let record = record_text(alloc, scram_version, stored_password)?;
+    let record = SecretText::new(record_text(alloc, scram_version, stored_password)?);
     push_escaped(text, username.as_bytes())?;
     text.push(b' ')?;
-    text.extend_from_slice(record.as_bytes())?;
+    text.extend_from_slice(record.as_str().as_bytes())?;
     text.push(b'\n')?;
     Ok(())
 }

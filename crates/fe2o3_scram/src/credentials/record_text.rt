@@ -12,6 +12,7 @@ use crate::OutOfMemory;
 use crate::credentials::scram_record::ScramRecord;
 use crate::hmac::ScramVersion;
 use crate::provider::StoredPassword;
+use crate::secrets::SecretBytes;
 use crate::texts::{base64_len, bytes_of, cut, plain_count_of, push_base64};
 use std::alloc::{AllocError, Global};
 use thiserror::Error;
@@ -208,6 +209,15 @@ fn bytes_in(alloc: Global, field: &str) -> Result<Vec<u8>, RecordTextError>
     }
 }
 
+/// Returns the key that a field encodes.
+fn key_in(alloc: Global, field: &str) -> Result<SecretBytes, RecordTextError>
+    ensures ok { IfOk result (λ key. IsBase64 field.now key) }
+    ensures err { IfErr result (λ error. (error ≡ RecordTextError.OutOfMemory)
+        ⊎ ((error ≡ RecordTextError.Base64DecodeError) × ((bytes : List ℕ) → ¬ IsBase64 field.now bytes))) }
+{
+    Ok(SecretBytes::new(bytes_in(alloc, field)?))
+}
+
 /// Returns whether the key is as long as a digest of the version.
 fn is_sized(key: &[u8], scram_version: ScramVersion) -> bool
     ensures { IsTrue result ↔ (length key.now ≡ digest_len scram_version) }
@@ -231,13 +241,13 @@ fn read_values(
         → IsFirst (value_tests (fields_values fields.now)) error) }
 {
     let salt = bytes_in(alloc, fields.salt)?;
-    let stored_key = bytes_in(alloc, fields.stored_key)?;
-    let server_key = bytes_in(alloc, fields.server_key)?;
-    if !is_sized(&stored_key, scram_version) {
+    let stored_key = key_in(alloc, fields.stored_key)?;
+    let server_key = key_in(alloc, fields.server_key)?;
+    if !is_sized(stored_key.as_slice(), scram_version) {
         return Err(RecordTextError::KeyLengthMismatch);
     }
-    if !is_sized(&server_key, scram_version) {
+    if !is_sized(server_key.as_slice(), scram_version) {
         return Err(RecordTextError::KeyLengthMismatch);
     }
-    Ok(ScramRecord::from_parts(scram_version, salt, iterations, stored_key, server_key))
+    Ok(ScramRecord::of_keys(scram_version, salt, iterations, stored_key, server_key))
 }

@@ -9,6 +9,7 @@ use crate::hmac::{Meter, ScramVersion};
 pub use crate::keys::RecordError;
 use crate::passwords::Password;
 use crate::provider::StoredPassword;
+use crate::secrets::SecretBytes;
 use std::alloc::{AllocError, Global};
 use std::fmt;
 use std::marker::Model;
@@ -19,8 +20,8 @@ pub struct ScramRecord {
     scram_version: ScramVersion,
     salt: Vec<u8>,
     iterations: u32,
-    stored_key: Vec<u8>,
-    server_key: Vec<u8>,
+    stored_key: SecretBytes,
+    server_key: SecretBytes,
 }
 
 impl Model for ScramRecord {
@@ -33,9 +34,8 @@ impl Model for ScramRecord {
       stored = record {
         salt = kept.salt.items;
         count = kept.iterations;
-        stored_key =
-            kept.stored_key.items;
-        server_key = kept.server_key.items;
+        stored_key = kept.stored_key;
+        server_key = kept.server_key;
       };
     } };
 }
@@ -85,8 +85,8 @@ impl ScramRecord {
             scram_version,
             salt: salt.to_vec(alloc)?,
             iterations,
-            stored_key: stored_key.as_slice().to_vec(alloc)?,
-            server_key: server_key.as_slice().to_vec(alloc)?,
+            stored_key: SecretBytes::from_slice(alloc, stored_key.as_slice())?,
+            server_key: SecretBytes::from_slice(alloc, server_key.as_slice())?,
         })
     }
 
@@ -106,6 +106,33 @@ impl ScramRecord {
             count = iterations;
             stored_key = stored_key.items;
             server_key = server_key.items;
+          };
+        } }
+    {
+        ScramRecord::of_keys(
+            scram_version,
+            salt,
+            iterations,
+            SecretBytes::new(stored_key),
+            SecretBytes::new(server_key),
+        )
+    }
+
+    /// Like [`ScramRecord::from_parts`], but takes the keys as secrets.
+    pub(crate) fn of_keys(
+        scram_version: ScramVersion,
+        salt: Vec<u8>,
+        iterations: u32,
+        stored_key: SecretBytes,
+        server_key: SecretBytes,
+    ) -> Self
+        ensures { result ≡ record {
+          version = scram_version;
+          stored = record {
+            salt = salt.items;
+            count = iterations;
+            stored_key = stored_key;
+            server_key = server_key;
           };
         } }
     {
@@ -132,8 +159,8 @@ impl ScramRecord {
         StoredPassword {
             salt: &self.salt,
             iterations: self.iterations,
-            stored_key: &self.stored_key,
-            server_key: &self.server_key,
+            stored_key: self.stored_key.as_slice(),
+            server_key: self.server_key.as_slice(),
         }
     }
 }

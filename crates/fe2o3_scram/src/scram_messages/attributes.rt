@@ -12,6 +12,15 @@ pub(crate) const UNOFFERED_GS2_HEADER: &str = "y,,";
 /// The base64 text of the GS2 header `y,,`.
 pub(crate) const UNOFFERED_GS2_HEADER_BASE64: &str = "eSws";
 
+/// The GS2 header of a client that binds its channel by `tls-unique`.
+pub(crate) const UNIQUE_GS2_HEADER: &str = "p=tls-unique,,";
+
+/// The GS2 header of a client that binds its channel by `tls-server-end-point`.
+pub(crate) const SERVER_END_POINT_GS2_HEADER: &str = "p=tls-server-end-point,,";
+
+/// The GS2 header of a client that binds its channel by `tls-exporter`.
+pub(crate) const EXPORTER_GS2_HEADER: &str = "p=tls-exporter,,";
+
 /// The user name.
 pub(crate) const USERNAME_KEY: &str = "n=";
 

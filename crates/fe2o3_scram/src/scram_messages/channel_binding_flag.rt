@@ -1,15 +1,19 @@
-//! The GS2 header of a client that binds no channel (RFC 5802, sections 6 and 7).
+//! The GS2 header of a client that acts for itself (RFC 5802, sections 6 and 7).
 
 ghost use Rattle.std.specs.Prelude.{◌≡◌, ◌++◌, IsTrue, MatchOption};
-ghost use Rattle.fe2o3_scram.specs.ClientFirst.{TakesHeader, header_text};
-ghost use Rattle.fe2o3_scram.specs.Texts.{StartsWith, base64_text};
+ghost use Rattle.fe2o3_scram.specs.ChannelBinding.{TakesBound, TakesHeader, TakesUnbound, header_text};
+ghost use Rattle.fe2o3_scram.specs.declared.channel_binding.ChannelKind.{ChannelKind as KindOf};
+ghost use Rattle.fe2o3_scram.specs.Texts.{StartsWith};
 
+use crate::channel_binding::{ChannelBindings, ChannelKind};
 use crate::scram_messages::attributes::{
-    GS2_HEADER, GS2_HEADER_BASE64, UNOFFERED_GS2_HEADER, UNOFFERED_GS2_HEADER_BASE64,
+    EXPORTER_GS2_HEADER, GS2_HEADER, SERVER_END_POINT_GS2_HEADER, UNIQUE_GS2_HEADER,
+    UNOFFERED_GS2_HEADER,
 };
+use crate::scram_messages::server_rules::ServerRules;
 use crate::texts::after;
 
-/// The GS2 header of a client that binds no channel and acts for itself (RFC 5802, sections 6 and 7).
+/// The GS2 header of a client that acts for itself: what it says of channel binding (RFC 5802, sections 6 and 7).
 #[derive(Debug, Clone, Copy, PartialEq, Eq)]
 pub enum ChannelBindingFlag {
     /// `n,,`: the client does not support channel binding.
@@ -17,6 +21,9 @@ pub enum ChannelBindingFlag {
 
     /// `y,,`: the client supports it, and assumes that the server does not, which offered no mechanism with `-PLUS`.
     ClientSupports,
+
+    /// `p=` and a kind: the client requires channel binding of this kind.
+    Required(ChannelKind),
 }
 
 impl ChannelBindingFlag {
@@ -27,35 +34,66 @@ impl ChannelBindingFlag {
         match self {
             ChannelBindingFlag::NotSupported => GS2_HEADER,
             ChannelBindingFlag::ClientSupports => UNOFFERED_GS2_HEADER,
-        }
-    }
-
-    /// Returns the header in base64, as a client-final message repeats it.
-    pub(crate) fn base64(self) -> &'static str
-        ensures { result.now ≡ base64_text (header_text self) }
-    {
-        match self {
-            ChannelBindingFlag::NotSupported => GS2_HEADER_BASE64,
-            ChannelBindingFlag::ClientSupports => UNOFFERED_GS2_HEADER_BASE64,
+            ChannelBindingFlag::Required(ChannelKind::TlsUnique) => UNIQUE_GS2_HEADER,
+            ChannelBindingFlag::Required(ChannelKind::TlsServerEndPoint) => {
+                SERVER_END_POINT_GS2_HEADER
+            }
+            ChannelBindingFlag::Required(ChannelKind::TlsExporter) => EXPORTER_GS2_HEADER,
         }
     }
 }
 
-/// Splits the header off a client-first message, if it is accepted: `y,,` only with `accept_cbind_flag_y`.
-pub(crate) fn cut_header(
-    text: &str,
-    accept_cbind_flag_y: bool,
-) -> Option<(ChannelBindingFlag, &str)>
+/// Splits the header off a client-first message, if the rules accept it.
+pub(crate) fn cut_header(text: &str, rules: ServerRules) -> Option<(ChannelBindingFlag, &str)>
     ensures { MatchOption result
-        ((header : ChannelBindingFlag) → TakesHeader accept_cbind_flag_y header → ¬ StartsWith text.now (header_text header))
-        (λ cut. TakesHeader accept_cbind_flag_y cut.0 × (text.now ≡ header_text cut.0 ++ cut.1.now)) }
+        ((header : ChannelBindingFlag) → TakesHeader rules header → ¬ StartsWith text.now (header_text header))
+        (λ cut. TakesHeader rules cut.0 × (text.now ≡ header_text cut.0 ++ cut.1.now)) }
+{
+    match rules.channels {
+        Some(channels) => cut_bound(text, channels),
+        None => cut_unbound(text, rules.accept_cbind_flag_y),
+    }
+}
+
+/// Splits off the header of a client that binds no channel: `n,,`, or `y,,` if that is accepted.
+fn cut_unbound(text: &str, accept_y: bool) -> Option<(ChannelBindingFlag, &str)>
+    ensures { MatchOption result
+        ((header : ChannelBindingFlag) → TakesUnbound accept_y header → ¬ StartsWith text.now (header_text header))
+        (λ cut. TakesUnbound accept_y cut.0 × (text.now ≡ header_text cut.0 ++ cut.1.now)) }
 {
     if let Some(bare) = after(text, GS2_HEADER) {
         return Some((ChannelBindingFlag::NotSupported, bare));
     }
-    if !accept_cbind_flag_y {
+    if !accept_y {
         return None;
     }
     let bare = after(text, UNOFFERED_GS2_HEADER)?;
     Some((ChannelBindingFlag::ClientSupports, bare))
+}
+
+/// Splits off the header of a client that binds a channel, if the server has the data of its kind.
+fn cut_bound(text: &str, channels: ChannelBindings) -> Option<(ChannelBindingFlag, &str)>
+    ensures { MatchOption result
+        ((header : ChannelBindingFlag) → TakesBound channels header → ¬ StartsWith text.now (header_text header))
+        (λ cut. TakesBound channels cut.0 × (text.now ≡ header_text cut.0 ++ cut.1.now)) }
+{
+    let (kind, bare) = cut_kind(text)?;
+    let _ = channels.data(kind)?;
+    Some((ChannelBindingFlag::Required(kind), bare))
+}
+
+/// Splits off the header of a client that binds a channel, of any kind.
+fn cut_kind(text: &str) -> Option<(ChannelKind, &str)>
+    ensures { MatchOption result
+        ((kind : KindOf) → ¬ StartsWith text.now (header_text (ChannelBindingFlag.Required kind)))
+        (λ cut. text.now ≡ header_text (ChannelBindingFlag.Required cut.0) ++ cut.1.now) }
+{
+    if let Some(bare) = after(text, UNIQUE_GS2_HEADER) {
+        return Some((ChannelKind::TlsUnique, bare));
+    }
+    if let Some(bare) = after(text, SERVER_END_POINT_GS2_HEADER) {
+        return Some((ChannelKind::TlsServerEndPoint, bare));
+    }
+    let bare = after(text, EXPORTER_GS2_HEADER)?;
+    Some((ChannelKind::TlsExporter, bare))
 }

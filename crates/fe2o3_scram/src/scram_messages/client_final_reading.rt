@@ -1,15 +1,18 @@
 //! Reads the client-final message, up to the test of its proof.
 
-ghost use Rattle.std.specs.Prelude.{◌≡◌, ◌≢◌, ◌++◌, ℕ, List, IfOk, IfErr, OnOk, codes};
+ghost use Rattle.std.specs.Prelude.{◌≡◌, ◌≢◌, ◌++◌, true, false, ℕ, List, IfOk, IfErr, MatchOption, OnOk, codes};
 ghost use Rattle.fe2o3_scram.specs.private.Tests.{binding_tests, final_nonce_tests, spelling_tests};
 ghost use Rattle.fe2o3_scram.specs.Readings.{Gives, IsFirst, NoneHolds};
 ghost use Rattle.fe2o3_scram.specs.ClientFinal.{HasProof, ReachesBase64, ReachesBinding, ReadsFinalText, client_final_values};
-ghost use Rattle.fe2o3_scram.specs.ClientFirst.{header_text};
-ghost use Rattle.fe2o3_scram.specs.Texts.{Part, LastPart, HasBase64};
+ghost use Rattle.fe2o3_scram.specs.ChannelBinding.{cbind_input, is_bound};
+ghost use Rattle.fe2o3_scram.specs.Texts.{Part, LastPart, HasBase64, base64_text};
 
-use crate::scram_messages::attributes::{CHANNEL_BINDING_KEY, NONCE_KEY, PROOF_KEY};
-use crate::scram_messages::channel_binding_flag::ChannelBindingFlag;
+use crate::scram_messages::attributes::{
+    CHANNEL_BINDING_KEY, GS2_HEADER_BASE64, NONCE_KEY, PROOF_KEY, UNOFFERED_GS2_HEADER_BASE64,
+};
+use crate::scram_messages::client_channel::ClientChannel;
 use crate::scram_messages::error::ServerScramErrorKind;
+use crate::scram_messages::extensions::is_misplaced;
 use crate::texts::{after, attribute, bytes_of, last_part};
 use std::alloc::Global;
 
@@ -38,61 +41,92 @@ impl<'a> ClientFinal<'a> {
         text: &'a [u8],
     ) -> Result<Self, ServerScramErrorKind>
         ensures { Gives ServerScramErrorKind.OutOfMemory
-            (ReachesBase64 ChannelBindingFlag.NotSupported client_server_nonce.now text.now) client_final_values result
-            (ReadsFinalText ChannelBindingFlag.NotSupported client_server_nonce.now text.now) }
+            (ReachesBase64 ClientChannel.Absent client_server_nonce.now text.now) client_final_values result
+            (ReadsFinalText ClientChannel.Absent false client_server_nonce.now text.now) }
     {
-        ClientFinal::parse_with_gs2_header(
+        ClientFinal::parse_with_channel(
             alloc,
-            ChannelBindingFlag::NotSupported,
+            &ClientChannel::Absent,
+            false,
             client_server_nonce,
             text,
         )
     }
 
-    /// Like `parse`, after a client-first message with this GS2 header: the channel binding has to be that header in
-    /// base64 instead of `biws`.
-    pub fn parse_with_gs2_header(
+    /// Like `parse`, of a client that has to say this of its channel: its channel binding has to be its GS2 header and
+    /// the data of the channel, in base64, instead of `biws` (`ServerRules::expected_channel`). After the other errors a
+    /// `strict` server returns `MisplacedAttribute` if a part between the nonce and the proof is an attribute that RFC
+    /// 5802 defines. If a channel is expected, `OutOfMemory` may be returned for any channel binding.
+    pub fn parse_with_channel(
         alloc: Global,
-        header: ChannelBindingFlag,
+        channel: &ClientChannel,
+        strict: bool,
         client_server_nonce: &[u8],
         text: &'a [u8],
     ) -> Result<Self, ServerScramErrorKind>
-        ensures { Gives ServerScramErrorKind.OutOfMemory (ReachesBase64 header client_server_nonce.now text.now)
-            client_final_values result (ReadsFinalText header client_server_nonce.now text.now) }
+        ensures { Gives ServerScramErrorKind.OutOfMemory (ReachesBase64 channel.now client_server_nonce.now text.now)
+            client_final_values result (ReadsFinalText channel.now strict client_server_nonce.now text.now) }
     {
         let Ok(client_final) = str::from_utf8(text) else {
             return Err(ServerScramErrorKind::Utf8Error);
         };
-        test_binding(alloc, header, client_final)?;
+        test_binding(alloc, channel, client_final)?;
         test_nonce(client_server_nonce, client_final)?;
-        read_proof(alloc, client_final)
+        read_proof(alloc, strict, client_final)
     }
 }
 
-/// Tests that the client binds no channel, and repeats its GS2 header.
+/// Tests that the client has the channel that the server expects, and repeats its GS2 header.
 fn test_binding(
     alloc: Global,
-    header: ChannelBindingFlag,
+    channel: &ClientChannel,
     client_final: &str,
 ) -> Result<(), ServerScramErrorKind>
-    ensures tested { OnOk result (NoneHolds (binding_tests header client_final.now)) }
-    ensures bound { OnOk result (HasBase64 client_final.now 0 (codes "c=") (header_text header)) }
+    ensures tested { OnOk result (NoneHolds (binding_tests channel.now client_final.now)) }
+    ensures bound { OnOk result (HasBase64 client_final.now 0 (codes "c=") (cbind_input channel.now)) }
     ensures memory { IfErr result (λ kind. kind ≡ ServerScramErrorKind.OutOfMemory
-        → ReachesBinding header client_final.now) }
+        → ReachesBinding channel.now client_final.now) }
     ensures err { IfErr result (λ kind. kind ≢ ServerScramErrorKind.OutOfMemory
-        → IsFirst (binding_tests header client_final.now) kind) }
+        → IsFirst (binding_tests channel.now client_final.now) kind) }
 {
     let Some(base64_binding) = attribute(client_final, 0, CHANNEL_BINDING_KEY) else {
         return Err(ServerScramErrorKind::CannotParseClientFinalMessage);
     };
-    if base64_binding == header.base64() {
+    if is_header_alone(channel, base64_binding) {
         return Ok(());
     }
-    // The base64 is read only to choose between the two errors.
-    let Some(_) = bytes_of(alloc, base64_binding)? else {
+    let Some(binding) = bytes_of(alloc, base64_binding)? else {
         return Err(ServerScramErrorKind::Base64DecodeError);
     };
-    Err(ServerScramErrorKind::InvalidChannelBinding)
+    if !channel.is_cbind_input(&binding) {
+        return Err(ServerScramErrorKind::InvalidChannelBinding);
+    }
+    Ok(())
+}
+
+/// Returns whether the text is the GS2 header in base64 of a client that binds no channel, and no channel is expected.
+fn is_header_alone(channel: &ClientChannel, base64_binding: &str) -> bool
+    ensures same { result ≡ true → base64_binding.now ≡ base64_text (cbind_input channel.now) }
+    ensures unbound { result ≡ true → is_bound channel.now ≡ false }
+    ensures other { result ≡ false → is_bound channel.now ≡ false
+        → base64_binding.now ≢ base64_text (cbind_input channel.now) }
+{
+    match header_base64(channel) {
+        Some(own) => base64_binding == own,
+        None => false,
+    }
+}
+
+/// Returns the GS2 header in base64 of a client that binds no channel.
+fn header_base64(channel: &ClientChannel) -> Option<&'static str>
+    ensures { MatchOption result (is_bound channel.now ≡ true)
+        (λ text. (is_bound channel.now ≡ false) × (text.now ≡ base64_text (cbind_input channel.now))) }
+{
+    match channel {
+        ClientChannel::Absent => Some(GS2_HEADER_BASE64),
+        ClientChannel::NotOffered => Some(UNOFFERED_GS2_HEADER_BASE64),
+        ClientChannel::Bound(_) => None,
+    }
 }
 
 /// Tests that the nonce is that of the challenge.
@@ -110,14 +144,18 @@ fn test_nonce(client_server_nonce: &[u8], client_final: &str) -> Result<(), Serv
     Ok(())
 }
 
-/// Returns the proof, and the text before it.
-fn read_proof(alloc: Global, client_final: &str) -> Result<ClientFinal<'_>, ServerScramErrorKind>
-    ensures tested { IfOk result (λ _. NoneHolds (spelling_tests client_final.now)) }
+/// Returns the proof, and the text before it, which has no misplaced attribute if the server is `strict`.
+fn read_proof(
+    alloc: Global,
+    strict: bool,
+    client_final: &str,
+) -> Result<ClientFinal<'_>, ServerScramErrorKind>
+    ensures tested { IfOk result (λ _. NoneHolds (spelling_tests strict client_final.now)) }
     ensures named { IfOk result (λ final. HasProof client_final.now (client_final_values final)) }
     ensures memory { IfErr result (λ kind. kind ≡ ServerScramErrorKind.OutOfMemory
         → (before : List ℕ) × (rest : List ℕ) × LastPart client_final.now before (codes "p=" ++ rest)) }
     ensures err { IfErr result (λ kind. kind ≢ ServerScramErrorKind.OutOfMemory
-        → IsFirst (spelling_tests client_final.now) kind) }
+        → IsFirst (spelling_tests strict client_final.now) kind) }
 {
     let Some((without_proof, last)) = last_part(client_final) else {
         return Err(ServerScramErrorKind::ProofNotFoundInClientFinal);
@@ -128,6 +166,9 @@ fn read_proof(alloc: Global, client_final: &str) -> Result<ClientFinal<'_>, Serv
     let Some(proof) = bytes_of(alloc, base64_proof)? else {
         return Err(ServerScramErrorKind::Base64DecodeError);
     };
+    if is_misplaced(strict, without_proof, 2) {
+        return Err(ServerScramErrorKind::MisplacedAttribute);
+    }
     Ok(ClientFinal {
         without_proof,
         proof,

@@ -1,14 +1,16 @@
 //! Reads the client-first message.
 
-ghost use Rattle.std.specs.Prelude.{IfOk, false};
+ghost use Rattle.std.specs.Prelude.{IfOk};
 ghost use Rattle.std.specs.Cow.{IsBorrowedStr};
-ghost use Rattle.fe2o3_scram.specs.ClientFirst.{HasEscapes, ReadsClientFirst, client_first_values};
+ghost use Rattle.fe2o3_scram.specs.ClientFirst.{HasEscapes, ReadsClientFirst, client_first_values, default_rules};
 ghost use Rattle.fe2o3_scram.specs.Readings.{Gives};
 
 use crate::scram_messages::attributes::{NONCE_KEY, USERNAME_KEY};
 use crate::scram_messages::channel_binding_flag::{ChannelBindingFlag, cut_header};
 use crate::scram_messages::error::ServerScramErrorKind;
 use crate::scram_messages::escape::{UnescapeError, unescape_username};
+use crate::scram_messages::extensions::is_misplaced;
+use crate::scram_messages::server_rules::ServerRules;
 use crate::texts::attribute;
 use std::alloc::Global;
 use std::borrow::CowStr;
@@ -38,32 +40,29 @@ impl<'a> ClientFirst<'a> {
     /// are ignored. Only a user name with escapes takes memory: `OutOfMemory` is returned only for a
     /// text whose part of the name spells one.
     pub fn parse(alloc: Global, text: &'a [u8]) -> Result<Self, ServerScramErrorKind>
-        ensures answer { Gives ServerScramErrorKind.OutOfMemory (HasEscapes false text.now) client_first_values
-            result (ReadsClientFirst false text.now) }
-        ensures borrowed { IfOk result (λ first. ¬ HasEscapes false text.now → IsBorrowedStr first.username) }
+        ensures answer { Gives ServerScramErrorKind.OutOfMemory (HasEscapes default_rules text.now) client_first_values
+            result (ReadsClientFirst default_rules text.now) }
+        ensures borrowed { IfOk result (λ first. ¬ HasEscapes default_rules text.now → IsBorrowedStr first.username) }
     {
-        ClientFirst::parse_with_cbind_flag_y(alloc, text, false)
+        ClientFirst::parse_with_rules(alloc, text, ServerRules::new())
     }
 
-    /// Like `parse`, but with `accept_cbind_flag_y` the GS2 header may be `y,,` too: that of a client which
-    /// supports channel binding and assumes that the server does not (RFC 5802, section 6).
-    pub fn parse_with_cbind_flag_y(
+    /// Like `parse`, but by these rules: the GS2 header may be `y,,` too, or has to bind a channel, and after the other errors a strict server
+    /// returns `MisplacedAttribute` if a part after the nonce is an attribute that RFC 5802 defines.
+    pub fn parse_with_rules(
         alloc: Global,
         text: &'a [u8],
-        accept_cbind_flag_y: bool,
+        rules: ServerRules,
     ) -> Result<Self, ServerScramErrorKind>
-        ensures answer { Gives ServerScramErrorKind.OutOfMemory (HasEscapes accept_cbind_flag_y text.now)
-            client_first_values result (ReadsClientFirst accept_cbind_flag_y text.now) }
-        ensures borrowed { IfOk result (λ first. ¬ HasEscapes accept_cbind_flag_y text.now
+        ensures answer { Gives ServerScramErrorKind.OutOfMemory (HasEscapes rules text.now)
+            client_first_values result (ReadsClientFirst rules text.now) }
+        ensures borrowed { IfOk result (λ first. ¬ HasEscapes rules text.now
             → IsBorrowedStr first.username) }
     {
         let Ok(client_first) = str::from_utf8(text) else {
             return Err(ServerScramErrorKind::Utf8Error);
         };
-        let Some((header, client_first_message_bare)) = cut_header(
-            client_first,
-            accept_cbind_flag_y,
-        ) else {
+        let Some((header, client_first_message_bare)) = cut_header(client_first, rules) else {
             return Err(ServerScramErrorKind::CannotParseGs2Header);
         };
         let Some(escaped) = attribute(client_first_message_bare, 0, USERNAME_KEY) else {
@@ -77,6 +76,9 @@ impl<'a> ClientFirst<'a> {
         let Some(client_nonce) = attribute(client_first_message_bare, 1, NONCE_KEY) else {
             return Err(ServerScramErrorKind::CannotParseClientNonce);
         };
+        if is_misplaced(rules.is_strict(), client_first_message_bare, 2) {
+            return Err(ServerScramErrorKind::MisplacedAttribute);
+        }
         Ok(ClientFirst {
             header,
             username,

@@ -57,6 +57,10 @@ pub enum ScramErrorKind {
     #[error("Iteration count too large")]
     IterationCountTooLarge,
 
+    /// A strict client received an attribute that RFC 5802 defines in the place of an extension: after the iteration count.
+    #[error("Attribute in the place of an extension")]
+    MisplacedAttribute,
+
     /// The password is not printable ASCII.
     #[error("Error normalizing password")]
     NormalizeError,
@@ -155,6 +159,11 @@ pub enum ServerScramErrorKind {
     /// The last part of the client-final message does not begin with `p=`.
     #[error("Client final message doesnt' have a proof")]
     ProofNotFoundInClientFinal,
+
+    /// A strict server received an attribute that RFC 5802 defines in the place of an extension: after the nonce of the
+    /// client-first message, or between the nonce and the proof of the client-final message.
+    #[error("Attribute in the place of an extension")]
+    MisplacedAttribute,
 
     /// The proof does not meet the stored key.
     #[error("Authentication failed")]

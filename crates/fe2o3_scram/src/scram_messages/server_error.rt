@@ -87,6 +87,7 @@ impl ServerError {
             | ServerScramErrorKind::CannotParseClientFinalMessage
             | ServerScramErrorKind::IncorrectClientFinalNonce
             | ServerScramErrorKind::ProofNotFoundInClientFinal
+            | ServerScramErrorKind::MisplacedAttribute
             | ServerScramErrorKind::IllegalAuthenticatorState => ServerError::OtherError,
         }
     }

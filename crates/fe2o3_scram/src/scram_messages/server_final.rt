@@ -1,6 +1,7 @@
 //! The server-final message, which answers a client-final message.
 
-ghost use Rattle.std.specs.Prelude.{◌≡◌, ◌≤◌, ◌<◌, ◌+◌, ◌++◌, ◌^◌, ℕ, List, length, IfOk, codes};
+ghost use Rattle.std.specs.Prelude.{◌≡◌, ◌≤◌, ◌<◌, ◌+◌, ◌++◌, ◌^◌, Bool, ℕ, List, length, IfOk, codes, false};
+ghost use Rattle.fe2o3_scram.specs.declared.scram_messages.client_channel.ClientChannel.{ClientChannel as ClientChannelOf};
 ghost use Rattle.fe2o3_scram.specs.Texts.{base64_text};
 ghost use Rattle.fe2o3_scram.specs.Hmac.{digest_len};
 ghost use Rattle.fe2o3_scram.specs.Keys.{server_signature};
@@ -16,7 +17,7 @@ use crate::hmac::{Meter, ScramVersion};
 use crate::keys::auth_pieces;
 use crate::provider::StoredPassword;
 use crate::scram_messages::attributes::VERIFIER_KEY;
-use crate::scram_messages::channel_binding_flag::ChannelBindingFlag;
+use crate::scram_messages::client_channel::ClientChannel;
 use crate::scram_messages::client_final_reading::ClientFinal;
 use crate::scram_messages::error::ServerScramErrorKind;
 use crate::texts::{base64_len, push_base64};
@@ -44,9 +45,9 @@ impl ScramVersion {
         stored_password: &StoredPassword<'_>,
     ) -> Result<Vec<u8>, ServerScramErrorKind>
         ensures { Gives ServerScramErrorKind.OutOfMemory
-            (ReachesBase64 ChannelBindingFlag.NotSupported client_server_nonce.now client_final.now)
+            (ReachesBase64 ClientChannel.Absent client_server_nonce.now client_final.now)
             (λ message. message.items) result
-            (AnswersClientFinal (server_of self.now ChannelBindingFlag.NotSupported client_first_message_bare.now
+            (AnswersClientFinal (server_of self.now ClientChannel.Absent false client_first_message_bare.now
             server_first_message.now client_server_nonce.now (kept stored_password.now)) client_final.now) }
     {
         self.compute_server_final_message_metered(
@@ -73,17 +74,18 @@ impl ScramVersion {
     ) -> Result<Vec<u8>, ServerScramErrorKind>
         requires { meter.old ≤ 2 ^ 63 }
         ensures answer { Gives ServerScramErrorKind.OutOfMemory
-            (ReachesBase64 ChannelBindingFlag.NotSupported client_server_nonce.now client_final.now)
+            (ReachesBase64 ClientChannel.Absent client_server_nonce.now client_final.now)
             (λ message. message.items) result
-            (AnswersClientFinal (server_of self.now ChannelBindingFlag.NotSupported client_first_message_bare.now
+            (AnswersClientFinal (server_of self.now ClientChannel.Absent false client_first_message_bare.now
             server_first_message.now client_server_nonce.now (kept stored_password.now)) client_final.now) }
-        ensures cost { FinalCosts (server_of self.now ChannelBindingFlag.NotSupported client_first_message_bare.now
+        ensures cost { FinalCosts (server_of self.now ClientChannel.Absent false client_first_message_bare.now
             server_first_message.now client_server_nonce.now (kept stored_password.now)) client_final.now result
             meter.old meter.new }
     {
-        self.compute_server_final_message_with_gs2_header(
+        self.compute_server_final_message_with_channel(
             alloc,
-            ChannelBindingFlag::NotSupported,
+            &ClientChannel::Absent,
+            false,
             client_final,
             client_server_nonce,
             client_first_message_bare,
@@ -93,12 +95,13 @@ impl ScramVersion {
         )
     }
 
-    /// Like `compute_server_final_message_metered`, after a client-first message with this GS2 header
-    /// (`ClientFinal::parse_with_gs2_header`).
-    pub fn compute_server_final_message_with_gs2_header(
+    /// Like `compute_server_final_message_metered`, to a client that has to say this of its channel, of a server that is
+    /// `strict` or not (`ClientFinal::parse_with_channel`). A server that expects a channel is strict in any case.
+    pub fn compute_server_final_message_with_channel(
         &self,
         alloc: Global,
-        header: ChannelBindingFlag,
+        channel: &ClientChannel,
+        strict: bool,
         client_final: &[u8],
         client_server_nonce: &[u8],
         client_first_message_bare: &[u8],
@@ -108,16 +111,18 @@ impl ScramVersion {
     ) -> Result<Vec<u8>, ServerScramErrorKind>
         requires { meter.old ≤ 2 ^ 63 }
         ensures answer { Gives ServerScramErrorKind.OutOfMemory
-            (ReachesBase64 header client_server_nonce.now client_final.now) (λ message. message.items) result
-            (AnswersClientFinal (server_of self.now header client_first_message_bare.now
+            (ReachesBase64 channel.now client_server_nonce.now client_final.now) (λ message. message.items) result
+            (AnswersClientFinal (server_of self.now channel.now strict client_first_message_bare.now
             server_first_message.now client_server_nonce.now (kept stored_password.now)) client_final.now) }
-        ensures cost { FinalCosts (server_of self.now header client_first_message_bare.now
+        ensures cost { FinalCosts (server_of self.now channel.now strict client_first_message_bare.now
             server_first_message.now client_server_nonce.now (kept stored_password.now)) client_final.now result
             meter.old meter.new }
     {
-        let client_final = ClientFinal::parse_with_gs2_header(
+        let strict = channel.is_strict(strict);
+        let client_final = ClientFinal::parse_with_channel(
             alloc,
-            header,
+            channel,
+            strict,
             client_server_nonce,
             client_final,
         )?;
@@ -142,8 +147,8 @@ impl ScramVersion {
         meter: &mut Meter,
     ) -> Result<Vec<u8>, ServerScramErrorKind>
         requires { meter.old ≤ 2 ^ 63 }
-        ensures answer { (header : ChannelBindingFlag) (nonce : List ℕ) →
-            let server = server_of self.now header client_first_message_bare.now server_first_message.now nonce
+        ensures answer { (channel : ClientChannelOf) (strict : Bool) (nonce : List ℕ) →
+            let server = server_of self.now channel strict client_first_message_bare.now server_first_message.now nonce
             (kept stored_password.now) in
             Gives ServerScramErrorKind.OutOfMemory (IsMet server (client_final_values client_final.now))
             (λ message. message.items) result (AnswersProof server (client_final_values client_final.now)) }

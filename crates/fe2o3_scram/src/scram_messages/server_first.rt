@@ -1,7 +1,7 @@
 //! The server-first message, which challenges a known user.
 
-ghost use Rattle.std.specs.Prelude.{◌≡◌, ◌++◌, IfOk, false, option_map};
-ghost use Rattle.fe2o3_scram.specs.ClientFirst.{client_first_values};
+ghost use Rattle.std.specs.Prelude.{◌≡◌, ◌++◌, IfOk, option_map};
+ghost use Rattle.fe2o3_scram.specs.ClientFirst.{client_first_values, default_rules};
 ghost use Rattle.fe2o3_scram.specs.ServerFirst.{AnswersClientFirst, ReachesChallenge, challenge_of, challenge_values, server_first_of};
 ghost use Rattle.fe2o3_scram.specs.Credentials.{kept, serving};
 ghost use Rattle.fe2o3_scram.specs.Readings.{Gives};
@@ -13,6 +13,7 @@ use crate::scram_messages::attributes::{ITERATION_COUNT_KEY, NONCE_KEY, SALT_KEY
 use crate::scram_messages::channel_binding_flag::ChannelBindingFlag;
 use crate::scram_messages::client_first_reading::ClientFirst;
 use crate::scram_messages::error::ServerScramErrorKind;
+use crate::scram_messages::server_rules::ServerRules;
 use crate::texts::{base64_len, push_base64};
 use bytes::Bytes;
 use std::alloc::Global;
@@ -57,36 +58,35 @@ impl ScramVersion {
         credentials: &C,
     ) -> Result<Option<ServerFirstMessage<'a>>, ServerScramErrorKind>
         ensures { Gives ServerScramErrorKind.OutOfMemory
-            (ReachesChallenge (serving false (C.meaning credentials.now)) client_first.now)
+            (ReachesChallenge (serving default_rules (C.meaning credentials.now)) client_first.now)
             (option_map challenge_values) result
-            (AnswersClientFirst (serving false (C.meaning credentials.now)) base64_server_nonce.now client_first.now) }
-    {
-        challenge(alloc, client_first, base64_server_nonce, false, credentials)
-    }
-
-    /// Like `compute_server_first_message`, but with `accept_cbind_flag_y` the GS2 header may be `y,,` too
-    /// (`ClientFirst::parse_with_cbind_flag_y`).
-    pub fn compute_server_first_message_with_cbind_flag_y<'a, C: ScramCredentialProvider>(
-        &self,
-        alloc: Global,
-        client_first: &'a [u8],
-        base64_server_nonce: &str,
-        accept_cbind_flag_y: bool,
-        credentials: &C,
-    ) -> Result<Option<ServerFirstMessage<'a>>, ServerScramErrorKind>
-        ensures { Gives ServerScramErrorKind.OutOfMemory
-            (ReachesChallenge (serving accept_cbind_flag_y (C.meaning credentials.now)) client_first.now)
-            (option_map challenge_values) result
-            (AnswersClientFirst (serving accept_cbind_flag_y (C.meaning credentials.now)) base64_server_nonce.now
-            client_first.now) }
+            (AnswersClientFirst (serving default_rules (C.meaning credentials.now)) base64_server_nonce.now client_first.now) }
     {
         challenge(
             alloc,
             client_first,
             base64_server_nonce,
-            accept_cbind_flag_y,
+            ServerRules::new(),
             credentials,
         )
+    }
+
+    /// Like `compute_server_first_message`, but by these rules (`ClientFirst::parse_with_rules`).
+    pub fn compute_server_first_message_with_rules<'a, C: ScramCredentialProvider>(
+        &self,
+        alloc: Global,
+        client_first: &'a [u8],
+        base64_server_nonce: &str,
+        rules: ServerRules,
+        credentials: &C,
+    ) -> Result<Option<ServerFirstMessage<'a>>, ServerScramErrorKind>
+        ensures { Gives ServerScramErrorKind.OutOfMemory
+            (ReachesChallenge (serving rules (C.meaning credentials.now)) client_first.now)
+            (option_map challenge_values) result
+            (AnswersClientFirst (serving rules (C.meaning credentials.now)) base64_server_nonce.now
+            client_first.now) }
+    {
+        challenge(alloc, client_first, base64_server_nonce, rules, credentials)
     }
 }
 
@@ -95,20 +95,16 @@ fn challenge<'a, C: ScramCredentialProvider>(
     alloc: Global,
     client_first: &'a [u8],
     base64_server_nonce: &str,
-    accept_cbind_flag_y: bool,
+    rules: ServerRules,
     credentials: &C,
 ) -> Result<Option<ServerFirstMessage<'a>>, ServerScramErrorKind>
     ensures { Gives ServerScramErrorKind.OutOfMemory
-        (ReachesChallenge (serving accept_cbind_flag_y (C.meaning credentials.now)) client_first.now)
+        (ReachesChallenge (serving rules (C.meaning credentials.now)) client_first.now)
         (option_map challenge_values) result
-        (AnswersClientFirst (serving accept_cbind_flag_y (C.meaning credentials.now)) base64_server_nonce.now
+        (AnswersClientFirst (serving rules (C.meaning credentials.now)) base64_server_nonce.now
         client_first.now) }
 {
-    let client_first = ClientFirst::parse_with_cbind_flag_y(
-        alloc,
-        client_first,
-        accept_cbind_flag_y,
-    )?;
+    let client_first = ClientFirst::parse_with_rules(alloc, client_first, rules)?;
     let Some(stored_password) = credentials.get_stored_password(&client_first.username) else {
         return Ok(None);
     };

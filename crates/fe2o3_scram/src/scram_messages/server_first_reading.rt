@@ -1,9 +1,9 @@
 //! Reads the server-first message.
 
-ghost use Rattle.std.specs.Prelude.{◌≡◌, ◌≢◌, ◌≤◌, ◌++◌, ℕ, List, IfOk, IfErr, MatchResult, codes};
+ghost use Rattle.std.specs.Prelude.{◌≡◌, ◌≢◌, ◌≤◌, ◌++◌, ℕ, List, IfOk, IfErr, MatchResult, codes, false};
 ghost use Rattle.fe2o3_scram.specs.private.Tests.{salt_tests, count_tests};
 ghost use Rattle.fe2o3_scram.specs.Readings.{Gives, IsFirst, NoneHolds};
-ghost use Rattle.fe2o3_scram.specs.ServerFirst.{ReachesSalt, ReadsServerFirst, server_first_values, HasCount, nonce_tests};
+ghost use Rattle.fe2o3_scram.specs.ServerFirst.{ReachesSalt, ReadsServerFirst, client_of, server_first_values, HasCount, nonce_tests};
 ghost use Rattle.fe2o3_scram.specs.ClientSecret.{Password as ByPassword, secret_of, up_to};
 ghost use Rattle.fe2o3_scram.specs.Passwords.{IsNormal, Typed, password_of};
 ghost use Rattle.fe2o3_scram.specs.Texts.{Part, HasBase64};
@@ -12,7 +12,9 @@ ghost use Rattle.fe2o3_scram.specs.private.Serving.{Serves, ServesNot};
 use crate::client_secret::{ClientSecret, IterationLimits};
 use crate::passwords::Password;
 use crate::scram_messages::attributes::{ITERATION_COUNT_KEY, NONCE_KEY, RESERVED_MEXT, SALT_KEY};
+use crate::scram_messages::client_channel::ClientChannel;
 use crate::scram_messages::error::ScramErrorKind;
+use crate::scram_messages::extensions::is_misplaced;
 use crate::texts::{after, attribute, bytes_of, count_of, part};
 use std::alloc::Global;
 
@@ -48,7 +50,7 @@ impl<'a> ServerFirst<'a> {
     ) -> Result<Self, ScramErrorKind>
         ensures reads { Gives ScramErrorKind.OutOfMemory (ReachesSalt client_nonce.now text.now)
             server_first_values result
-            (ReadsServerFirst client_nonce.now (ByPassword (Typed password.now)) (up_to limit) text.now) }
+            (ReadsServerFirst (client_of client_nonce.now (ByPassword (Typed password.now)) (up_to limit) ClientChannel.Absent false) text.now) }
         ensures count { IfOk result (λ first. (1 ≤ first.iterations) × (first.iterations ≤ limit)) }
     {
         let limits = IterationLimits::up_to(limit);
@@ -57,6 +59,8 @@ impl<'a> ServerFirst<'a> {
             client_nonce,
             ClientSecret::Password(Password::Typed(password)),
             limits,
+            &ClientChannel::Absent,
+            false,
             text,
         )?;
         Ok(first)
@@ -65,24 +69,30 @@ impl<'a> ServerFirst<'a> {
     /// Like `parse`, for a client with this secret, which accepts the counts within these limits.
     ///
     /// The errors are, in this order: those of `parse` up to `IterationCountParseError`; `IterationCountTooSmall` and
-    /// `IterationCountTooLarge`; `NormalizeError` if a typed password is needed and is not printable ASCII, or
-    /// `StaleKeys` if the secret is only keys and the message names another salt or count than theirs.
+    /// `IterationCountTooLarge`; `MisplacedAttribute` of a client that is `strict` or binds a channel if a part after the count is an attribute that
+    /// RFC 5802 defines; `NormalizeError` if a typed password is needed and is not printable ASCII, or `StaleKeys` if the
+    /// secret is only keys and the message names another salt or count than theirs.
     pub(super) fn read(
         alloc: Global,
         client_nonce: &str,
         secret: ClientSecret<'_>,
         limits: IterationLimits,
+        channel: &ClientChannel,
+        strict: bool,
         text: &'a str,
     ) -> Result<Self, ScramErrorKind>
         ensures reads { Gives ScramErrorKind.OutOfMemory (ReachesSalt client_nonce.now text.now)
             server_first_values result
-            (ReadsServerFirst client_nonce.now (secret_of secret.entry) limits text.now) }
+            (ReadsServerFirst (client_of client_nonce.now (secret_of secret.entry) limits channel.now strict) text.now) }
         ensures count { IfOk result (λ first. (1 ≤ first.iterations) × (first.iterations ≤ limits.max_iterations)) }
         ensures serves { IfOk result (λ first. Serves (secret_of secret.entry) (server_first_values first)) }
     {
         let nonce = read_nonce(client_nonce, text)?;
         let salt = read_salt(alloc, text)?;
         let iterations = read_count(limits, text)?;
+        if is_misplaced(channel.is_strict(strict), text, 3) {
+            return Err(ScramErrorKind::MisplacedAttribute);
+        }
         let first = ServerFirst {
             nonce,
             salt,

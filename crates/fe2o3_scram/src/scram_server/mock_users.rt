@@ -3,12 +3,13 @@
 ghost use Rattle.std.specs.Prelude.{◌≡◌, ◌≤◌, ◌<◌, ◌+◌, ◌^◌, Option, Some, MatchResult, option_map};
 ghost use Rattle.fe2o3_scram.specs.Credentials.{Record, record_at, kept};
 ghost use Rattle.fe2o3_scram.specs.MockSettings.{mock_cost, mock_record, stored_or};
-ghost use Rattle.fe2o3_scram.specs.ScramServer.{provider_in, state_in, cbind_flag_y_in, mock_in};
+ghost use Rattle.fe2o3_scram.specs.ScramServer.{provider_in, state_in, rules_in, mock_in};
 
 use crate::credentials::MockValues;
 use crate::hmac::{Meter, ScramVersion};
 use crate::provider::{ScramCredentialProvider, StoredPassword};
 use crate::scram_server::ScramAuthenticator;
+use crate::secrets::SecretBytes;
 use std::alloc::AllocError;
 use std::marker::Model;
 use thiserror::Error;
@@ -25,7 +26,7 @@ pub struct SaltTooLong;
 #[derive(Drop)]
 pub(crate) struct MockUsers {
     scram_version: ScramVersion,
-    secret: Vec<u8>,
+    secret: SecretBytes,
     salt_len: usize,
     iterations: u32,
 }
@@ -37,7 +38,7 @@ impl Model for MockUsers {
 
     ghost view = { λ users. record {
       version = users.scram_version;
-      secret = users.secret.items;
+      secret = users.secret;
       salt_len = users.salt_len;
       count = users.iterations;
     } };
@@ -72,7 +73,7 @@ impl<C: ScramCredentialProvider> ScramAuthenticator<C> {
         iterations: u32,
     ) -> Result<Self, SaltTooLong>
         ensures { MatchResult result (λ server. (salt_len ≤ 64) × (provider_in server ≡ provider_in self)
-            × (cbind_flag_y_in server ≡ cbind_flag_y_in self) × (state_in server ≡ state_in self)
+            × (rules_in server ≡ rules_in self) × (state_in server ≡ state_in self)
             × (mock_in server ≡ Some (record {
               version = (C.meaning (provider_in self)).version;
               secret = secret.items;
@@ -86,10 +87,10 @@ impl<C: ScramCredentialProvider> ScramAuthenticator<C> {
         let scram_version = *self.credentials.scram_version();
         Ok(Self {
             credentials: self.credentials,
-            accept_cbind_flag_y: self.accept_cbind_flag_y,
+            rules: self.rules,
             mock: Some(MockUsers {
                 scram_version,
-                secret,
+                secret: SecretBytes::new(secret),
                 salt_len,
                 iterations,
             }),
@@ -112,7 +113,7 @@ pub(crate) fn mock_values(
     let users = mock.as_ref()?;
     Some(MockValues::new(
         users.scram_version,
-        &users.secret,
+        users.secret.as_slice(),
         username,
         users.salt_len,
         users.iterations,

@@ -2,7 +2,7 @@
 
 ghost use Rattle.std.specs.Prelude.{◌≡◌, IfOk, option_map};
 ghost use Rattle.fe2o3_scram.specs.Credentials.{kept};
-ghost use Rattle.fe2o3_scram.specs.ScramServer.{ServerFinalSent, ServerFirstSent, challenge_kept, open_challenge, provider_in, state_in, cbind_flag_y_in, mock_in};
+ghost use Rattle.fe2o3_scram.specs.ScramServer.{ServerFinalSent, ServerFirstSent, challenge_kept, open_challenge, provider_in, state_in, rules_in, mock_in};
 
 use crate::OutOfMemory;
 use crate::provider::{ScramCredentialProvider, StoredPassword};
@@ -65,7 +65,8 @@ impl<C: ScramCredentialProvider> ScramAuthenticator<C> {
     /// The client's proof is tested against this record. If it is not the one that the challenge was
     /// made with, as after a change of the password, a login with the old password fails with
     /// `AuthenticationFailed`. Texts that no server has sent are a challenge like any other, and a
-    /// client has to prove its password for it. The caller vouches for the texts: they name the user.
+    /// client has to prove its password for it. The caller vouches for the texts: they name the user. The GS2 header is not
+    /// tested against the rules of this server: restore a challenge only at a server with the same rules.
     ///
     /// The only error is `OutOfMemory`.
     pub fn restore_challenge(
@@ -75,7 +76,7 @@ impl<C: ScramCredentialProvider> ScramAuthenticator<C> {
         stored: &StoredPassword<'_>,
     ) -> Result<Self, OutOfMemory>
         ensures provider { IfOk result (λ server. provider_in server ≡ provider_in self) }
-        ensures cbind_flag_y { IfOk result (λ server. cbind_flag_y_in server ≡ cbind_flag_y_in self) }
+        ensures rules { IfOk result (λ server. rules_in server ≡ rules_in self) }
         ensures mock { IfOk result (λ server. mock_in server ≡ mock_in self) }
         ensures state { IfOk result (λ server. state_in server
             ≡ ServerFirstSent (challenge_kept challenge.now) (kept stored.now)) }
@@ -87,7 +88,7 @@ impl<C: ScramCredentialProvider> ScramAuthenticator<C> {
         )?;
         Ok(Self {
             credentials: self.credentials,
-            accept_cbind_flag_y: self.accept_cbind_flag_y,
+            rules: self.rules,
             mock: self.mock,
             state: ScramAuthenticatorState::ServerFirstSent {
                 username: challenge.username.to_string(alloc)?,
@@ -110,13 +111,13 @@ impl<C: ScramCredentialProvider> ScramAuthenticator<C> {
     /// The only error is `OutOfMemory`.
     pub fn restore_authenticated(self, alloc: Global, username: &str) -> Result<Self, OutOfMemory>
         ensures provider { IfOk result (λ server. provider_in server ≡ provider_in self) }
-        ensures cbind_flag_y { IfOk result (λ server. cbind_flag_y_in server ≡ cbind_flag_y_in self) }
+        ensures rules { IfOk result (λ server. rules_in server ≡ rules_in self) }
         ensures mock { IfOk result (λ server. mock_in server ≡ mock_in self) }
         ensures state { IfOk result (λ server. state_in server ≡ ServerFinalSent username.now) }
     {
         Ok(Self {
             credentials: self.credentials,
-            accept_cbind_flag_y: self.accept_cbind_flag_y,
+            rules: self.rules,
             mock: self.mock,
             state: ScramAuthenticatorState::ServerFinalSent {
                 username: username.to_string(alloc)?,

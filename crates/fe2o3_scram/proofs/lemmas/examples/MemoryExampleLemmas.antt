@@ -1,9 +1,11 @@
 -- Texts to which running out of memory is no answer.
 use Rattle.std.proofs.Common.{◌≡◌, Bool, ◌≢◌, ◌⊎◌, ℕ, List, [], ◌∷◌, ◌++◌, length, get_or, refl, ◌∙◌, ap, subst, arith, codes, inl, inr}
 use Rattle.std.proofs.lemmas.List.{append_cancel_left}
+use Rattle.fe2o3_scram.specs.declared.scram_messages.server_rules.ServerRules.{ServerRules}
 use Rattle.fe2o3_scram.specs.declared.hmac.ScramVersion.{ScramVersion}
 use Rattle.fe2o3_scram.specs.declared.hmac.ScramVersion.TheVariants.{Sha1, Sha256, Sha512}
 use Rattle.fe2o3_scram.specs.ClientFinal.{ReachesBinding, ReachesProof, client_final_of, without_proof}
+use Rattle.fe2o3_scram.specs.declared.scram_messages.client_channel.ClientChannel.TheVariants.{Absent}
 use Rattle.fe2o3_scram.specs.declared.scram_messages.channel_binding_flag.ChannelBindingFlag.TheVariants.{NotSupported}
 use Rattle.fe2o3_scram.specs.ClientFirst.{HasEscapes}
 use Rattle.fe2o3_scram.specs.Escape.{escaped, NoEquals}
@@ -12,8 +14,9 @@ use Rattle.fe2o3_scram.specs.examples.MemoryExamples.{AnsweredClientsTakeNone, C
 use Rattle.fe2o3_scram.specs.RecordLines.{ReachesName}
 use Rattle.fe2o3_scram.specs.RecordText.{Fields, HasFields, Plain}
 use Rattle.fe2o3_scram.specs.Texts.{NoComma, Part, Parts, base64_text, HasBase64}
-use Rattle.fe2o3_scram.proofs.lemmas.messages.ClientFirstLemmas.{one_header}
-use Rattle.fe2o3_scram.proofs.lemmas.messages.ExchangeLemmas.{IsBytes-literal, only_part, part_of}
+use Rattle.fe2o3_scram.proofs.lemmas.messages.HeaderLemmas.{one_header}
+use Rattle.fe2o3_scram.proofs.lemmas.hashes.DigestLemmas.{IsBytes-literal}
+use Rattle.fe2o3_scram.proofs.lemmas.messages.ExchangeLemmas.{only_part, part_of}
 use Rattle.fe2o3_scram.proofs.lemmas.messages.RecordTextLemmas.{one_fields}
 use Rattle.fe2o3_scram.proofs.lemmas.texts.Base64Lemmas.{no_comma-base64_text, no_comma-test}
 use Rattle.fe2o3_scram.proofs.lemmas.texts.CutLemmas.{one_cut, one_last_cut}
@@ -40,8 +43,8 @@ user_parts = two_joined (codes "n=user") (codes "r=abc") (codes "n=user" ∷ [])
     (only_part (codes "n=user") (no_comma-test (codes "n=user") refl))
     (only_part (codes "r=abc") (no_comma-test (codes "r=abc") refl))
 
-no_escapes : (cbind_flag_y : Bool) → ¬ HasEscapes cbind_flag_y (codes "n,,n=user,r=abc")
-no_escapes cbind_flag_y has =
+no_escapes : (rules : ServerRules) → ¬ HasEscapes rules (codes "n,,n=user,r=abc")
+no_escapes rules has =
     let bare = has.1.1 in
     let spelling = escaped has.1.0 in
     let behind : bare.1 ≡ codes "n=user,r=abc" =
@@ -53,8 +56,8 @@ no_escapes cbind_flag_y has =
     has.1.2 (subst NoEquals name (without-test 61 (codes "user") refl))
 
 pub unknown_users_take_none : UnknownUsersTakeNone
-unknown_users_take_none version cbind_flag_y (inl escapes) = no_escapes cbind_flag_y escapes
-unknown_users_take_none version cbind_flag_y (inr (client, stored, reads, known)) = absurd (cc)
+unknown_users_take_none version rules (inl escapes) = no_escapes rules escapes
+unknown_users_take_none version rules (inr (client, stored, reads, known)) = absurd (cc)
 
 -- the first part is no channel binding
 cbind_flag_y : (rest : List ℕ) → ¬ Part (codes "r=abc,p=AA==") 0 (codes "c=" ++ rest)
@@ -67,10 +70,10 @@ cbind_flag_y rest has =
     omega (arith, letter)
 
 pub unbound_texts_take_none : UnboundTextsTakeNone
-unbound_texts_take_none stored user bare first has = go has.1
+unbound_texts_take_none rules stored user bare first has = go has.1
   where
-    go : ReachesBinding NotSupported (codes "r=abc,p=AA==")
-        ⊎ ReachesProof NotSupported (codes "abc") (codes "r=abc,p=AA==") → ⊥
+    go : ReachesBinding Absent (codes "r=abc,p=AA==")
+        ⊎ ReachesProof Absent (codes "abc") (codes "r=abc,p=AA==") → ⊥
     go (inl reaches) = cbind_flag_y reaches.0.0 reaches.0.1
     go (inr reaches) = reaches.0.1.0 cbind_flag_y
 
@@ -96,12 +99,12 @@ other_nonce has =
     omega (arith, letter)
 
 pub other_nonces_take_none : OtherNoncesTakeNone
-other_nonces_take_none stored user bare first has = go has.1
+other_nonces_take_none rules stored user bare first has = go has.1
   where
     bound : HasBase64 other_text 0 (codes "c=") (codes "n,,")
     bound = (IsBytes-literal (codes "n,,") refl, (_, other_parts, refl))
 
-    go : ReachesBinding NotSupported other_text ⊎ ReachesProof NotSupported (codes "abc") other_text → ⊥
+    go : ReachesBinding Absent other_text ⊎ ReachesProof Absent (codes "abc") other_text → ⊥
     go (inl reaches) = reaches.1 bound
     go (inr reaches) = reaches.0.1.1.1.1.1.0 other_nonce
 

@@ -1,6 +1,8 @@
 -- Digests have their length and hold bytes.
-use Rattle.std.proofs.Common.{◌≡◌, ◌<◌, ◌*◌, ℕ, zero, suc, List, [], ◌∷◌, ◌++◌, length, refl, arith, lit<}
-use Rattle.std.specs.Prelude.{slice_index}
+use Rattle.std.proofs.Common.{◌≡◌, ◌<◌, ◌*◌, ℕ, zero, suc, true, List, [], ◌∷◌, ◌++◌, length, refl, arith, lit<}
+use Rattle.std.specs.Prelude.{nat_lt, slice_index}
+use Rattle.std.specs.List.{list_all}
+use Rattle.std.proofs.lemmas.Bool.{and_parts}
 use Rattle.std.specs.Int.{w32, w64, to_be_bytes, bytes_high_first, byte_at}
 use Rattle.std.proofs.lemmas.List.{length-append}
 use Rattle.base64.specs.GeneralPurpose.{IsBytes}
@@ -35,6 +37,12 @@ IsBytes-nil (suc i) = lit< tt
 pub IsBytes-cons : (b : ℕ) (bytes : List ℕ) → b < 256 → IsBytes bytes → IsBytes (b ∷ bytes)
 IsBytes-cons b bytes below are zero = below
 IsBytes-cons b bytes below are (suc i) = are i
+
+pub IsBytes-literal : (bytes : List ℕ) → list_all (λ byte. nat_lt byte 256) bytes ≡ true → IsBytes bytes
+IsBytes-literal [] passes = IsBytes-nil
+IsBytes-literal (x ∷ bytes) passes = let both = and_parts (nat_lt x 256)
+    (list_all (λ byte. nat_lt byte 256) bytes) passes in IsBytes-cons x bytes (grind (arith, both))
+    (IsBytes-literal bytes both.1)
 
 pub IsBytes-append : (front back : List ℕ) → IsBytes front → IsBytes back → IsBytes (front ++ back)
 IsBytes-append [] back are too = too

@@ -4,12 +4,16 @@ use Rattle.std.proofs.Common.{◌≡◌, ◌⊎◌, inl, inr, Bool, ℕ, ◌<◌
 use Rattle.std.specs.Fmt.{decimal}
 use Rattle.std.proofs.lemmas.Option.{same_Some}
 use Rattle.fe2o3_scram.specs.declared.hmac.ScramVersion.{ScramVersion}
+use Rattle.fe2o3_scram.specs.declared.scram_messages.server_rules.ServerRules.{ServerRules}
 use Rattle.fe2o3_scram.specs.declared.hmac.ScramVersion.TheVariants.{Sha1, Sha256, Sha512}
+use Rattle.fe2o3_scram.specs.declared.scram_messages.client_channel.ClientChannel.{ClientChannel}
 use Rattle.fe2o3_scram.specs.declared.scram_messages.channel_binding_flag.ChannelBindingFlag.{ChannelBindingFlag}
-use Rattle.fe2o3_scram.specs.declared.scram_messages.channel_binding_flag.ChannelBindingFlag.TheVariants.{NotSupported, ClientSupports}
-use Rattle.fe2o3_scram.specs.Agreement.{TextsAgree, VerifiedTextsAgree, ClientKnows, InParts, IsPlain, ServerKnows, challenge_known, client_auth_message, keys_known, server_auth_message}
-use Rattle.fe2o3_scram.specs.ClientFinal.{Answer, ClientFinal, answer_of, server_of, without_proof}
-use Rattle.fe2o3_scram.specs.ClientFirst.{ClientFirst, NamesClientFirst, client_first_bare, header_text}
+use Rattle.fe2o3_scram.specs.declared.scram_messages.channel_binding_flag.ChannelBindingFlag.TheVariants.{NotSupported, ClientSupports, Required}
+use Rattle.base64.specs.GeneralPurpose.{IsBytes}
+use Rattle.fe2o3_scram.specs.Agreement.{AcceptedTexts, TextsAgree, VerifiedTextsAgree, ClientKnows, InParts, IsPlain, ServerKnows, challenge_known, client_auth_message, keys_known, server_auth_message}
+use Rattle.fe2o3_scram.specs.ClientFinal.{Answer, ClientFinal, answer_of, without_proof_with}
+use Rattle.fe2o3_scram.specs.ClientFirst.{ClientFirst, NamesClientFirst, client_first_bare}
+use Rattle.fe2o3_scram.specs.ChannelBinding.{HoldsChannelBytes, cbind_data, cbind_input, expected_channel, flag_of}
 use Rattle.fe2o3_scram.specs.Credentials.{Provider, Record}
 use Rattle.fe2o3_scram.specs.Escape.{escaped}
 use Rattle.fe2o3_scram.specs.Extensions.{NoneMisplaced}
@@ -18,24 +22,27 @@ use Rattle.fe2o3_scram.specs.Keys.{auth_message}
 use Rattle.fe2o3_scram.specs.Laws.{HoldsBytes}
 use Rattle.fe2o3_scram.specs.ScramClient.{ClientSide, ClientFinalSent, VerifiesIn, holding, with_state}
 use Rattle.fe2o3_scram.specs.ScramServer.{ServerState, ServerFirstSent, ConcludesFrom, server_against}
-use Rattle.fe2o3_scram.specs.ServerFinal.{AnswersClientFinal}
+use Rattle.fe2o3_scram.specs.ServerFinal.{AnswersClientFinal, server_final_of}
 use Rattle.fe2o3_scram.specs.ServerFirst.{ServerChallenge, NamesServerFirst, ServerFirst, challenge_of}
 use Rattle.fe2o3_scram.specs.Texts.{IsCount, NoComma, Part, Parts, base64_text, joined, HasBase64}
 use Rattle.fe2o3_scram.proofs.lemmas.hashes.DigestLemmas.{length-hmac_of, IsBytes-hmac_of}
+use Rattle.fe2o3_scram.proofs.lemmas.messages.HeaderLemmas.{IsBytes-cbind_input, one_binding}
 use Rattle.fe2o3_scram.proofs.lemmas.messages.ClientFinalLemmas.{NamesAcceptedFinal, names_client_final}
-use Rattle.fe2o3_scram.proofs.lemmas.messages.ExchangeLemmas.{IsBytes-literal, no_comma-decimal, part_of, only_part}
+use Rattle.fe2o3_scram.proofs.lemmas.hashes.DigestLemmas.{IsBytes-literal}
+use Rattle.fe2o3_scram.proofs.lemmas.messages.ExchangeLemmas.{no_comma-decimal, part_of, only_part}
 use Rattle.fe2o3_scram.proofs.lemmas.messages.OneValueLemmas.{names_client_first, names_server_final, names_server_first}
 use Rattle.fe2o3_scram.proofs.lemmas.texts.Base64Lemmas.{no_comma-append, no_comma-base64_text, one_spelled}
 use Rattle.fe2o3_scram.proofs.lemmas.texts.CountLemmas.{count_of_decimal}
 use Rattle.fe2o3_scram.proofs.lemmas.texts.EscapingLemmas.{no_comma-escaped, one_escaped}
-use Rattle.fe2o3_scram.proofs.lemmas.texts.ExtensionLemmas.{AreNone, of_client, of_server, none_after_three, none_after_two, none_in_three, none_of_client, none_of_server}
+use Rattle.fe2o3_scram.proofs.lemmas.texts.ExtensionLemmas.{AreNone, of_client, of_server, none_after_all, none_after_three, none_after_two, none_of_client, none_of_server}
 use Rattle.fe2o3_scram.proofs.lemmas.texts.JoinedTextLemmas.{same_parts, part_in, no_comma-part, two_joined, three_joined, first_two, first_three, with_last}
 use Rattle.fe2o3_scram.proofs.lemmas.texts.PartsLemmas.{pieces, Parts-pieces, one_list_of_parts, one_part}
 
 -- ---- the parts of the two AuthMessages
 
-binding_plain : NoComma (codes "c=" ++ base64_text (codes "n,,"))
-binding_plain = part_of (codes "c=") (base64_text (codes "n,,")) refl (no_comma-base64_text (codes "n,,"))
+binding_plain : (channel : ClientChannel) → NoComma (codes "c=" ++ base64_text (cbind_input channel))
+binding_plain channel =
+    part_of (codes "c=") (base64_text (cbind_input channel)) refl (no_comma-base64_text (cbind_input channel))
 
 -- what a client has of an exchange: with this nonce it answered a message that names these values
 pub record ClientHas (own text : List ℕ) (first : ServerFirst) : Type 0 where
@@ -43,30 +50,30 @@ pub record ClientHas (own text : List ℕ) (first : ServerFirst) : Type 0 where
   pub names : NamesServerFirst text first
 
 -- its parts: two of its first message, three and more of the challenge, two of its answer
-client_parts : (name own text : List ℕ) (first : ServerFirst) → (has : ClientHas own text first)
+client_parts : (channel : ClientChannel) (name own text : List ℕ) (first : ServerFirst) → (has : ClientHas own text first)
     → (more : List (List ℕ)) × Parts text ((codes "r=" ++ first.nonce) ∷ (codes "s=" ++ base64_text first.salt)
     ∷ (codes "i=" ++ has.names.count.0) ∷ more) × Parts (auth_message (client_first_bare name own) text
-    (without_proof first.nonce))
+    (without_proof_with channel first.nonce))
     (((codes "n=" ++ escaped name) ∷ (codes "r=" ++ own) ∷ [])
     ++ (((codes "r=" ++ first.nonce) ∷ (codes "s=" ++ base64_text first.salt)
     ∷ (codes "i=" ++ has.names.count.0) ∷ more)
-    ++ ((codes "c=" ++ base64_text (codes "n,,")) ∷ (codes "r=" ++ first.nonce) ∷ [])))
-client_parts name own text first has =
+    ++ ((codes "c=" ++ base64_text (cbind_input channel)) ∷ (codes "r=" ++ first.nonce) ∷ [])))
+client_parts channel name own text first has =
     let names = has.names in
     let user = codes "n=" ++ escaped name in
     let nonce = codes "r=" ++ own in
     let full = codes "r=" ++ first.nonce in
-    let binding = codes "c=" ++ base64_text (codes "n,,") in
+    let binding = codes "c=" ++ base64_text (cbind_input channel) in
     let bare = two_joined user nonce (user ∷ []) (nonce ∷ [])
     (only_part user (part_of (codes "n=") (escaped name) refl (no_comma-escaped name)))
     (only_part nonce (part_of (codes "r=") own refl has.plain)) in
     let named = first_three text full (codes "s=" ++ base64_text first.salt) (codes "i=" ++ names.count.0) names.nonce
     names.salt.1 names.count.1 in
-    let rest = two_joined binding full (binding ∷ []) (full ∷ []) (only_part binding binding_plain)
+    let rest = two_joined binding full (binding ∷ []) (full ∷ []) (only_part binding (binding_plain channel))
     (only_part full (no_comma-part text 0 full names.nonce)) in (
       named.0,
       named.1,
-      three_joined (client_first_bare name own) text (without_proof first.nonce)
+      three_joined (client_first_bare name own) text (without_proof_with channel first.nonce)
           (user ∷ nonce ∷ []) _ (binding ∷ full ∷ []) bare named.1 rest,
     )
 
@@ -99,34 +106,37 @@ without_parts without text binding nonce proof bound named plain whole = go (pie
 
 -- what a server has of an exchange: with this nonce it answered a message that names the client's values by a challenge
 -- of this record, and then a message that names these
-pub record ServerHas (version : ScramVersion) (client : ClientFirst) (its : List ℕ) (stored : Record)
-    (final : ClientFinal) : Type 0 where
-  pub cbind_flag_y : Bool
+pub record ServerHas (version : ScramVersion) (rules : ServerRules) (client : ClientFirst) (its : List ℕ)
+    (stored : Record) (final : ClientFinal) : Type 0 where
   pub init : List ℕ
   pub response : List ℕ
   pub plain : NoComma its
-  pub first : NamesClientFirst cbind_flag_y init client
+  pub first : NamesClientFirst rules init client
   pub names : let challenge = challenge_of client its stored in
-      NamesAcceptedFinal (server_of version challenge.header challenge.bare challenge.first challenge.nonce stored)
-      response final
+      NamesAcceptedFinal (server_against version rules challenge stored) response final
+
+-- the channel binding that a server expects
+abbrev expected : ServerRules → ClientFirst → List ℕ
+expected rules client = cbind_input (expected_channel rules.channels client.header)
 
 -- its parts: two and more of the client-first message, three of its challenge, two and more of the response
-record ServerParts (client : ClientFirst) (its : List ℕ) (stored : Record) (without : List ℕ) : Type 0 where
+record ServerParts (rules : ServerRules) (client : ClientFirst) (its : List ℕ) (stored : Record) (without : List ℕ)
+    : Type 0 where
   extra : List (List ℕ)
   middle : List (List ℕ)
   bare : Parts client.bare ((codes "n=" ++ escaped client.user) ∷ (codes "r=" ++ client.nonce) ∷ extra)
-  rest : Parts without ((codes "c=" ++ base64_text (header_text client.header))
+  rest : Parts without ((codes "c=" ++ base64_text (expected rules client))
       ∷ (codes "r=" ++ (challenge_of client its stored).nonce) ∷ middle)
   message : let challenge = challenge_of client its stored in
       Parts (auth_message client.bare challenge.first without)
       (((codes "n=" ++ escaped client.user) ∷ (codes "r=" ++ client.nonce) ∷ extra)
       ++ (((codes "r=" ++ challenge.nonce) ∷ (codes "s=" ++ base64_text stored.salt)
       ∷ (codes "i=" ++ decimal stored.count) ∷ [])
-      ++ ((codes "c=" ++ base64_text (header_text client.header)) ∷ (codes "r=" ++ challenge.nonce) ∷ middle)))
+      ++ ((codes "c=" ++ base64_text (expected rules client)) ∷ (codes "r=" ++ challenge.nonce) ∷ middle)))
 
-server_parts : (version : ScramVersion) (client : ClientFirst) (its : List ℕ) (stored : Record) (final : ClientFinal)
-    → stored.count < 2 ^ 32 → ServerHas version client its stored final → ServerParts client its stored final.without
-server_parts version client its stored final small has =
+server_parts : (version : ScramVersion) (rules : ServerRules) (client : ClientFirst) (its : List ℕ) (stored : Record) (final : ClientFinal)
+    → stored.count < 2 ^ 32 → ServerHas version rules client its stored final → ServerParts rules client its stored final.without
+server_parts version rules client its stored final small has =
     let wide : stored.count < 2 ^ 64 = omega (arith, small) in
     let challenge = challenge_of client its stored in
     let own = codes "r=" ++ client.nonce in
@@ -138,7 +148,7 @@ server_parts version client its stored final small has =
     let first = three_joined full salt count (full ∷ []) (salt ∷ []) (count ∷ []) (only_part full plain)
     (only_part salt (part_of (codes "s=") (base64_text stored.salt) refl (no_comma-base64_text stored.salt)))
     (only_part count (part_of (codes "i=") (decimal stored.count) refl (no_comma-decimal stored.count wide))) in
-    let rest = without_parts final.without has.response (codes "c=" ++ base64_text (header_text client.header))
+    let rest = without_parts final.without has.response (codes "c=" ++ base64_text (expected rules client))
     (61 ∷ challenge.nonce) (61 ∷ base64_text final.proof) has.names.binding.1 has.names.nonce
     has.names.proof.1.0 has.names.proof.1.1 in
     record {
@@ -213,9 +223,11 @@ two_extra text p q extra are has none = go extra (ap length (one_list_of_parts t
 -- equal AuthMessages mean one user and client nonce. Where the client-first message was plain, or one side received no
 -- misplaced attribute, they mean one nonce of both sides, salt and count, and in the second case one header. The
 -- client-first message had not three parts and not four
-pub record SameLogin (name own text : List ℕ) (first : ServerFirst) (client : ClientFirst) (its : List ℕ)
+pub record SameLogin (own_channel : ClientChannel) (rules : ServerRules) (name own text : List ℕ) (first : ServerFirst) (client : ClientFirst) (its : List ℕ)
     (stored : Record) (without : List ℕ) : Type 0 where
-  pub header : NoneMisplaced text client.bare without → NotSupported ≡ client.header
+  pub header : HoldsChannelBytes own_channel → NoneMisplaced text client.bare without → flag_of own_channel ≡ client.header
+  pub channel : HoldsChannelBytes own_channel → NoneMisplaced text client.bare without
+      → cbind_data own_channel ≡ cbind_data (expected_channel rules.channels client.header)
   pub user : name ≡ client.user
   pub nonce : own ≡ client.nonce
   pub full_nonce : IsPlain client.bare ⊎ NoneMisplaced text client.bare without
@@ -242,43 +254,57 @@ plain_or_none : (bare p q : List ℕ) (extra more middle : List (List ℕ)) → 
 plain_or_none bare p q extra more middle are None none (inl plain) = no_extra bare p q extra are plain
 plain_or_none bare p q extra more middle are None none (inr is) = (none is).1
 
--- headers that are spelled alike are one
-same_header : (header : ChannelBindingFlag) → base64_text (codes "n,,") ≡ base64_text (header_text header) → NotSupported ≡ header
-same_header NotSupported same = refl
-same_header ClientSupports same =
-    let bytes = one_spelled (base64_text (codes "n,,")) (codes "n,,") (codes "y,,")
-    (IsBytes-literal (codes "n,,") refl, refl) (IsBytes-literal (codes "y,,") refl, same) in
-    let letter : ◌≡◌ {A = ℕ} 110 121 = ap (λ (text : List ℕ). get_or text 0 0) bytes in
-    absurd (omega (arith, letter))
+-- what a server expects after a flag has that flag
+flag_expected : (rules : ServerRules) (flag : ChannelBindingFlag) → flag_of (expected_channel rules.channels flag) ≡ flag
+flag_expected rules NotSupported = refl
+flag_expected rules ClientSupports = refl
+flag_expected rules (Required kind) = refl
 
-pub same_login : (name own text : List ℕ) (first : ServerFirst) (version : ScramVersion) (client : ClientFirst)
-    (its : List ℕ) (stored : Record) (final : ClientFinal) → HoldsBytes (client.user, stored)
-    → ClientHas own text first → ServerHas version client its stored final
-    → auth_message (client_first_bare name own) text (without_proof first.nonce)
+-- channel bindings that are spelled alike are one
+same_binding : (channel : ClientChannel) (rules : ServerRules) (client : ClientFirst) → HoldsChannelBytes channel
+    → IsBytes (expected rules client) → base64_text (cbind_input channel) ≡ base64_text (expected rules client)
+    → (flag_of channel ≡ client.header)
+    × (cbind_data channel ≡ cbind_data (expected_channel rules.channels client.header))
+same_binding channel rules client bytes its same =
+    let one = one_binding channel (expected_channel rules.channels client.header)
+    (one_spelled (base64_text (cbind_input channel)) (cbind_input channel) (expected rules client)
+    (IsBytes-cbind_input channel bytes, refl) (its, same)) in (
+      one.0 ∙ flag_expected rules client.header,
+      one.1,
+    )
+
+pub same_login : (channel : ClientChannel) (rules : ServerRules) (name own text : List ℕ) (first : ServerFirst)
+    (version : ScramVersion) (client : ClientFirst) (its : List ℕ) (stored : Record) (final : ClientFinal)
+    → HoldsBytes (client.user, stored)
+    → ClientHas own text first → ServerHas version rules client its stored final
+    → auth_message (client_first_bare name own) text (without_proof_with channel first.nonce)
     ≡ auth_message client.bare (challenge_of client its stored).first final.without
-    → SameLogin name own text first client its stored final.without
-same_login name own text first version client its stored final holds ours theirs same =
+    → SameLogin channel rules name own text first client its stored final.without
+same_login channel rules name own text first version client its stored final holds ours theirs same =
     let small : stored.count < 2 ^ 32 = holds.0 in
     let wide : stored.count < 2 ^ 64 = omega (arith, small) in
     let full = (challenge_of client its stored).nonce in
     let names = ours.names in
-    let left = client_parts name own text first ours in
-    let right = server_parts version client its stored final small theirs in
-    let parts = same_parts (auth_message (client_first_bare name own) text (without_proof first.nonce))
+    let left = client_parts channel name own text first ours in
+    let right = server_parts version rules client its stored final small theirs in
+    let parts = same_parts (auth_message (client_first_bare name own) text (without_proof_with channel first.nonce))
     (auth_message client.bare (challenge_of client its stored).first final.without) _ _ same left.2 right.message in
     let fields = same_fields (escaped name) own (escaped client.user) client.nonce first.nonce (base64_text first.salt)
-    names.count.0 full (base64_text stored.salt) (decimal stored.count) (base64_text (codes "n,,"))
-    (base64_text (header_text client.header)) full right.extra left.0 right.middle parts in
+    names.count.0 full (base64_text stored.salt) (decimal stored.count) (base64_text (cbind_input channel))
+    (base64_text (expected rules client)) full right.extra left.0 right.middle parts in
     let none : NoneMisplaced text client.bare final.without → AreNone left.0 right.extra right.middle = λ apart.
     are_none text client.bare final.without first.nonce (base64_text first.salt) names.count.0
-    (base64_text (codes "n,,")) full (base64_text stored.salt) (decimal stored.count)
-    (base64_text (header_text client.header)) left.0 right.extra right.middle _ _ left.1 right.bare right.rest apart
+    (base64_text (cbind_input channel)) full (base64_text stored.salt) (decimal stored.count)
+    (base64_text (expected rules client)) left.0 right.extra right.middle _ _ left.1 right.bare right.rest apart
     (ap (λ (z : List (List ℕ)). drop 2 z) parts) in
     let only : IsPlain client.bare ⊎ NoneMisplaced text client.bare final.without → right.extra ≡ [] = λ either.
     plain_or_none client.bare _ _ right.extra left.0 right.middle right.bare
     (NoneMisplaced text client.bare final.without) none either in
+    let binding = λ (bytes : HoldsChannelBytes channel) (apart : NoneMisplaced text client.bare final.without).
+    same_binding channel rules client bytes theirs.names.binding.0 (fields.binding (none apart).1 (none apart).0) in
     record {
-      header = λ apart. same_header client.header (fields.binding (none apart).1 (none apart).0);
+      header = λ bytes apart. (binding bytes apart).0;
+      channel = λ bytes apart. (binding bytes apart).1;
       user = one_escaped name client.user fields.user;
       nonce = fields.nonce;
       full_nonce = λ either. fields.full (only either);
@@ -292,9 +318,9 @@ same_login name own text first version client its stored final holds ours theirs
 
 -- where the client-first message was plain: one nonce of both sides, salt and count, and one header where the
 -- server-first message had three parts
-pub record SameValues (name own text : List ℕ) (first : ServerFirst) (client : ClientFirst) (its : List ℕ)
+pub record SameValues (channel : ClientChannel) (name own text : List ℕ) (first : ServerFirst) (client : ClientFirst) (its : List ℕ)
     (stored : Record) : Type 0 where
-  pub header : IsPlain client.bare → InParts 3 text → NotSupported ≡ client.header
+  pub header : HoldsChannelBytes channel → IsPlain client.bare → InParts 3 text → flag_of channel ≡ client.header
   pub user : name ≡ client.user
   pub nonce : own ≡ client.nonce
   pub full_nonce : IsPlain client.bare → first.nonce ≡ (challenge_of client its stored).nonce
@@ -304,16 +330,18 @@ pub record SameValues (name own text : List ℕ) (first : ServerFirst) (client :
   pub not_four : ¬ InParts 4 client.bare
 
 -- the law over frames cites it
-pub same_values : (name own text : List ℕ) (first : ServerFirst) (version : ScramVersion) (client : ClientFirst)
-    (its : List ℕ) (stored : Record) (final : ClientFinal) → HoldsBytes (client.user, stored)
-    → ClientHas own text first → ServerHas version client its stored final
-    → auth_message (client_first_bare name own) text (without_proof first.nonce)
+pub same_values : (channel : ClientChannel) (rules : ServerRules) (name own text : List ℕ) (first : ServerFirst)
+    (version : ScramVersion) (client : ClientFirst) (its : List ℕ) (stored : Record) (final : ClientFinal)
+    → HoldsBytes (client.user, stored)
+    → ClientHas own text first → ServerHas version rules client its stored final
+    → auth_message (client_first_bare name own) text (without_proof_with channel first.nonce)
     ≡ auth_message client.bare (challenge_of client its stored).first final.without
-    → SameValues name own text first client its stored
-same_values name own text first version client its stored final holds ours theirs same =
-    let login = same_login name own text first version client its stored final holds ours theirs same in
+    → SameValues channel name own text first client its stored
+same_values channel rules name own text first version client its stored final holds ours theirs same =
+    let login = same_login channel rules name own text first version client its stored final holds ours theirs
+    same in
     record {
-      header = λ plain three. login.header (inl (none_in_three text three.0 three.1 three.2));
+      header = λ bytes plain three. login.header bytes (inl (none_after_all 3 text three.0 three.1 three.2));
       user = login.user;
       nonce = login.nonce;
       full_nonce = λ plain. login.full_nonce (inl plain);
@@ -365,31 +393,32 @@ client_has side own text client = record {
 }
 
 server_has : (provider : Provider) (its init response : List ℕ) (server : ServerKnows provider its init response)
-    → ServerHas provider.version server.client (base64_text its) server.stored server.final
+    → ServerHas provider.version provider.rules server.client (base64_text its) server.stored server.final
 server_has provider its init response server =
     let challenge = challenge_known server in
     record {
-      cbind_flag_y = provider.cbind_flag_y;
       init = init;
       response = response;
       plain = no_comma-base64_text its;
-      first = names_client_first provider.cbind_flag_y init server.client server.reads_init;
-      names = names_client_final (server_against provider.version challenge server.stored) response server.final server.reads;
+      first = names_client_first provider.rules init server.client server.reads_init;
+      names = names_client_final (server_against provider.version provider.rules challenge server.stored) response server.final
+          server.reads;
     }
 
 -- where the AuthMessages are equal, both sides agree
-agree : (side : ClientSide) (provider : Provider) (own text its init response : List ℕ)
+pub agree : (side : ClientSide) (provider : Provider) (own text its init response : List ℕ)
     (client : ClientKnows side own text) (server : ServerKnows provider its init response)
     → HoldsBytes (server.client.user, server.stored)
     → (keys_known client).version ≡ provider.version → client_auth_message client ≡ server_auth_message server
     → TextsAgree client server
 agree side provider own text its init response client server holds version same =
-    let values = same_login side.user (base64_text own) text client.first provider.version server.client
-    (base64_text its) server.stored server.final holds (client_has side own text client)
+    let values = same_login side.channel provider.rules side.user (base64_text own) text client.first provider.version
+    server.client (base64_text its) server.stored server.final holds (client_has side own text client)
     (server_has provider its init response server) same in
     record {
       version = version;
       header = values.header;
+      channel = values.channel;
       user = values.user;
       nonce = values.nonce;
       full_nonce = values.full_nonce;
@@ -411,37 +440,48 @@ concluded : (provider : Provider) (waiting done : ServerState) (challenge : Serv
     (nonce response last : List ℕ) (stored own : Record) → waiting ≡ ServerFirstSent challenge own
     → provider.records challenge.user ≡ Some own
     → challenge ≡ challenge_of client nonce stored → provider.records client.user ≡ Some stored
-    → ConcludesFrom waiting provider.version response (Ok (Some last)) done
+    → ConcludesFrom waiting provider.version provider.rules response (Ok (Some last)) done
     → let known = challenge_of client nonce stored in
-    AnswersClientFinal (server_against provider.version known stored) response (Ok last)
+    AnswersClientFinal (server_against provider.version provider.rules known stored) response (Ok last)
 concluded provider waiting done challenge client nonce response last stored own is has same known from =
     let user : challenge.user ≡ client.user = ap (λ (x : ServerChallenge). x.user) same in
     let one : own ≡ stored = same_Some own stored (sym has ∙ (ap provider.records user ∙ known)) in
-    (subst (λ (state : ServerState). ConcludesFrom state provider.version response (Ok (Some last)) done)
+    (subst (λ (state : ServerState). ConcludesFrom state provider.version provider.rules response (Ok (Some last)) done)
     (is ∙ (λ i. ServerFirstSent (same i) (one i))) from).0
+
+-- what a server knows that accepted, and that its message is that of its answer
+pub server_knows : (provider : Provider) (its init response verifier : List ℕ)
+    → AcceptedTexts provider its init response verifier
+    → (server : ServerKnows provider its init response) × (verifier ≡ server_final_of
+    (server_against provider.version provider.rules (challenge_known server) server.stored) server.final)
+server_knows provider its init response verifier accepted =
+    let opened = accepted.challenges.1 in
+    let final = concluded provider accepted.waiting accepted.done accepted.challenges.0 opened.0 (base64_text its)
+    response verifier opened.1 accepted.challenges.3.0 accepted.challenges.3.2 accepted.challenges.3.1 opened.4 opened.3
+    accepted.accepts in (
+      record {
+        client = opened.0;
+        stored = opened.1;
+        final = final.0;
+        reads_init = opened.2;
+        known = opened.3;
+        reads = final.1;
+      },
+      final.2,
+    )
 
 pub verified_texts_agree : VerifiedTextsAgree
 verified_texts_agree side provider own text last its init response verifier verified accepted part =
     let answer = verified.answers.1 in
     let client : ClientKnows side own text = record { first = answer.0; reads = answer.1 } in
-    let opened = accepted.challenges.1 in
-    let final = concluded provider accepted.waiting accepted.done accepted.challenges.0 opened.0 (base64_text its)
-    response verifier opened.1 accepted.challenges.3.0 accepted.challenges.3.2 accepted.challenges.3.1 opened.4 opened.3
-    accepted.accepts in
-    let server : ServerKnows provider its init response = record {
-      client = opened.0;
-      stored = opened.1;
-      final = final.0;
-      reads_init = opened.2;
-      known = opened.3;
-      reads = final.1;
-    } in
+    let known = server_knows provider its init response verifier accepted in
+    let server = known.0 in
     let has = shown side verified.waiting verified.done verified.answers.0
-    (answer_of side.version side.secret (client_first_bare side.user (base64_text own)) text answer.0) last
+    (answer_of side.version side.secret side.channel (client_first_bare side.user (base64_text own)) text answer.0) last
     answer.2 verified.answers.3 verified.verifies in
     let one = one_signature (keys_known client).version provider.version (keys_known client).server_key
     server.stored.server_key (client_auth_message client) (server_auth_message server) last has
-    (subst (Part last 0) final.2 part) in (
+    (subst (Part last 0) known.1 part) in (
       client,
       server,
       λ holds. (

@@ -10,8 +10,8 @@ use Rattle.fe2o3_scram.proofs.lemmas.messages.ServerFirstLemmas.{one_server_firs
 
 -- two readings cost the same
 one_count_read : (client : Client) (text : List ℕ) (first other : ServerFirst)
-    → ReadsServerFirst client.nonce client.secret client.limits text (Ok first)
-    → ReadsServerFirst client.nonce client.secret client.limits text (Ok other)
+    → ReadsServerFirst client text (Ok first)
+    → ReadsServerFirst client text (Ok other)
     → hmac_count client.secret first ≡ hmac_count client.secret other
 one_count_read client text first other reads too =
     let same = one_server_first client text (Ok first) (Ok other) reads too in
@@ -30,7 +30,7 @@ cost_within (Both password keys) first = go (fit keys first)
     go false = (omega (arith), omega (arith))
 
 pub costs_of_answer : {A : Type 0} (client : Client) (text : List ℕ) (result : Result A ScramErrorKind)
-    (first : ServerFirst) (before after : ℕ) → ReadsServerFirst client.nonce client.secret client.limits text (Ok first)
+    (first : ServerFirst) (before after : ℕ) → ReadsServerFirst client text (Ok first)
     → first.count ≤ client.limits.max_iterations → OnOk result (after ≡ before + hmac_count client.secret first)
     → after ≤ before + hmac_count client.secret first → before ≤ after → AnswerCosts client text result before after
 costs_of_answer client text result first before after reads within answered most rises = record {

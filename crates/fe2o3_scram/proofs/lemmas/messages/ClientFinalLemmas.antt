@@ -1,17 +1,17 @@
 -- The reading of a client-final message.
-use Rattle.std.proofs.Common.{◌≡◌, ◌≢◌, ℕ, List, [], ◌∷◌, ◌++◌, length, Result, Ok, Err, refl, sym, ◌∙◌, ap, subst, codes, inl, inr, arith}
+use Rattle.std.proofs.Common.{◌≡◌, ◌≢◌, Bool, false, ℕ, List, [], ◌∷◌, ◌++◌, length, Result, Ok, Err, refl, sym, ◌∙◌, ap, subst, codes, inl, inr, arith}
 use Rattle.std.specs.Str.{IsUtf8}
 use Rattle.std.specs.Prelude.{IfOk, IfErr}
 use Rattle.base64.specs.GeneralPurpose.{IsBytes}
 use Rattle.fe2o3_scram.specs.declared.scram_messages.error.ServerScramErrorKind.{ServerScramErrorKind}
 use Rattle.fe2o3_scram.specs.declared.scram_messages.error.ServerScramErrorKind.TheVariants.{Utf8Error, AuthenticationFailed, OutOfMemory}
-use Rattle.fe2o3_scram.specs.declared.scram_messages.channel_binding_flag.ChannelBindingFlag.{ChannelBindingFlag}
-use Rattle.fe2o3_scram.specs.declared.scram_messages.channel_binding_flag.ChannelBindingFlag.TheVariants.{NotSupported, ClientSupports}
-use Rattle.fe2o3_scram.specs.ClientFirst.{header_text}
+use Rattle.fe2o3_scram.specs.declared.scram_messages.client_channel.ClientChannel.{ClientChannel}
+use Rattle.fe2o3_scram.specs.declared.scram_messages.client_channel.ClientChannel.TheVariants.{Absent, NotOffered, Bound}
+use Rattle.fe2o3_scram.specs.ChannelBinding.{cbind_input, is_bound}
 use Rattle.fe2o3_scram.specs.Texts.{base64_text, IsBase64, Part, LastPart, StartsWith, HasBase64}
 use Rattle.fe2o3_scram.specs.Hmac.{digest_len}
 use Rattle.fe2o3_scram.specs.Readings.{IsFirst, NoneHolds, Gives}
-use Rattle.fe2o3_scram.specs.ClientFinal.{Server, ClientFinal, HasProof, Meets, NamesClientFinal, ReachesBase64, ReadsFinalText, ReadsClientFinal, final_text_tests, proof_tests}
+use Rattle.fe2o3_scram.specs.ClientFinal.{Server, ClientFinal, HasProof, Meets, NamesClientFinal, ReachesBase64, ReachesBinding, ReadsFinalText, ReadsClientFinal, final_text_tests, proof_tests}
 use Rattle.fe2o3_scram.specs.ServerFinal.{AnswersClientFinal, FinalCosts}
 use Rattle.fe2o3_scram.specs.private.Answers.{AnswersProof, IsMet, ProofCosts}
 use Rattle.fe2o3_scram.proofs.lemmas.hashes.DigestLemmas.{IsBytes-nil, IsBytes-cons}
@@ -38,21 +38,40 @@ pub no_binding : (text spelling : List ℕ) → Part text 0 (codes "c=" ++ spell
     → ((binding : List ℕ) → ¬ IsBase64 spelling binding) → (binding : List ℕ) → ¬ HasBase64 text 0 (codes "c=") binding
 no_binding text spelling is none binding has = none binding (binding_spelled text spelling binding is has)
 
--- a header holds bytes
-header_bytes : (header : ChannelBindingFlag) → IsBytes (header_text header)
-header_bytes NotSupported = IsBytes-cons 110 (44 ∷ 44 ∷ []) (omega arith)
+-- a header that binds no channel holds bytes
+unbound_bytes : (channel : ClientChannel) → is_bound channel ≡ false → IsBytes (cbind_input channel)
+unbound_bytes Absent is = IsBytes-cons 110 (44 ∷ 44 ∷ []) (omega arith)
     (IsBytes-cons 44 (44 ∷ []) (omega arith) (IsBytes-cons 44 [] (omega arith) IsBytes-nil))
-header_bytes ClientSupports = IsBytes-cons 121 (44 ∷ 44 ∷ []) (omega arith)
+unbound_bytes NotOffered is = IsBytes-cons 121 (44 ∷ 44 ∷ []) (omega arith)
     (IsBytes-cons 44 (44 ∷ []) (omega arith) (IsBytes-cons 44 [] (omega arith) IsBytes-nil))
+unbound_bytes (Bound binding) is = absurd (cc)
 
-pub this_header : (header : ChannelBindingFlag) (text spelling : List ℕ) → Part text 0 (codes "c=" ++ spelling)
-    → spelling ≡ base64_text (header_text header) → HasBase64 text 0 (codes "c=") (header_text header)
-this_header header text spelling is same =
-    has_binding text spelling (header_text header) is (header_bytes header, same)
+-- a text that spells the expected binding, which holds bytes
+pub this_binding : (channel : ClientChannel) (text spelling : List ℕ) → is_bound channel ≡ false
+    → Part text 0 (codes "c=" ++ spelling) → spelling ≡ base64_text (cbind_input channel)
+    → HasBase64 text 0 (codes "c=") (cbind_input channel)
+this_binding channel text spelling unbound is same =
+    has_binding text spelling (cbind_input channel) is (unbound_bytes channel unbound, same)
 
-pub other_header : (header : ChannelBindingFlag) (text spelling : List ℕ) → Part text 0 (codes "c=" ++ spelling)
-    → spelling ≢ base64_text (header_text header) → ¬ HasBase64 text 0 (codes "c=") (header_text header)
-other_header header text spelling is other has = other (binding_spelled text spelling (header_text header) is has).1
+pub other_spelling : (channel : ClientChannel) (text spelling : List ℕ) → Part text 0 (codes "c=" ++ spelling)
+    → spelling ≢ base64_text (cbind_input channel) → ¬ HasBase64 text 0 (codes "c=") (cbind_input channel)
+other_spelling channel text spelling is other has =
+    other (binding_spelled text spelling (cbind_input channel) is has).1
+
+-- other bytes are not the expected binding
+pub other_bytes : (channel : ClientChannel) (text spelling bytes : List ℕ) → Part text 0 (codes "c=" ++ spelling)
+    → IsBase64 spelling bytes → bytes ≢ cbind_input channel → ¬ HasBase64 text 0 (codes "c=") (cbind_input channel)
+other_bytes channel text spelling bytes is spells other has = other
+    (one_spelled spelling bytes (cbind_input channel) spells (binding_spelled text spelling (cbind_input channel) is has))
+
+-- a text whose binding is decoded reaches an allocation
+pub reaches_binding : (channel : ClientChannel) (text spelling : List ℕ) → Part text 0 (codes "c=" ++ spelling)
+    → (is_bound channel ≡ false → spelling ≢ base64_text (cbind_input channel)) → ReachesBinding channel text
+reaches_binding Absent text spelling is other =
+    ((spelling, is), other_spelling Absent text spelling is (other refl))
+reaches_binding NotOffered text spelling is other =
+    ((spelling, is), other_spelling NotOffered text spelling is (other refl))
+reaches_binding (Bound binding) text spelling is other = (spelling, is)
 
 -- the nonce
 
@@ -104,62 +123,65 @@ one_proof text final other has too =
 
 -- the tests of the text, in their order
 
-pub not_utf8 : (header : ChannelBindingFlag) (nonce text : List ℕ) → ¬ IsUtf8 text → ReadsFinalText header nonce text
+pub not_utf8 : (channel : ClientChannel) (strict : Bool) (nonce text : List ℕ) → ¬ IsUtf8 text
+    → ReadsFinalText channel strict nonce text
     (Err Utf8Error)
 unfolding ReadsFinalText
-not_utf8 header nonce text fails = inl (fails, refl)
+not_utf8 channel strict nonce text fails = inl (fails, refl)
 
-module _ (header : ChannelBindingFlag) (nonce text : List ℕ) (utf8 : IsUtf8 text) where
-  pub binding_refused : (fault : ServerScramErrorKind) → IsFirst (binding_tests header text) fault
-      → ReadsFinalText header nonce text (Err fault)
+module _ (channel : ClientChannel) (strict : Bool) (nonce text : List ℕ) (utf8 : IsUtf8 text) where
+  pub binding_refused : (fault : ServerScramErrorKind) → IsFirst (binding_tests channel text) fault
+      → ReadsFinalText channel strict nonce text (Err fault)
   unfolding ReadsFinalText
   binding_refused fault first = inr (
     λ fails. fails utf8,
-    IsFirst-front (binding_tests header text) (final_nonce_tests nonce text ++ spelling_tests text) fault first,
+    IsFirst-front (binding_tests channel text) (final_nonce_tests nonce text ++ spelling_tests strict text) fault first,
   )
 
-  pub nonce_refused : (fault : ServerScramErrorKind) → NoneHolds (binding_tests header text)
-      → IsFirst (final_nonce_tests nonce text) fault → ReadsFinalText header nonce text (Err fault)
+  pub nonce_refused : (fault : ServerScramErrorKind) → NoneHolds (binding_tests channel text)
+      → IsFirst (final_nonce_tests nonce text) fault → ReadsFinalText channel strict nonce text (Err fault)
   unfolding ReadsFinalText
   nonce_refused fault binding first = inr (
     λ fails. fails utf8,
-    IsFirst-back (binding_tests header text) (final_nonce_tests nonce text ++ spelling_tests text) fault binding
-        (IsFirst-front (final_nonce_tests nonce text) (spelling_tests text) fault first),
+    IsFirst-back (binding_tests channel text) (final_nonce_tests nonce text ++ spelling_tests strict text) fault binding
+        (IsFirst-front (final_nonce_tests nonce text) (spelling_tests strict text) fault first),
   )
 
-  pub spelling_refused : (fault : ServerScramErrorKind) → NoneHolds (binding_tests header text)
-      → NoneHolds (final_nonce_tests nonce text) → IsFirst (spelling_tests text) fault → ReadsFinalText header nonce text
+  pub spelling_refused : (fault : ServerScramErrorKind) → NoneHolds (binding_tests channel text)
+      → NoneHolds (final_nonce_tests nonce text) → IsFirst (spelling_tests strict text) fault
+      → ReadsFinalText channel strict nonce text
       (Err fault)
   unfolding ReadsFinalText
   spelling_refused fault binding tested first = inr (
     λ fails. fails utf8,
-    IsFirst-back (binding_tests header text) (final_nonce_tests nonce text ++ spelling_tests text) fault binding
-        (IsFirst-back (final_nonce_tests nonce text) (spelling_tests text) fault tested first),
+    IsFirst-back (binding_tests channel text) (final_nonce_tests nonce text ++ spelling_tests strict text) fault binding
+        (IsFirst-back (final_nonce_tests nonce text) (spelling_tests strict text) fault tested first),
   )
 
-  pub text_read : (final : ClientFinal) → NoneHolds (binding_tests header text) → NoneHolds (final_nonce_tests nonce text)
-      → NoneHolds (spelling_tests text) → NamesClientFinal header nonce text final → ReadsFinalText header nonce text
+  pub text_read : (final : ClientFinal) → NoneHolds (binding_tests channel text) → NoneHolds (final_nonce_tests nonce text)
+      → NoneHolds (spelling_tests strict text) → NamesClientFinal channel nonce text final
+      → ReadsFinalText channel strict nonce text
       (Ok final)
   unfolding ReadsFinalText
   text_read final binding tested spelling names = (
     (
       λ fails. fails utf8,
-      NoneHolds-append (binding_tests header text) (final_nonce_tests nonce text ++ spelling_tests text) binding
-          (NoneHolds-append (final_nonce_tests nonce text) (spelling_tests text) tested spelling),
+      NoneHolds-append (binding_tests channel text) (final_nonce_tests nonce text ++ spelling_tests strict text) binding
+          (NoneHolds-append (final_nonce_tests nonce text) (spelling_tests strict text) tested spelling),
     ),
     names,
   )
 
   -- what is read of the proof is what is read of the text, where the tests before it have passed
   pub text_answered : {A : Type 0} (view : A → ClientFinal) (result : Result A ServerScramErrorKind)
-      → NoneHolds (binding_tests header text) → NoneHolds (final_nonce_tests nonce text) → HasBase64 text 0 (codes "c=")
-      (header_text header)
-      → Part text 1 (codes "r=" ++ nonce) → IfOk result (λ _. NoneHolds (spelling_tests text))
+      → NoneHolds (binding_tests channel text) → NoneHolds (final_nonce_tests nonce text) → HasBase64 text 0 (codes "c=")
+      (cbind_input channel)
+      → Part text 1 (codes "r=" ++ nonce) → IfOk result (λ _. NoneHolds (spelling_tests strict text))
       → IfOk result (λ final. HasProof text (view final))
       → IfErr result (λ kind. kind ≡ OutOfMemory
       → (before : List ℕ) × (rest : List ℕ) × LastPart text before (codes "p=" ++ rest))
-      → IfErr result (λ kind. kind ≢ OutOfMemory → IsFirst (spelling_tests text) kind)
-      → Gives OutOfMemory (ReachesBase64 header nonce text) view result (ReadsFinalText header nonce text)
+      → IfErr result (λ kind. kind ≢ OutOfMemory → IsFirst (spelling_tests strict text) kind)
+      → Gives OutOfMemory (ReachesBase64 channel nonce text) view result (ReadsFinalText channel strict nonce text)
   text_answered view (Ok final) binding tested bound same spelling has reaches refused =
       text_read (view final) binding tested spelling (record { binding = bound; nonce = same; proof = has })
   text_answered view (Err fault) binding tested bound same spelling has reaches refused = (
@@ -168,7 +190,7 @@ module _ (header : ChannelBindingFlag) (nonce text : List ℕ) (utf8 : IsUtf8 te
       inr (
         (
           λ fails. fails utf8,
-          NoneHolds-append (binding_tests header text) (final_nonce_tests nonce text)
+          NoneHolds-append (binding_tests channel text) (final_nonce_tests nonce text)
               binding tested,
         ),
         reaches memory,
@@ -179,25 +201,27 @@ module _ (header : ChannelBindingFlag) (nonce text : List ℕ) (utf8 : IsUtf8 te
 
 -- the texts of a message that was read
 
-pub names_final_text : (header : ChannelBindingFlag) (nonce text : List ℕ) (final : ClientFinal)
-    → ReadsFinalText header nonce text (Ok final)
-    → NamesClientFinal header nonce text final
+pub names_final_text : (channel : ClientChannel) (strict : Bool) (nonce text : List ℕ) (final : ClientFinal)
+    → ReadsFinalText channel strict nonce text (Ok final)
+    → NamesClientFinal channel nonce text final
 unfolding ReadsFinalText
-names_final_text header nonce text final reads = reads.1
+names_final_text channel strict nonce text final reads = reads.1
 
-pub one_final_text : (header : ChannelBindingFlag) (nonce text : List ℕ) (answer other : Result ClientFinal ServerScramErrorKind)
-    → ReadsFinalText header nonce text answer → ReadsFinalText header nonce text other → answer ≡ other
+pub one_final_text : (channel : ClientChannel) (strict : Bool) (nonce text : List ℕ)
+    (answer other : Result ClientFinal ServerScramErrorKind)
+    → ReadsFinalText channel strict nonce text answer → ReadsFinalText channel strict nonce text other → answer ≡ other
 unfolding ReadsFinalText
-one_final_text header nonce text answer other reads too =
-    one_reading (final_text_tests header nonce text) (NamesClientFinal header nonce text)
+one_final_text channel strict nonce text answer other reads too =
+    one_reading (final_text_tests channel strict nonce text) (NamesClientFinal channel nonce text)
     (λ final another names them. one_proof text final another names.proof them.proof) answer other reads too
 
 -- a reader of a message has reached its proof
-proof_reached : (header : ChannelBindingFlag) (nonce text : List ℕ) (final : ClientFinal) → ReadsFinalText header nonce text
+proof_reached : (channel : ClientChannel) (strict : Bool) (nonce text : List ℕ) (final : ClientFinal)
+    → ReadsFinalText channel strict nonce text
     (Ok final)
-    → ReachesBase64 header nonce text
+    → ReachesBase64 channel nonce text
 unfolding ReadsFinalText
-proof_reached header nonce text final reads =
+proof_reached channel strict nonce text final reads =
     let binding = reads.0.1 in
     let tested = binding.1.1.1 in (
       held (utf8_or text) reads.0.0,
@@ -208,10 +232,10 @@ proof_reached header nonce text final reads =
     )
 
 -- no test of the text has the fault of a proof
-not_the_proof : (header : ChannelBindingFlag) (nonce text : List ℕ) → ¬ ReadsFinalText header nonce text
+not_the_proof : (channel : ClientChannel) (strict : Bool) (nonce text : List ℕ) → ¬ ReadsFinalText channel strict nonce text
     (Err AuthenticationFailed)
 unfolding ReadsFinalText
-not_the_proof header nonce text = not_first (final_text_tests header nonce text) AuthenticationFailed (
+not_the_proof channel strict nonce text = not_first (final_text_tests channel strict nonce text) AuthenticationFailed (
   λ wrong. absurd (cc),
   (
     λ wrong. absurd (cc),
@@ -219,7 +243,10 @@ not_the_proof header nonce text = not_first (final_text_tests header nonce text)
       λ wrong. absurd (cc),
       (
         λ wrong. absurd (cc),
-        (λ wrong. absurd (cc), (λ wrong. absurd (cc), (λ wrong. absurd (cc), (λ wrong. absurd (cc), tt)))),
+        (
+          λ wrong. absurd (cc),
+          (λ wrong. absurd (cc), (λ wrong. absurd (cc), (λ wrong. absurd (cc), (λ wrong. absurd (cc), tt)))),
+        ),
       ),
     ),
   ),
@@ -227,10 +254,10 @@ not_the_proof header nonce text = not_first (final_text_tests header nonce text)
 
 -- a text that is rejected costs nothing
 pub text_costs_nothing : (A : Type 0) (server : Server) (text : List ℕ) (fault : ServerScramErrorKind) (count : ℕ)
-    → (fault ≢ OutOfMemory → ReadsFinalText server.header server.nonce text (Err fault))
+    → (fault ≢ OutOfMemory → ReadsFinalText server.channel server.strict server.nonce text (Err fault))
     → FinalCosts {A = A} server text (Err fault) count count
 text_costs_nothing A server text AuthenticationFailed count refused =
-    absurd (not_the_proof server.header server.nonce text (refused
+    absurd (not_the_proof server.channel server.strict server.nonce text (refused
     (λ same. let wrong : AuthenticationFailed ≡ OutOfMemory = same in
     absurd (cc))))
 text_costs_nothing A server text OutOfMemory count refused = (omega arith, omega arith, λ _ _. refl)
@@ -240,27 +267,27 @@ text_costs_nothing A server text fault count refused = refl
 
 -- what a message names that is accepted
 pub record NamesAcceptedFinal (server : Server) (text : List ℕ) (final : ClientFinal) : Type 0 where
-  pub binding : HasBase64 text 0 (codes "c=") (header_text server.header)
+  pub binding : HasBase64 text 0 (codes "c=") (cbind_input server.channel)
   pub nonce : Part text 1 (codes "r=" ++ server.nonce)
   pub proof : HasProof text final
   pub sized : length final.proof ≡ digest_len server.version
   pub meets : Meets server final
 
 module _ (server : Server) (text : List ℕ) where
-  pub text_refused : (fault : ServerScramErrorKind) → ReadsFinalText server.header server.nonce text (Err fault)
+  pub text_refused : (fault : ServerScramErrorKind) → ReadsFinalText server.channel server.strict server.nonce text (Err fault)
       → ReadsClientFinal server text (Err fault)
   unfolding ReadsClientFinal
   text_refused fault refused = inl refused
 
   -- what the server makes of the proof is its answer to the message
   pub proof_answered : {A : Type 0} (view : A → List ℕ) (final : ClientFinal) (result : Result A ServerScramErrorKind)
-      → ReadsFinalText server.header server.nonce text (Ok final)
+      → ReadsFinalText server.channel server.strict server.nonce text (Ok final)
       → Gives OutOfMemory (IsMet server final) view result (AnswersProof server final)
-      → Gives OutOfMemory (ReachesBase64 server.header server.nonce text) view result (AnswersClientFinal server text)
+      → Gives OutOfMemory (ReachesBase64 server.channel server.nonce text) view result (AnswersClientFinal server text)
   unfolding ReadsClientFinal
   proof_answered view final (Ok message) reads answers = (final, (reads, answers.0, answers.1), answers.2)
   proof_answered view final (Err fault) reads answers = (
-    λ memory. proof_reached server.header server.nonce text final reads,
+    λ memory. proof_reached server.channel server.strict server.nonce text final reads,
     λ other. inr (final, reads, answers.1 other),
   )
 
@@ -268,7 +295,7 @@ module _ (server : Server) (text : List ℕ) where
       → NamesAcceptedFinal server text final
   unfolding ReadsClientFinal
   names_client_final final reads =
-      let names = names_final_text server.header server.nonce text final reads.0 in
+      let names = names_final_text server.channel server.strict server.nonce text final reads.0 in
       record {
         binding = names.binding;
         nonce = names.nonce;
@@ -279,10 +306,10 @@ module _ (server : Server) (text : List ℕ) where
 
   -- of one text no proof is both accepted and rejected
   one_verdict : (final other : ClientFinal) (fault : ServerScramErrorKind) → ReadsClientFinal server text (Ok final)
-      → ReadsFinalText server.header server.nonce text (Ok other) → IsFirst (proof_tests server other) fault → ⊥
+      → ReadsFinalText server.channel server.strict server.nonce text (Ok other) → IsFirst (proof_tests server other) fault → ⊥
   unfolding ReadsClientFinal
   one_verdict final other fault reads too first =
-      let both = one_final_text server.header server.nonce text (Ok final) (Ok other) reads.0 too in
+      let both = one_final_text server.channel server.strict server.nonce text (Ok final) (Ok other) reads.0 too in
       let same : final ≡ other = cc in
       first_or_none (proof_tests server final) fault
       (subst (λ (read : ClientFinal). IsFirst (proof_tests server read) fault) (sym same) first)
@@ -292,30 +319,30 @@ module _ (server : Server) (text : List ℕ) where
       → ReadsClientFinal server text other → answer ≡ other
   unfolding ReadsClientFinal
   one_client_final (Ok final) (Ok other) reads too =
-      one_final_text server.header server.nonce text (Ok final) (Ok other) reads.0 too.0
+      one_final_text server.channel server.strict server.nonce text (Ok final) (Ok other) reads.0 too.0
   one_client_final (Ok final) (Err fault) reads (inl refused) =
-      one_final_text server.header server.nonce text (Ok final) (Err fault) reads.0 refused
+      one_final_text server.channel server.strict server.nonce text (Ok final) (Err fault) reads.0 refused
   one_client_final (Ok final) (Err fault) reads (inr (other, too, first)) =
       absurd (one_verdict final other fault reads too first)
   one_client_final (Err fault) (Ok final) (inl refused) reads =
-      one_final_text server.header server.nonce text (Err fault) (Ok final) refused reads.0
+      one_final_text server.channel server.strict server.nonce text (Err fault) (Ok final) refused reads.0
   one_client_final (Err fault) (Ok final) (inr (other, too, first)) reads =
       absurd (one_verdict final other fault reads too first)
   one_client_final (Err fault) (Err other) (inl refused) (inl too) =
-      one_final_text server.header server.nonce text (Err fault) (Err other) refused too
+      one_final_text server.channel server.strict server.nonce text (Err fault) (Err other) refused too
   one_client_final (Err fault) (Err other) (inl refused) (inr (final, reads, first)) =
-      let both = one_final_text server.header server.nonce text (Err fault) (Ok final) refused reads in absurd (cc)
+      let both = one_final_text server.channel server.strict server.nonce text (Err fault) (Ok final) refused reads in absurd (cc)
   one_client_final (Err fault) (Err other) (inr (final, reads, first)) (inl refused) =
-      let both = one_final_text server.header server.nonce text (Err other) (Ok final) refused reads in absurd (cc)
+      let both = one_final_text server.channel server.strict server.nonce text (Err other) (Ok final) refused reads in absurd (cc)
   one_client_final (Err fault) (Err other) (inr (final, reads, first)) (inr (another, too, second)) =
-      let both = one_final_text server.header server.nonce text (Ok final) (Ok another) reads too in
+      let both = one_final_text server.channel server.strict server.nonce text (Ok final) (Ok another) reads too in
       let same : final ≡ another = cc in
       ap Err (one_first (proof_tests server another) fault other
       (subst (λ (read : ClientFinal). IsFirst (proof_tests server read) fault) same first) second)
 
   -- what the proof costs, the message does
   pub proof_costs : {A : Type 0} (view : A → List ℕ) (final : ClientFinal) (result : Result A ServerScramErrorKind)
-      (before after : ℕ) → ReadsFinalText server.header server.nonce text (Ok final)
+      (before after : ℕ) → ReadsFinalText server.channel server.strict server.nonce text (Ok final)
       → Gives OutOfMemory (IsMet server final) view result (AnswersProof server final)
       → ProofCosts result before after → FinalCosts server text result before after
   unfolding ReadsClientFinal

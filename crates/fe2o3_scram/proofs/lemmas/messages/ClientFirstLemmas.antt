@@ -1,51 +1,47 @@
 -- The reading of a client-first message.
-use Rattle.std.proofs.Common.{◌≡◌, Bool, arith, ap, get_or, ◌≢◌, ◌⊎◌, ℕ, List, ◌++◌, Result, Ok, Err, refl, sym, ◌∙◌, subst, codes, inl, inr}
+use Rattle.std.proofs.Common.{◌≡◌, arith, ap, get_or, ◌≢◌, ◌⊎◌, ℕ, List, ◌++◌, Result, Ok, Err, refl, sym, ◌∙◌, subst, codes, inl, inr}
 use Rattle.std.specs.Str.{IsUtf8}
 use Rattle.fe2o3_scram.specs.declared.scram_messages.error.ServerScramErrorKind.{ServerScramErrorKind}
-use Rattle.fe2o3_scram.specs.declared.scram_messages.error.ServerScramErrorKind.TheVariants.{Utf8Error, CannotParseGs2Header, CannotParseUsername, CannotParseClientNonce}
+use Rattle.fe2o3_scram.specs.declared.scram_messages.error.ServerScramErrorKind.TheVariants.{Utf8Error, CannotParseGs2Header, CannotParseUsername, CannotParseClientNonce, MisplacedAttribute}
+use Rattle.fe2o3_scram.specs.declared.scram_messages.server_rules.ServerRules.{ServerRules}
+use Rattle.std.specs.Prelude.{T}
+use Rattle.fe2o3_scram.specs.Extensions.{HasAttributeFrom}
 use Rattle.fe2o3_scram.specs.declared.scram_messages.channel_binding_flag.ChannelBindingFlag.{ChannelBindingFlag}
-use Rattle.fe2o3_scram.specs.declared.scram_messages.channel_binding_flag.ChannelBindingFlag.TheVariants.{NotSupported, ClientSupports}
-use Rattle.fe2o3_scram.specs.ClientFirst.{HasEscapes, ClientFirst, BarePart, NamesClientFirst, ReadsClientFirst, TakesHeader, client_first_tests, header_text}
+use Rattle.fe2o3_scram.specs.ClientFirst.{HasEscapes, HasMisplacedAfterNonce, ClientFirst, BarePart, NamesClientFirst, ReadsClientFirst, client_first_tests}
+use Rattle.fe2o3_scram.specs.ChannelBinding.{TakesHeader, header_text, is_strict}
 use Rattle.fe2o3_scram.specs.declared.scram_messages.escape.UnescapeError.{UnescapeError}
 use Rattle.fe2o3_scram.specs.declared.scram_messages.escape.UnescapeError.TheVariants.{Invalid, OutOfMemory as UnescapeOutOfMemory}
 use Rattle.fe2o3_scram.specs.Escape.{NoEquals, escaped}
 use Rattle.fe2o3_scram.specs.Texts.{Part, StartsWith}
 use Rattle.fe2o3_scram.proofs.lemmas.texts.EscapingLemmas.{one_escaped}
 use Rattle.fe2o3_scram.proofs.lemmas.texts.PartsLemmas.{one_behind}
+use Rattle.fe2o3_scram.proofs.lemmas.messages.HeaderLemmas.{one_header}
 use Rattle.fe2o3_scram.proofs.lemmas.messages.TestListLemmas.{one_reading}
 
--- a message has one header, and one text after it
-apart : (bare other : List ℕ) → codes "n,," ++ bare ≡ codes "y,," ++ other → ⊥
-apart bare other same = let letter : ◌≡◌ {A = ℕ} 110 121 = ap (λ (text : List ℕ). get_or text 0 0) same in
-    omega (arith, letter)
-
-pub one_header : (header own : ChannelBindingFlag) (text bare other : List ℕ) → text ≡ header_text header ++ bare
-    → text ≡ header_text own ++ other → (header ≡ own) × (bare ≡ other)
-one_header NotSupported NotSupported text bare other is too =
-    let both : codes "n,," ++ bare ≡ codes "n,," ++ other = sym is ∙ too in (refl, cc)
-one_header ClientSupports ClientSupports text bare other is too =
-    let both : codes "y,," ++ bare ≡ codes "y,," ++ other = sym is ∙ too in (refl, cc)
-one_header NotSupported ClientSupports text bare other is too = absurd (apart bare other (sym is ∙ too))
-one_header ClientSupports NotSupported text bare other is too = absurd (apart other bare (sym too ∙ is))
-
-part_of_bare : (cbind_flag_y : Bool) (header : ChannelBindingFlag) (text bare part : List ℕ) (k : ℕ)
-    → text ≡ header_text header ++ bare → BarePart cbind_flag_y text k part → Part bare k part
-part_of_bare cbind_flag_y header text bare part k is has = subst (λ (behind : List ℕ). Part behind k part)
+part_of_bare : (rules : ServerRules) (header : ChannelBindingFlag) (text bare part : List ℕ) (k : ℕ)
+    → text ≡ header_text header ++ bare → BarePart rules text k part → Part bare k part
+part_of_bare rules header text bare part k is has = subst (λ (behind : List ℕ). Part behind k part)
     (one_header has.0 header text has.1 bare has.3 is).1 has.4
 
-pub not_utf8 : (cbind_flag_y : Bool) (text : List ℕ) → ¬ IsUtf8 text → ReadsClientFirst cbind_flag_y text (Err Utf8Error)
-unfolding ReadsClientFirst
-not_utf8 cbind_flag_y text fails = inl (fails, refl)
+-- an attribute after the nonce is one of the text after the header
+pub after_nonce : (rules : ServerRules) (header : ChannelBindingFlag) (text bare : List ℕ)
+    → text ≡ header_text header ++ bare → HasMisplacedAfterNonce rules text → HasAttributeFrom 2 bare
+after_nonce rules header text bare is has = subst (λ (behind : List ℕ). HasAttributeFrom 2 behind)
+    (one_header has.0 header text has.1 bare has.3 is).1 has.4
 
-pub no_header : (cbind_flag_y : Bool) (text : List ℕ) → IsUtf8 text
-    → ((header : ChannelBindingFlag) → TakesHeader cbind_flag_y header → ¬ StartsWith text (header_text header))
-    → ReadsClientFirst cbind_flag_y text (Err CannotParseGs2Header)
+pub not_utf8 : (rules : ServerRules) (text : List ℕ) → ¬ IsUtf8 text → ReadsClientFirst rules text (Err Utf8Error)
 unfolding ReadsClientFirst
-no_header cbind_flag_y text utf8 none = inr (λ fails. fails utf8, inl (none, refl))
+not_utf8 rules text fails = inl (fails, refl)
 
-module _ (cbind_flag_y : Bool) (header : ChannelBindingFlag) (text bare : List ℕ) (utf8 : IsUtf8 text)
-    (takes : TakesHeader cbind_flag_y header) (is : text ≡ header_text header ++ bare) where
-  pub no_name : ((rest : List ℕ) → ¬ Part bare 0 (codes "n=" ++ rest)) → ReadsClientFirst cbind_flag_y text
+pub no_header : (rules : ServerRules) (text : List ℕ) → IsUtf8 text
+    → ((header : ChannelBindingFlag) → TakesHeader rules header → ¬ StartsWith text (header_text header))
+    → ReadsClientFirst rules text (Err CannotParseGs2Header)
+unfolding ReadsClientFirst
+no_header rules text utf8 none = inr (λ fails. fails utf8, inl (none, refl))
+
+module _ (rules : ServerRules) (header : ChannelBindingFlag) (text bare : List ℕ) (utf8 : IsUtf8 text)
+    (takes : TakesHeader rules header) (is : text ≡ header_text header ++ bare) where
+  pub no_name : ((rest : List ℕ) → ¬ Part bare 0 (codes "n=" ++ rest)) → ReadsClientFirst rules text
       (Err CannotParseUsername)
   unfolding ReadsClientFirst
   no_name none = inr (
@@ -53,7 +49,7 @@ module _ (cbind_flag_y : Bool) (header : ChannelBindingFlag) (text bare : List �
     inr (
       λ absent. absent header takes (bare, is),
       inl (
-        λ user has. none (escaped user) (part_of_bare cbind_flag_y header text bare
+        λ user has. none (escaped user) (part_of_bare rules header text bare
             (codes "n=" ++ escaped user) 0 is has),
         refl,
       ),
@@ -61,7 +57,7 @@ module _ (cbind_flag_y : Bool) (header : ChannelBindingFlag) (text bare : List �
   )
 
   pub bad_name : (spelling : List ℕ) → Part bare 0 (codes "n=" ++ spelling)
-      → ((name : List ℕ) → escaped name ≢ spelling) → ReadsClientFirst cbind_flag_y text (Err CannotParseUsername)
+      → ((name : List ℕ) → escaped name ≢ spelling) → ReadsClientFirst rules text (Err CannotParseUsername)
   unfolding ReadsClientFirst
   bad_name spelling part bad = inr (
     λ fails. fails utf8,
@@ -69,7 +65,7 @@ module _ (cbind_flag_y : Bool) (header : ChannelBindingFlag) (text bare : List �
       λ absent. absent header takes (bare, is),
       inl (
         λ user has. bad user (one_behind bare 0 (codes "n=") (escaped user) spelling
-            (part_of_bare cbind_flag_y header text bare (codes "n=" ++ escaped user) 0 is has) part),
+            (part_of_bare rules header text bare (codes "n=" ++ escaped user) 0 is has) part),
         refl,
       ),
     ),
@@ -81,7 +77,7 @@ module _ (cbind_flag_y : Bool) (header : ChannelBindingFlag) (text bare : List �
   user_part spelling user part spells = subst (λ (spelt : List ℕ). Part bare 0 (codes "n=" ++ spelt)) (sym spells) part
 
   pub has_escapes : (spelling user : List ℕ) → Part bare 0 (codes "n=" ++ spelling) → escaped user ≡ spelling
-      → ¬ NoEquals spelling → HasEscapes cbind_flag_y text
+      → ¬ NoEquals spelling → HasEscapes rules text
   has_escapes spelling user part spells some = (
     utf8,
     (
@@ -92,7 +88,7 @@ module _ (cbind_flag_y : Bool) (header : ChannelBindingFlag) (text bare : List �
   )
 
   pub no_nonce : (spelling user : List ℕ) → Part bare 0 (codes "n=" ++ spelling) → escaped user ≡ spelling
-      → ((rest : List ℕ) → ¬ Part bare 1 (codes "r=" ++ rest)) → ReadsClientFirst cbind_flag_y text
+      → ((rest : List ℕ) → ¬ Part bare 1 (codes "r=" ++ rest)) → ReadsClientFirst rules text
       (Err CannotParseClientNonce)
   unfolding ReadsClientFirst
   no_nonce spelling user part spells none =
@@ -102,16 +98,16 @@ module _ (cbind_flag_y : Bool) (header : ChannelBindingFlag) (text bare : List �
           λ absent. absent header takes (bare, is),
           inr (
             λ mock. mock user (header, bare, takes, is, user_part spelling user part spells),
-            inl (λ nonce has. none nonce (part_of_bare cbind_flag_y header text bare (codes "r=" ++ nonce) 1 is has), refl),
+            inl (λ nonce has. none nonce (part_of_bare rules header text bare (codes "r=" ++ nonce) 1 is has), refl),
           ),
         ),
       )
 
   pub named : (spelling user nonce : List ℕ) → Part bare 0 (codes "n=" ++ spelling) → escaped user ≡ spelling
-      → Part bare 1 (codes "r=" ++ nonce) → ReadsClientFirst cbind_flag_y text
-      (Ok (record { header = header; user = user; nonce = nonce; bare = bare }))
+      → Part bare 1 (codes "r=" ++ nonce) → ¬ (T (is_strict rules) × HasAttributeFrom 2 bare)
+      → ReadsClientFirst rules text (Ok (record { header = header; user = user; nonce = nonce; bare = bare }))
   unfolding ReadsClientFirst
-  named spelling user nonce first spells has =
+  named spelling user nonce first spells has placed =
       let part = user_part spelling user first spells in (
         (
           λ fails. fails utf8,
@@ -119,19 +115,42 @@ module _ (cbind_flag_y : Bool) (header : ChannelBindingFlag) (text bare : List �
             λ absent. absent header takes (bare, is),
             (
               λ mock. mock user (header, bare, takes, is, part),
-              (λ none. none nonce (header, bare, takes, is, has), tt),
+              (
+                λ none. none nonce (header, bare, takes, is, has),
+                (λ wrong. placed (wrong.0, after_nonce rules header text bare is wrong.1), tt),
+              ),
             ),
           ),
         ),
         record { header = takes; bare = is; user = part; nonce = has },
       )
 
+  pub misplaced : (spelling user nonce : List ℕ) → Part bare 0 (codes "n=" ++ spelling) → escaped user ≡ spelling
+      → Part bare 1 (codes "r=" ++ nonce) → T (is_strict rules) → HasAttributeFrom 2 bare
+      → ReadsClientFirst rules text (Err MisplacedAttribute)
+  unfolding ReadsClientFirst
+  misplaced spelling user nonce first spells has strict attribute =
+      let part = user_part spelling user first spells in
+      inr (
+        λ fails. fails utf8,
+        inr (
+          λ absent. absent header takes (bare, is),
+          inr (
+            λ mock. mock user (header, bare, takes, is, part),
+            inr (
+              λ none. none nonce (header, bare, takes, is, has),
+              inl ((strict, (header, bare, takes, is, attribute)), refl),
+            ),
+          ),
+        ),
+      )
+
 abbrev made : ChannelBindingFlag → List ℕ → List ℕ → List ℕ → ClientFirst
 made header user nonce bare = record { header = header; user = user; nonce = nonce; bare = bare }
 
-one_values : (cbind_flag_y : Bool) (text : List ℕ) (first other : ClientFirst) → NamesClientFirst cbind_flag_y text first
-    → NamesClientFirst cbind_flag_y text other → first ≡ other
-one_values cbind_flag_y text first other names too =
+one_values : (rules : ServerRules) (text : List ℕ) (first other : ClientFirst) → NamesClientFirst rules text first
+    → NamesClientFirst rules text other → first ≡ other
+one_values rules text first other names too =
     let one = one_header first.header other.header text first.bare other.bare names.bare too.bare in
     let header = one.0 in
     let bare = one.1 in
@@ -142,11 +161,11 @@ one_values cbind_flag_y text first other names too =
     (subst (λ (behind : List ℕ). Part behind 1 (codes "r=" ++ first.nonce)) bare names.nonce) too.nonce in
     λ i. made (header i) (user i) (nonce i) (bare i)
 
-pub one_client_first : (cbind_flag_y : Bool) (text : List ℕ) (answer other : Result ClientFirst ServerScramErrorKind)
-    → ReadsClientFirst cbind_flag_y text answer → ReadsClientFirst cbind_flag_y text other → answer ≡ other
+pub one_client_first : (rules : ServerRules) (text : List ℕ) (answer other : Result ClientFirst ServerScramErrorKind)
+    → ReadsClientFirst rules text answer → ReadsClientFirst rules text other → answer ≡ other
 unfolding ReadsClientFirst
-one_client_first cbind_flag_y text answer other reads too =
-    one_reading (client_first_tests cbind_flag_y text) (NamesClientFirst cbind_flag_y text) (one_values cbind_flag_y text) answer other
+one_client_first rules text answer other reads too =
+    one_reading (client_first_tests rules text) (NamesClientFirst rules text) (one_values rules text) answer other
     reads too
 
 -- the error for a text that no name is escaped to

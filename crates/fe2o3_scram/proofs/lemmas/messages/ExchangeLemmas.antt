@@ -11,12 +11,12 @@ use Rattle.std.proofs.lemmas.Nat.{xor_of_8}
 use Rattle.std.proofs.lemmas.Str.{IsUtf8-append}
 use Rattle.base64.specs.GeneralPurpose.{IsBytes}
 use Rattle.fe2o3_scram.specs.Texts.{base64_text, IsCount, NoComma, Parts, Part, joined, HasBase64}
-use Rattle.fe2o3_scram.specs.ClientFinal.{Answer, answer_by, fit, keys_for, client_final_of, Server, ClientFinal, Meets, ReadsClientFinal}
-use Rattle.fe2o3_scram.specs.declared.scram_messages.channel_binding_flag.ChannelBindingFlag.{ChannelBindingFlag}
-use Rattle.fe2o3_scram.specs.declared.scram_messages.channel_binding_flag.ChannelBindingFlag.TheVariants.{NotSupported, ClientSupports}
-use Rattle.fe2o3_scram.specs.ClientFirst.{client_first_bare, header_text, ReadsClientFirst}
+use Rattle.fe2o3_scram.specs.ClientFinal.{Answer, answer_by, fit, keys_for, client_final_of, Server, ClientFinal, HasMisplacedBeforeProof, Meets, ReadsClientFinal, without_proof_with}
+use Rattle.fe2o3_scram.specs.declared.scram_messages.client_channel.ClientChannel.{ClientChannel}
+use Rattle.fe2o3_scram.specs.ClientFirst.{client_first_bare, client_first_with, ReadsClientFirst}
+use Rattle.fe2o3_scram.specs.ChannelBinding.{cbind_data, cbind_input, flag_of}
 use Rattle.fe2o3_scram.specs.Escape.{escaped}
-use Rattle.fe2o3_scram.specs.Exchanges.{Exchange, IsSound, OpensRecord, Succeeds, nonce_in, bare_in, first_in, named_in, server_in, final_in, answer_in, client_first_with, without_proof_with}
+use Rattle.fe2o3_scram.specs.Exchanges.{Exchange, client_in, IsSound, OpensRecord, Succeeds, nonce_in, bare_in, first_in, named_in, server_in, final_in, answer_in}
 use Rattle.fe2o3_scram.specs.Hmac.{digest, digest_len, exclusive_or}
 use Rattle.fe2o3_scram.specs.Keys.{auth_message, client_key, client_signature, stored_key, client_proof}
 use Rattle.fe2o3_scram.specs.Pbkdf2Hi.{salted_of}
@@ -27,25 +27,23 @@ use Rattle.fe2o3_scram.specs.ClientSecret.{Secret, Password, Keys, Both}
 use Rattle.fe2o3_scram.specs.Passwords.{IsNormal, password_bytes}
 use Rattle.fe2o3_scram.specs.private.Serving.{Serves}
 use Rattle.fe2o3_scram.proofs.lemmas.messages.FittingKeyLemmas.{fit_is, is_fit}
-use Rattle.fe2o3_scram.specs.ServerFirst.{ServerFirst, client_of, HasCount, NamesServerFirst, ReadsServerFirst}
-use Rattle.fe2o3_scram.proofs.lemmas.texts.AsciiLemmas.{IsUtf8-base64_text, IsUtf8-literal, IsUtf8-escaped}
+use Rattle.fe2o3_scram.specs.ServerFirst.{ServerFirst, HasCount, NamesServerFirst, ReadsServerFirst}
+use Rattle.fe2o3_scram.proofs.lemmas.texts.AsciiLemmas.{IsUtf8-base64_text, IsUtf8-escaped, utf8_behind}
 use Rattle.fe2o3_scram.proofs.lemmas.texts.Base64Lemmas.{no_comma-append, no_comma-test, no_comma-base64_text}
 use Rattle.fe2o3_scram.proofs.lemmas.texts.EachByteLemmas.{without-digits}
 use Rattle.fe2o3_scram.proofs.lemmas.messages.ClientFinalLemmas.{NamesAcceptedFinal, text_read}
 use Rattle.fe2o3_scram.proofs.lemmas.messages.ClientFirstLemmas.{named}
+use Rattle.fe2o3_scram.proofs.lemmas.messages.HeaderLemmas.{IsBytes-cbind_input, header_utf8}
 use Rattle.fe2o3_scram.proofs.lemmas.hashes.DigestLemmas.{IsBytes-nil, IsBytes-cons, length-hmac_of, IsBytes-hmac_of}
 use Rattle.fe2o3_scram.proofs.lemmas.texts.EscapingLemmas.{no_comma-escaped}
 use Rattle.fe2o3_scram.proofs.lemmas.texts.PartsLemmas.{one_part}
+use Rattle.fe2o3_scram.proofs.lemmas.texts.CutLemmas.{one_last_cut}
+use Rattle.fe2o3_scram.proofs.lemmas.texts.ExtensionLemmas.{none_after_all}
+use Rattle.fe2o3_scram.specs.Extensions.{HasAttributeFrom}
 use Rattle.fe2o3_scram.proofs.lemmas.messages.ServerFinalLemmas.{same_signature, signature_read}
 use Rattle.fe2o3_scram.proofs.lemmas.messages.ServerFirstLemmas.{values_read, same_nonce, not_too_small, not_too_large, secret_holds}
 
 -- exclusive ors
-
-pub IsBytes-literal : (bytes : List ℕ) → list_all (λ byte. nat_lt byte 256) bytes ≡ true → IsBytes bytes
-IsBytes-literal [] passes = IsBytes-nil
-IsBytes-literal (x ∷ bytes) passes = let both = and_parts (nat_lt x 256)
-    (list_all (λ byte. nat_lt byte 256) bytes) passes in IsBytes-cons x bytes (grind (arith, both))
-    (IsBytes-literal bytes both.1)
 
 pub IsBytes-exclusive_or : (left right : List ℕ) → IsBytes left → IsBytes right → IsBytes (exclusive_or left right)
 unfolding exclusive_or
@@ -98,9 +96,6 @@ pub part_of : (key text : List ℕ) → list_all (λ byte. not (eqb byte 44)) ke
     → NoComma (key ++ text)
 part_of key text passes plain = no_comma-append key text (no_comma-test key passes) plain
 
-utf8_behind : (key text : List ℕ) → list_all (λ byte. nat_lt byte 128) key ≡ true → IsUtf8 text → IsUtf8 (key ++ text)
-utf8_behind key text passes utf8 = IsUtf8-append key text (IsUtf8-literal key passes) utf8
-
 pub only_part : (text : List ℕ) → NoComma text → Parts text (text ∷ [])
 only_part text plain = record { some = omega arith; apart = (plain, tt); whole = refl }
 
@@ -116,26 +111,17 @@ bare_text : (user nonce : List ℕ) → IsUtf8 user → IsUtf8 nonce → IsUtf8 
 bare_text user nonce utf8 too = IsUtf8-append (codes "n=" ++ escaped user) (codes ",r=" ++ nonce)
     (utf8_behind (codes "n=") (escaped user) refl (IsUtf8-escaped user utf8)) (utf8_behind (codes ",r=") nonce refl too)
 
--- a header, and a text after it
-header_utf8 : (header : ChannelBindingFlag) (bare : List ℕ) → IsUtf8 bare → IsUtf8 (header_text header ++ bare)
-header_utf8 NotSupported bare utf8 = utf8_behind (codes "n,,") bare refl utf8
-header_utf8 ClientSupports bare utf8 = utf8_behind (codes "y,,") bare refl utf8
-
-header_bytes : (header : ChannelBindingFlag) → IsBytes (header_text header)
-header_bytes NotSupported = IsBytes-literal (codes "n,,") refl
-header_bytes ClientSupports = IsBytes-literal (codes "y,,") refl
-
 reads_client_first : (x : Exchange) → IsSound x
-    → ReadsClientFirst x.cbind_flag_y (client_first_with x.header x.user x.client_nonce)
-    (Ok (record { header = x.header; user = x.user; nonce = x.client_nonce; bare = bare_in x }))
+    → ReadsClientFirst x.rules (client_first_with (flag_of x.channel) x.user x.client_nonce)
+    (Ok (record { header = flag_of x.channel; user = x.user; nonce = x.client_nonce; bare = bare_in x }))
 reads_client_first x sound =
     let parts = two_parts (codes "n=" ++ escaped x.user) (codes "r=" ++ x.client_nonce)
     (part_of (codes "n=") (escaped x.user) refl (no_comma-escaped x.user))
     (part_of (codes "r=") x.client_nonce refl sound.client_plain) in
-    let utf8 = header_utf8 x.header (bare_in x) (bare_text x.user x.client_nonce sound.user sound.client_text) in
-    named x.cbind_flag_y x.header (client_first_with x.header x.user x.client_nonce) (bare_in x) utf8 sound.header refl
+    let utf8 = header_utf8 (flag_of x.channel) (bare_in x) (bare_text x.user x.client_nonce sound.user sound.client_text) in
+    named x.rules (flag_of x.channel) (client_first_with (flag_of x.channel) x.user x.client_nonce) (bare_in x) utf8 sound.header refl
     (escaped x.user) x.user x.client_nonce
-    (_, parts, refl) refl (_, parts, refl)
+    (_, parts, refl) refl (_, parts, refl) (λ wrong. none_after_all 2 (bare_in x) _ parts refl wrong.1)
 
 -- server-first
 
@@ -187,15 +173,15 @@ opened version (Both own keys) password salt count nonce opens = go (fit keys fi
 abbrev made_in : Exchange → Answer
 made_in x =
     answer_by (keys_of x.version x.password x.salt x.count) (bare_in x) (first_in x)
-    (without_proof_with x.header (nonce_in x))
+    (without_proof_with x.channel (nonce_in x))
 
 pub answered : (x : Exchange) → IsSound x → answer_in x ≡ made_in x
 answered x sound =
-    ap (λ (keys : ClientKeys). answer_by keys (bare_in x) (first_in x) (without_proof_with x.header (nonce_in x)))
+    ap (λ (keys : ClientKeys). answer_by keys (bare_in x) (first_in x) (without_proof_with x.channel (nonce_in x)))
     (opened x.version x.secret x.password x.salt x.count (nonce_in x) sound.opens).0
 
 reads_server_first : (x : Exchange) → IsSound x
-    → ReadsServerFirst x.client_nonce x.secret x.limits (first_in x) (Ok (named_in x))
+    → ReadsServerFirst (client_in x) (first_in x) (Ok (named_in x))
 reads_server_first x sound =
     let wide : x.count < 2 ^ 64 = omega (arith, sound.within, sound.limit) in
     let small : x.count < 2 ^ 32 = omega (arith, sound.within, sound.limit) in
@@ -209,7 +195,7 @@ reads_server_first x sound =
     let digits : Part (first_in x) 2 (codes "i=" ++ decimal x.count) = (_, parts, refl) in
     let count : HasCount (first_in x) x.count = (decimal x.count, digits, IsCount-decimal x.count sound.some small) in
     let names : NamesServerFirst (first_in x) (named_in x) = record { nonce = nonce; salt = salt; count = count } in
-    values_read (client_of x.client_nonce x.secret x.limits) (first_in x) (named_in x) (
+    values_read (client_in x) (first_in x) (named_in x) (
       λ few. few (codes "i=" ++ decimal x.count) digits,
       (
         not_extended (first_in x) (nonce_in x) nonce,
@@ -229,7 +215,7 @@ reads_server_first x sound =
         ),
       ),
     )
-    (secret_holds x.secret (first_in x) (named_in x) names
+    (λ wrong. none_after_all 3 (first_in x) _ parts refl wrong.1) (secret_holds x.secret (first_in x) (named_in x) names
     (opened x.version x.secret x.password x.salt x.count (nonce_in x) sound.opens).1) names
 
 -- client-final
@@ -243,67 +229,76 @@ final_parts c r p plain too also = record {
       sym (append_assoc c (44 ∷ r) (44 ∷ p));
 }
 
-final_text : (header : ChannelBindingFlag) (nonce proof : List ℕ) → IsUtf8 nonce
-    → IsUtf8 (client_final_of (without_proof_with header nonce) proof)
-final_text header nonce proof utf8 =
-    IsUtf8-append (without_proof_with header nonce) (codes ",p=" ++ base64_text proof)
-    (IsUtf8-append (codes "c=" ++ base64_text (header_text header)) (codes ",r=" ++ nonce)
-    (utf8_behind (codes "c=") (base64_text (header_text header)) refl (IsUtf8-base64_text (header_text header)))
+final_text : (channel : ClientChannel) (nonce proof : List ℕ) → IsUtf8 nonce
+    → IsUtf8 (client_final_of (without_proof_with channel nonce) proof)
+final_text channel nonce proof utf8 =
+    IsUtf8-append (without_proof_with channel nonce) (codes ",p=" ++ base64_text proof)
+    (IsUtf8-append (codes "c=" ++ base64_text (cbind_input channel)) (codes ",r=" ++ nonce)
+    (utf8_behind (codes "c=") (base64_text (cbind_input channel)) refl (IsUtf8-base64_text (cbind_input channel)))
     (utf8_behind (codes ",r=") nonce refl utf8))
     (utf8_behind (codes ",p=") (base64_text proof) refl (IsUtf8-base64_text proof))
 
--- a message that names its values is read
+-- a message that names its values is read, if it has no misplaced attribute before its proof or the server is not strict
 pub final_read : (server : Server) (text : List ℕ) (final : ClientFinal) → IsUtf8 text
-    → NamesAcceptedFinal server text final → ReadsClientFinal server text (Ok final)
+    → NamesAcceptedFinal server text final → ¬ (T server.strict × HasMisplacedBeforeProof text)
+    → ReadsClientFinal server text (Ok final)
 unfolding ReadsClientFinal
-final_read server text final utf8 names = (
-  text_read server.header server.nonce text utf8 final (
-    λ none. none (base64_text (header_text server.header)) names.binding.1,
-    (λ none. none (header_text server.header) names.binding, (λ other. other names.binding, tt)),
+final_read server text final utf8 names placed = (
+  text_read server.channel server.strict server.nonce text utf8 final (
+    λ none. none (base64_text (cbind_input server.channel)) names.binding.1,
+    (λ none. none (cbind_input server.channel) names.binding, (λ other. other names.binding, tt)),
   )
       (λ none. none server.nonce names.nonce, (λ other. other names.nonce, tt)) (
         λ none. none final.without (base64_text final.proof) names.proof.1,
-        (λ none. none final names.proof, tt),
+        (λ none. none final names.proof, (placed, tt)),
       )
       (record { binding = names.binding; nonce = names.nonce; proof = names.proof }),
   names.sized,
   names.meets,
 )
 
-reads_final : (server : Server) (proof : List ℕ) → NoComma server.nonce → IsUtf8 server.nonce → IsBytes proof
+reads_final : (server : Server) (channel : ClientChannel) (proof : List ℕ)
+    → cbind_input server.channel ≡ cbind_input channel → IsBytes (cbind_data channel)
+    → NoComma server.nonce → IsUtf8 server.nonce → IsBytes proof
     → length proof ≡ digest_len server.version → Meets server
-    (record { without = without_proof_with server.header server.nonce; proof = proof })
-    → ReadsClientFinal server (client_final_of (without_proof_with server.header server.nonce) proof)
-    (Ok (record { without = without_proof_with server.header server.nonce; proof = proof }))
-reads_final server proof plain utf8 bytes sized meets =
-    let header = server.header in
+    (record { without = without_proof_with channel server.nonce; proof = proof })
+    → ReadsClientFinal server (client_final_of (without_proof_with channel server.nonce) proof)
+    (Ok (record { without = without_proof_with channel server.nonce; proof = proof }))
+reads_final server channel proof expected known plain utf8 bytes sized meets =
     let nonce = server.nonce in
-    let text = client_final_of (without_proof_with header nonce) proof in
-    let final : ClientFinal = record { without = without_proof_with header nonce; proof = proof } in
+    let text = client_final_of (without_proof_with channel nonce) proof in
+    let final : ClientFinal = record { without = without_proof_with channel nonce; proof = proof } in
     let last = part_of (codes "p=") (base64_text proof) refl (no_comma-base64_text proof) in
-    let parts = final_parts (codes "c=" ++ base64_text (header_text header)) (codes "r=" ++ nonce)
-    (codes "p=" ++ base64_text proof) (part_of (codes "c=") (base64_text (header_text header)) refl
-    (no_comma-base64_text (header_text header))) (part_of (codes "r=") nonce refl plain) last in
-    final_read server text final (final_text header nonce proof utf8)
+    let first = part_of (codes "c=") (base64_text (cbind_input channel)) refl (no_comma-base64_text (cbind_input channel)) in
+    let second = part_of (codes "r=") nonce refl plain in
+    let parts = final_parts (codes "c=" ++ base64_text (cbind_input channel)) (codes "r=" ++ nonce)
+    (codes "p=" ++ base64_text proof) first second last in
+    final_read server text final (final_text channel nonce proof utf8)
     (record {
-      binding = (header_bytes header, (_, parts, refl));
+      binding = subst (HasBase64 text 0 (codes "c=")) (sym expected)
+          (IsBytes-cbind_input channel known, (_, parts, refl));
       nonce = (_, parts, refl);
       proof =
           (bytes, (last, refl));
       sized = sized;
       meets = meets;
     })
+    (λ wrong. none_after_all 2 (without_proof_with channel nonce) _
+    (two_parts (codes "c=" ++ base64_text (cbind_input channel)) (codes "r=" ++ nonce) first second) refl
+    (subst (HasAttributeFrom 2) (sym (one_last_cut 44 text (without_proof_with channel nonce)
+    (codes "p=" ++ base64_text proof) wrong.1.0 (codes "p=" ++ wrong.1.1) (last, refl) wrong.1.2).0)
+    wrong.1.3))
 
 reads_client_final : (x : Exchange) → IsSound x → ReadsClientFinal (server_in x) (made_in x).message (Ok (final_in x))
 reads_client_final x sound =
     let v = x.version in
     let salted = salted_of v x.password x.salt x.count in
-    let auth = auth_message (bare_in x) (first_in x) (without_proof_with x.header (nonce_in x)) in
+    let auth = auth_message (bare_in x) (first_in x) (without_proof_with x.channel (nonce_in x)) in
     let key = client_key v salted in
     let mac = client_signature v (stored_key v key) auth in
     let key_long : length key ≡ digest_len v = length-hmac_of v salted (codes "Client Key") in
     let mac_long : length mac ≡ digest_len v = length-hmac_of v (stored_key v key) auth in
-    reads_final (server_in x) (client_proof v key auth) (nonce_plain x sound) (nonce_text x sound)
+    reads_final (server_in x) x.channel (client_proof v key auth) sound.channel sound.bytes (nonce_plain x sound) (nonce_text x sound)
     (IsBytes-exclusive_or key mac (IsBytes-hmac_of v salted (codes "Client Key"))
     (IsBytes-hmac_of v (stored_key v key) auth))
     (length-exclusive_or key mac (key_long ∙ sym mac_long) ∙ key_long)

@@ -15,10 +15,10 @@ unread_costs A provider text fault count = refl
 
 -- where memory runs out for the challenge, the look-up was made
 pub looked_up_costs : (A : Type 0) (provider : Provider) (text : List ℕ) (client : ClientFirst) (count : ℕ)
-    → ReadsClientFirst provider.cbind_flag_y text (Ok client)
+    → ReadsClientFirst provider.rules text (Ok client)
     → FirstCosts {A = A} provider text (Err OutOfMemory) count (count + provider.look_up_cost)
 looked_up_costs A provider text client count reads = (
   omega arith,
   omega arith,
-  λ fault refuses. let both = one_client_first provider.cbind_flag_y text (Err fault) (Ok client) refuses reads in absurd (cc),
+  λ fault refuses. let both = one_client_first provider.rules text (Err fault) (Ok client) refuses reads in absurd (cc),
 )

@@ -7,7 +7,7 @@ use Rattle.fe2o3_scram.specs.ScramClient.{ClientSide, ClientState, VerifiesIn}
 use Rattle.fe2o3_scram.specs.ScramServer.{ServerFirstSent}
 
 pub accepted_texts_log_in : AcceptedTextsLogIn
-accepted_texts_log_in (ServerFirstSent challenge stored) next version text (Some message) from = (
+accepted_texts_log_in (ServerFirstSent challenge stored) next version rules text (Some message) from = (
   challenge.user,
   record {
     challenge = challenge;
@@ -19,8 +19,8 @@ accepted_texts_log_in (ServerFirstSent challenge stored) next version text (Some
   },
   from.1,
 )
-accepted_texts_log_in (ServerFirstSent challenge stored) next version text None from = absurd from
-accepted_texts_log_in state next version text answer from = absurd from
+accepted_texts_log_in (ServerFirstSent challenge stored) next version rules text None from = absurd from
+accepted_texts_log_in state next version rules text answer from = absurd from
 
 -- ---- a client
 

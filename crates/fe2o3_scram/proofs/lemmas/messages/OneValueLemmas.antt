@@ -1,5 +1,6 @@
 -- What the four messages name, where they are read.
-use Rattle.std.proofs.Common.{◌≡◌, Bool, ℕ, List, Result, Ok, codes}
+use Rattle.std.proofs.Common.{◌≡◌, ℕ, List, Result, Ok, codes}
+use Rattle.fe2o3_scram.specs.declared.scram_messages.server_rules.ServerRules.{ServerRules}
 use Rattle.fe2o3_scram.specs.ClientFirst.{ClientFirst, ReadsClientFirst, NamesClientFirst}
 use Rattle.fe2o3_scram.specs.ClientFinal.{Server, ClientFinal, ReadsClientFinal}
 use Rattle.fe2o3_scram.specs.ServerFinal.{ReadsServerFinal}
@@ -10,13 +11,13 @@ use Rattle.fe2o3_scram.proofs.lemmas.messages.ServerFirstLemmas.{one_server_firs
 use Rattle.fe2o3_scram.proofs.lemmas.messages.ServerFinalLemmas.{names_signature}
 use Rattle.fe2o3_scram.specs.Texts.{HasBase64}
 
-pub names_client_first : (cbind_flag_y : Bool) (text : List ℕ) (first : ClientFirst)
-    → ReadsClientFirst cbind_flag_y text (Ok first) → NamesClientFirst cbind_flag_y text first
+pub names_client_first : (rules : ServerRules) (text : List ℕ) (first : ClientFirst)
+    → ReadsClientFirst rules text (Ok first) → NamesClientFirst rules text first
 unfolding ReadsClientFirst
-names_client_first cbind_flag_y text first reads = reads.1
+names_client_first rules text first reads = reads.1
 
 pub names_server_first : (client : Client) (text : List ℕ) (first : ServerFirst)
-    → ReadsServerFirst client.nonce client.secret client.limits text (Ok first) → NamesServerFirst text first
+    → ReadsServerFirst client text (Ok first) → NamesServerFirst text first
 unfolding ReadsServerFirst
 names_server_first client text first reads = reads.1
 
@@ -30,10 +31,10 @@ names_server_final signature text verified reads = names_signature text signatur
 same_value : {X F : Type 0} (x y : X) → ◌≡◌ {A = Result X F} (Ok x) (Ok y) → x ≡ y
 same_value x y same = cc
 
-pub one_client_first_value : (cbind_flag_y : Bool) (text : List ℕ) (first other : ClientFirst)
-    → ReadsClientFirst cbind_flag_y text (Ok first) → ReadsClientFirst cbind_flag_y text (Ok other) → first ≡ other
-one_client_first_value cbind_flag_y text first other reads too =
-    same_value first other (one_client_first cbind_flag_y text (Ok first) (Ok other) reads too)
+pub one_client_first_value : (rules : ServerRules) (text : List ℕ) (first other : ClientFirst)
+    → ReadsClientFirst rules text (Ok first) → ReadsClientFirst rules text (Ok other) → first ≡ other
+one_client_first_value rules text first other reads too =
+    same_value first other (one_client_first rules text (Ok first) (Ok other) reads too)
 
 pub one_client_final_value : (server : Server) (text : List ℕ) (final other : ClientFinal)
     → ReadsClientFinal server text (Ok final) → ReadsClientFinal server text (Ok other) → final ≡ other
@@ -41,7 +42,7 @@ one_client_final_value server text final other reads too =
     same_value final other (one_client_final server text (Ok final) (Ok other) reads too)
 
 pub one_server_first_value : (client : Client) (text : List ℕ) (first other : ServerFirst)
-    → ReadsServerFirst client.nonce client.secret client.limits text (Ok first)
-    → ReadsServerFirst client.nonce client.secret client.limits text (Ok other) → first ≡ other
+    → ReadsServerFirst client text (Ok first)
+    → ReadsServerFirst client text (Ok other) → first ≡ other
 one_server_first_value client text first other reads too =
     same_value first other (one_server_first client text (Ok first) (Ok other) reads too)

@@ -1,5 +1,5 @@
 -- The reading of a server-first message.
-use Rattle.std.proofs.Common.{◌≡◌, ℕ, ◌<◌, ◌≤◌, List, ◌++◌, Result, Ok, Err, refl, subst, codes, inl, inr, arith}
+use Rattle.std.proofs.Common.{◌≡◌, ℕ, ◌<◌, ◌≤◌, List, ◌∷◌, ◌++◌, Result, Ok, Err, refl, subst, codes, inl, inr, arith}
 use Rattle.std.specs.Prelude.{T}
 use Rattle.fe2o3_scram.specs.declared.client_secret.IterationLimits.{IterationLimits}
 use Rattle.fe2o3_scram.specs.ClientKeys.{ClientKeys}
@@ -8,7 +8,8 @@ use Rattle.fe2o3_scram.specs.ClientSecret.{Secret, Password, Keys, Both}
 use Rattle.fe2o3_scram.specs.private.Serving.{Serves, ServesNot}
 use Rattle.fe2o3_scram.proofs.lemmas.messages.FittingKeyLemmas.{fit_is, is_fit}
 use Rattle.fe2o3_scram.specs.declared.scram_messages.error.ScramErrorKind.{ScramErrorKind}
-use Rattle.fe2o3_scram.specs.declared.scram_messages.error.ScramErrorKind.TheVariants.{OutOfMemory}
+use Rattle.fe2o3_scram.specs.declared.scram_messages.error.ScramErrorKind.TheVariants.{MisplacedAttribute, OutOfMemory}
+use Rattle.fe2o3_scram.specs.Extensions.{HasAttributeFrom}
 use Rattle.fe2o3_scram.specs.Texts.{base64_text, IsBase64, IsCount, Part, StartsWith, HasBase64}
 use Rattle.fe2o3_scram.specs.Readings.{IsFirst, NoneHolds}
 use Rattle.fe2o3_scram.specs.ServerFirst.{Client, ServerFirst, HasCount, NamesServerFirst, ReachesSalt, ReadsServerFirst, nonce_tests, secret_tests, NamesOther}
@@ -86,34 +87,38 @@ not_too_small text least count has within small = let same = one_has_count text 
 
 pub ruleset counts = (no_count, not_too_small, not_too_large)
 
+-- the tests after those of the count
+abbrev last_tests : Client → List ℕ → List (ScramErrorKind × Type 0)
+last_tests client text = (MisplacedAttribute, T client.strict × HasAttributeFrom 3 text) ∷ secret_tests client.secret text
+
 -- the parts of the reading make the whole
 
 pub nonce_refused : (client : Client) (text : List ℕ) (fault : ScramErrorKind)
     → IsFirst (nonce_tests client.nonce text) fault
-    → ReadsServerFirst client.nonce client.secret client.limits text (Err fault)
+    → ReadsServerFirst client text (Err fault)
 unfolding ReadsServerFirst
 nonce_refused client text fault first = IsFirst-front (nonce_tests client.nonce text)
-    (salt_tests text ++ (count_tests client.limits text ++ secret_tests client.secret text)) fault first
+    (salt_tests text ++ (count_tests client.limits text ++ last_tests client text)) fault first
 
 pub salt_refused : (client : Client) (text : List ℕ) (fault : ScramErrorKind)
     → NoneHolds (nonce_tests client.nonce text) → IsFirst (salt_tests text) fault
-    → ReadsServerFirst client.nonce client.secret client.limits text (Err fault)
+    → ReadsServerFirst client text (Err fault)
 unfolding ReadsServerFirst
 salt_refused client text fault nonce first =
-    let rest = count_tests client.limits text ++ secret_tests client.secret text in
+    let rest = count_tests client.limits text ++ last_tests client text in
     IsFirst-back (nonce_tests client.nonce text) (salt_tests text ++ rest) fault nonce
     (IsFirst-front (salt_tests text) rest fault first)
 
 pub count_refused : (client : Client) (text : List ℕ) (fault : ScramErrorKind)
     → NoneHolds (nonce_tests client.nonce text) → NoneHolds (salt_tests text)
     → IsFirst (count_tests client.limits text) fault
-    → ReadsServerFirst client.nonce client.secret client.limits text (Err fault)
+    → ReadsServerFirst client text (Err fault)
 unfolding ReadsServerFirst
 count_refused client text fault nonce salt first =
-    let rest = count_tests client.limits text ++ secret_tests client.secret text in
+    let rest = count_tests client.limits text ++ last_tests client text in
     IsFirst-back (nonce_tests client.nonce text) (salt_tests text ++ rest) fault nonce
     (IsFirst-back (salt_tests text) rest fault salt (IsFirst-front (count_tests client.limits text)
-    (secret_tests client.secret text) fault first))
+    (last_tests client text) fault first))
 
 -- a message has one salt
 pub one_has_salt : (text salt other : List ℕ) → HasBase64 text 1 (codes "s=") salt
@@ -165,27 +170,42 @@ secret_first (Keys keys) text first fault names (unfit, is) =
 secret_first (Both password keys) text first fault names (unfit, unprintable, is) =
     inl ((other_named keys text first names unfit, unprintable), is)
 
-pub secret_refused : (client : Client) (text : List ℕ) (fault : ScramErrorKind)
+pub last_refused : (client : Client) (text : List ℕ) (fault : ScramErrorKind)
     → NoneHolds (nonce_tests client.nonce text) → NoneHolds (salt_tests text)
-    → NoneHolds (count_tests client.limits text) → IsFirst (secret_tests client.secret text) fault
-    → ReadsServerFirst client.nonce client.secret client.limits text (Err fault)
+    → NoneHolds (count_tests client.limits text) → IsFirst (last_tests client text) fault
+    → ReadsServerFirst client text (Err fault)
 unfolding ReadsServerFirst
-secret_refused client text fault nonce salt count first =
-    let rest = count_tests client.limits text ++ secret_tests client.secret text in
+last_refused client text fault nonce salt count first =
+    let rest = count_tests client.limits text ++ last_tests client text in
     IsFirst-back (nonce_tests client.nonce text) (salt_tests text ++ rest) fault nonce
     (IsFirst-back (salt_tests text) rest fault salt
-    (IsFirst-back (count_tests client.limits text) (secret_tests client.secret text) fault count first))
+    (IsFirst-back (count_tests client.limits text) (last_tests client text) fault count first))
+
+-- a strict client rejects a misplaced attribute
+pub misplaced_refused : (client : Client) (text : List ℕ) → NoneHolds (nonce_tests client.nonce text)
+    → NoneHolds (salt_tests text) → NoneHolds (count_tests client.limits text) → T client.strict
+    → HasAttributeFrom 3 text → ReadsServerFirst client text (Err MisplacedAttribute)
+misplaced_refused client text nonce salt count strict has =
+    last_refused client text MisplacedAttribute nonce salt count (inl ((strict, has), refl))
+
+pub secret_refused : (client : Client) (text : List ℕ) (fault : ScramErrorKind)
+    → NoneHolds (nonce_tests client.nonce text) → NoneHolds (salt_tests text)
+    → NoneHolds (count_tests client.limits text) → ¬ (T client.strict × HasAttributeFrom 3 text)
+    → IsFirst (secret_tests client.secret text) fault → ReadsServerFirst client text (Err fault)
+secret_refused client text fault nonce salt count placed first =
+    last_refused client text fault nonce salt count (inr (placed, first))
 
 pub values_read : (client : Client) (text : List ℕ) (first : ServerFirst) → NoneHolds (nonce_tests client.nonce text)
     → NoneHolds (salt_tests text) → NoneHolds (count_tests client.limits text)
-    → NoneHolds (secret_tests client.secret text) → NamesServerFirst text first
-    → ReadsServerFirst client.nonce client.secret client.limits text (Ok first)
+    → ¬ (T client.strict × HasAttributeFrom 3 text) → NoneHolds (secret_tests client.secret text)
+    → NamesServerFirst text first
+    → ReadsServerFirst client text (Ok first)
 unfolding ReadsServerFirst
-values_read client text first nonce salt count secret names =
-    let rest = count_tests client.limits text ++ secret_tests client.secret text in (
+values_read client text first nonce salt count placed secret names =
+    let rest = count_tests client.limits text ++ last_tests client text in (
       NoneHolds-append (nonce_tests client.nonce text) (salt_tests text ++ rest) nonce
           (NoneHolds-append (salt_tests text) rest salt (NoneHolds-append (count_tests client.limits text)
-          (secret_tests client.secret text) count secret)),
+          (last_tests client text) count (placed, secret))),
       names,
     )
 
@@ -200,17 +220,17 @@ one_values text first other names too =
     λ i. made (nonce i) (salt i) (count i)
 
 pub one_server_first : (client : Client) (text : List ℕ) (answer other : Result ServerFirst ScramErrorKind)
-    → ReadsServerFirst client.nonce client.secret client.limits text answer
-    → ReadsServerFirst client.nonce client.secret client.limits text other → answer ≡ other
+    → ReadsServerFirst client text answer
+    → ReadsServerFirst client text other → answer ≡ other
 unfolding ReadsServerFirst
 one_server_first client text answer other reads too =
     one_reading (nonce_tests client.nonce text ++ (salt_tests text
-    ++ (count_tests client.limits text ++ secret_tests client.secret text))) (NamesServerFirst text)
+    ++ (count_tests client.limits text ++ last_tests client text))) (NamesServerFirst text)
     (one_values text) answer other reads too
 
 -- a reader of a message has reached its salt
 pub salt_reached : (client : Client) (text : List ℕ) (first : ServerFirst)
-    → ReadsServerFirst client.nonce client.secret client.limits text (Ok first) → ReachesSalt client.nonce text
+    → ReadsServerFirst client text (Ok first) → ReachesSalt client.nonce text
 unfolding ReadsServerFirst
 salt_reached client text first reads =
     let none = reads.0 in (

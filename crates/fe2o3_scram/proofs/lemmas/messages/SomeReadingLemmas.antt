@@ -1,13 +1,20 @@
 -- Each of the four messages has an answer.
-use Rattle.std.proofs.Common.{◌≡◌, Bool, true, false, ◌⊎◌, ℕ, ◌<◌, List, [], ◌∷◌, ◌++◌, length, Result, Ok, Err, refl, subst, inl, inr, codes}
+use Rattle.std.proofs.Common.{◌≡◌, Bool, true, false, Option, Some, None, ◌⊎◌, ℕ, ◌<◌, List, [], ◌∷◌, ◌++◌, length, Result, Ok, Err, refl, subst, inl, inr, codes}
 use Rattle.fe2o3_scram.specs.declared.scram_messages.error.ScramErrorKind.{ScramErrorKind}
-use Rattle.fe2o3_scram.specs.declared.scram_messages.error.ScramErrorKind.TheVariants.{ServerSignatureMismatch}
+use Rattle.fe2o3_scram.specs.declared.scram_messages.error.ScramErrorKind.TheVariants.{MisplacedAttribute, ServerSignatureMismatch}
 use Rattle.fe2o3_scram.specs.declared.scram_messages.error.ServerScramErrorKind.{ServerScramErrorKind}
 use Rattle.fe2o3_scram.specs.declared.scram_messages.error.ServerScramErrorKind.TheVariants.{XorLengthMismatch, AuthenticationFailed}
-use Rattle.fe2o3_scram.specs.ClientFinal.{Server, ClientFinal, HasProof, recovered_key, NamesClientFinal, ReadsFinalText, ReadsClientFinal, final_text_tests}
+use Rattle.fe2o3_scram.specs.declared.scram_messages.server_rules.ServerRules.{ServerRules}
+use Rattle.fe2o3_scram.specs.Extensions.{HasAttributeFrom}
+use Rattle.fe2o3_scram.specs.ClientFinal.{Server, ClientFinal, HasMisplacedBeforeProof, HasProof, recovered_key, NamesClientFinal, ReadsFinalText, ReadsClientFinal, final_text_tests}
 use Rattle.fe2o3_scram.specs.declared.scram_messages.channel_binding_flag.ChannelBindingFlag.{ChannelBindingFlag}
-use Rattle.fe2o3_scram.specs.declared.scram_messages.channel_binding_flag.ChannelBindingFlag.TheVariants.{NotSupported, ClientSupports}
-use Rattle.fe2o3_scram.specs.ClientFirst.{ClientFirst, BarePart, NamesClientFirst, ReadsClientFirst, TakesHeader, client_first_tests, header_text}
+use Rattle.fe2o3_scram.specs.declared.scram_messages.channel_binding_flag.ChannelBindingFlag.TheVariants.{NotSupported, ClientSupports, Required}
+use Rattle.fe2o3_scram.specs.declared.channel_binding.ChannelBindings.{ChannelBindings}
+use Rattle.fe2o3_scram.specs.declared.channel_binding.ChannelData.{ChannelData}
+use Rattle.fe2o3_scram.specs.declared.channel_binding.ChannelKind.TheVariants.{TlsUnique, TlsServerEndPoint, TlsExporter}
+use Rattle.fe2o3_scram.specs.declared.scram_messages.client_channel.ClientChannel.{ClientChannel}
+use Rattle.fe2o3_scram.specs.ClientFirst.{ClientFirst, BarePart, HasMisplacedAfterNonce, NamesClientFirst, ReadsClientFirst, client_first_tests}
+use Rattle.fe2o3_scram.specs.ChannelBinding.{TakesFlag, TakesHeader, cbind_input, data_of_kind, header_text, is_strict}
 use Rattle.fe2o3_scram.specs.Escape.{escaped}
 use Rattle.fe2o3_scram.specs.Hmac.{digest, digest_len}
 use Rattle.fe2o3_scram.specs.Readings.{IsFirst, NoneHolds, Reads}
@@ -20,10 +27,13 @@ use Rattle.fe2o3_scram.specs.ClientSecret.{Secret, Password, Keys, Both}
 use Rattle.fe2o3_scram.specs.Texts.{base64_text, StartsWith, Part, LastPart, HasBase64}
 use Rattle.fe2o3_scram.specs.Passwords.{PasswordText, Typed, Prepared, IsNormal}
 use Rattle.base64.specs.GeneralPurpose.{IsBytes}
-use Rattle.fe2o3_scram.proofs.lemmas.messages.ClientFirstLemmas.{one_header}
+use Rattle.fe2o3_scram.proofs.lemmas.messages.ClientFirstLemmas.{after_nonce}
+use Rattle.fe2o3_scram.proofs.lemmas.messages.HeaderLemmas.{one_header}
 use Rattle.fe2o3_scram.proofs.lemmas.messages.ClientFinalLemmas.{no_proof, has_proof, proof_part, unread_proof}
 use Rattle.fe2o3_scram.proofs.lemmas.messages.ServerFirstLemmas.{one_has_count, no_count}
-use Rattle.fe2o3_scram.proofs.lemmas.texts.CutLemmas.{last_part_or}
+use Rattle.fe2o3_scram.proofs.lemmas.texts.CutLemmas.{last_part_or, one_last_cut}
+use Rattle.fe2o3_scram.proofs.lemmas.texts.AttributeTestLemmas.{attribute_from_or}
+use Rattle.std.specs.Prelude.{T}
 use Rattle.fe2o3_scram.proofs.lemmas.texts.DecisionLemmas.{Decided, Found, held, found_one, not_or, none_or, some_or, both_or, found_with, less_or, same_number_or, same_or, bytes_or, utf8_or, printable_or, rest_or, part_or, part_is_or, attribute_or, attribute_text_or, base64_or, count_or, name_or}
 use Rattle.fe2o3_scram.specs.private.Tests.{salt_tests, count_tests, binding_tests, final_nonce_tests, spelling_tests}
 
@@ -62,49 +72,86 @@ some_reading tests Names decided named = elim (first_or tests decided) [
   | inr none ↦ let values = named none in (Ok values.0, (none, values.1))
 ]
 
+-- whether a condition of code holds
+true_or : (b : Bool) → Decided (T b)
+true_or true = inl tt
+true_or false = inr (λ wrong. wrong)
+
 -- ---- the client-first message
 
 -- a header that is accepted, and what follows it
-abbrev Cut : Bool → List ℕ → ChannelBindingFlag × List ℕ → Type 0
-Cut cbind_flag_y text cut = TakesHeader cbind_flag_y cut.0 × (text ≡ header_text cut.0 ++ cut.1)
+abbrev Cut : ServerRules → List ℕ → ChannelBindingFlag × List ℕ → Type 0
+Cut rules text cut = TakesHeader rules cut.0 × (text ≡ header_text cut.0 ++ cut.1)
 
-cut_or : (cbind_flag_y : Bool) (text : List ℕ) → Found (Cut cbind_flag_y text)
-cut_or cbind_flag_y text = elim (rest_or (header_text NotSupported) text) [
-  | inl (bare, is) ↦ inl ((NotSupported, bare), (tt, is))
-  | inr none ↦ elim (unoffered cbind_flag_y) [
-    | inl (bare, cut) ↦ inl ((ClientSupports, bare), cut)
-    | inr other ↦ inr (neither none other)
-  ]
-]
+-- whether a header that is accepted is at the beginning, and what follows it
+abbrev Of : ServerRules → List ℕ → ChannelBindingFlag → Type 0
+Of rules text header = Found (λ (bare : List ℕ). Cut rules text (header, bare))
+
+taken_or : (rules : ServerRules) (text : List ℕ) (header : ChannelBindingFlag)
+    → Decided (TakesHeader rules header) → Of rules text header
+taken_or rules text header (inl takes) =
+    found_with (rest_or (header_text header) text) (λ bare is. inl (bare, (takes, is))) (λ bare cut. (bare, cut.1))
+taken_or rules text header (inr refuses) = inr (λ bare cut. refuses cut.0)
+
+-- whether a server accepts a header
+takes_data : (known : Option ChannelData) → Decided ((its : ChannelData) × (known ≡ Some its))
+takes_data None = inr (λ has. absurd (cc))
+takes_data (Some its) = inl (its, refl)
+
+takes_or : (channels : Option ChannelBindings) (accept_y : Bool) (header : ChannelBindingFlag)
+    → Decided (TakesFlag channels accept_y header)
+takes_or None accept_y NotSupported = inl tt
+takes_or None accept_y ClientSupports = true_or accept_y
+takes_or None accept_y (Required kind) = inr (λ wrong. wrong)
+takes_or (Some channels) accept_y NotSupported = inr (λ wrong. wrong)
+takes_or (Some channels) accept_y ClientSupports = inr (λ wrong. wrong)
+takes_or (Some channels) accept_y (Required kind) = takes_data (data_of_kind channels kind)
+
+cut_or : (rules : ServerRules) (text : List ℕ) → Found (Cut rules text)
+cut_or rules text = go (found NotSupported) (found ClientSupports) (found (Required TlsUnique))
+    (found (Required TlsServerEndPoint)) (found (Required TlsExporter))
   where
-    unoffered : (cbind_flag_y : Bool) → Found (λ (bare : List ℕ). Cut cbind_flag_y text (ClientSupports, bare))
-    unoffered true = found_with (rest_or (header_text ClientSupports) text) (λ bare is. inl (bare, (tt, is)))
-        (λ bare cut. (bare, cut.1))
-    unoffered false = inr (λ bare cut. cut.0)
+    found : (header : ChannelBindingFlag) → Of rules text header
+    found header = taken_or rules text header (takes_or rules.channels rules.accept_cbind_flag_y header)
 
-    neither : ((bare : List ℕ) → text ≡ header_text NotSupported ++ bare → ⊥)
-        → ((bare : List ℕ) → Cut cbind_flag_y text (ClientSupports, bare) → ⊥) → (cut : ChannelBindingFlag × List ℕ)
-        → Cut cbind_flag_y text cut → ⊥
-    neither none other (NotSupported, bare) cut = none bare cut.1
-    neither none other (ClientSupports, bare) cut = other bare cut
+    neither : ((bare : List ℕ) → ¬ Cut rules text (NotSupported, bare))
+        → ((bare : List ℕ) → ¬ Cut rules text (ClientSupports, bare))
+        → ((bare : List ℕ) → ¬ Cut rules text (Required TlsUnique, bare))
+        → ((bare : List ℕ) → ¬ Cut rules text (Required TlsServerEndPoint, bare))
+        → ((bare : List ℕ) → ¬ Cut rules text (Required TlsExporter, bare))
+        → (cut : ChannelBindingFlag × List ℕ) → ¬ Cut rules text cut
+    neither n y u s e (NotSupported, bare) cut = n bare cut
+    neither n y u s e (ClientSupports, bare) cut = y bare cut
+    neither n y u s e (Required TlsUnique, bare) cut = u bare cut
+    neither n y u s e (Required TlsServerEndPoint, bare) cut = s bare cut
+    neither n y u s e (Required TlsExporter, bare) cut = e bare cut
+
+    go : Of rules text NotSupported → Of rules text ClientSupports → Of rules text (Required TlsUnique)
+        → Of rules text (Required TlsServerEndPoint) → Of rules text (Required TlsExporter) → Found (Cut rules text)
+    go (inl (bare, cut)) y u s e = inl ((NotSupported, bare), cut)
+    go (inr n) (inl (bare, cut)) u s e = inl ((ClientSupports, bare), cut)
+    go (inr n) (inr y) (inl (bare, cut)) s e = inl ((Required TlsUnique, bare), cut)
+    go (inr n) (inr y) (inr u) (inl (bare, cut)) e = inl ((Required TlsServerEndPoint, bare), cut)
+    go (inr n) (inr y) (inr u) (inr s) (inl (bare, cut)) = inl ((Required TlsExporter, bare), cut)
+    go (inr n) (inr y) (inr u) (inr s) (inr e) = inr (neither n y u s e)
 
 -- whether the message begins with no header that is taken
-no_header_or : (cbind_flag_y : Bool) (text : List ℕ)
-    → Decided ((header : ChannelBindingFlag) → TakesHeader cbind_flag_y header → ¬ StartsWith text (header_text header))
-no_header_or cbind_flag_y text = elim (cut_or cbind_flag_y text) [
+no_header_or : (rules : ServerRules) (text : List ℕ)
+    → Decided ((header : ChannelBindingFlag) → TakesHeader rules header → ¬ StartsWith text (header_text header))
+no_header_or rules text = elim (cut_or rules text) [
   | inl ((header, bare), cut) ↦ inr (λ none. none header cut.0 (bare, cut.1))
   | inr none ↦ inl (λ header takes begins. none (header, begins.0) (takes, begins.1))
 ]
 
 -- what a part after the header is
-bare_attribute_or : {X : Type 0} (write : X → List ℕ) (cbind_flag_y : Bool) (text : List ℕ) (k : ℕ) (key : List ℕ)
+bare_attribute_or : {X : Type 0} (write : X → List ℕ) (rules : ServerRules) (text : List ℕ) (k : ℕ) (key : List ℕ)
     → ((spelling : List ℕ) → Found (λ (x : X). spelling ≡ write x))
-    → Found (λ (x : X). BarePart cbind_flag_y text k (key ++ write x))
-bare_attribute_or {X} write cbind_flag_y text k key read =
-    found_with (cut_or cbind_flag_y text) behind (λ x has. ((has.0, has.1), (has.2, has.3)))
+    → Found (λ (x : X). BarePart rules text k (key ++ write x))
+bare_attribute_or {X} write rules text k key read =
+    found_with (cut_or rules text) behind (λ x has. ((has.0, has.1), (has.2, has.3)))
   where
-    behind : (cut : ChannelBindingFlag × List ℕ) → Cut cbind_flag_y text cut
-        → Found (λ (x : X). BarePart cbind_flag_y text k (key ++ write x))
+    behind : (cut : ChannelBindingFlag × List ℕ) → Cut rules text cut
+        → Found (λ (x : X). BarePart rules text k (key ++ write x))
     behind (header, bare) cut =
         found_with (attribute_or (λ _. Unit {0}) write bare k key
         (λ spelling. found_with (read spelling) (λ x is. inl (x, (tt, is))) (λ x is. (x, is.1))))
@@ -118,23 +165,48 @@ bare_attribute_or {X} write cbind_flag_y text k key read =
           ),
         ))
 
-pub some_client_first : (cbind_flag_y : Bool) (text : List ℕ) → (answer : Result ClientFirst ServerScramErrorKind)
-    × ReadsClientFirst cbind_flag_y text answer
+-- whether an attribute that RFC 5802 defines is after the nonce
+after_nonce_or : (rules : ServerRules) (text : List ℕ) → Decided (HasMisplacedAfterNonce rules text)
+after_nonce_or rules text = elim (cut_or rules text) [
+  | inl ((header, bare), cut) ↦ elim (attribute_from_or 2 bare) [
+    | inl has ↦ inl (header, bare, cut.0, cut.1, has)
+    | inr none ↦ inr (λ has. none (after_nonce rules header text bare cut.1 has))
+  ]
+  | inr none ↦ inr (λ has. none (has.0, has.1) (has.2, has.3))
+]
+
+pub some_client_first : (rules : ServerRules) (text : List ℕ) → (answer : Result ClientFirst ServerScramErrorKind)
+    × ReadsClientFirst rules text answer
 unfolding ReadsClientFirst
-some_client_first cbind_flag_y text =
-    some_reading (client_first_tests cbind_flag_y text) (NamesClientFirst cbind_flag_y text)
-    (not_or (utf8_or text), (no_header_or cbind_flag_y text, (none_or user, (none_or nonce, tt))))
+some_client_first rules text =
+    some_reading (client_first_tests rules text) (NamesClientFirst rules text) (
+      not_or (utf8_or text),
+      (
+        no_header_or rules text,
+        (
+          none_or user,
+          (
+            none_or nonce,
+            (
+              both_or (true_or (is_strict rules))
+                  (after_nonce_or rules text),
+              tt,
+            ),
+          ),
+        ),
+      ),
+    )
     (λ none. named (found_one user none.1.1.0) (found_one nonce none.1.1.1.0))
   where
-    user : Found (λ (user : List ℕ). BarePart cbind_flag_y text 0 (codes "n=" ++ escaped user))
-    user = bare_attribute_or escaped cbind_flag_y text 0 (codes "n=") name_or
+    user : Found (λ (user : List ℕ). BarePart rules text 0 (codes "n=" ++ escaped user))
+    user = bare_attribute_or escaped rules text 0 (codes "n=") name_or
 
-    nonce : Found (λ (nonce : List ℕ). BarePart cbind_flag_y text 1 (codes "r=" ++ nonce))
-    nonce = bare_attribute_or (λ nonce. nonce) cbind_flag_y text 1 (codes "r=") (λ spelling. inl (spelling, refl))
+    nonce : Found (λ (nonce : List ℕ). BarePart rules text 1 (codes "r=" ++ nonce))
+    nonce = bare_attribute_or (λ nonce. nonce) rules text 1 (codes "r=") (λ spelling. inl (spelling, refl))
 
-    named : (user : List ℕ) × BarePart cbind_flag_y text 0 (codes "n=" ++ escaped user)
-        → (nonce : List ℕ) × BarePart cbind_flag_y text 1 (codes "r=" ++ nonce)
-        → (first : ClientFirst) × NamesClientFirst cbind_flag_y text first
+    named : (user : List ℕ) × BarePart rules text 0 (codes "n=" ++ escaped user)
+        → (nonce : List ℕ) × BarePart rules text 1 (codes "r=" ++ nonce)
+        → (first : ClientFirst) × NamesClientFirst rules text first
     named (user, (header, bare, takes, is, part)) (nonce, (own, other, taken, too, next)) = (
       record { header = header; user = user; nonce = nonce; bare = bare },
       record {
@@ -219,18 +291,17 @@ count_decided limits text = (
 )
 
 pub some_server_first : (client : Client) (text : List ℕ)
-    → (answer : Result ServerFirst ScramErrorKind)
-    × ReadsServerFirst client.nonce client.secret client.limits text answer
+    → (answer : Result ServerFirst ScramErrorKind) × ReadsServerFirst client text answer
 unfolding ReadsServerFirst
 some_server_first client text =
-    let secret = secret_tests client.secret text in
+    let secret = (MisplacedAttribute, T client.strict × HasAttributeFrom 3 text) ∷ secret_tests client.secret text in
     let count = count_tests client.limits text ++ secret in
     let salt = salt_tests text ++ count in
-    some_reading (server_first_tests client.nonce client.secret client.limits text) (NamesServerFirst text)
+    some_reading (server_first_tests client text) (NamesServerFirst text)
     (decided-append (server_first.nonce_tests client.nonce text) salt (nonce_decided client.nonce text)
     (decided-append (salt_tests text) count (salt_decided text)
     (decided-append (count_tests client.limits text) secret (count_decided client.limits text)
-    (secret_decided client.secret text))))
+    (both_or (true_or client.strict) (attribute_from_or 3 text), secret_decided client.secret text))))
     (λ none.
     let nonce_parts = none-split (server_first.nonce_tests client.nonce text) salt none in
     let salt_parts = none-split (salt_tests text) count nonce_parts.1 in
@@ -273,10 +344,10 @@ proof_or text = elim (last_part_or text) [
   | inr none ↦ inr (λ final has. none final.without (codes "p=" ++ base64_text final.proof) has.1)
 ]
 
-binding_decided : (header : ChannelBindingFlag) (text : List ℕ) → AllDecided (binding_tests header text)
-binding_decided header text = (
+binding_decided : (channel : ClientChannel) (text : List ℕ) → AllDecided (binding_tests channel text)
+binding_decided channel text = (
   none_or (attribute_text_or text 0 (codes "c=")),
-  (none_or (binding_or text), (not_or (this_binding_or text (header_text header)), tt)),
+  (none_or (binding_or text), (not_or (this_binding_or text (cbind_input channel)), tt)),
 )
 
 final_nonce_decided : (nonce text : List ℕ) → AllDecided (final_nonce_tests nonce text)
@@ -285,28 +356,43 @@ final_nonce_decided nonce text = (
   (not_or (part_is_or text 1 (codes "r=" ++ nonce)), tt),
 )
 
-spelling_decided : (text : List ℕ) → AllDecided (spelling_tests text)
-spelling_decided text = (proof_part_or text, (none_or (proof_or text), tt))
+-- whether an attribute that RFC 5802 defines is between the nonce and the proof
+before_proof_or : (text : List ℕ) → Decided (HasMisplacedBeforeProof text)
+before_proof_or text = elim (last_part_or text) [
+  | inl (before, part, is) ↦ elim (rest_or (codes "p=") part) [
+    | inl (rest, begins) ↦ elim (attribute_from_or 2 before) [
+      | inl has ↦ inl (before, rest, subst (LastPart text before) begins is, has)
+      | inr none ↦ inr (λ has. none (subst (HasAttributeFrom 2)
+          (one_last_cut 44 text has.0 (codes "p=" ++ has.1) before part has.2 is).0 has.3))
+    ]
+    | inr none ↦ inr (λ has. no_proof text before part is (λ begins. none begins.0 begins.1) has.0 has.1 has.2)
+  ]
+  | inr none ↦ inr (λ has. none has.0 (codes "p=" ++ has.1) has.2)
+]
+
+spelling_decided : (strict : Bool) (text : List ℕ) → AllDecided (spelling_tests strict text)
+spelling_decided strict text =
+    (proof_part_or text, (none_or (proof_or text), (both_or (true_or strict) (before_proof_or text), tt)))
 
 -- a text has an answer before the keys are looked at
-some_final_text : (header : ChannelBindingFlag) (nonce text : List ℕ)
-    → (answer : Result ClientFinal ServerScramErrorKind) × ReadsFinalText header nonce text answer
+some_final_text : (channel : ClientChannel) (strict : Bool) (nonce text : List ℕ)
+    → (answer : Result ClientFinal ServerScramErrorKind) × ReadsFinalText channel strict nonce text answer
 unfolding ReadsFinalText
-some_final_text header nonce text =
-    let after_binding = final_nonce_tests nonce text ++ spelling_tests text in
-    some_reading (final_text_tests header nonce text) (NamesClientFinal header nonce text) (
+some_final_text channel strict nonce text =
+    let after_binding = final_nonce_tests nonce text ++ spelling_tests strict text in
+    some_reading (final_text_tests channel strict nonce text) (NamesClientFinal channel nonce text) (
       not_or (utf8_or text),
-      decided-append (binding_tests header text) after_binding (binding_decided header text)
-          (decided-append (final_nonce_tests nonce text) (spelling_tests text) (final_nonce_decided nonce text)
-          (spelling_decided text)),
+      decided-append (binding_tests channel text) after_binding (binding_decided channel text)
+          (decided-append (final_nonce_tests nonce text) (spelling_tests strict text) (final_nonce_decided nonce text)
+          (spelling_decided strict text)),
     )
     (λ none.
-    let binding_parts = none-split (binding_tests header text) after_binding none.1 in
-    let nonce_parts = none-split (final_nonce_tests nonce text) (spelling_tests text) binding_parts.1 in
+    let binding_parts = none-split (binding_tests channel text) after_binding none.1 in
+    let nonce_parts = none-split (final_nonce_tests nonce text) (spelling_tests strict text) binding_parts.1 in
     let final = found_one (proof_or text) nonce_parts.1.1.0 in (
       final.0,
       record {
-        binding = held (this_binding_or text (header_text header)) binding_parts.0.1.1.0;
+        binding = held (this_binding_or text (cbind_input channel)) binding_parts.0.1.1.0;
         nonce = held (part_is_or text 1 (codes "r=" ++ nonce)) nonce_parts.0.1.0;
         proof = final.1;
       },
@@ -315,9 +401,9 @@ some_final_text header nonce text =
 pub some_client_final : (server : Server) (text : List ℕ)
     → (answer : Result ClientFinal ServerScramErrorKind) × ReadsClientFinal server text answer
 unfolding ReadsClientFinal
-some_client_final server text = go (some_final_text server.header server.nonce text)
+some_client_final server text = go (some_final_text server.channel server.strict server.nonce text)
   where
-    go : (answer : Result ClientFinal ServerScramErrorKind) × ReadsFinalText server.header server.nonce text answer
+    go : (answer : Result ClientFinal ServerScramErrorKind) × ReadsFinalText server.channel server.strict server.nonce text answer
         → (answer : Result ClientFinal ServerScramErrorKind) × ReadsClientFinal server text answer
     go (Err fault, reads) = (Err fault, inl reads)
     go (Ok final, reads) = elim (same_number_or (length final.proof) (digest_len server.version)) [

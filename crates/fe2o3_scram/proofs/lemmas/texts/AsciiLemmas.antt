@@ -46,6 +46,11 @@ IsUtf8-base64_text bytes = IsUtf8-small (base64_text bytes) (small-base64_text b
 pub IsUtf8-literal : (text : List ℕ) → list_all (λ byte. nat_lt byte 128) text ≡ true → IsUtf8 text
 IsUtf8-literal text passes = IsUtf8-small text (small-test text passes)
 
+-- ASCII, and a text after it
+pub utf8_behind : (key text : List ℕ) → list_all (λ byte. nat_lt byte 128) key ≡ true → IsUtf8 text
+    → IsUtf8 (key ++ text)
+utf8_behind key text passes utf8 = IsUtf8-append key text (IsUtf8-literal key passes) utf8
+
 IsUtf8-escaped_byte : (b : ℕ) → b < 128 → IsUtf8 (escaped_byte b)
 IsUtf8-escaped_byte b small = by_cases b IsUtf8 (λ _. IsUtf8-literal (codes "=2C") refl)
     (λ _. IsUtf8-literal (codes "=3D") refl) (λ comma equals. IsUtf8-small (b ∷ []) (small, tt))

@@ -29,13 +29,13 @@ pub none_after_three : (text p q r : List ℕ) (more : List (List ℕ)) → Part
 none_after_three text p q r more are none = none_at more
     (λ j part at is. none (suc (suc (suc j)), part, omega arith, (p ∷ q ∷ r ∷ more, are, at), is))
 
--- a text in three parts has none after them
-pub none_in_three : (text : List ℕ) (parts : List (List ℕ)) → Parts text parts → length parts ≡ 3
-    → ¬ HasAttributeFrom 3 text
-none_in_three text parts are three has =
+-- a text in k parts has none after them
+pub none_after_all : (k : ℕ) (text : List ℕ) (parts : List (List ℕ)) → Parts text parts → length parts ≡ k
+    → ¬ HasAttributeFrom k text
+none_after_all k text parts are all has =
     let same = one_list_of_parts text has.3.0 parts has.3.1 are in
     let within : has.0 < length has.3.0 = slice_get_within has.3.0 has.0 has.1 has.3.2 in
-    omega (arith, within, has.2, ap length same, three)
+    omega (arith, within, has.2, ap length same, all)
 
 -- ---- a mark that occurs once
 

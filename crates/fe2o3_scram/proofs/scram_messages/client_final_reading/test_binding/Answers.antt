@@ -1,31 +1,29 @@
 use Rattle.std.proofs.Common.{rules, refl, inl, inr, ◌≡◌, ◌≢◌}
 use Rattle.std.proofs.lemmas.Result.{err_from_is_err_and}
-use Rattle.fe2o3_scram.specs.ClientFirst.{header_text}
-use Rattle.fe2o3_scram.specs.Texts.{base64_text}
-use Rattle.fe2o3_scram.proofs.lemmas.messages.ClientFinalLemmas.{no_binding, has_binding, this_header, other_header}
+use Rattle.fe2o3_scram.specs.ChannelBinding.{cbind_input}
+use Rattle.fe2o3_scram.proofs.lemmas.messages.ClientFinalLemmas.{no_binding, has_binding, other_bytes, reaches_binding, this_binding}
 use Rattle.fe2o3_scram.proofs.scram_messages.client_final_reading.test_binding.Goals as goal
 
-pub returns-then-eq-clause-tested : goal.returns-then-eq-clause-tested
-returns-then-eq-clause-tested c =
-    let same : c.in-Some.base64_binding.now ≡ base64_text (header_text c.args.header) = search rules in
-    let has = this_header c.args.header c.args.client_final.now c.in-Some.base64_binding.now c.in-Some.ensures same in (
+pub returns-then-is_header_alone-clause-tested : goal.returns-then-is_header_alone-clause-tested
+returns-then-is_header_alone-clause-tested c =
+    let has = this_binding c.args.channel.now c.args.client_final.now c.in-Some.base64_binding.now
+    (c.is_header_alone.ensures.unbound c.if-is_header_alone.true) c.in-Some.ensures
+    (c.is_header_alone.ensures.same c.if-is_header_alone.true) in (
       λ none. none c.in-Some.base64_binding.now c.in-Some.ensures,
-      (λ none. none (header_text c.args.header) has, (λ other. other has, tt)),
+      (λ none. none (cbind_input c.args.channel.now) has, (λ other. other has, tt)),
     )
 
-pub returns-then-eq-clause-bound : goal.returns-then-eq-clause-bound
-returns-then-eq-clause-bound c =
-    let same : c.in-Some.base64_binding.now ≡ base64_text (header_text c.args.header) = search rules in
-    this_header c.args.header c.args.client_final.now c.in-Some.base64_binding.now c.in-Some.ensures same
+pub returns-then-is_header_alone-clause-bound : goal.returns-then-is_header_alone-clause-bound
+returns-then-is_header_alone-clause-bound c =
+    this_binding c.args.channel.now c.args.client_final.now c.in-Some.base64_binding.now
+    (c.is_header_alone.ensures.unbound c.if-is_header_alone.true) c.in-Some.ensures
+    (c.is_header_alone.ensures.same c.if-is_header_alone.true)
 
-pub returns-in_err-bytes_of-clause-memory : goal.returns-in_err-bytes_of-clause-memory
-returns-in_err-bytes_of-clause-memory c =
+pub returns-in_err-binding-clause-memory : goal.returns-in_err-binding-clause-memory
+returns-in_err-binding-clause-memory c =
     let from = err_from_is_err_and c.from_residual.result c.from_residual.ensures.1 in
-    let other : c.in-Some.base64_binding.now ≢ base64_text (header_text c.args.header) = search rules in
-    rw (from.1, from.2) (λ _. (
-      (c.in-Some.base64_binding.now, c.in-Some.ensures),
-      other_header c.args.header c.args.client_final.now c.in-Some.base64_binding.now c.in-Some.ensures other,
-    ))
+    rw (from.1, from.2) (λ _. reaches_binding c.args.channel.now c.args.client_final.now
+    c.in-Some.base64_binding.now c.in-Some.ensures (c.is_header_alone.ensures.other c.if-is_header_alone.false))
 
 pub returns-in_default-2-clause-err : goal.returns-in_default-2-clause-err
 returns-in_default-2-clause-err c =
@@ -34,21 +32,35 @@ returns-in_default-2-clause-err c =
       λ none. none spelling c.in-Some.ensures,
       inl (
         no_binding c.args.client_final.now spelling c.in-Some.ensures
-            (rw c.in_default-2.is at c.in_ok-bytes_of.ensures),
+            (rw c.in_default-2.is at c.in_ok-binding.ensures),
         refl,
       ),
     )
 
-pub returns-clause-err : goal.returns-clause-err
-returns-clause-err c =
+pub returns-then-not-is_cbind_input-clause-err : goal.returns-then-not-is_cbind_input-clause-err
+returns-then-not-is_cbind_input-clause-err c =
     let spelling = c.in-Some.base64_binding.now in
-    let bytes = c.in-Some-2.field-0.items in
-    let spells = rw c.in-Some-2.is at c.in_ok-bytes_of.ensures in
-    let other : spelling ≢ base64_text (header_text c.args.header) = search rules in
+    let bytes = c.in-Some-2.binding.items in
+    let spells = rw c.in-Some-2.is at c.in_ok-binding.ensures in
+    let differs : bytes ≢ cbind_input c.args.channel.now = search rules in
     λ _. inr (
       λ none. none spelling c.in-Some.ensures,
       inr (
         λ none. none bytes (has_binding c.args.client_final.now spelling bytes c.in-Some.ensures spells),
-        inl (other_header c.args.header c.args.client_final.now spelling c.in-Some.ensures other, refl),
+        inl (
+          other_bytes c.args.channel.now c.args.client_final.now spelling bytes c.in-Some.ensures spells differs,
+          refl,
+        ),
       ),
+    )
+
+pub returns-clause-tested : goal.returns-clause-tested
+returns-clause-tested c =
+    let spelling = c.in-Some.base64_binding.now in
+    let bytes = c.in-Some-2.binding.items in
+    let spells = rw c.in-Some-2.is at c.in_ok-binding.ensures in
+    let same : bytes ≡ cbind_input c.args.channel.now = search rules in
+    let has = rw same at (has_binding c.args.client_final.now spelling bytes c.in-Some.ensures spells) in (
+      λ none. none spelling c.in-Some.ensures,
+      (λ none. none (cbind_input c.args.channel.now) has, (λ other. other has, tt)),
     )

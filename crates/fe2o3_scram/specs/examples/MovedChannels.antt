@@ -1,0 +1,51 @@
+-- What someone on the way can do to two sides of which neither is strict, by public values alone: the client receives the
+-- server's message followed by the two attributes that the server wants to read, and the server receives these two before
+-- the client's own answer. So a side that binds its channel has to be strict. The law is `laws::bound_channels`.
+use Rattle.std.specs.Prelude.{ℕ, List, [], ◌∷◌, ◌≡◌, ◌≤◌, ◌<◌, ◌^◌, Ok, false, T}
+use Rattle.std.specs.Str.{IsUtf8}
+use Rattle.base64.specs.GeneralPurpose.{IsBytes}
+use Rattle.fe2o3_scram.specs.ChannelBinding.{HoldsChannelBytes}
+use Rattle.fe2o3_scram.specs.ClientFinal.{ReadsFinalText, client_final_of, without_proof_with}
+use Rattle.fe2o3_scram.specs.ClientSecret.{Password, no_limit, up_to}
+use Rattle.fe2o3_scram.specs.Credentials.{Record}
+use Rattle.fe2o3_scram.specs.declared.scram_messages.client_channel.ClientChannel.{ClientChannel}
+use Rattle.fe2o3_scram.specs.Keys.{auth_message}
+use Rattle.fe2o3_scram.specs.Passwords.{PasswordText, IsNormal}
+use Rattle.fe2o3_scram.specs.ServerFirst.{Client, ReadsServerFirst, server_first_of}
+use Rattle.fe2o3_scram.specs.Texts.{NoComma, StartsWith, joined}
+
+-- the server's message as the client receives it
+abbrev pub moved_first : List ℕ → ClientChannel → List ℕ → List ℕ
+moved_first first theirs both = joined (first ∷ without_proof_with theirs both ∷ [])
+
+-- the text before the proof as the server receives it
+abbrev pub moved_without : ClientChannel → ClientChannel → List ℕ → List ℕ
+moved_without ours theirs both = joined (without_proof_with theirs both ∷ without_proof_with ours both ∷ [])
+
+-- a client that binds its channel and is not strict, which no client of this library is
+abbrev pub lax_client : PasswordText → List ℕ → ClientChannel → Client
+lax_client password own ours = record {
+  nonce = own;
+  secret = Password password;
+  limits = up_to no_limit;
+  channel = ours;
+  strict = false;
+}
+
+-- the client reads the one as the server's own, a server that is not strict reads the other with the channel that it
+-- expects, whatever the client's is, and both have one AuthMessage
+pub record Passes (password : PasswordText) (own both bare : List ℕ) (ours theirs : ClientChannel) (proof : List ℕ)
+    (stored : Record) : Type 0 where
+  pub client : ReadsServerFirst (lax_client password own ours) (moved_first (server_first_of both stored) theirs both)
+      (Ok (record { nonce = both; salt = stored.salt; count = stored.count }))
+  pub server : ReadsFinalText theirs false both (client_final_of (moved_without ours theirs both) proof)
+      (Ok (record { without = moved_without ours theirs both; proof = proof }))
+  pub one : auth_message bare (moved_first (server_first_of both stored) theirs both) (without_proof_with ours both)
+      ≡ auth_message bare (server_first_of both stored) (moved_without ours theirs both)
+
+-- of every two channels, whatever they are, these texts pass
+abbrev pub MovedChannelsPass : Type 0
+MovedChannelsPass = (password : PasswordText) (own both bare : List ℕ) (ours theirs : ClientChannel) (proof : List ℕ)
+    (stored : Record) → IsNormal password → StartsWith both own → NoComma both → IsUtf8 both
+    → HoldsChannelBytes theirs → IsBytes proof → IsBytes stored.salt → 1 ≤ stored.count → stored.count < 2 ^ 32
+    → Passes password own both bare ours theirs proof stored

@@ -1,0 +1,79 @@
+//! What a server accepts in a client's messages.
+
+ghost use Rattle.std.specs.Prelude.{◌≡◌};
+ghost use Rattle.fe2o3_scram.specs.ChannelBinding.{data_of_server, expected_channel, is_strict, known_data};
+ghost use Rattle.fe2o3_scram.specs.ClientFirst.{default_rules};
+
+use crate::channel_binding::{ChannelBinding, ChannelBindings, ChannelData, ChannelKind};
+use crate::scram_messages::channel_binding_flag::ChannelBindingFlag;
+use crate::scram_messages::client_channel::ClientChannel;
+
+/// What a server accepts in a client's messages, where RFC 5802 leaves it a choice.
+#[derive(Debug, Clone, Copy, PartialEq, Eq)]
+pub struct ServerRules {
+    /// Whether the GS2 header may be `y,,` too: that of a client which supports channel binding, and assumes that the
+    /// server does not, since it was offered no mechanism with `-PLUS` (RFC 5802, section 6). A server that offers such
+    /// a mechanism must not accept that client. It has no effect if the server binds channels.
+    pub accept_cbind_flag_y: bool,
+
+    /// Whether an attribute that RFC 5802 defines is rejected in the place of an extension, by `MisplacedAttribute`.
+    /// Attributes that it does not define are ignored there in any case (RFC 5802, section 7). A server that binds
+    /// channels is always strict.
+    pub strict: bool,
+
+    /// The channel, if the server is of a mechanism with `-PLUS` (RFC 5802, section 6). It then accepts only clients
+    /// that bind that channel, by a kind of which it has the data.
+    pub channels: Option<ChannelBindings>,
+}
+
+impl ServerRules {
+    /// Returns the rules of a server without options: the GS2 header has to be `n,,`, and the server is not strict.
+    pub fn new() -> Self
+        ensures { result ≡ default_rules }
+    {
+        ServerRules {
+            accept_cbind_flag_y: false,
+            strict: false,
+            channels: None,
+        }
+    }
+
+    /// Returns whether the server is strict: it binds channels, or is set to.
+    pub fn is_strict(&self) -> bool
+        ensures { result ≡ is_strict self.now }
+    {
+        self.channels.is_some() || self.strict
+    }
+
+    /// Returns the channel that the server expects of a client with this flag in its GS2 header. If the server has no
+    /// data of the client's kind, no channel has the data that it expects.
+    pub fn expected_channel(&self, flag: ChannelBindingFlag) -> ClientChannel
+        ensures { result ≡ expected_channel self.now.channels flag }
+    {
+        match flag {
+            ChannelBindingFlag::NotSupported => ClientChannel::Absent,
+            ChannelBindingFlag::ClientSupports => ClientChannel::NotOffered,
+            ChannelBindingFlag::Required(kind) => ClientChannel::Bound(ChannelBinding {
+                kind,
+                cbind_data: self.data(kind),
+            }),
+        }
+    }
+
+    /// Returns the server's data of a kind, or no data.
+    fn data(&self, kind: ChannelKind) -> ChannelData
+        ensures { result ≡ known_data (data_of_server self.now.channels kind) }
+    {
+        let known = match self.channels {
+            Some(channels) => channels.data(kind),
+            None => None,
+        };
+        match known {
+            Some(data) => data,
+            None => ChannelData {
+                bytes: [0; 64],
+                len: 0,
+            },
+        }
+    }
+}
