@@ -6,6 +6,8 @@ use Rattle.fe2o3_sasl_wire.specs.declared.amqp_types.SaslCode.TheVariants as out
 use Rattle.fe2o3_sasl_wire.specs.SaslFrames as frames
 use Rattle.fe2o3_sasl_wire.specs.SaslFrames.{SaslFrame}
 use Rattle.fe2o3_sasl_core.specs.SaslAcceptor.{ends_with}
+use Rattle.fe2o3_sasl_core.specs.declared.rejection.Rejection.{Rejection}
+use Rattle.fe2o3_sasl_core.specs.declared.rejection.Rejection.TheVariants.{MechanismNotOffered, UnexpectedResponse}
 use Rattle.fe2o3_sasl_core.specs.declared.any_mechanism.Selected.{Selected}
 use Rattle.fe2o3_sasl_core.specs.declared.any_mechanism.Selected.TheVariants.{First, Second}
 
@@ -55,6 +57,26 @@ abbrev pub any_mechanism_machine : {S T : Type 0} → (S → List (List ℕ)) �
     → BothStates S T → List ℕ → SaslFrame → SaslFrame → BothStates S T → Type 0
 any_mechanism_machine names others machine other parts nonce frame reply next =
     PartReplies machine other parts (part_for names others parts frame) nonce frame reply next
+
+-- why a frame that goes to neither acceptor is rejected: an init for its mechanism, and a response since no acceptor
+-- waits for it
+abbrev pub reason_of_neither : SaslFrame → Rejection
+reason_of_neither (frames.Init mechanism response hostname) = MechanismNotOffered
+reason_of_neither frame = UnexpectedResponse
+
+-- this part rejects the frame for this reason
+abbrev pub PartRejects : {S T : Type 0} → (S → SaslFrame → Rejection → Type 0) → (T → SaslFrame → Rejection → Type 0)
+    → BothStates S T → Option Selected → SaslFrame → Rejection → Type 0
+PartRejects reasons other parts None frame reason = reason ≡ reason_of_neither frame
+PartRejects reasons other parts (Some First) frame reason = reasons parts.first frame reason
+PartRejects reasons other parts (Some Second) frame reason = other parts.second frame reason
+
+-- why a server of two acceptors rejects a frame: for the reason of the part that it goes to
+abbrev pub any_mechanism_reasons : {S T : Type 0} → (S → List (List ℕ)) → (T → List (List ℕ))
+    → (S → SaslFrame → Rejection → Type 0) → (T → SaslFrame → Rejection → Type 0) → BothStates S T → SaslFrame
+    → Rejection → Type 0
+any_mechanism_reasons names others reasons other parts frame reason =
+    PartRejects reasons other parts (part_for names others parts frame) frame reason
 
 -- this part allocates; none does for what goes to neither
 abbrev pub PartAllocates : {S T : Type 0} → (S → SaslFrame → Type 0) → (T → SaslFrame → Type 0) → BothStates S T

@@ -12,12 +12,12 @@ use Rattle.fe2o3_scram.specs.declared.scram_messages.error.ScramErrorKind.{Scram
 use Rattle.fe2o3_scram.specs.declared.scram_messages.error.ScramErrorKind.TheVariants.{Utf8Error, IllegalClientState, ServerSignatureMismatch}
 use Rattle.fe2o3_scram.specs.Texts.{base64_text}
 use Rattle.fe2o3_scram.specs.ClientFinal.{Answer, answer_of}
-use Rattle.fe2o3_scram.specs.ClientFirst.{client_first, client_first_bare}
-use Rattle.fe2o3_sasl_core.specs.Events.{Given, Login, ClientSays, Started, Answered, Reported, Refused, scram_fault}
-use Rattle.fe2o3_scram.specs.Hmac.{mechanism_name}
+use Rattle.fe2o3_scram.specs.ClientFirst.{client_first_bare, client_first_with}
+use Rattle.fe2o3_sasl_core.specs.Events.{Given, Login, login_mechanism, ClientSays, Started, Answered, Reported, Refused, scram_fault}
+use Rattle.fe2o3_scram.specs.ChannelBinding.{flag_of}
 use Rattle.fe2o3_sasl_core.specs.Positions.{OpenBy}
 use Rattle.fe2o3_scram.specs.ServerFinal.{ReadsServerFinal}
-use Rattle.fe2o3_scram.specs.ServerFirst.{ServerFirst, ReadsServerFirst}
+use Rattle.fe2o3_scram.specs.ServerFirst.{Client, ServerFirst, ReadsServerFirst, client_of}
 use Rattle.fe2o3_sasl_core.specs.Bodies.{carried, SpellsBody}
 use Rattle.fe2o3_sasl_core.specs.declared.sasl_profile.error.ProfileError.TheVariants.{NotImplemented, Frame, OutOfMemory}
 
@@ -27,17 +27,21 @@ pub record Answering : Type 0 where
   pub text : List ℕ
   pub first : ServerFirst
 
+-- what a client knows when it reads a challenge against this nonce of its own
+abbrev pub client_at : Login → List ℕ → Client
+client_at login nonce = client_of nonce login.secret login.limits login.channel login.strict
+
 -- the answer of a client to a server-first message (RFC 5802, section 5)
 abbrev pub answer_at : Login → Answering → Answer
-answer_at login answer = answer_of login.version login.secret
+answer_at login answer = answer_of login.version login.secret login.channel
     (client_first_bare login.user answer.nonce) answer.text answer.first
 
 -- the reply of a start: an init with the client-first message (AMQP 1.0, part 5, section 5.3.3.2)
 abbrev pub says_start : Login → Given → ClientSays
 says_start login event =
     carried (Refused (Frame faults.TooLarge)) (λ body. Started body)
-    (canonical (frames.Init (mechanism_name login.version)
-    (Some (client_first login.user (base64_text event.nonce))) login.hostname))
+    (canonical (frames.Init (login_mechanism login)
+    (Some (client_first_with (flag_of login.channel) login.user (base64_text event.nonce))) login.hostname))
 
 -- the reply to a signature that came in a challenge: an empty response (RFC 4422, section 5)
 abbrev pub says_verified : ClientSays
@@ -52,11 +56,11 @@ says_answer login answer = carried (Refused (Frame faults.TooLarge)) (λ body. A
 -- message
 abbrev pub ReadsChallenge : Login → (List ℕ → Type 0) → List ℕ → Result Answering ScramErrorKind → Type 0
 ReadsChallenge login Due text (Ok answer) = IsUtf8 text × (answer.text ≡ text) × Due answer.nonce
-    × ReadsServerFirst answer.nonce login.secret login.limits text (Ok answer.first)
+    × ReadsServerFirst (client_at login answer.nonce) text (Ok answer.first)
 ReadsChallenge login Due text (Err kind) =
     (¬ IsUtf8 text × (kind ≡ Utf8Error))
     ⊎ ((IsUtf8 text × ((nonce : List ℕ) → ¬ Due nonce) × (kind ≡ IllegalClientState))
-    ⊎ (IsUtf8 text × ((nonce : List ℕ) × Due nonce × ReadsServerFirst nonce login.secret login.limits text (Err kind))))
+    ⊎ (IsUtf8 text × ((nonce : List ℕ) × Due nonce × ReadsServerFirst (client_at login nonce) text (Err kind))))
 
 -- the signature of this answer may come in a challenge (RFC 4422, section 5): the answer is open, and the login accepts
 -- the signature there
@@ -87,8 +91,8 @@ abbrev pub ClientAnswers : Login → (List ℕ → Type 0) → (Answering → Ty
     → Result SaslFrame Error → ClientSays → Type 0
 ClientAnswers login Due IsOpen IsVerified event (Err fault) says = says ≡ Refused (Frame fault)
 ClientAnswers login Due IsOpen IsVerified event (Ok (frames.Mechanisms names)) says =
-    (Contains names (mechanism_name login.version) × (says ≡ says_start login event))
-    ⊎ (¬ Contains names (mechanism_name login.version) × (says ≡ Refused NotImplemented))
+    (Contains names (login_mechanism login) × (says ≡ says_start login event))
+    ⊎ (¬ Contains names (login_mechanism login) × (says ≡ Refused NotImplemented))
 ClientAnswers login Due IsOpen IsVerified event (Ok (frames.Challenge text)) says =
     (ReadsSigning login IsOpen text (Ok tt) × (says ≡ says_verified))
     ⊎ ((kind : ScramErrorKind) × ReadsSigning login IsOpen text (Err kind) × (says ≡ Refused (scram_fault kind)))
@@ -105,7 +109,7 @@ ClientAnswers login Due IsOpen IsVerified event (Ok frame) says = says ≡ Refus
 -- the replies at which the client may run out of memory: those to a mechanisms list with the name, to a challenge in
 -- UTF-8, and to an outcome with data, which in one of code Ok are UTF-8
 abbrev pub ClientAllocates : Login → Result SaslFrame Error → Type 0
-ClientAllocates login (Ok (frames.Mechanisms names)) = Contains names (mechanism_name login.version)
+ClientAllocates login (Ok (frames.Mechanisms names)) = Contains names (login_mechanism login)
 ClientAllocates login (Ok (frames.Challenge text)) = IsUtf8 text
 ClientAllocates login (Ok (frames.Outcome outcomes.Ok (Some text))) = IsUtf8 text
 ClientAllocates login (Ok (frames.Outcome code (Some text))) = Unit {0}

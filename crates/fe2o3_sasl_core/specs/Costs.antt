@@ -7,7 +7,7 @@ use Rattle.fe2o3_sasl_wire.specs.SaslFrames.{SaslFrame}
 use Rattle.fe2o3_scram.specs.declared.scram_messages.error.ServerScramErrorKind.{ServerScramErrorKind}
 use Rattle.fe2o3_scram.specs.ClientFirst.{ClientFirst, ReadsClientFirst}
 use Rattle.fe2o3_scram.specs.Credentials.{Provider}
-use Rattle.fe2o3_scram.specs.Hmac.{mechanism_name}
+use Rattle.fe2o3_scram.specs.ChannelBinding.{server_mechanism}
 use Rattle.fe2o3_scram.specs.ScramClient.{AnswerCostsIn}
 use Rattle.fe2o3_scram.specs.ScramServer.{ServerState, ConcludesFrom, FinalCostsFrom}
 use Rattle.fe2o3_sasl_core.specs.Bodies.{SpellsBody}
@@ -19,8 +19,8 @@ use Rattle.fe2o3_sasl_core.specs.SaslAcceptor.{Acceptor, ScramAcceptor}
 
 -- the init names the mechanism, and its client-first message is parsed, so that its user is looked up
 abbrev pub ReachesLookUp : Provider → List ℕ → List ℕ → Type 0
-ReachesLookUp provider mechanism text = (mechanism ≡ mechanism_name provider.version)
-    × ((client : ClientFirst) × ReadsClientFirst provider.cbind_flag_y text (Ok client))
+ReachesLookUp provider mechanism text = (mechanism ≡ server_mechanism provider.version provider.rules)
+    × ((client : ClientFirst) × ReadsClientFirst provider.rules text (Ok client))
 
 -- how many HMAC values an acceptor makes for its answer to a frame: SCRAM for an init those of the look-up, and for a
 -- response two if it is accepted and one if only the proof is rejected; otherwise none
@@ -30,7 +30,8 @@ acceptor_hmacs (ScramAcceptor provider state) (frames.Init mechanism (Some text)
     ⊎ (¬ ReachesLookUp provider mechanism text × (n ≡ 0))
 acceptor_hmacs (ScramAcceptor provider state) (frames.Response text) n =
     (answer : Result (Option (List ℕ)) ServerScramErrorKind) × (after : ServerState)
-    × ConcludesFrom state provider.version text answer after × FinalCostsFrom state provider.version text answer 0 n
+    × ConcludesFrom state provider.version provider.rules text answer after
+    × FinalCostsFrom state provider.version provider.rules text answer 0 n
 acceptor_hmacs acceptor frame n = n ≡ 0
 
 -- no more HMAC values were made than an answer takes, also if memory ran out

@@ -1,10 +1,12 @@
 -- What the two sides receive and answer, as plain data (AMQP 1.0, part 5, section 5.3), and what the code always holds
 -- of it.
-use Rattle.std.specs.Prelude.{◌≡◌, ℕ, Bool, ◌<◌, ◌^◌, List, length, slice_get, Option, Some}
+use Rattle.std.specs.Prelude.{◌≡◌, ℕ, Bool, ◌<◌, ◌^◌, List, length, slice_get, Option, Some, ◌||◌}
 use Rattle.std.specs.Str.{IsUtf8}
 use Rattle.fe2o3_sasl_wire.specs.SaslFrames.{IsBytes}
 use Rattle.fe2o3_sasl_wire.specs.declared.amqp_types.SaslCode.{SaslCode}
 use Rattle.fe2o3_sasl_wire.specs.declared.sasl_frames.error.Error.{Error}
+use Rattle.fe2o3_scram.specs.ChannelBinding.{HoldsChannelBytes, is_bound, mechanism_of}
+use Rattle.fe2o3_scram.specs.declared.scram_messages.client_channel.ClientChannel.{ClientChannel}
 use Rattle.fe2o3_scram.specs.declared.hmac.ScramVersion.{ScramVersion}
 use Rattle.fe2o3_scram.specs.declared.scram_messages.error.ScramErrorKind.{ScramErrorKind}
 use Rattle.fe2o3_scram.specs.declared.scram_messages.error.ScramErrorKind.TheVariants as kinds
@@ -20,16 +22,27 @@ pub record Given : Type 0 where
   pub body : List ℕ
   pub nonce : List ℕ
 
--- what a client logs in with: user name, secret and version, the iteration counts that it accepts, whether it accepts the
--- server's signature in a challenge too (RFC 4422, section 5), and the hostname that its init carries, if any (AMQP 1.0,
--- part 5, section 5.3.3.2)
+-- what a client logs in with: user name, secret and version, the iteration counts that it accepts, what it says of its
+-- channel (RFC 5802, section 6), whether it is set to be strict (it rejects an attribute that RFC 5802 defines in the
+-- place of an extension), whether it accepts the server's signature in a challenge too (RFC 4422, section 5), and the
+-- hostname that its init carries, if any (AMQP 1.0, part 5, section 5.3.3.2)
 pub record Login : Type 0 where
   pub user : List ℕ
   pub secret : Secret
   pub version : ScramVersion
   pub limits : IterationLimits
+  pub channel : ClientChannel
+  pub strict : Bool
   pub signature_by_challenge : Bool
   pub hostname : Option (List ℕ)
+
+-- the mechanism that a login selects (RFC 5802, section 6)
+abbrev pub login_mechanism : Login → List ℕ
+login_mechanism login = mechanism_of login.version (is_bound login.channel)
+
+-- a login is strict if it binds a channel, or is set to
+abbrev pub is_strict_login : Login → Bool
+is_strict_login login = is_bound login.channel || login.strict
 
 -- a reply of a server: the body of a challenge, the code and the body of an outcome, or an error
 pub data ServerSays : Type 0 where
@@ -60,10 +73,11 @@ pub record IsGiven (event : Given) : Type 0 where
 abbrev pub AreGiven : List Given → Type 0
 AreGiven events = (k : ℕ) (event : Given) → slice_get events k ≡ Some event → IsGiven event
 
--- what the code holds of a login: texts in UTF-8, and a limit of 32 bits
+-- what the code holds of a login: texts in UTF-8, a limit of 32 bits, and data of a channel that are bytes
 pub record IsLogin (login : Login) : Type 0 where
   pub user : IsUtf8 login.user
   pub limit : login.limits.max_iterations < 2 ^ 32
+  pub channel : HoldsChannelBytes login.channel
   pub hostname : (text : List ℕ) → login.hostname ≡ Some text → IsUtf8 text
 
 -- what the code holds of a secret: its keys are as long as a digest (RFC 5802, section 3)

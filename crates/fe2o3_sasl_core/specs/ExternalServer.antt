@@ -1,10 +1,12 @@
 -- What a server answers to EXTERNAL (RFC 4422, appendix A), by which a client logs in as the user that the transport
 -- has authenticated.
-use Rattle.std.specs.Prelude.{◌≡◌, ◌⊎◌, ℕ, Bool, true, false, Option, Some, None, List, [], codes, string_bytes}
+use Rattle.std.specs.Prelude.{◌≡◌, ◌≢◌, ◌⊎◌, ℕ, Bool, true, false, Option, Some, None, List, [], codes, string_bytes}
 use Rattle.fe2o3_sasl_wire.specs.declared.amqp_types.SaslCode.TheVariants as outcomes
 use Rattle.fe2o3_sasl_wire.specs.SaslFrames as frames
 use Rattle.fe2o3_sasl_wire.specs.SaslFrames.{SaslFrame}
 use Rattle.fe2o3_sasl_core.specs.SaslAcceptor.{ends_with}
+use Rattle.fe2o3_sasl_core.specs.declared.rejection.Rejection.{Rejection}
+use Rattle.fe2o3_sasl_core.specs.declared.rejection.Rejection.TheVariants.{MechanismNotOffered, OtherIdentity, UnexpectedResponse}
 use Rattle.fe2o3_sasl_core.specs.declared.external_server.ExternalServer.{ExternalServer as Code}
 
 -- the acceptor: the name that the transport authenticated, and whether it has accepted
@@ -30,6 +32,14 @@ external_machine external nonce (frames.Init mechanism response hostname) reply 
 external_machine external nonce (frames.Response text) reply next =
     (reply ≡ ends_with outcomes.Auth) × (next ≡ external)
 external_machine external nonce frame reply next = ⊥
+
+-- why an acceptor of EXTERNAL rejects a frame: an init for its mechanism, and otherwise for the
+-- name that it asks for
+abbrev pub external_reasons : External → SaslFrame → Rejection → Type 0
+external_reasons external (frames.Init mechanism response hostname) reason =
+    ((mechanism ≢ codes "EXTERNAL") × (reason ≡ MechanismNotOffered))
+    ⊎ ((mechanism ≡ codes "EXTERNAL") × ¬ AsksFor external.user response × (reason ≡ OtherIdentity))
+external_reasons external frame reason = reason ≡ UnexpectedResponse
 
 -- some name if the flag is set, otherwise none
 abbrev pub named_where : Bool → List ℕ → Option (List ℕ)

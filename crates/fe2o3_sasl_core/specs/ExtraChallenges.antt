@@ -6,6 +6,8 @@ use Rattle.fe2o3_sasl_wire.specs.SaslFrames as frames
 use Rattle.fe2o3_sasl_wire.specs.SaslFrames.{SaslFrame}
 use Rattle.fe2o3_sasl_core.specs.AnyMechanism.{has_name}
 use Rattle.fe2o3_sasl_core.specs.SaslAcceptor.{ends_with}
+use Rattle.fe2o3_sasl_core.specs.declared.rejection.Rejection.{Rejection}
+use Rattle.fe2o3_sasl_core.specs.declared.rejection.Rejection.TheVariants.{UnexpectedInit, UnexpectedResponse}
 use Rattle.fe2o3_sasl_core.specs.declared.extra_challenges.phase.ChallengePhase.{ChallengePhase}
 use Rattle.fe2o3_sasl_core.specs.declared.extra_challenges.phase.ChallengePhase.TheVariants as forms
 use Rattle.fe2o3_sasl_core.specs.declared.extra_challenges.ExtraChallenges.{ExtraChallenges}
@@ -118,6 +120,18 @@ passed_frame names server frame = passed_in names server server.phase frame
 abbrev pub passed_nonce : Phase → List ℕ → SaslFrame → List ℕ
 passed_nonce (Asking mechanism hostname kept) nonce (frames.Response text) = kept
 passed_nonce phase nonce frame = nonce
+
+-- why the server itself rejects a frame: an init where it waits for the response that completes one, and a response
+-- that does not confirm the data of an Ok
+abbrev pub own_reason : SaslFrame → Rejection
+own_reason (frames.Init mechanism response hostname) = UnexpectedInit
+own_reason frame = UnexpectedResponse
+
+-- why the server rejects a frame: for a reason of the acceptor if it receives a frame, and otherwise for its own
+abbrev pub extended_reasons : {S : Type 0} → (S → List (List ℕ)) → (S → SaslFrame → Rejection → Type 0) → Extended S
+    → SaslFrame → Rejection → Type 0
+extended_reasons names reasons server frame reason = MatchOption (passed_frame names server frame)
+    (reason ≡ own_reason frame) (λ passed. reasons server.inner passed reason)
 
 -- the response completes an init, whose parts are copied
 abbrev pub CompletesInit : Phase → SaslFrame → Type 0

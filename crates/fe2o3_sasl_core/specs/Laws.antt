@@ -1,17 +1,22 @@
 -- Laws of every history, and of every two. Each is the contract of a function of `laws` of `fe2o3_sasl`.
-use Rattle.std.specs.Prelude.{◌≡◌, ◌≢◌, ◌↔◌, ◌⊎◌, ℕ, suc, ◌<◌, ◌≤◌, Bool, true, false, Option, Some, None, List, length, take, slice_get, Ok}
+use Rattle.std.specs.Prelude.{◌≡◌, ◌≢◌, ◌↔◌, ◌⊎◌, ℕ, suc, ◌<◌, ◌≤◌, Bool, T, true, false, Option, Some, None, List, length, take, slice_get, Ok}
 use Rattle.std.specs.List.{Contains, filter}
 use Rattle.fe2o3_sasl_wire.specs.declared.amqp_types.SaslCode.TheVariants as outcomes
 use Rattle.fe2o3_sasl_wire.specs.declared.sasl_frames.error.Error.TheVariants as faults
 use Rattle.fe2o3_sasl_wire.specs.SaslFrames.{IsBytes, SaslFrame}
 use Rattle.fe2o3_sasl_wire.specs.SaslFrames as frames
 use Rattle.fe2o3_sasl_core.specs.ClientHistory.{Answering, AnswersAt, ClientAllocates, ClientHistory, is_start, is_answer, ends_answer}
+use Rattle.fe2o3_scram.specs.BoundChannels.{ServerBinds}
+use Rattle.fe2o3_scram.specs.ChannelBinding.{HoldsChannelBytes, TakesHeader, is_strict}
+use Rattle.fe2o3_scram.specs.declared.channel_binding.ChannelBinding.{ChannelBinding}
+use Rattle.fe2o3_scram.specs.declared.scram_messages.client_channel.ClientChannel.TheVariants.{Absent, Bound}
+use Rattle.fe2o3_scram.specs.declared.scram_messages.channel_binding_flag.ChannelBindingFlag.TheVariants.{ClientSupports}
 use Rattle.fe2o3_scram.specs.ClientKeys.{ClientKeys}
 use Rattle.fe2o3_scram.specs.ClientSecret.{Password, Keys}
 use Rattle.fe2o3_scram.specs.Laws.{AreKeysOf}
 use Rattle.fe2o3_scram.specs.Passwords.{PasswordText, IsNormal, password_bytes}
 use Rattle.fe2o3_scram.specs.Credentials.{Provider, Record}
-use Rattle.fe2o3_sasl_core.specs.Events.{Given, AreGiven, Login, IsLogin, IsRecord, IsSecret, ServerSays, Concluded, Failed, ClientSays, Refused}
+use Rattle.fe2o3_sasl_core.specs.Events.{Given, AreGiven, Login, is_strict_login, IsLogin, IsRecord, IsSecret, ServerSays, Concluded, Failed, ClientSays, Refused}
 use Rattle.fe2o3_sasl_core.specs.Runs.{Runs, AcceptorSteps, ProfileReplies, ProfileSteps}
 use Rattle.fe2o3_sasl_core.specs.SaslAcceptor.{acceptor_machine, acceptor_user, Acceptor, ScramAcceptor}
 use Rattle.fe2o3_sasl_core.specs.Profiles.{scram_profile, Profile, StepAllocates}
@@ -19,7 +24,7 @@ use Rattle.fe2o3_sasl_core.specs.Positions.{test_at, IsLastOpen}
 use Rattle.fe2o3_sasl_core.specs.Bodies.{SpellsBody, says_frame}
 use Rattle.fe2o3_sasl_core.specs.ServerHistory.{Challenging, Accepted, AcceptsAt, LoggedIn, Open, ServerHistory, is_challenge, is_ok, full_nonce}
 use Rattle.fe2o3_scram.specs.ScramServer as server_states
-use Rattle.fe2o3_sasl_core.specs.TwoSides.{Sides, Histories, ReportedAnswer, Takes, Shows, Agree, HasParts, IsPlainInit, client_message, server_message}
+use Rattle.fe2o3_sasl_core.specs.TwoSides.{Sides, Histories, ReportedAnswer, Takes, Shows, Agree, HasParts, IsPlainInit, NoneMisplacedIn, client_message, server_message}
 use Rattle.fe2o3_sasl_core.specs.Headline.{VerifierAgrees}
 use Rattle.fe2o3_sasl_core.specs.UnalteredRuns.{ClientLogsIn, ServerLogsIn}
 use Rattle.fe2o3_sasl_core.specs.Verdicts.{Parameters, Verdict, Agreed, JudgesVerifier, JudgesProof, Finding, Audits, AuditsEvents}
@@ -157,6 +162,27 @@ EqualMessagesAgree = (sides : Sides) (answer : Answering) (accepted : Accepted) 
 abbrev pub NoShortExtensions : Type 0
 NoShortExtensions = (sides : Sides) (answer : Answering) (accepted : Accepted) → MatchEqually sides answer accepted
     → ¬ HasParts accepted.challenge.client.bare 3 × ¬ HasParts accepted.challenge.client.bare 4
+
+-- one strict side is enough: where the client is strict, or the server is, one of them received no misplaced attribute
+-- in the texts of an answer and of an accepted response, so that `Agree` speaks of the whole login
+abbrev pub OneStrictSideIsEnough : Type 0
+OneStrictSideIsEnough = (sides : Sides) (k n : ℕ) (answer : Answering) (accepted : Accepted)
+    → AnswersAt sides.login sides.client_events sides.client_replies k answer
+    → AcceptsAt sides.provider sides.server_events sides.server_replies n accepted
+    → T (is_strict_login sides.login) ⊎ T (is_strict sides.provider.rules) → NoneMisplacedIn answer accepted
+
+-- a client that has a channel cannot be talked out of binding it: of an answer and an accepted response with equal
+-- AuthMessages, where the server takes no `y,,` and one side is strict, as each is that binds a channel, both bind one
+-- channel, of one kind and with the same data
+abbrev pub EqualMessagesBindOneChannel : Type 0
+EqualMessagesBindOneChannel = (sides : Sides) (k n : ℕ) (answer : Answering) (accepted : Accepted)
+    → IsRecord accepted.challenge.stored → HoldsChannelBytes sides.login.channel
+    → AnswersAt sides.login sides.client_events sides.client_replies k answer
+    → AcceptsAt sides.provider sides.server_events sides.server_replies n accepted
+    → sides.login.channel ≢ Absent → ¬ TakesHeader sides.provider.rules ClientSupports
+    → T (is_strict_login sides.login) ⊎ T (is_strict sides.provider.rules)
+    → client_message sides.login answer ≡ server_message accepted
+    → (binding : ChannelBinding) × (sides.login.channel ≡ Bound binding) × ServerBinds sides.provider binding
 
 -- each verifier that the client took and the server issued has its verdict
 abbrev pub TakenVerifiersAreJudged : Type 0

@@ -1,11 +1,12 @@
 -- What the inits of a connection claim (AMQP 1.0, part 5, section 5.3.3.2), and a server that keeps the last claim.
-use Rattle.std.specs.Prelude.{◌≡◌, ◌⊎◌, ℕ, true, Option, Some, None, MatchOption, option_map, List, codes, string_bytes, Ok}
+use Rattle.std.specs.Prelude.{◌≡◌, ◌⊎◌, ℕ, Option, Some, None, MatchOption, option_map, List, codes, string_bytes, Ok}
 use Rattle.fe2o3_sasl_wire.specs.SaslFrames as frames
 use Rattle.fe2o3_sasl_wire.specs.SaslFrames.{SaslFrame}
-use Rattle.fe2o3_scram.specs.ClientFirst.{ClientFirst, HasEscapes, ReadsClientFirst}
+use Rattle.fe2o3_scram.specs.ClientFirst.{ClientFirst, HasEscapes, ReadsClientFirst, either_header}
 use Rattle.fe2o3_scram.specs.Hmac.{mechanism_name}
 use Rattle.fe2o3_scram.specs.declared.hmac.ScramVersion.{ScramVersion}
 use Rattle.fe2o3_sasl_core.specs.PlainServer.{IsTaken, PlainParts, SpellsPlain}
+use Rattle.fe2o3_sasl_core.specs.declared.rejection.Rejection.{Rejection}
 use Rattle.fe2o3_sasl_core.specs.declared.login_attempts.LoginAttempt.{LoginAttempt}
 use Rattle.fe2o3_sasl_core.specs.declared.login_attempts.WithLastAttempt.{WithLastAttempt}
 
@@ -16,7 +17,7 @@ use Rattle.fe2o3_sasl_core.specs.declared.login_attempts.WithLastAttempt.{WithLa
 abbrev pub ClaimsUser : List ℕ → List ℕ → List ℕ → Type 0
 ClaimsUser mechanism text name =
     ((version : ScramVersion) × (first : ClientFirst) × (mechanism ≡ mechanism_name version)
-    × ReadsClientFirst true text (Ok first) × (name ≡ first.user))
+    × ReadsClientFirst either_header text (Ok first) × (name ≡ first.user))
     ⊎ ((mechanism ≡ codes "PLAIN") × ((parts : PlainParts) × SpellsPlain parts text × IsTaken parts
     × (name ≡ parts.user)))
 
@@ -28,7 +29,7 @@ ClaimOf mechanism text user =
 -- memory is requested to read a claim: the initial response claims a name, or its client-first message has a name with
 -- escapes
 abbrev pub ClaimAllocates : List ℕ → List ℕ → Type 0
-ClaimAllocates mechanism text = ((version : ScramVersion) × (mechanism ≡ mechanism_name version) × HasEscapes true text)
+ClaimAllocates mechanism text = ((version : ScramVersion) × (mechanism ≡ mechanism_name version) × HasEscapes either_header text)
     ⊎ ((name : List ℕ) × ClaimsUser mechanism text name)
 
 -- what an init claims: its mechanism, the user name of its initial response, and its hostname
@@ -67,6 +68,11 @@ abbrev pub recorded_machine : {S : Type 0} → (S → List ℕ → SaslFrame →
 recorded_machine machine server nonce frame reply next =
     machine server.inner nonce frame reply next.inner × RecordsFrame frame server.last next.last
 
+-- why the server rejects a frame: for the reason of the acceptor
+abbrev pub recorded_reasons : {S : Type 0} → (S → SaslFrame → Rejection → Type 0) → Recorded S → SaslFrame → Rejection
+    → Type 0
+recorded_reasons reasons server frame reason = reasons server.inner frame reason
+
 -- the frame is an init
 abbrev pub IsInitFrame : SaslFrame → Type 0
 IsInitFrame (frames.Init mechanism response hostname) = Unit {0}
@@ -96,3 +102,7 @@ recorded_of state server = record {
   inner = state server.acceptor;
   last = option_map attempt_of server.last;
 }
+
+-- the reason that a value keeps of its last reply, which is no part of its state
+abbrev pub rejection_in : {A : Type 0} → WithLastAttempt A → Option Rejection
+rejection_in server = server.rejection

@@ -1,11 +1,12 @@
 -- Laws of every acceptor and every profile, of SCRAM and of the other mechanisms. Each is the contract of a clause of
 -- `laws::mechanisms`, `laws::replies` or `laws::users`.
-use Rattle.std.specs.Prelude.{◌≡◌, ◌≢◌, ◌⊎◌, ℕ, Bool, true, false, Option, Some, None, List, [], ◌∷◌, ◌++◌, map, slice_get, Result, Ok}
+use Rattle.std.specs.Prelude.{◌≡◌, ◌≢◌, ◌⊎◌, ℕ, Bool, true, false, Option, Some, None, List, [], ◌∷◌, ◌++◌, is_some, map, slice_get, Result, Ok}
 use Rattle.std.specs.List.{AllByRecursion, Contains}
 use Rattle.fe2o3_sasl_wire.specs.declared.amqp_types.SaslCode.{SaslCode}
 use Rattle.fe2o3_sasl_wire.specs.declared.amqp_types.SaslCode.TheVariants as outcomes
 use Rattle.fe2o3_sasl_wire.specs.SaslFrames as frames
 use Rattle.fe2o3_sasl_wire.specs.SaslFrames.{SaslFrame}
+use Rattle.fe2o3_scram.specs.ChannelBinding.{is_bound}
 use Rattle.fe2o3_scram.specs.declared.hmac.ScramVersion.TheVariants.{Sha1, Sha256, Sha512}
 use Rattle.fe2o3_sasl_core.specs.Events.{Given, Login, ServerSays, Concluded}
 use Rattle.fe2o3_sasl_core.specs.Runs.{Runs, AcceptorSteps}
@@ -80,9 +81,10 @@ PlainRefuses = (user password other secret : List ℕ) (accepted : Bool) → NoZ
 abbrev pub AnonymousLetsIn : Type 0
 AnonymousLetsIn = EndsWith AnonymousAcceptor AnonymousProfile outcomes.Ok AnonymousAcceptor
 
--- both are of one mechanism; EXTERNAL has no acceptor
+-- both are of one mechanism: SCRAM of one version, with or without channel binding; EXTERNAL has no acceptor
 abbrev pub AreOfOneMechanism : Acceptor → Profile → Type 0
-AreOfOneMechanism (ScramAcceptor provider state) (ScramProfile client) = client.version ≡ provider.version
+AreOfOneMechanism (ScramAcceptor provider state) (ScramProfile client) =
+    (client.version ≡ provider.version) × (is_bound client.channel ≡ is_some provider.rules.channels)
 AreOfOneMechanism (PlainAcceptor user password accepted) (PlainProfile other secret) = Unit {0}
 AreOfOneMechanism AnonymousAcceptor AnonymousProfile = Unit {0}
 AreOfOneMechanism AnonymousAcceptor (MessageProfile AnonymousMessage message is_due) = Unit {0}

@@ -4,6 +4,7 @@ use Rattle.std.specs.Prelude.{◌≡◌, ◌<◌, ℕ, Bool, true, false, Option
 use Rattle.fe2o3_sasl_wire.specs.SaslFrames.{SaslFrame}
 use Rattle.fe2o3_scram.specs.declared.hmac.ScramVersion.{ScramVersion}
 use Rattle.fe2o3_scram.specs.declared.hmac.ScramVersion.TheVariants.{Sha1, Sha256, Sha512}
+use Rattle.fe2o3_scram.specs.declared.scram_messages.server_rules.ServerRules.{ServerRules}
 use Rattle.fe2o3_scram.specs.Credentials.{Provider, Record, Store, kept, serving}
 use Rattle.fe2o3_scram.specs.Mixed.{MultiRecords, is_version, provider_for}
 use Rattle.fe2o3_scram.specs.MockSettings.{MockSettings, mocking}
@@ -11,13 +12,14 @@ use Rattle.fe2o3_scram.specs.ScramServer.{ServerState, Initial, ServerFirstSent,
 use Rattle.fe2o3_scram.specs.ServerFirst.{ServerChallenge}
 use Rattle.fe2o3_scram.specs.declared.scram_server.ScramAuthenticator.{ScramAuthenticator}
 use Rattle.fe2o3_scram.specs.declared.scram_server.open_challenge.OpenChallenge.{OpenChallenge}
-use Rattle.fe2o3_sasl_core.specs.AnyMechanism.{BothStates, any_mechanism_allocates, any_mechanism_hmacs, any_mechanism_machine, both_names, part_names}
+use Rattle.fe2o3_sasl_core.specs.AnyMechanism.{BothStates, any_mechanism_allocates, any_mechanism_hmacs, any_mechanism_machine, any_mechanism_reasons, both_names, part_names}
 use Rattle.fe2o3_sasl_core.specs.AnyMechanismSides.{both_states}
 use Rattle.fe2o3_sasl_core.specs.Costs.{acceptor_hmacs}
-use Rattle.fe2o3_sasl_core.specs.ExternalServer.{External, external_machine, external_of, external_user}
-use Rattle.fe2o3_sasl_core.specs.PlainServer.{PlainState, plain_allocates, plain_hmacs, plain_machine, plain_state}
-use Rattle.fe2o3_sasl_core.specs.RestrictMechanisms.{Offering, offering_allocates, offering_hmacs, offering_machine, offering_names, offering_of}
-use Rattle.fe2o3_sasl_core.specs.SaslAcceptor.{Acceptor, AnonymousAcceptor, ScramAcceptor, acceptor_allocates, acceptor_machine, acceptor_names, acceptor_user}
+use Rattle.fe2o3_sasl_core.specs.ExternalServer.{External, external_machine, external_of, external_reasons, external_user}
+use Rattle.fe2o3_sasl_core.specs.PlainServer.{PlainState, plain_allocates, plain_hmacs, plain_machine, plain_reasons, plain_state}
+use Rattle.fe2o3_sasl_core.specs.RestrictMechanisms.{Offering, offering_allocates, offering_hmacs, offering_machine, offering_names, offering_of, offering_reasons}
+use Rattle.fe2o3_sasl_core.specs.SaslAcceptor.{Acceptor, AnonymousAcceptor, ScramAcceptor, acceptor_allocates, acceptor_machine, acceptor_names, acceptor_reasons, acceptor_user}
+use Rattle.fe2o3_sasl_core.specs.declared.rejection.Rejection.{Rejection}
 use Rattle.fe2o3_sasl_core.specs.declared.any_mechanism.Selected.{Selected}
 use Rattle.fe2o3_sasl_core.specs.declared.any_mechanism.Selected.TheVariants.{First, Second}
 use Rattle.fe2o3_sasl_core.specs.declared.plain_server.passwords.PlainPasswords.{PlainPasswords}
@@ -96,6 +98,21 @@ parts_machine parts nonce frame reply next =
 
 abbrev pub password_machine : PasswordState → List ℕ → SaslFrame → SaslFrame → PasswordState → Type 0
 password_machine server nonce frame reply next = offering_machine parts_names parts_machine server nonce frame reply next
+
+-- why it rejects a frame
+abbrev pub scrams_reasons : ScramStates → SaslFrame → Rejection → Type 0
+scrams_reasons = any_mechanism_reasons acceptor_names weaker_names acceptor_reasons
+    (any_mechanism_reasons acceptor_names acceptor_names acceptor_reasons acceptor_reasons)
+
+abbrev pub others_reasons : OtherStates → SaslFrame → Rejection → Type 0
+others_reasons = any_mechanism_reasons plain_names last_names plain_reasons
+    (any_mechanism_reasons acceptor_names external_names acceptor_reasons external_reasons)
+
+abbrev pub parts_reasons : PasswordParts → SaslFrame → Rejection → Type 0
+parts_reasons = any_mechanism_reasons scrams_names others_names scrams_reasons others_reasons
+
+abbrev pub password_reasons : PasswordState → SaslFrame → Rejection → Type 0
+password_reasons = offering_reasons parts_names parts_reasons
 
 -- where it asks for memory
 abbrev pub weaker_allocates : BothStates Acceptor Acceptor → SaslFrame → Type 0
@@ -183,14 +200,14 @@ pub record SavedExchange : Type 0 where
   pub state : ServerState
 
 -- what a server offers and knows: the records; the settings of mock authentication, if any; the hashes of SCRAM, and
--- whether the GS2 flag `y` is accepted; whether PLAIN is offered, the hash of its records, the iteration count for an
+-- what it accepts in a client's messages; whether PLAIN is offered, the hash of its records, the iteration count for an
 -- unknown user, if one is set, and the form of its passwords; whether ANONYMOUS is; the name of EXTERNAL, which is not
 -- offered if the name is empty; and the exchange of SCRAM that the server continues, if any
 pub record PasswordSettings : Type 0 where
   pub records : MultiRecords
   pub mock : Option MockChoice
   pub hashes : ScramHashes
-  pub cbind_flag_y : Bool
+  pub rules : ServerRules
   pub plain : Bool
   pub plain_version : ScramVersion
   pub plain_count : Option ℕ
@@ -221,7 +238,7 @@ count_of_unknown None (Some mock) = mock.count
 -- the provider of SCRAM by one hash: the records of that hash
 abbrev pub scram_provider : PasswordSettings → ScramVersion → Provider
 scram_provider settings version = mocking (option_map (mock_for version) settings.mock)
-    (serving settings.cbind_flag_y (provider_for version settings.records))
+    (serving settings.rules (provider_for version settings.records))
 
 -- the parts of SCRAM to which the last init went, if it was of this hash: of all, and of SCRAM-SHA-256 and SCRAM-SHA-1
 abbrev pub first_asked : Option ScramVersion → Option Selected
@@ -372,7 +389,7 @@ settings_of builder = record {
   records = builder.records.now;
   mock = option_map mock_held builder.mock;
   hashes = builder.hashes;
-  cbind_flag_y = builder.cbind_flag_y;
+  rules = builder.rules;
   plain = builder.plain;
   plain_version = builder.plain_version;
   plain_count = builder.plain_iterations;

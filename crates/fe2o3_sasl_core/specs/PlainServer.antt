@@ -10,9 +10,13 @@ use Rattle.fe2o3_scram.specs.Credentials.{CheckingCosts, MeetsRecord, Store, Rec
 use Rattle.fe2o3_scram.specs.Passwords.{PasswordText, Typed, Prepared}
 use Rattle.fe2o3_scram.specs.Readings.{NoneHolds}
 use Rattle.fe2o3_scram.specs.Texts.{Without}
-use Rattle.fe2o3_sasl_core.specs.SaslAcceptor.{ends_with}
+use Rattle.fe2o3_sasl_core.specs.SaslAcceptor.{InitRejected, ends_with}
+use Rattle.fe2o3_sasl_core.specs.declared.rejection.Rejection.{Rejection}
+use Rattle.fe2o3_sasl_core.specs.declared.rejection.Rejection.TheVariants as reasons
 use Rattle.fe2o3_sasl_core.specs.declared.plain_server.passwords.PlainPasswords.{PlainPasswords}
 use Rattle.fe2o3_sasl_core.specs.declared.plain_server.passwords.PlainPasswords.TheVariants as forms
+use Rattle.fe2o3_sasl_core.specs.declared.plain_server.passwords.PreparedPassword.{PreparedPassword}
+use Rattle.fe2o3_sasl_core.specs.declared.plain_server.passwords.PreparedPassword.TheVariants as texts
 use Rattle.fe2o3_sasl_core.specs.declared.plain_server.PlainServer.{PlainServer}
 use Rattle.fe2o3_sasl_core.specs.declared.plain_server.PlainMessage.{PlainMessage}
 
@@ -82,6 +86,20 @@ plain_machine server nonce frame reply next =
     ⊎ (((user : List ℕ) → ¬ PlainLogsIn server.passwords server.provider frame user) × (reply ≡ ends_with outcomes.Auth)
     × (next ≡ server))
 
+-- a message is rejected that is not accepted for a test, or whose user does not have its password
+abbrev pub MessageRejected : PlainState → List ℕ → Rejection → Type 0
+MessageRejected server text reasons.InvalidMessage =
+    (message : PlainParts) → SpellsPlain message text → ¬ IsTaken message
+MessageRejected server text reasons.WrongPassword = (message : PlainParts) × SpellsPlain message text × IsTaken message
+    × ¬ HasPassword server.passwords server.provider message
+MessageRejected server text reason = ⊥
+
+-- why a server of PLAIN rejects a frame
+abbrev pub plain_reasons : PlainState → SaslFrame → Rejection → Type 0
+plain_reasons server (frames.Init mechanism response hostname) reason =
+    InitRejected (codes "PLAIN") (MessageRejected server) mechanism response reason
+plain_reasons server frame reason = reason ≡ reasons.UnexpectedResponse
+
 -- memory is requested to prepare a password: the server prepares it, and it is not ASCII
 abbrev pub PreparesPassword : PlainPasswords → SaslFrame → Type 0
 PreparesPassword passwords frame = (passwords ≡ forms.Saslprep)
@@ -127,6 +145,11 @@ plain_state meaning plain = record {
   passwords = plain.passwords;
   user = option_map string_bytes plain.user;
 }
+
+-- the text of a prepared password
+abbrev pub prepared_bytes : PreparedPassword → List ℕ
+prepared_bytes (texts.AsReceived text) = text.now
+prepared_bytes (texts.Changed text) = text
 
 -- the parts that a value has
 abbrev pub parts_of : PlainMessage → PlainParts

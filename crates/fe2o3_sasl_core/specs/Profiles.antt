@@ -8,11 +8,11 @@ use Rattle.fe2o3_sasl_wire.specs.SaslFrames.{SaslFrame}
 use Rattle.fe2o3_scram.specs.declared.scram_messages.error.ScramErrorKind.{ScramErrorKind}
 use Rattle.fe2o3_scram.specs.declared.scram_messages.error.ScramErrorKind.TheVariants.{Utf8Error}
 use Rattle.fe2o3_scram.specs.Texts.{base64_text}
-use Rattle.fe2o3_scram.specs.ClientFirst.{client_first}
+use Rattle.fe2o3_scram.specs.ClientFirst.{client_first_with}
 use Rattle.fe2o3_scram.specs.ClientKeys.{ClientKeys}
 use Rattle.fe2o3_scram.specs.ScramClient as client_states
 use Rattle.fe2o3_scram.specs.ScramClient.{ClientSide, ClientState, started, AnswersIn, ChecksSignatureIn, ConcludesIn, VerifiesIn, ReachesSaltIn, ReachesVerifierIn, expects_signature, with_state}
-use Rattle.fe2o3_scram.specs.Hmac.{mechanism_name}
+use Rattle.fe2o3_scram.specs.ChannelBinding.{flag_of, is_bound, mechanism_of}
 use Rattle.fe2o3_sasl_core.specs.Events.{Login, scram_fault}
 use Rattle.fe2o3_sasl_core.specs.declared.sasl_profile.error.ProfileError.{ProfileError}
 use Rattle.fe2o3_sasl_core.specs.declared.sasl_profile.error.ProfileError.TheVariants.{NotImplemented, Scram, OutOfMemory}
@@ -45,7 +45,7 @@ message_name ExternalMessage = codes "EXTERNAL"
 
 -- the name of a profile's mechanism
 abbrev pub profile_name : Profile → List ℕ
-profile_name (ScramProfile client) = mechanism_name client.version
+profile_name (ScramProfile client) = mechanism_of client.version (is_bound client.channel)
 profile_name (PlainProfile user password) = codes "PLAIN"
 profile_name AnonymousProfile = codes "ANONYMOUS"
 profile_name ExternalProfile = codes "EXTERNAL"
@@ -53,7 +53,8 @@ profile_name (MessageProfile mechanism message is_due) = message_name mechanism
 
 -- the initial response of a profile, with this nonce
 abbrev pub initial_response : Profile → List ℕ → Option (List ℕ)
-initial_response (ScramProfile client) nonce = Some (client_first client.user (base64_text nonce))
+initial_response (ScramProfile client) nonce =
+    Some (client_first_with (flag_of client.channel) client.user (base64_text nonce))
 initial_response (PlainProfile user password) nonce = Some (0 ∷ user ++ 0 ∷ password)
 initial_response (MessageProfile mechanism message is_due) nonce = Some message
 initial_response profile nonce = None
@@ -172,6 +173,8 @@ scram_profile login = ScramProfile (record {
   secret = login.secret;
   version = login.version;
   limits = login.limits;
+  channel = login.channel;
+  strict = login.strict;
   signature_by_challenge = login.signature_by_challenge;
   state = client_states.ClientInitial;
 })

@@ -5,6 +5,8 @@ use Rattle.fe2o3_sasl_wire.specs.SaslFrames as frames
 use Rattle.fe2o3_sasl_wire.specs.SaslFrames.{SaslFrame}
 use Rattle.fe2o3_sasl_core.specs.AnyMechanism.{has_name}
 use Rattle.fe2o3_sasl_core.specs.SaslAcceptor.{ends_with}
+use Rattle.fe2o3_sasl_core.specs.declared.rejection.Rejection.{Rejection}
+use Rattle.fe2o3_sasl_core.specs.declared.rejection.Rejection.TheVariants.{MechanismNotOffered}
 use Rattle.fe2o3_sasl_core.specs.declared.restrict_mechanisms.RestrictMechanisms.{RestrictMechanisms}
 
 -- an acceptor in its state, and the names that it may offer
@@ -35,6 +37,18 @@ abbrev pub offering_machine : {S : Type 0} → (S → List (List ℕ)) → (S �
     → Offering S → List ℕ → SaslFrame → SaslFrame → Offering S → Type 0
 offering_machine names machine offering nonce frame reply next =
     OfferingReplies machine offering (is_passed_on names offering frame) nonce frame reply next
+
+-- a frame that is passed on is rejected for a reason of the acceptor, and otherwise for its mechanism
+abbrev pub OfferingRejects : {S : Type 0} → (S → SaslFrame → Rejection → Type 0) → Offering S → Bool → SaslFrame
+    → Rejection → Type 0
+OfferingRejects reasons offering false frame reason = reason ≡ MechanismNotOffered
+OfferingRejects reasons offering true frame reason = reasons offering.inner frame reason
+
+-- why a server that offers only some of its mechanisms rejects a frame
+abbrev pub offering_reasons : {S : Type 0} → (S → List (List ℕ)) → (S → SaslFrame → Rejection → Type 0) → Offering S
+    → SaslFrame → Rejection → Type 0
+offering_reasons names reasons offering frame reason =
+    OfferingRejects reasons offering (is_passed_on names offering frame) frame reason
 
 -- where a server that offers only some of its mechanisms allocates: where the acceptor does for what is passed on
 abbrev pub offering_allocates : {S : Type 0} → (S → List (List ℕ)) → (S → SaslFrame → Type 0) → Offering S → SaslFrame

@@ -5,6 +5,7 @@ use Rattle.fe2o3_sasl_wire.specs.declared.sasl_frames.error.Error.TheVariants as
 use Rattle.fe2o3_sasl_wire.specs.AmqpTypes.{binary_bytes}
 use Rattle.fe2o3_sasl_wire.specs.SaslFrames.{canonical, SaslFrame}
 use Rattle.fe2o3_sasl_wire.specs.SaslFrames as frames
+use Rattle.fe2o3_scram.specs.declared.scram_messages.client_channel.ClientChannel.TheVariants.{Absent}
 use Rattle.fe2o3_scram.specs.declared.hmac.ScramVersion.{ScramVersion}
 use Rattle.fe2o3_scram.specs.ClientSecret.{Password, up_to}
 use Rattle.fe2o3_scram.specs.Passwords.{Typed}
@@ -129,7 +130,7 @@ abbrev pub client_answer : Result ClientReply ProfileError → ClientSays
 client_answer (Ok reply) = client_reply reply
 client_answer (Err fault) = Refused fault
 
--- the login of these words, with the password as typed, without a hostname; the signature has to come in the outcome
+-- the login of these words, with the password as typed, without a channel and a hostname; the signature has to come in the outcome
 abbrev pub login_of : ScramVersion → List ℕ → List ℕ → ℕ → Login
 login_of version user password limit =
     let secret = Password (Typed password) in
@@ -138,6 +139,8 @@ login_of version user password limit =
       secret = secret;
       version = version;
       limits = up_to limit;
+      channel = Absent;
+      strict = false;
       signature_by_challenge = false;
       hostname = None;
     }
@@ -149,6 +152,8 @@ accepting signature_by_challenge login = record {
   secret = login.secret;
   version = login.version;
   limits = login.limits;
+  channel = login.channel;
+  strict = login.strict;
   signature_by_challenge = signature_by_challenge;
   hostname = login.hostname;
 }

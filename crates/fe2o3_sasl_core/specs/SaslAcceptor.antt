@@ -1,18 +1,23 @@
 -- What an acceptor answers to one frame (AMQP 1.0, part 5, section 5.3.2).
-use Rattle.std.specs.Prelude.{◌≡◌, ◌≢◌, ◌⊎◌, ℕ, Bool, true, Option, Some, None, List, [], ◌∷◌, codes, slice_get, string_bytes, Result, Ok}
+use Rattle.std.specs.Prelude.{◌≡◌, ◌≢◌, ◌⊎◌, ℕ, Bool, true, Option, Some, None, MatchOption, List, [], ◌∷◌, codes, slice_get, string_bytes, Result, Ok, Err}
 use Rattle.std.specs.List.{AllByRecursion, join_with_byte}
 use Rattle.fe2o3_sasl_wire.specs.declared.amqp_types.SaslCode.{SaslCode}
 use Rattle.fe2o3_sasl_wire.specs.declared.amqp_types.SaslCode.TheVariants as outcomes
 use Rattle.fe2o3_sasl_wire.specs.AmqpTypes.{challenge_frame, outcome_frame}
 use Rattle.fe2o3_sasl_wire.specs.SaslFrames as frames
 use Rattle.fe2o3_sasl_wire.specs.SaslFrames.{SaslFrame}
+use Rattle.fe2o3_sasl_core.specs.declared.rejection.Rejection.{Rejection}
+use Rattle.fe2o3_sasl_core.specs.declared.rejection.Rejection.TheVariants as reasons
 use Rattle.fe2o3_sasl_core.specs.declared.sasl_acceptor.SaslPlainMechanism.{SaslPlainMechanism}
 use Rattle.fe2o3_sasl_core.specs.declared.sasl_acceptor.SaslServerFrame.{SaslServerFrame}
 use Rattle.fe2o3_sasl_core.specs.declared.sasl_acceptor.SaslServerFrame.TheVariants as server_frames
 use Rattle.fe2o3_scram.specs.declared.scram_messages.error.ServerScramErrorKind.{ServerScramErrorKind}
+use Rattle.fe2o3_scram.specs.declared.scram_messages.error.ServerScramErrorKind.TheVariants.{IllegalAuthenticatorState}
+use Rattle.fe2o3_scram.specs.ClientFinal.{ReadsClientFinal}
+use Rattle.fe2o3_scram.specs.ClientFirst.{ClientFirst, ReadsClientFirst}
 use Rattle.fe2o3_scram.specs.Credentials.{Provider}
-use Rattle.fe2o3_scram.specs.Hmac.{mechanism_name}
-use Rattle.fe2o3_scram.specs.ScramServer.{ServerState, logged_in, ChallengesFrom, ConcludesFrom, ReachesBase64In}
+use Rattle.fe2o3_scram.specs.ChannelBinding.{server_mechanism}
+use Rattle.fe2o3_scram.specs.ScramServer.{ServerState, ServerFirstSent, logged_in, server_against, ChallengesFrom, ConcludesFrom, ReachesBase64In}
 use Rattle.fe2o3_scram.specs.ServerFirst.{ReachesChallenge}
 
 -- the acceptors, each with all that its answers depend on: SCRAM over a provider, in a state; PLAIN for one user, with
@@ -31,7 +36,7 @@ acceptor_user acceptor = None
 
 -- the names of an acceptor's mechanisms
 abbrev pub acceptor_names : Acceptor → List (List ℕ)
-acceptor_names (ScramAcceptor provider state) = mechanism_name provider.version ∷ []
+acceptor_names (ScramAcceptor provider state) = server_mechanism provider.version provider.rules ∷ []
 acceptor_names (PlainAcceptor user password accepted) = codes "PLAIN" ∷ []
 acceptor_names AnonymousAcceptor = codes "ANONYMOUS" ∷ []
 
@@ -66,15 +71,15 @@ server_frame frame answer = ends_with outcomes.Auth
 -- the machine of an acceptor: from a nonce and an init or a response to a reply and the acceptor after it
 abbrev pub acceptor_machine : Acceptor → List ℕ → SaslFrame → SaslFrame → Acceptor → Type 0
 acceptor_machine (ScramAcceptor provider state) nonce (frames.Init mechanism (Some text) hostname) reply next =
-    ((mechanism ≢ mechanism_name provider.version) × (reply ≡ ends_with outcomes.Auth)
+    ((mechanism ≢ server_mechanism provider.version provider.rules) × (reply ≡ ends_with outcomes.Auth)
     × (next ≡ ScramAcceptor provider state))
-    ⊎ ((mechanism ≡ mechanism_name provider.version)
+    ⊎ ((mechanism ≡ server_mechanism provider.version provider.rules)
     × ((answer : Result (Option (List ℕ)) ServerScramErrorKind) × (after : ServerState)
     × ChallengesFrom state provider nonce text answer after
     × (reply ≡ server_frame (λ message. frames.Challenge message) answer) × (next ≡ ScramAcceptor provider after)))
 acceptor_machine (ScramAcceptor provider state) nonce (frames.Response text) reply next =
     (answer : Result (Option (List ℕ)) ServerScramErrorKind) × (after : ServerState)
-    × ConcludesFrom state provider.version text answer after
+    × ConcludesFrom state provider.version provider.rules text answer after
     × (reply ≡ server_frame (λ message. frames.Outcome outcomes.Ok (Some message)) answer)
     × (next ≡ ScramAcceptor provider after)
 acceptor_machine (PlainAcceptor user password accepted) nonce (frames.Init mechanism (Some text) hostname) reply next =
@@ -91,21 +96,73 @@ acceptor_machine acceptor nonce (frames.Init mechanism None hostname) reply next
     (reply ≡ ends_with outcomes.Auth) × (next ≡ acceptor)
 acceptor_machine acceptor nonce frame reply next = ⊥
 
+-- ---- why a frame is rejected
+
+-- an init is rejected by the acceptor of one mechanism: for the name of another mechanism, then for no initial
+-- response, and then for a fault of its text
+abbrev pub InitRejected : List ℕ → (List ℕ → Rejection → Type 0) → List ℕ → Option (List ℕ) → Rejection → Type 0
+InitRejected name Faults mechanism response reason =
+    ((mechanism ≢ name) × (reason ≡ reasons.MechanismNotOffered))
+    ⊎ ((mechanism ≡ name) × MatchOption response (reason ≡ reasons.NoInitialResponse) (λ text. Faults text reason))
+
+-- SCRAM rejects a client-first message (RFC 5802, section 5.1) for the first error that applies, or for a user without
+-- a record
+abbrev pub FirstRejected : Provider → List ℕ → Rejection → Type 0
+FirstRejected provider text (reasons.Scram kind) = ReadsClientFirst provider.rules text (Err kind)
+FirstRejected provider text reasons.UnknownUser = (client : ClientFirst)
+    × ReadsClientFirst provider.rules text (Ok client) × (provider.records client.user ≡ None)
+FirstRejected provider text reason = ⊥
+
+-- SCRAM rejects a client-final message for the first error that applies (RFC 5802, section 5.1), and every message if
+-- no challenge is open
+abbrev pub FinalFault : ServerState → Provider → List ℕ → ServerScramErrorKind → Type 0
+FinalFault (ServerFirstSent challenge stored) provider text kind =
+    ReadsClientFinal (server_against provider.version provider.rules challenge stored) text (Err kind)
+FinalFault state provider text kind = kind ≡ IllegalAuthenticatorState
+
+-- the acceptor of PLAIN for one user rejects a message (RFC 4616, section 2) that has no third part, and every other
+-- that does not name the user and the password
+abbrev pub PlainRejected : List ℕ → List ℕ → List ℕ → Rejection → Type 0
+PlainRejected user password text reasons.InvalidMessage = (part : List ℕ) → ¬ ZeroPart text 2 part
+PlainRejected user password text reasons.WrongPassword =
+    ((part : List ℕ) × ZeroPart text 2 part) × ¬ NamesPlain user password text
+PlainRejected user password text reason = ⊥
+
+-- why an acceptor rejects a frame
+abbrev pub acceptor_reasons : Acceptor → SaslFrame → Rejection → Type 0
+acceptor_reasons (ScramAcceptor provider state) (frames.Init mechanism response hostname) reason =
+    InitRejected (server_mechanism provider.version provider.rules) (FirstRejected provider) mechanism response reason
+acceptor_reasons (ScramAcceptor provider state) (frames.Response text) reason =
+    (kind : ServerScramErrorKind) × FinalFault state provider text kind × (reason ≡ reasons.Scram kind)
+acceptor_reasons (PlainAcceptor user password accepted) (frames.Init mechanism response hostname) reason =
+    MatchOption response (reason ≡ reasons.NoInitialResponse) (λ text. PlainRejected user password text reason)
+acceptor_reasons acceptor frame reason = ⊥
+
 -- where an acceptor allocates before it has its reply to a frame (AMQP 1.0, part 5, section 5.3.2): SCRAM at an init
 -- with its own name if it reaches an escaped user name or a user with a record (RFC 5802, section 5.1), and at a
 -- response if it reaches a base64 text (RFC 5802, section 7); the others never
 abbrev pub acceptor_allocates : Acceptor → SaslFrame → Type 0
 acceptor_allocates (ScramAcceptor provider state) (frames.Init mechanism (Some text) hostname) =
-    (mechanism ≡ mechanism_name provider.version) × ReachesChallenge provider text
-acceptor_allocates (ScramAcceptor provider state) (frames.Response text) = ReachesBase64In state text
+    (mechanism ≡ server_mechanism provider.version provider.rules) × ReachesChallenge provider text
+acceptor_allocates (ScramAcceptor provider state) (frames.Response text) = ReachesBase64In state provider.rules text
 acceptor_allocates acceptor frame = ⊥
 
 -- the acceptor of PLAIN that a value is
 abbrev pub plain_acceptor : SaslPlainMechanism → Acceptor
 plain_acceptor mechanism =
-    PlainAcceptor (string_bytes mechanism.username) (string_bytes mechanism.password) mechanism.accepted
+    PlainAcceptor (string_bytes mechanism.username) mechanism.password mechanism.accepted
 
 -- the frame that an acceptor sends
 abbrev pub sent_frame : SaslServerFrame → SaslFrame
 sent_frame (server_frames.Challenge challenge) = challenge_frame challenge
 sent_frame (server_frames.Outcome outcome) = outcome_frame outcome
+sent_frame (server_frames.Rejected reason) = ends_with outcomes.Auth
+
+-- the reason that it keeps, if the frame is a rejection
+abbrev pub reason_in : SaslServerFrame → Option Rejection
+reason_in (server_frames.Rejected reason) = Some reason
+reason_in frame = None
+
+-- a reply of Auth has a reason, and it is one of these; no other reply has any
+abbrev pub HasReason : (Rejection → Type 0) → SaslServerFrame → Type 0
+HasReason Reasons reply = MatchOption (reason_in reply) (sent_frame reply ≢ ends_with outcomes.Auth) Reasons

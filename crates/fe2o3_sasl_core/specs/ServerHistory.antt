@@ -12,9 +12,9 @@ use Rattle.fe2o3_scram.specs.ClientFirst.{ClientFirst, ReadsClientFirst}
 use Rattle.fe2o3_scram.specs.Credentials.{Record, Provider}
 use Rattle.fe2o3_sasl_core.specs.Bodies.{SpellsBody, says_frame}
 use Rattle.fe2o3_sasl_core.specs.Events.{Given, ServerSays, Challenged, Concluded, Failed}
-use Rattle.fe2o3_scram.specs.Hmac.{mechanism_name}
+use Rattle.fe2o3_scram.specs.ChannelBinding.{expected_channel, is_strict, server_mechanism}
 use Rattle.fe2o3_sasl_core.specs.Positions.{OpenBy}
-use Rattle.fe2o3_scram.specs.ClientFinal.{Server, ClientFinal, ReadsClientFinal}
+use Rattle.fe2o3_scram.specs.ClientFinal.{Server, ClientFinal, ReadsClientFinal, server_of}
 use Rattle.fe2o3_scram.specs.ServerFinal.{server_final_of}
 
 -- what a challenge is made of: the client-first message that it answers, the nonce that the server adds, and the user's
@@ -34,20 +34,15 @@ first_message challenge = server_first_of (full_nonce challenge) challenge.store
 
 -- what the server knows when it reads a response to a challenge
 abbrev pub server_at : Provider → Challenging → Server
-server_at provider challenge = record {
-  version = provider.version;
-  header = challenge.client.header;
-  bare = challenge.client.bare;
-  first = first_message challenge;
-  nonce = full_nonce challenge;
-  stored = challenge.stored;
-}
+server_at provider challenge =
+    server_of provider.version (expected_channel provider.rules.channels challenge.client.header)
+    (is_strict provider.rules) challenge.client.bare (first_message challenge) (full_nonce challenge) challenge.stored
 
 -- the frame, with the event's nonce, fits as init: it names the mechanism, and its response is a client-first message
 -- of a user who has a record
 abbrev pub FitsAsInit : Provider → Given → SaslFrame → Challenging → Type 0
 FitsAsInit provider event (frames.Init mechanism (Some text) hostname) challenge =
-    (mechanism ≡ mechanism_name provider.version) × ReadsClientFirst provider.cbind_flag_y text (Ok challenge.client)
+    (mechanism ≡ server_mechanism provider.version provider.rules) × ReadsClientFirst provider.rules text (Ok challenge.client)
     × (provider.records challenge.client.user ≡ Some challenge.stored)
     × (challenge.nonce ≡ base64_text event.nonce)
 FitsAsInit provider event frame challenge = ⊥

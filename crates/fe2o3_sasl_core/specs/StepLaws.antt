@@ -3,6 +3,7 @@ use Rattle.std.specs.Prelude.{◌≡◌, ◌⊎◌, ℕ, true, Option, Some, Non
 use Rattle.fe2o3_sasl_wire.specs.declared.amqp_types.SaslCode.TheVariants as outcomes
 use Rattle.fe2o3_sasl_wire.specs.SaslFrames as frames
 use Rattle.fe2o3_sasl_wire.specs.SaslFrames.{SaslFrame}
+use Rattle.fe2o3_scram.specs.declared.scram_messages.server_rules.ServerRules.{ServerRules}
 use Rattle.fe2o3_scram.specs.ClientKeys.{ClientKeys}
 use Rattle.fe2o3_scram.specs.Credentials.{Provider}
 use Rattle.fe2o3_scram.specs.declared.hmac.ScramVersion.{ScramVersion}
@@ -17,15 +18,15 @@ use Rattle.fe2o3_sasl_core.specs.Runs.{AcceptorSteps, ProfileSteps}
 use Rattle.fe2o3_sasl_core.specs.SaslAcceptor.{Acceptor, ScramAcceptor, acceptor_machine}
 
 -- the body is a response that logs this user in (RFC 5802, section 5)
-abbrev pub BodyLogsIn : ScramVersion → ServerState → List ℕ → List ℕ → Type 0
-BodyLogsIn version state body user =
-    (text : List ℕ) × SpellsBody body (Ok (frames.Response text)) × TextLogsIn version state text user
+abbrev pub BodyLogsIn : ScramVersion → ServerRules → ServerState → List ℕ → List ℕ → Type 0
+BodyLogsIn version rules state body user =
+    (text : List ℕ) × SpellsBody body (Ok (frames.Response text)) × TextLogsIn version rules state text user
 
 -- a SCRAM acceptor answers Ok only to a body that logs a user in, and then names that user
 abbrev pub OksLogIn : Type 0
 OksLogIn = (provider : Provider) (state : ServerState) (event : Given) (body : List ℕ) (next : Acceptor)
     → AcceptorSteps acceptor_machine (ScramAcceptor provider state) event (Concluded outcomes.Ok body) next
-    → (user : List ℕ) × BodyLogsIn provider.version state event.body user
+    → (user : List ℕ) × BodyLogsIn provider.version provider.rules state event.body user
     × (next ≡ ScramAcceptor provider (ServerFinalSent user))
 
 -- an acceptor of PLAIN over records answers Ok only to a body that logs a user in, and then names that user

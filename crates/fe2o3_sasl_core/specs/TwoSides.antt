@@ -4,8 +4,8 @@ use Rattle.fe2o3_sasl_wire.specs.declared.amqp_types.SaslCode.TheVariants as out
 use Rattle.fe2o3_sasl_wire.specs.SaslFrames as frames
 use Rattle.fe2o3_sasl_core.specs.Bodies.{SpellsBody}
 use Rattle.fe2o3_sasl_core.specs.Positions.{OpenBy}
-use Rattle.fe2o3_scram.specs.ClientFinal.{keys_for, without_proof}
-use Rattle.fe2o3_scram.specs.declared.scram_messages.channel_binding_flag.ChannelBindingFlag.TheVariants.{NotSupported}
+use Rattle.fe2o3_scram.specs.ClientFinal.{keys_for, without_proof_with}
+use Rattle.fe2o3_scram.specs.ChannelBinding.{HoldsChannelBytes, cbind_data, expected_channel, flag_of}
 use Rattle.fe2o3_scram.specs.ClientFirst.{client_first_bare}
 use Rattle.fe2o3_sasl_core.specs.ClientHistory.{Answering, AnswersAt, ClientHistory, OpenAnswer, VerifiedAnswer, is_answer, ends_answer}
 use Rattle.fe2o3_scram.specs.Credentials.{Provider}
@@ -20,7 +20,7 @@ use Rattle.fe2o3_scram.specs.Texts.{Part, Parts}
 -- AuthMessage of the messages as the client has them (RFC 5802, section 3)
 abbrev pub client_message : Login → Answering → List ℕ
 client_message login answer = auth_message (client_first_bare login.user answer.nonce) answer.text
-    (without_proof answer.first.nonce)
+    (without_proof_with login.channel answer.first.nonce)
 
 -- AuthMessage of the messages as the server has them (RFC 5802, section 3)
 abbrev pub server_message : Accepted → List ℕ
@@ -120,10 +120,15 @@ abbrev pub NoneMisplacedIn : Answering → Accepted → Type 0
 NoneMisplacedIn answer accepted = NoneMisplaced answer.text accepted.challenge.client.bare accepted.final.without
 
 -- both sides mean one login: one version of keys, user name and client nonce. Where the init was plain, or one side
--- received no misplaced attribute, also one full nonce, salt and count; in the second case also one GS2 header, `n,,`
+-- received no misplaced attribute, also one full nonce, salt and count; in the second case also one GS2 header and the data of one
+-- channel
 pub record Agree (login : Login) (provider : Provider) (answer : Answering) (accepted : Accepted) : Type 0 where
   pub version : (keys_at login answer).version ≡ provider.version
-  pub header : NoneMisplacedIn answer accepted → NotSupported ≡ accepted.challenge.client.header
+  pub header : HoldsChannelBytes login.channel → NoneMisplacedIn answer accepted
+      → flag_of login.channel ≡ accepted.challenge.client.header
+  pub channel : HoldsChannelBytes login.channel → NoneMisplacedIn answer accepted
+      → cbind_data login.channel
+      ≡ cbind_data (expected_channel provider.rules.channels accepted.challenge.client.header)
   pub user : login.user ≡ accepted.challenge.client.user
   pub nonce : answer.nonce ≡ accepted.challenge.client.nonce
   pub full_nonce : IsPlainInit accepted ⊎ NoneMisplacedIn answer accepted

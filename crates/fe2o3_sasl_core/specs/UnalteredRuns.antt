@@ -5,10 +5,10 @@ use Rattle.fe2o3_sasl_wire.specs.declared.sasl_frames.error.Error.TheVariants as
 use Rattle.fe2o3_sasl_wire.specs.SaslFrames.{IsBytes, canonical}
 use Rattle.fe2o3_sasl_wire.specs.SaslFrames as frames
 use Rattle.fe2o3_scram.specs.Texts.{base64_text}
+use Rattle.fe2o3_scram.specs.ChannelBinding.{TakesHeader, cbind_data, expected_channel, flag_of}
 use Rattle.fe2o3_sasl_core.specs.ClientHistory.{ClientHistory}
 use Rattle.fe2o3_scram.specs.Credentials.{Provider, record_of}
-use Rattle.fe2o3_sasl_core.specs.Events.{Given, Login, IsLogin, ServerSays, Challenged, Concluded, Failed, ClientSays, Started, Answered, Reported, Refused}
-use Rattle.fe2o3_scram.specs.Hmac.{mechanism_name}
+use Rattle.fe2o3_sasl_core.specs.Events.{Given, Login, login_mechanism, IsLogin, ServerSays, Challenged, Concluded, Failed, ClientSays, Started, Answered, Reported, Refused}
 use Rattle.fe2o3_scram.specs.Exchanges.{OpensRecord}
 use Rattle.fe2o3_sasl_core.specs.ServerHistory.{ServerHistory}
 use Rattle.fe2o3_sasl_core.specs.TwoSides.{Sides, sides_of}
@@ -43,7 +43,7 @@ pub record UnalteredRun (sides : Sides) : Type 0 where
   pub response : Given
   pub client_events : sides.client_events ≡ offer ∷ challenge ∷ outcome ∷ []
   pub server_events : sides.server_events ≡ init ∷ response ∷ []
-  pub offered : canonical (frames.Mechanisms (mechanism_name sides.login.version ∷ [])) ≡ Some offer.body
+  pub offered : canonical (frames.Mechanisms (login_mechanism sides.login ∷ [])) ≡ Some offer.body
   pub started : Arrives (client_body (slice_get sides.client_replies 0)) init.body
   pub challenged : Arrives (server_body (slice_get sides.server_replies 0)) challenge.body
   pub answered : Arrives (client_body (slice_get sides.client_replies 1)) response.body
@@ -57,9 +57,13 @@ pub record Suffices (sides : Sides) : Type 0 where
   pub server_small : (k : ℕ) → slice_get sides.server_replies k ≢ Some (Failed faults.TooLarge)
 
 -- the provider holds the record of a password with this salt and this count, which the client's secret opens and whose
--- count it accepts
+-- count it accepts; and it accepts the client's GS2 header and has the data of the client's channel, as each provider
+-- without channels does of each client without one
 pub record HoldsLogin (sides : Sides) (password salt : List ℕ) (count : ℕ) : Type 0 where
   pub version : sides.provider.version ≡ sides.login.version
+  pub header : TakesHeader sides.provider.rules (flag_of sides.login.channel)
+  pub channel : cbind_data sides.login.channel
+      ≡ cbind_data (expected_channel sides.provider.rules.channels (flag_of sides.login.channel))
   pub stored : sides.provider.records sides.login.user
       ≡ Some (record_of sides.login.version password salt count)
   pub bytes : IsBytes salt

@@ -2,17 +2,17 @@
 //! 5.3.3.2).
 
 ghost use Rattle.std.specs.Prelude.{◌≡◌, ◌≢◌, ◌≤◌, ◌^◌, ◌++◌, ℕ, List, Option, Some, None, IfOk, IfErr, OnErr, OnOk, not, filter, take};
-ghost use Rattle.fe2o3_sasl_core.specs.AnyMechanism.{BothStates, has_name, both_names, part_with, any_mechanism_machine, any_mechanism_allocates, any_mechanism_hmacs, part_names};
+ghost use Rattle.fe2o3_sasl_core.specs.AnyMechanism.{BothStates, has_name, both_names, part_with, any_mechanism_machine, any_mechanism_allocates, any_mechanism_hmacs, any_mechanism_reasons, part_names};
 ghost use Rattle.fe2o3_sasl_core.specs.SaslAcceptor.{ends_with, sent_frame};
 ghost use Rattle.fe2o3_sasl_wire.specs.declared.amqp_types.SaslCode.TheVariants.{Auth};
 
 use crate::OutOfMemory;
 use crate::mechanism_names::{ANONYMOUS, PLAIN};
+use crate::rejection::Rejection;
 use crate::sasl_acceptor::{
     AuthenticatedUser, SaslAcceptor, SaslAnonymousMechanism, SaslPlainMechanism, SaslServerFrame,
-    outcome,
 };
-use fe2o3_sasl_wire::{Array, SaslCode, SaslInit, SaslResponse, Symbol};
+use fe2o3_sasl_wire::{Array, SaslInit, SaslResponse, Symbol};
 use fe2o3_scram::credentials::ScramCredentialProvider;
 use fe2o3_scram::hmac::Meter;
 use fe2o3_scram::scram_server::ScramAuthenticator;
@@ -39,7 +39,7 @@ impl HasMechanism for SaslAnonymousMechanism {
 
 impl<C: ScramCredentialProvider> HasMechanism for ScramAuthenticator<C> {
     fn has_mechanism(&self, name: &str) -> bool {
-        self.credentials().scram_version().mechanism() == name
+        self.mechanism() == name
     }
 }
 
@@ -56,8 +56,8 @@ pub enum Selected {
 /// One server of two acceptors, or of more if one of them is an `AnyMechanism` itself. It offers the names of the
 /// first, followed by those that only the second has. An init goes to the first that has its mechanism, and a response
 /// to the one that the last init went to, whatever that answered. The other is unchanged. An init of a mechanism that
-/// neither has, and a response before any init, are answered by Auth and change nothing. The user, the HMAC values and
-/// the allocations are those of the one that answers.
+/// neither has, and a response before any init, are rejected and change nothing. The user, the reason of a rejection, the
+/// HMAC values and the allocations are those of the one that answers.
 #[derive(Drop)]
 pub struct AnyMechanism<A, B> {
     first: A,
@@ -153,6 +153,8 @@ impl<A: HasMechanism, B: HasMechanism> SaslAcceptor for AnyMechanism<A, B> {
 
     ghost machine = { any_mechanism_machine A.names B.names A.machine B.machine };
 
+    ghost reasons = { any_mechanism_reasons A.names B.names A.reasons B.reasons };
+
     ghost allocates = { any_mechanism_allocates A.names B.names A.allocates B.allocates };
 
     ghost hmacs = { any_mechanism_hmacs A.names B.names A.hmacs B.hmacs };
@@ -201,7 +203,7 @@ impl<A: HasMechanism, B: HasMechanism> SaslAcceptor for AnyMechanism<A, B> {
         let reply = match selected {
             Some(Selected::First) => self.first.on_init_metered(alloc, init, nonce, meter)?,
             Some(Selected::Second) => self.second.on_init_metered(alloc, init, nonce, meter)?,
-            None => return Ok(outcome(SaslCode::Auth)),
+            None => return Ok(SaslServerFrame::Rejected(Rejection::MechanismNotOffered)),
         };
         self.selected = selected;
         Ok(reply)
@@ -216,7 +218,7 @@ impl<A: HasMechanism, B: HasMechanism> SaslAcceptor for AnyMechanism<A, B> {
         match self.selected {
             Some(Selected::First) => self.first.on_response_metered(alloc, response, meter),
             Some(Selected::Second) => self.second.on_response_metered(alloc, response, meter),
-            None => Ok(outcome(SaslCode::Auth)),
+            None => Ok(SaslServerFrame::Rejected(Rejection::UnexpectedResponse)),
         }
     }
 }

@@ -1,9 +1,10 @@
 //! Selects a mechanism that a client accepts of a server's offer (AMQP 1.0, part 5, section 5.3.3.2).
 
-ghost use Rattle.std.specs.Prelude.{◌≡◌, ◌≢◌, ◌↔◌, true, false, Some, IfOk, IfErr, OnOk, MatchBool, MatchOption, List, ℕ, option_map, is_some};
+ghost use Rattle.std.specs.Prelude.{◌≡◌, ◌≢◌, ◌↔◌, true, false, Some, IfOk, IfErr, OnOk, MatchBool, MatchOption, List, ℕ, None, ◌&&◌, not, if◌then◌else◌, option_map, is_some};
 ghost use Rattle.std.specs.List.{AllByRecursion, Contains};
 ghost use Rattle.fe2o3_scram.specs.ClientSecret.{IsOfVersion, secret_of, up_to, no_limit};
-ghost use Rattle.fe2o3_sasl_core.specs.ClientPolicy.{by_strength, policy_name, is_allowed, secret_for, scram_by, plain_by, profile_by, CanTake, IsFirstTaken};
+ghost use Rattle.fe2o3_sasl_core.specs.ClientPolicy.{bound_channel, by_strength, policy_name, is_allowed, is_from, secret_for, scram_by, plain_by, profile_by, unbound_channel, CanTake, IsFirstTaken};
+ghost use Rattle.fe2o3_sasl_core.specs.declared.client_policy.ClientPolicy.{ClientPolicy as PolicyOf};
 ghost use Rattle.fe2o3_sasl_core.specs.SaslProfile.{profile_of};
 ghost use Rattle.fe2o3_sasl_core.specs.declared.client_policy.ChoiceError.TheVariants.{OutOfMemory as OutOfMemoryError};
 
@@ -11,15 +12,26 @@ use crate::OutOfMemory;
 use crate::mechanism_names::{ANONYMOUS, EXTERNAL, PLAIN};
 use crate::sasl_profile::SaslProfile;
 use fe2o3_sasl_wire::SymbolsView;
+use fe2o3_scram::channel_binding::ChannelBinding;
 use fe2o3_scram::client_secret::{ClientSecret, ClientSecretError, IterationLimits};
 use fe2o3_scram::hmac::ScramVersion;
 use fe2o3_scram::scram_client::ScramClient;
+use fe2o3_scram::scram_messages::ClientChannel;
 use std::alloc::{AllocError, AllocFailed, Global};
 use thiserror::Error;
 
 /// The mechanisms of clients.
 #[derive(Clone, Copy, Debug, PartialEq, Eq)]
 pub enum Mechanism {
+    /// SCRAM-SHA-512-PLUS, which binds the channel.
+    ScramSha512Plus,
+
+    /// SCRAM-SHA-256-PLUS (RFC 7677), which binds the channel.
+    ScramSha256Plus,
+
+    /// SCRAM-SHA-1-PLUS (RFC 5802), which binds the channel.
+    ScramSha1Plus,
+
     /// SCRAM-SHA-512.
     ScramSha512,
 
@@ -40,7 +52,10 @@ pub enum Mechanism {
 }
 
 /// The mechanisms, the strongest first.
-const BY_STRENGTH: [Mechanism; 6] = [
+const BY_STRENGTH: [Mechanism; 9] = [
+    Mechanism::ScramSha512Plus,
+    Mechanism::ScramSha256Plus,
+    Mechanism::ScramSha1Plus,
     Mechanism::ScramSha512,
     Mechanism::ScramSha256,
     Mechanism::ScramSha1,
@@ -55,6 +70,9 @@ impl Mechanism {
         ensures { result.now ≡ policy_name self }
     {
         match self {
+            Mechanism::ScramSha512Plus => ScramVersion::Sha512.mechanism_with(true),
+            Mechanism::ScramSha256Plus => ScramVersion::Sha256.mechanism_with(true),
+            Mechanism::ScramSha1Plus => ScramVersion::Sha1.mechanism_with(true),
             Mechanism::ScramSha512 => ScramVersion::Sha512.mechanism(),
             Mechanism::ScramSha256 => ScramVersion::Sha256.mechanism(),
             Mechanism::ScramSha1 => ScramVersion::Sha1.mechanism(),
@@ -74,6 +92,8 @@ pub struct ClientPolicy {
     external: bool,
     plain: bool,
     anonymous: bool,
+    channel: Option<ChannelBinding>,
+    must_bind: bool,
 }
 
 impl ClientPolicy {
@@ -85,6 +105,8 @@ impl ClientPolicy {
           external = false;
           plain = false;
           anonymous = false;
+          channel = None;
+          must_bind = false;
         } }
     {
         Self {
@@ -93,6 +115,8 @@ impl ClientPolicy {
             external: false,
             plain: false,
             anonymous: false,
+            channel: None,
+            must_bind: false,
         }
     }
 
@@ -134,18 +158,66 @@ impl ClientPolicy {
         }
     }
 
+    /// Binds this channel (RFC 5802, section 6): the client prefers the mechanisms with `-PLUS`. If the server offers
+    /// none that it can select, it says so (`y,,`), and a server that did offer one rejects it.
+    pub fn bind_channel(self, channel: ChannelBinding) -> Self
+        ensures { result ≡ record self { channel = Some channel } }
+    {
+        Self {
+            channel: Some(channel),
+            ..self
+        }
+    }
+
+    /// Allows SCRAM only if it binds the channel.
+    pub fn must_bind(self) -> Self
+        ensures { result ≡ record self { must_bind = true } }
+    {
+        Self {
+            must_bind: true,
+            ..self
+        }
+    }
+
+    /// Returns whether the policy allows SCRAM of this version, with `-PLUS` or without it.
+    fn allows_scram(&self, version: ScramVersion, plus: bool) -> bool
+        ensures { result ≡ ((if plus then is_some self.now.channel else not self.now.must_bind)
+            && is_from self.now.floor version) }
+    {
+        let binds = if plus {
+            self.channel.is_some()
+        } else {
+            !self.must_bind
+        };
+        binds && is_from(self.floor, version)
+    }
+
     /// Returns whether the policy allows the mechanism.
     pub fn allows(&self, mechanism: Mechanism) -> bool
         ensures { result ≡ is_allowed self.now mechanism }
     {
         match mechanism {
-            Mechanism::ScramSha512 => true,
-            Mechanism::ScramSha256 => self.floor != ScramVersion::Sha512,
-            Mechanism::ScramSha1 => self.floor == ScramVersion::Sha1,
+            Mechanism::ScramSha512Plus => self.allows_scram(ScramVersion::Sha512, true),
+            Mechanism::ScramSha256Plus => self.allows_scram(ScramVersion::Sha256, true),
+            Mechanism::ScramSha1Plus => self.allows_scram(ScramVersion::Sha1, true),
+            Mechanism::ScramSha512 => self.allows_scram(ScramVersion::Sha512, false),
+            Mechanism::ScramSha256 => self.allows_scram(ScramVersion::Sha256, false),
+            Mechanism::ScramSha1 => self.allows_scram(ScramVersion::Sha1, false),
             Mechanism::External => self.external,
             Mechanism::Plain => self.plain,
             Mechanism::Anonymous => self.anonymous,
         }
+    }
+}
+
+/// Returns whether the hash is no weaker than the floor.
+fn is_from(floor: ScramVersion, version: ScramVersion) -> bool
+    ensures { result ≡ is_from floor version }
+{
+    match floor {
+        ScramVersion::Sha1 => true,
+        ScramVersion::Sha256 => version != ScramVersion::Sha1,
+        ScramVersion::Sha512 => version == ScramVersion::Sha512,
     }
 }
 
@@ -195,13 +267,19 @@ fn secret_for<'a>(secret: &ClientSecret<'a>, version: ScramVersion) -> Option<Cl
 
 /// Returns whether the secret serves for the mechanism.
 fn serves(secret: &ClientSecret<'_>, mechanism: Mechanism) -> bool
-    ensures { (limits : IterationLimits) (user : List ℕ)
-        → result ≡ is_some (profile_by limits user (secret_of secret.now) mechanism) }
+    ensures { (policy : PolicyOf) (user : List ℕ)
+        → result ≡ is_some (profile_by policy user (secret_of secret.now) mechanism) }
 {
     match mechanism {
-        Mechanism::ScramSha512 => secret_for(secret, ScramVersion::Sha512).is_some(),
-        Mechanism::ScramSha256 => secret_for(secret, ScramVersion::Sha256).is_some(),
-        Mechanism::ScramSha1 => secret_for(secret, ScramVersion::Sha1).is_some(),
+        Mechanism::ScramSha512Plus | Mechanism::ScramSha512 => {
+            secret_for(secret, ScramVersion::Sha512).is_some()
+        }
+        Mechanism::ScramSha256Plus | Mechanism::ScramSha256 => {
+            secret_for(secret, ScramVersion::Sha256).is_some()
+        }
+        Mechanism::ScramSha1Plus | Mechanism::ScramSha1 => {
+            secret_for(secret, ScramVersion::Sha1).is_some()
+        }
         Mechanism::Plain => !matches!(secret, ClientSecret::Keys(_)),
         Mechanism::External | Mechanism::Anonymous => true,
     }
@@ -240,16 +318,37 @@ fn first_taken(
     None
 }
 
+/// Returns what a client with this channel says of it in a mechanism without `-PLUS`.
+fn unbound_channel(channel: Option<ChannelBinding>) -> ClientChannel
+    ensures { result ≡ unbound_channel channel }
+{
+    match channel {
+        Some(_) => ClientChannel::NotOffered,
+        None => ClientChannel::Absent,
+    }
+}
+
+/// Returns what a client with this channel says of it in a mechanism with `-PLUS`.
+fn bound_channel(channel: Option<ChannelBinding>) -> ClientChannel
+    ensures { result ≡ bound_channel channel }
+{
+    match channel {
+        Some(binding) => ClientChannel::Bound(binding),
+        None => ClientChannel::Absent,
+    }
+}
+
 /// Returns the user's profile for SCRAM of this version, if the secret serves for it.
 fn scram_profile(
     alloc: Global,
     username: &str,
     secret: &ClientSecret<'_>,
     version: ScramVersion,
-    limits: IterationLimits,
+    policy: ClientPolicy,
+    channel: ClientChannel,
 ) -> Result<Option<SaslProfile>, OutOfMemory>
     ensures { IfOk result (λ profile. option_map profile_of profile
-        ≡ scram_by limits username.now version (secret_for version (secret_of secret.now))) }
+        ≡ scram_by policy channel username.now version (secret_for version (secret_of secret.now))) }
 {
     let Some(secret) = secret_for(secret, version) else {
         return Ok(None);
@@ -257,9 +356,9 @@ fn scram_profile(
     let username = String::from_str(alloc, username)?;
     match ScramClient::with_secret(alloc, username, secret, version) {
         Ok(client) => {
-            let client = client.with_min_iterations(limits.min_iterations);
-            let client = client.with_iteration_limit(limits.max_iterations);
-            Ok(Some(SaslProfile::scram_of(client)))
+            let client = client.with_min_iterations(policy.limits.min_iterations);
+            let client = client.with_iteration_limit(policy.limits.max_iterations);
+            Ok(Some(SaslProfile::scram_of(client.with_channel(channel))))
         }
         Err(ClientSecretError::OutOfMemory) => Err(OutOfMemory),
         Err(ClientSecretError::VersionMismatch) => unreachable!(),
@@ -291,21 +390,48 @@ fn profile_by_mechanism(
     alloc: Global,
     username: &str,
     secret: &ClientSecret<'_>,
-    limits: IterationLimits,
+    policy: ClientPolicy,
     mechanism: Mechanism,
 ) -> Result<Option<SaslProfile>, OutOfMemory>
     ensures { IfOk result (λ profile. option_map profile_of profile
-        ≡ profile_by limits username.now (secret_of secret.now) mechanism) }
+        ≡ profile_by policy username.now (secret_of secret.now) mechanism) }
 {
+    let (bound, unbound) = (
+        bound_channel(policy.channel),
+        unbound_channel(policy.channel),
+    );
     match mechanism {
+        Mechanism::ScramSha512Plus => {
+            scram_profile(alloc, username, secret, ScramVersion::Sha512, policy, bound)
+        }
+        Mechanism::ScramSha256Plus => {
+            scram_profile(alloc, username, secret, ScramVersion::Sha256, policy, bound)
+        }
+        Mechanism::ScramSha1Plus => {
+            scram_profile(alloc, username, secret, ScramVersion::Sha1, policy, bound)
+        }
         Mechanism::ScramSha512 => {
-            scram_profile(alloc, username, secret, ScramVersion::Sha512, limits)
+            scram_profile(
+                alloc,
+                username,
+                secret,
+                ScramVersion::Sha512,
+                policy,
+                unbound,
+            )
         }
         Mechanism::ScramSha256 => {
-            scram_profile(alloc, username, secret, ScramVersion::Sha256, limits)
+            scram_profile(
+                alloc,
+                username,
+                secret,
+                ScramVersion::Sha256,
+                policy,
+                unbound,
+            )
         }
         Mechanism::ScramSha1 => {
-            scram_profile(alloc, username, secret, ScramVersion::Sha1, limits)
+            scram_profile(alloc, username, secret, ScramVersion::Sha1, policy, unbound)
         }
         Mechanism::External => Ok(Some(SaslProfile::External)),
         Mechanism::Plain => plain_profile(alloc, username, secret),
@@ -314,8 +440,9 @@ fn profile_by_mechanism(
 }
 
 /// Returns the profile for the strongest mechanism that is offered, that the policy allows and for which the secret
-/// serves. The order is SCRAM-SHA-512, SCRAM-SHA-256, SCRAM-SHA-1, EXTERNAL, PLAIN, ANONYMOUS. Keys serve for SCRAM of
-/// their own version; of a password with keys, other versions and PLAIN use the password. The profile has sent nothing.
+/// serves. The order is SCRAM-SHA-512-PLUS, SCRAM-SHA-256-PLUS, SCRAM-SHA-1-PLUS, these three without `-PLUS`,
+/// EXTERNAL, PLAIN, ANONYMOUS. Keys serve for SCRAM of their own version; of a password with keys, other versions and
+/// PLAIN use the password. The profile has sent nothing.
 /// Errors: `NoAcceptableMechanism` if there is no such mechanism, and otherwise `OutOfMemory`.
 pub fn select_mechanism(
     alloc: Global,
@@ -326,7 +453,7 @@ pub fn select_mechanism(
 ) -> Result<SaslProfile, ChoiceError>
     ensures ok { IfOk result (λ profile. (mechanism : Mechanism)
         × IsFirstTaken policy username.now (secret_of secret.now) offer.now by_strength mechanism
-        × (profile_by policy.limits username.now (secret_of secret.now) mechanism ≡ Some (profile_of profile))) }
+        × (profile_by policy username.now (secret_of secret.now) mechanism ≡ Some (profile_of profile))) }
     ensures err { IfErr result (λ error. error ≢ ChoiceError.OutOfMemory
         → AllByRecursion (λ other. ¬ CanTake policy username.now (secret_of secret.now) offer.now other) by_strength) }
     ensures memory { (result ≡ Err ChoiceError.OutOfMemory)
@@ -335,7 +462,7 @@ pub fn select_mechanism(
     let Some(mechanism) = first_taken(&BY_STRENGTH, offer, secret, policy) else {
         return Err(ChoiceError::NoAcceptableMechanism);
     };
-    match profile_by_mechanism(alloc, username, secret, policy.limits, mechanism)? {
+    match profile_by_mechanism(alloc, username, secret, policy, mechanism)? {
         Some(profile) => Ok(profile),
         None => unreachable!(),
     }

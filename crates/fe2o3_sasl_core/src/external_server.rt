@@ -3,11 +3,12 @@
 ghost use Rattle.std.specs.Prelude.{◌≡◌, ◌≢◌, ◌↔◌, true, false, ℕ, List, Some, ◌∷◌, [], IfErr, IfOk, IsOk, codes, option_map, string_bytes};
 ghost use Rattle.std.proofs.Common.{ap};
 ghost use Rattle.fe2o3_sasl_wire.specs.AmqpTypes.{binary_bytes, init_frame, response_frame};
-ghost use Rattle.fe2o3_sasl_core.specs.SaslAcceptor.{sent_frame};
+ghost use Rattle.fe2o3_sasl_core.specs.SaslAcceptor.{HasReason, sent_frame};
 
 use crate::OutOfMemory;
 use crate::any_mechanism::HasMechanism;
 use crate::mechanism_names::EXTERNAL;
+use crate::rejection::Rejection;
 use crate::sasl_acceptor::{AuthenticatedUser, SaslAcceptor, SaslServerFrame, one_name, outcome};
 use fe2o3_sasl_wire::{Array, Binary, SaslCode, SaslInit, SaslResponse, Symbol};
 use std::alloc::{AllocError, Global};
@@ -88,7 +89,7 @@ impl Clone for ExternalServer {
 }
 
 impl SaslAcceptor for ExternalServer {
-    ghost use Rattle.fe2o3_sasl_core.specs.ExternalServer.{External, external_machine, external_of};
+    ghost use Rattle.fe2o3_sasl_core.specs.ExternalServer.{External, external_machine, external_of, external_reasons};
 
     ghost State = { External };
 
@@ -97,6 +98,8 @@ impl SaslAcceptor for ExternalServer {
     ghost names = { λ _. codes "EXTERNAL" ∷ [] };
 
     ghost machine = { external_machine };
+
+    ghost reasons = { external_reasons };
 
     ghost allocates = { λ _ _. ⊥ };
 
@@ -116,10 +119,15 @@ impl SaslAcceptor for ExternalServer {
     ) -> Result<SaslServerFrame, OutOfMemory>
         ensures ok { IfOk result (λ reply. external_machine (external_of self.old) _nonce.now (init_frame init)
             (sent_frame reply) (external_of self.new)) }
+        ensures reason { IfOk result (λ reply.
+            HasReason (external_reasons (external_of self.old) (init_frame init)) reply) }
         ensures always { IsOk result }
     {
-        if init.mechanism.as_str() != EXTERNAL || !self.is_asked_for(&init.initial_response) {
-            return Ok(outcome(SaslCode::Auth));
+        if init.mechanism.as_str() != EXTERNAL {
+            return Ok(SaslServerFrame::Rejected(Rejection::MechanismNotOffered));
+        }
+        if !self.is_asked_for(&init.initial_response) {
+            return Ok(SaslServerFrame::Rejected(Rejection::OtherIdentity));
         }
         self.accepted = true;
         Ok(outcome(SaslCode::Ok))
@@ -132,10 +140,12 @@ impl SaslAcceptor for ExternalServer {
     ) -> Result<SaslServerFrame, OutOfMemory>
         ensures ok { IfOk result (λ reply. (nonce : List ℕ) → external_machine (external_of self.old) nonce
             (response_frame response) (sent_frame reply) (external_of self.new)) }
+        ensures reason { IfOk result (λ reply.
+            HasReason (external_reasons (external_of self.old) (response_frame response)) reply) }
         ensures always { IsOk result }
     {
         drop(response);
-        Ok(outcome(SaslCode::Auth))
+        Ok(SaslServerFrame::Rejected(Rejection::UnexpectedResponse))
     }
 }
 

@@ -5,9 +5,11 @@ ghost use Rattle.std.specs.Prelude.{◌≡◌, ℕ, List, Option, Some, None, �
 ghost use Rattle.fe2o3_sasl_wire.specs.AmqpTypes.{binary_bytes, init_frame, response_frame};
 ghost use Rattle.fe2o3_sasl_wire.specs.SaslFrames.{Challenge, Init, Response};
 ghost use Rattle.fe2o3_sasl_core.specs.AnyMechanism.{has_name};
-ghost use Rattle.fe2o3_sasl_core.specs.SaslAcceptor.{sent_frame};
+ghost use Rattle.fe2o3_sasl_core.specs.SaslAcceptor.{HasReason, ends_with, reason_in, sent_frame};
+ghost use Rattle.fe2o3_sasl_wire.specs.declared.amqp_types.SaslCode.TheVariants.{Auth};
+ghost use Rattle.fe2o3_sasl_core.specs.declared.rejection.Rejection.TheVariants.{UnexpectedResponse};
 ghost use Rattle.fe2o3_sasl_core.specs.Costs.{CostsAtMost};
-ghost use Rattle.fe2o3_sasl_core.specs.ExtraChallenges.{Asking, Confirms, Extended, Idle, PassesFrame, Unconfirmed, extended_allocates, extended_hmacs, extended_machine, extended_of, extended_user, is_asked, messageless, phase_after, phase_of, sent_for};
+ghost use Rattle.fe2o3_sasl_core.specs.ExtraChallenges.{Asking, Confirms, Extended, Idle, PassesFrame, Unconfirmed, extended_allocates, extended_hmacs, extended_machine, extended_of, extended_reasons, extended_user, is_asked, messageless, phase_after, phase_of, sent_for};
 
 pub mod laws;
 pub mod phase;
@@ -16,6 +18,7 @@ use crate::OutOfMemory;
 use crate::any_mechanism::HasMechanism;
 use crate::extra_challenges::phase::{ChallengePhase, asked, completed, phase_after};
 use crate::mechanism_names::{ANONYMOUS, EXTERNAL};
+use crate::rejection::Rejection;
 use crate::sasl_acceptor::{AuthenticatedUser, SaslAcceptor, SaslServerFrame, outcome};
 use fe2o3_sasl_wire::{
     Array, Binary, SaslChallenge, SaslCode, SaslInit, SaslOutcome, SaslResponse, Symbol,
@@ -39,8 +42,8 @@ pub struct ExtraChallenges {
 /// the inner acceptor.
 ///
 /// After an empty challenge it passes the response on as the initial response of the init, with the nonce of the init,
-/// and answers a second init by Auth. After a challenge with the data of an Ok it answers an empty response by Ok, and
-/// every other response by Auth. It names the inner acceptor's user, but none from an extra challenge until the next Ok.
+/// and rejects a second init. After a challenge with the data of an Ok it answers an empty response by Ok, and rejects
+/// every other response. It names the inner acceptor's user, but none from an extra challenge until the next Ok.
 #[derive(Drop)]
 pub struct WithExtraChallenges<A> {
     acceptor: A,
@@ -106,6 +109,8 @@ impl<A: HasMechanism> WithExtraChallenges<A> {
         requires { meter.old ≤ 2 ^ 63 }
         ensures ok { IfOk result (λ reply. PassesFrame A.machine (extended_of A.state self.old) nonce.now
             (init_frame init) (sent_frame reply) (extended_of A.state self.new)) }
+        ensures reason { IfOk result (λ reply.
+            HasReason (A.reasons (A.state self.old.acceptor) (init_frame init)) reply) }
         ensures memory { IfErr result (λ _. A.allocates (A.state self.old.acceptor) (init_frame init)) }
         ensures err { OnErr result (extended_of A.state self.new ≡ extended_of A.state self.old) }
         ensures cost { CostsAtMost A.hmacs (A.state self.old.acceptor) (init_frame init) meter.old meter.new }
@@ -116,21 +121,24 @@ impl<A: HasMechanism> WithExtraChallenges<A> {
 
     /// Answers a response to the challenge with the data of an Ok.
     fn confirm(&mut self, response: SaslResponse) -> SaslServerFrame
-        ensures { Confirms (extended_of A.state self.old) (binary_bytes response.response) (sent_frame result)
+        ensures reply { Confirms (extended_of A.state self.old) (binary_bytes response.response) (sent_frame result)
             (extended_of A.state self.new) }
+        ensures reason { HasReason (λ reason. reason ≡ UnexpectedResponse) result }
     {
         if response.response.0.is_empty() {
             self.phase = ChallengePhase::Idle;
             outcome(SaslCode::Ok)
         } else {
             self.phase = ChallengePhase::Unconfirmed;
-            outcome(SaslCode::Auth)
+            SaslServerFrame::Rejected(Rejection::UnexpectedResponse)
         }
     }
 
     /// Sends a reply of the inner acceptor.
     fn send(&mut self, reply: SaslServerFrame) -> SaslServerFrame
         ensures reply { sent_frame result ≡ sent_for self.old.extra.signature (sent_frame reply) }
+        ensures reason { reason_in result ≡ reason_in reply }
+        ensures auth { sent_frame result ≡ ends_with Auth → sent_frame reply ≡ ends_with Auth }
         ensures phase { extended_of A.state self.new ≡ record (extended_of A.state self.old) {
           phase = phase_after self.old.extra.signature (phase_of self.old.phase) (sent_frame reply);
         } }
@@ -167,13 +175,16 @@ fn challenge(text: Binary) -> SaslServerFrame
 
 /// Returns the frame that is sent for a reply of the inner acceptor.
 fn sent_for(by_challenge: bool, reply: SaslServerFrame) -> SaslServerFrame
-    ensures { sent_frame result ≡ sent_for by_challenge (sent_frame reply) }
+    ensures reply { sent_frame result ≡ sent_for by_challenge (sent_frame reply) }
+    ensures reason { reason_in result ≡ reason_in reply }
+    ensures auth { sent_frame result ≡ ends_with Auth → sent_frame reply ≡ ends_with Auth }
 {
     if !by_challenge {
         return reply;
     }
     match reply {
         SaslServerFrame::Challenge(text) => SaslServerFrame::Challenge(text),
+        SaslServerFrame::Rejected(reason) => SaslServerFrame::Rejected(reason),
         SaslServerFrame::Outcome(
             SaslOutcome {
                 code,
@@ -210,6 +221,8 @@ impl<A: HasMechanism> SaslAcceptor for WithExtraChallenges<A> {
     ghost names = { λ server. A.names server.inner };
 
     ghost machine = { extended_machine A.names A.machine };
+
+    ghost reasons = { extended_reasons A.names A.reasons };
 
     ghost allocates = { extended_allocates A.names A.allocates };
 
@@ -251,7 +264,7 @@ impl<A: HasMechanism> SaslAcceptor for WithExtraChallenges<A> {
     ) -> Result<SaslServerFrame, OutOfMemory> {
         if let ChallengePhase::Asking { .. } = self.phase {
             self.phase = ChallengePhase::Unconfirmed;
-            return Ok(outcome(SaslCode::Auth));
+            return Ok(SaslServerFrame::Rejected(Rejection::UnexpectedInit));
         }
         if self.is_asked(&init) {
             self.phase = asked(init, nonce);

@@ -14,6 +14,7 @@ pub mod login_attempts;
 mod mechanism_names;
 pub mod password_server;
 pub mod plain_server;
+pub mod rejection;
 pub mod restrict_mechanisms;
 pub mod sasl_acceptor;
 pub mod sasl_profile;
@@ -29,6 +30,7 @@ pub use crate::extra_challenges::{ExtraChallenges, WithExtraChallenges};
 pub use crate::login_attempts::{LoginAttempt, WithLastAttempt, claimed_user};
 pub use crate::password_server::{BuildError, PasswordServer, PasswordServerBuilder, ScramHashes};
 pub use crate::plain_server::{MAX_PASSWORD_LEN, PlainPasswords, PlainServer};
+pub use crate::rejection::Rejection;
 pub use crate::restrict_mechanisms::{OfferError, RestrictMechanisms};
 pub use crate::sasl_acceptor::{
     AuthenticatedUser, SaslAcceptor, SaslAcceptorExt, SaslAnonymousMechanism, SaslPlainMechanism,
@@ -44,7 +46,6 @@ pub use crate::steps::{
 };
 pub use crate::whole_runs::{
     run_acceptor, run_profile, scram_client_run, scram_client_run_limited,
-    scram_client_run_with_signature_by_challenge, scram_server_run,
-    scram_server_run_with_cbind_flag_y,
+    scram_client_run_with_signature_by_challenge, scram_server_run, scram_server_run_with_rules,
 };
 pub use std::alloc::AllocError as OutOfMemory;

@@ -1,11 +1,13 @@
 //! What the inits of a connection claim (AMQP 1.0, part 5, section 5.3.3.2), and an acceptor that keeps the last claim,
 //! also after a rejection.
 
-ghost use Rattle.std.specs.Prelude.{◌≡◌, ◌⊎◌, ℕ, true, List, None, Ok, IfOk, IfErr, MatchOption, option_map, string_bytes};
+ghost use Rattle.std.specs.Prelude.{◌≡◌, ◌⊎◌, ◌≤◌, ◌^◌, ℕ, List, None, Ok, IfOk, IfErr, OnErr, MatchOption, option_map, string_bytes};
 ghost use Rattle.std.specs.Cow.{cow_str_bytes};
-ghost use Rattle.fe2o3_sasl_wire.specs.AmqpTypes.{binary_bytes, init_frame};
-ghost use Rattle.fe2o3_scram.specs.ClientFirst.{ClientFirst as FirstValues, HasEscapes, ReadsClientFirst};
-ghost use Rattle.fe2o3_sasl_core.specs.LoginAttempts.{ClaimAllocates, ClaimIn, ClaimOf, IsAttempt, Recorded, attempt_of, recorded_allocates, recorded_hmacs, recorded_machine, recorded_of};
+ghost use Rattle.fe2o3_sasl_wire.specs.AmqpTypes.{binary_bytes, init_frame, response_frame};
+ghost use Rattle.fe2o3_scram.specs.ClientFirst.{ClientFirst as FirstValues, HasEscapes, ReadsClientFirst, either_header};
+ghost use Rattle.fe2o3_sasl_core.specs.Costs.{CostsAtMost};
+ghost use Rattle.fe2o3_sasl_core.specs.SaslAcceptor.{HasReason, reason_in, sent_frame};
+ghost use Rattle.fe2o3_sasl_core.specs.LoginAttempts.{ClaimAllocates, ClaimIn, ClaimOf, IsAttempt, Recorded, attempt_of, recorded_allocates, recorded_hmacs, recorded_machine, recorded_of, recorded_reasons, rejection_in};
 
 pub mod laws;
 
@@ -13,11 +15,12 @@ use crate::OutOfMemory;
 use crate::any_mechanism::HasMechanism;
 use crate::mechanism_names::PLAIN;
 use crate::plain_server::plain_user;
+use crate::rejection::Rejection;
 use crate::sasl_acceptor::{AuthenticatedUser, SaslAcceptor, SaslServerFrame};
 use fe2o3_sasl_wire::{Array, SaslInit, SaslResponse, Symbol};
-use fe2o3_scram::ClientFirst;
 use fe2o3_scram::hmac::{Meter, ScramVersion};
 use fe2o3_scram::scram_messages::ServerScramErrorKind;
+use fe2o3_scram::{ClientFirst, ServerRules};
 use std::alloc::{AllocError, Global};
 
 /// What an init claims (AMQP 1.0, part 5, section 5.3.3.2). Nobody is authenticated by it: the user who has logged in is
@@ -104,46 +107,60 @@ fn user_of_init(alloc: Global, init: &SaslInit) -> Result<Option<String>, OutOfM
 #[tactic(auto, using(crate::proofs::lemmas::machines::LoginAttemptLemmas::unread))]
 fn scram_user(alloc: Global, message: &[u8]) -> Result<Option<String>, OutOfMemory>
     ensures ok { IfOk result (λ user. MatchOption (option_map string_bytes user)
-        ((first : FirstValues) → ¬ ReadsClientFirst true message.now (Ok first))
-        (λ name. (first : FirstValues) × ReadsClientFirst true message.now (Ok first) × (name ≡ first.user))) }
-    ensures memory { IfErr result (λ _. HasEscapes true message.now
-        ⊎ ((first : FirstValues) × ReadsClientFirst true message.now (Ok first))) }
+        ((first : FirstValues) → ¬ ReadsClientFirst either_header message.now (Ok first))
+        (λ name. (first : FirstValues) × ReadsClientFirst either_header message.now (Ok first) × (name ≡ first.user))) }
+    ensures memory { IfErr result (λ _. HasEscapes either_header message.now
+        ⊎ ((first : FirstValues) × ReadsClientFirst either_header message.now (Ok first))) }
 {
-    match ClientFirst::parse_with_cbind_flag_y(alloc, message, true) {
+    let rules = ServerRules {
+        accept_cbind_flag_y: true,
+        strict: false,
+        channels: None,
+    };
+    match ClientFirst::parse_with_rules(alloc, message, rules) {
         Ok(first) => Ok(Some(first.username.as_str().to_string(alloc)?)),
         Err(ServerScramErrorKind::OutOfMemory) => Err(OutOfMemory),
         Err(_) => Ok(None),
     }
 }
 
-/// An acceptor that keeps what the last init claims, also if the reply rejects it. It answers each frame like the inner
-/// acceptor, whose user it names.
+/// An acceptor that keeps what the last init claims, also if the reply rejects it, and why the last reply rejects. It
+/// answers each frame like the inner acceptor, whose user it names.
 ///
-/// Each init replaces the attempt, and a response leaves it. A call that runs out of memory changes nothing.
+/// Each init replaces the attempt, and a response leaves it. Each reply replaces the reason. A call that runs out of
+/// memory changes nothing.
 #[derive(Drop)]
 pub struct WithLastAttempt<A> {
     acceptor: A,
     last: Option<LoginAttempt>,
+    rejection: Option<Rejection>,
 }
 
 impl<A: HasMechanism> WithLastAttempt<A> {
     /// Makes a server of this acceptor, which has received no init.
     pub fn new(acceptor: A) -> Self
-        ensures { recorded_of A.state result ≡ record { inner = A.state acceptor; last = None } }
+        ensures state { recorded_of A.state result ≡ record { inner = A.state acceptor; last = None } }
+        ensures rejection { rejection_in result ≡ None }
     {
         Self {
             acceptor,
             last: None,
+            rejection: None,
         }
     }
 
     /// Restores a server with this last attempt, as `last_attempt` returned it when the server was saved between two
-    /// calls. Pass the acceptor in its saved state.
+    /// calls. Pass the acceptor in its saved state. The reason of a rejection is not restored.
     pub fn with_attempt(acceptor: A, last: Option<LoginAttempt>) -> Self
-        ensures { recorded_of A.state result
+        ensures state { recorded_of A.state result
             ≡ record { inner = A.state acceptor; last = option_map attempt_of last } }
+        ensures rejection { rejection_in result ≡ None }
     {
-        Self { acceptor, last }
+        Self {
+            acceptor,
+            last,
+            rejection: None,
+        }
     }
 
     /// Returns the inner acceptor.
@@ -159,16 +176,36 @@ impl<A: HasMechanism> WithLastAttempt<A> {
     {
         self.last.as_ref()
     }
+
+    /// Returns why the last reply rejects the login, for the server's log. `None` if the last reply is a challenge or
+    /// another outcome, and before the first reply. A call that runs out of memory leaves it.
+    pub fn last_rejection(&self) -> Option<Rejection>
+        ensures { result ≡ rejection_in self.now }
+    {
+        self.rejection
+    }
+}
+
+/// Returns the reason of a reply that rejects the login.
+fn rejection_of(reply: &SaslServerFrame) -> Option<Rejection>
+    ensures { result ≡ reason_in reply.now }
+{
+    match reply {
+        SaslServerFrame::Rejected(reason) => Some(*reason),
+        SaslServerFrame::Challenge(_) | SaslServerFrame::Outcome(_) => None,
+    }
 }
 
 impl<A: HasMechanism> Clone for WithLastAttempt<A> {
     ghost is_clone = { λ server copy. (A.is_clone server.acceptor copy.acceptor)
-        × (option_map attempt_of copy.last ≡ option_map attempt_of server.last) };
+        × (option_map attempt_of copy.last ≡ option_map attempt_of server.last)
+        × (rejection_in copy ≡ rejection_in server) };
 
     fn clone(&self) -> Result<Self, AllocError> {
         Ok(Self {
             acceptor: self.acceptor.clone()?,
             last: self.last.clone()?,
+            rejection: self.rejection,
         })
     }
 }
@@ -181,6 +218,8 @@ impl<A: HasMechanism> SaslAcceptor for WithLastAttempt<A> {
     ghost names = { λ server. A.names server.inner };
 
     ghost machine = { recorded_machine A.machine };
+
+    ghost reasons = { recorded_reasons A.reasons };
 
     ghost allocates = { recorded_allocates A.allocates };
 
@@ -200,7 +239,17 @@ impl<A: HasMechanism> SaslAcceptor for WithLastAttempt<A> {
         alloc: Global,
         init: SaslInit,
         nonce: &[u8; 32],
-    ) -> Result<SaslServerFrame, OutOfMemory> {
+    ) -> Result<SaslServerFrame, OutOfMemory>
+        ensures ok { IfOk result (λ reply. recorded_machine A.machine (recorded_of A.state self.old) nonce.now
+            (init_frame init) (sent_frame reply) (recorded_of A.state self.new)) }
+        ensures reason { IfOk result (λ reply.
+            HasReason (recorded_reasons A.reasons (recorded_of A.state self.old) (init_frame init)) reply) }
+        ensures memory { IfErr result (λ _.
+            recorded_allocates A.allocates (recorded_of A.state self.old) (init_frame init)) }
+        ensures err { OnErr result (recorded_of A.state self.new ≡ recorded_of A.state self.old) }
+        ensures rejection { IfOk result (λ reply. rejection_in self.new ≡ reason_in reply) }
+        ensures unchanged { OnErr result (rejection_in self.new ≡ rejection_in self.old) }
+    {
         self.on_init_metered(alloc, init, nonce, &mut Meter::new())
     }
 
@@ -208,7 +257,17 @@ impl<A: HasMechanism> SaslAcceptor for WithLastAttempt<A> {
         &mut self,
         alloc: Global,
         response: SaslResponse,
-    ) -> Result<SaslServerFrame, OutOfMemory> {
+    ) -> Result<SaslServerFrame, OutOfMemory>
+        ensures ok { IfOk result (λ reply. (nonce : List ℕ) → recorded_machine A.machine (recorded_of A.state self.old)
+            nonce (response_frame response) (sent_frame reply) (recorded_of A.state self.new)) }
+        ensures reason { IfOk result (λ reply.
+            HasReason (recorded_reasons A.reasons (recorded_of A.state self.old) (response_frame response)) reply) }
+        ensures memory { IfErr result (λ _.
+            recorded_allocates A.allocates (recorded_of A.state self.old) (response_frame response)) }
+        ensures err { OnErr result (recorded_of A.state self.new ≡ recorded_of A.state self.old) }
+        ensures rejection { IfOk result (λ reply. rejection_in self.new ≡ reason_in reply) }
+        ensures unchanged { OnErr result (rejection_in self.new ≡ rejection_in self.old) }
+    {
         self.on_response_metered(alloc, response, &mut Meter::new())
     }
 
@@ -218,10 +277,24 @@ impl<A: HasMechanism> SaslAcceptor for WithLastAttempt<A> {
         init: SaslInit,
         nonce: &[u8; 32],
         meter: &mut Meter,
-    ) -> Result<SaslServerFrame, OutOfMemory> {
+    ) -> Result<SaslServerFrame, OutOfMemory>
+        requires { meter.old ≤ 2 ^ 63 }
+        ensures ok { IfOk result (λ reply. recorded_machine A.machine (recorded_of A.state self.old) nonce.now
+            (init_frame init) (sent_frame reply) (recorded_of A.state self.new)) }
+        ensures reason { IfOk result (λ reply.
+            HasReason (recorded_reasons A.reasons (recorded_of A.state self.old) (init_frame init)) reply) }
+        ensures memory { IfErr result (λ _.
+            recorded_allocates A.allocates (recorded_of A.state self.old) (init_frame init)) }
+        ensures err { OnErr result (recorded_of A.state self.new ≡ recorded_of A.state self.old) }
+        ensures cost { CostsAtMost (recorded_hmacs A.hmacs) (recorded_of A.state self.old) (init_frame init)
+            meter.old meter.new }
+        ensures rejection { IfOk result (λ reply. rejection_in self.new ≡ reason_in reply) }
+        ensures unchanged { OnErr result (rejection_in self.new ≡ rejection_in self.old) }
+    {
         let attempt = LoginAttempt::of_init(alloc, &init)?;
         let reply = self.acceptor.on_init_metered(alloc, init, nonce, meter)?;
         self.last = Some(attempt);
+        self.rejection = rejection_of(&reply);
         Ok(reply)
     }
 
@@ -230,8 +303,23 @@ impl<A: HasMechanism> SaslAcceptor for WithLastAttempt<A> {
         alloc: Global,
         response: SaslResponse,
         meter: &mut Meter,
-    ) -> Result<SaslServerFrame, OutOfMemory> {
-        self.acceptor.on_response_metered(alloc, response, meter)
+    ) -> Result<SaslServerFrame, OutOfMemory>
+        requires { meter.old ≤ 2 ^ 63 }
+        ensures ok { IfOk result (λ reply. (nonce : List ℕ) → recorded_machine A.machine (recorded_of A.state self.old)
+            nonce (response_frame response) (sent_frame reply) (recorded_of A.state self.new)) }
+        ensures reason { IfOk result (λ reply.
+            HasReason (recorded_reasons A.reasons (recorded_of A.state self.old) (response_frame response)) reply) }
+        ensures memory { IfErr result (λ _.
+            recorded_allocates A.allocates (recorded_of A.state self.old) (response_frame response)) }
+        ensures err { OnErr result (recorded_of A.state self.new ≡ recorded_of A.state self.old) }
+        ensures cost { CostsAtMost (recorded_hmacs A.hmacs) (recorded_of A.state self.old) (response_frame response)
+            meter.old meter.new }
+        ensures rejection { IfOk result (λ reply. rejection_in self.new ≡ reason_in reply) }
+        ensures unchanged { OnErr result (rejection_in self.new ≡ rejection_in self.old) }
+    {
+        let reply = self.acceptor.on_response_metered(alloc, response, meter)?;
+        self.rejection = rejection_of(&reply);
+        Ok(reply)
     }
 }
 

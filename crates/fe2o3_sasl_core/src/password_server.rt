@@ -2,7 +2,7 @@
 
 ghost use Rattle.std.specs.Prelude.{◌≡◌, option_map};
 ghost use Rattle.std.proofs.Common.{ap};
-ghost use Rattle.fe2o3_sasl_core.specs.PasswordServer.{PasswordState, challenge_with, password_allocates, password_hmacs, password_machine, password_names, password_open, password_state, password_user};
+ghost use Rattle.fe2o3_sasl_core.specs.PasswordServer.{PasswordState, challenge_with, password_allocates, password_hmacs, password_machine, password_names, password_open, password_reasons, password_state, password_user};
 ghost use Rattle.fe2o3_scram.specs.Credentials.{serving};
 ghost use Rattle.fe2o3_scram.specs.MockSettings.{mocking};
 ghost use Rattle.fe2o3_sasl_core.specs.SaslAcceptor.{AnonymousAcceptor, ScramAcceptor};
@@ -67,6 +67,8 @@ impl SaslAcceptor for PasswordServer {
     ghost names = { password_names };
 
     ghost machine = { password_machine };
+
+    ghost reasons = { password_reasons };
 
     ghost allocates = { password_allocates };
 

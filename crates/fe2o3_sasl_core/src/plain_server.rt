@@ -8,8 +8,8 @@ ghost use Rattle.fe2o3_scram.specs.Credentials.{CheckingCosts, record_at};
 ghost use Rattle.fe2o3_scram.specs.Passwords.{password_of};
 ghost use Rattle.fe2o3_scram.specs.Texts.{Cut};
 ghost use Rattle.fe2o3_sasl_core.specs.Costs.{CostsAtMost};
-ghost use Rattle.fe2o3_sasl_core.specs.PlainServer.{AsksPlain, HasPassword, IsTaken, MeetsUser, PlainLogsIn, PlainParts, PlainState, PreparesPassword, SpellsPlain, TestingCosts, count_or, parts_of, plain_allocates, plain_hmacs, plain_machine, plain_state};
-ghost use Rattle.fe2o3_sasl_core.specs.SaslAcceptor.{sent_frame};
+ghost use Rattle.fe2o3_sasl_core.specs.PlainServer.{AsksPlain, HasPassword, IsTaken, MeetsUser, PlainLogsIn, PlainParts, PlainState, PreparesPassword, SpellsPlain, TestingCosts, count_or, parts_of, plain_allocates, plain_hmacs, plain_machine, plain_reasons, plain_state};
+ghost use Rattle.fe2o3_sasl_core.specs.SaslAcceptor.{HasReason, sent_frame};
 ghost use Rattle.fe2o3_sasl_core.specs.declared.plain_server.passwords.PlainPasswords.TheVariants.{Typed as FormTyped, Saslprep as FormSaslprep};
 
 mod passwords;
@@ -19,6 +19,7 @@ use crate::any_mechanism::HasMechanism;
 use crate::mechanism_names::PLAIN;
 pub use crate::plain_server::passwords::PlainPasswords;
 use crate::plain_server::passwords::prepare;
+use crate::rejection::Rejection;
 use crate::sasl_acceptor::{AuthenticatedUser, SaslAcceptor, SaslServerFrame, one_name, outcome};
 use fe2o3_sasl_wire::{Array, SaslCode, SaslInit, SaslResponse, Symbol};
 use fe2o3_scram::credentials::ScramCredentialProvider;
@@ -43,7 +44,7 @@ const NO_SALT: [u8; 16] = [0; 16];
 /// - the password is that of the user's record and has 1 to 1024 bytes of printable ASCII. [`PlainPasswords`] has the
 ///   forms of other passwords.
 ///
-/// Every other init is answered by Auth and changes nothing, and so is a response. A password that is to be tested is
+/// Every other init is rejected and changes nothing, and so is a response. A password that is to be tested is
 /// hashed for an unknown user too, with the server's own iteration count. That takes as many HMAC values as the record
 /// of a known user with this count.
 #[derive(Drop)]
@@ -189,13 +190,32 @@ fn asked(init: &SaslInit) -> Option<PlainMessage<'_>>
     ensures { MatchOption result ((parts : PlainParts) → ¬ AsksPlain (init_frame init.now) parts)
         (λ message. AsksPlain (init_frame init.now) (parts_of message)) }
 {
-    if init.mechanism.as_str() != PLAIN {
+    if PLAIN != init.mechanism.as_str() {
         return None;
     }
     let Some(response) = &init.initial_response else {
         return None;
     };
     PlainMessage::read_taken(&response.0)
+}
+
+/// Returns why an init that logs nobody in is rejected. The message is parsed again, so that the proofs of a login name
+/// no reason.
+fn rejection_of(init: &SaslInit) -> Rejection
+    ensures { (server : PlainState)
+        → ((user : List ℕ) → ¬ PlainLogsIn server.passwords server.provider (init_frame init.now) user)
+        → plain_reasons server (init_frame init.now) result }
+{
+    if init.mechanism.as_str() != PLAIN {
+        return Rejection::MechanismNotOffered;
+    }
+    let Some(response) = &init.initial_response else {
+        return Rejection::NoInitialResponse;
+    };
+    match plain_user(&response.0) {
+        None => Rejection::InvalidMessage,
+        Some(_) => Rejection::WrongPassword,
+    }
 }
 
 /// Returns the user of a message of PLAIN (RFC 4616, section 2), whose record you fetch, or `None` if the bytes are no
@@ -331,6 +351,8 @@ impl<C: ScramCredentialProvider> SaslAcceptor for PlainServer<C> {
 
     ghost machine = { plain_machine };
 
+    ghost reasons = { plain_reasons };
+
     ghost allocates = { plain_allocates };
 
     ghost hmacs = { plain_hmacs };
@@ -358,7 +380,7 @@ impl<C: ScramCredentialProvider> SaslAcceptor for PlainServer<C> {
         response: SaslResponse,
     ) -> Result<SaslServerFrame, OutOfMemory> {
         drop(response);
-        Ok(outcome(SaslCode::Auth))
+        Ok(SaslServerFrame::Rejected(Rejection::UnexpectedResponse))
     }
 
     fn on_init_metered(
@@ -371,6 +393,8 @@ impl<C: ScramCredentialProvider> SaslAcceptor for PlainServer<C> {
         requires { meter.old ≤ 2 ^ 63 }
         ensures ok { IfOk result (λ reply. plain_machine (plain_state C.meaning self.old) _nonce.now
             (init_frame init) (sent_frame reply) (plain_state C.meaning self.new)) }
+        ensures reason { IfOk result (λ reply.
+            HasReason (plain_reasons (plain_state C.meaning self.old) (init_frame init)) reply) }
         ensures memory { IfErr result (λ _. plain_allocates (plain_state C.meaning self.old) (init_frame init)) }
         ensures err { OnErr result (plain_state C.meaning self.new ≡ plain_state C.meaning self.old) }
         ensures cost { CostsAtMost plain_hmacs (plain_state C.meaning self.old) (init_frame init)
@@ -381,7 +405,7 @@ impl<C: ScramCredentialProvider> SaslAcceptor for PlainServer<C> {
             → plain_hmacs (plain_state C.meaning self.old) (init_frame init) n → meter.new ≡ meter.old + n }
     {
         let Some(username) = self.logged_in(alloc, &init, meter)? else {
-            return Ok(outcome(SaslCode::Auth));
+            return Ok(SaslServerFrame::Rejected(rejection_of(&init)));
         };
         self.user = Some(username.to_string(alloc)?);
         Ok(outcome(SaslCode::Ok))

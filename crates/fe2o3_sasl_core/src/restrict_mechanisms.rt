@@ -3,13 +3,14 @@
 
 ghost use Rattle.std.specs.Prelude.{◌≡◌, ◌≢◌, [], IfOk, IfErr, MatchBool, filter, map, string_bytes};
 ghost use Rattle.fe2o3_sasl_core.specs.AnyMechanism.{has_name};
-ghost use Rattle.fe2o3_sasl_core.specs.RestrictMechanisms.{Offering, offering_names, offering_machine, offering_allocates, offering_hmacs, offering_of};
+ghost use Rattle.fe2o3_sasl_core.specs.RestrictMechanisms.{Offering, offering_names, offering_machine, offering_allocates, offering_hmacs, offering_of, offering_reasons};
 ghost use Rattle.fe2o3_sasl_core.specs.declared.restrict_mechanisms.OfferError.TheVariants.{OutOfMemory as OutOfMemoryError};
 
 use crate::OutOfMemory;
 use crate::any_mechanism::HasMechanism;
-use crate::sasl_acceptor::{AuthenticatedUser, SaslAcceptor, SaslServerFrame, outcome};
-use fe2o3_sasl_wire::{Array, SaslCode, SaslInit, SaslResponse, Symbol};
+use crate::rejection::Rejection;
+use crate::sasl_acceptor::{AuthenticatedUser, SaslAcceptor, SaslServerFrame};
+use fe2o3_sasl_wire::{Array, SaslInit, SaslResponse, Symbol};
 use fe2o3_scram::hmac::Meter;
 use std::alloc::{AllocError, AllocFailed, Global};
 use std::sync::Arc;
@@ -145,6 +146,8 @@ impl<A: HasMechanism> SaslAcceptor for RestrictMechanisms<A> {
 
     ghost machine = { offering_machine A.names A.machine };
 
+    ghost reasons = { offering_reasons A.names A.reasons };
+
     ghost allocates = { offering_allocates A.names A.allocates };
 
     ghost hmacs = { offering_hmacs A.names A.hmacs };
@@ -185,7 +188,7 @@ impl<A: HasMechanism> SaslAcceptor for RestrictMechanisms<A> {
         meter: &mut Meter,
     ) -> Result<SaslServerFrame, OutOfMemory> {
         if !self.has_mechanism(init.mechanism.as_str()) {
-            return Ok(outcome(SaslCode::Auth));
+            return Ok(SaslServerFrame::Rejected(Rejection::MechanismNotOffered));
         }
         self.acceptor.on_init_metered(alloc, init, nonce, meter)
     }

@@ -6,15 +6,17 @@ ghost use Rattle.fe2o3_sasl_wire.specs.AmqpTypes.{init_frame, response_frame, me
 ghost use Rattle.fe2o3_sasl_wire.specs.SaslFrames.{SaslFrame, Mechanisms, Challenge, Outcome};
 ghost use Rattle.fe2o3_sasl_wire.specs.declared.amqp_types.SaslCode.TheVariants.{Ok as OkCode, Auth};
 ghost use Rattle.fe2o3_scram.specs.declared.scram_messages.error.ServerScramErrorKind.TheVariants.{OutOfMemory as ScramOutOfMemory};
+ghost use Rattle.fe2o3_sasl_core.specs.declared.rejection.Rejection.TheVariants.{Scram, UnknownUser};
 ghost use Rattle.std.proofs.Common.{ap};
 ghost use Rattle.fe2o3_scram.specs.Credentials.{serving};
 ghost use Rattle.fe2o3_scram.specs.MockSettings.{mocking};
 ghost use Rattle.fe2o3_scram.specs.ScramServer.{provider_in, served_by, state_in, logged_in};
 ghost use Rattle.fe2o3_sasl_core.specs.Costs.{acceptor_hmacs, CostsAtMost};
-ghost use Rattle.fe2o3_sasl_core.specs.SaslAcceptor.{Acceptor, ScramAcceptor, PlainAcceptor, AnonymousAcceptor, acceptor_names, acceptor_machine, acceptor_allocates, acceptor_user, offered, NamesPlain, ZeroPart, ends_with, server_frame, plain_acceptor, sent_frame};
+ghost use Rattle.fe2o3_sasl_core.specs.SaslAcceptor.{Acceptor, ScramAcceptor, PlainAcceptor, AnonymousAcceptor, acceptor_names, acceptor_machine, acceptor_allocates, acceptor_user, offered, NamesPlain, PlainRejected, ZeroPart, ends_with, server_frame, plain_acceptor, HasReason, acceptor_reasons, reason_in, sent_frame};
 
 use crate::OutOfMemory;
 use crate::mechanism_names::{ANONYMOUS, PLAIN, symbol_of};
+use crate::rejection::Rejection;
 use fe2o3_sasl_wire::{
     Array, Binary, SaslChallenge, SaslCode, SaslInit, SaslMechanisms, SaslOutcome, SaslResponse,
     Symbol,
@@ -23,6 +25,7 @@ use fe2o3_scram::credentials::ScramCredentialProvider;
 use fe2o3_scram::hmac::Meter;
 use fe2o3_scram::scram_messages::ServerScramErrorKind;
 use fe2o3_scram::scram_server::ScramAuthenticator;
+use fe2o3_scram::secrets::SecretText;
 use std::alloc::{AllocError, Global};
 use std::fmt;
 
@@ -34,13 +37,18 @@ pub enum SaslServerFrame {
 
     /// The end of the negotiation.
     Outcome(SaslOutcome),
+
+    /// The outcome Auth without data. The reason is for the server's log and is not sent.
+    Rejected(Rejection),
 }
 
 /// The server's side of a negotiation. An implementation specifies its state, on which alone its answers depend; the
 /// names of its mechanisms in that state; its machine: the replies to an init and to a response, and the state after
-/// each; at which of them it allocates; and how many HMAC values each takes. A call that runs out of memory leaves the
-/// state unchanged.
+/// each; why it rejects one; at which of them it allocates; and how many HMAC values each takes. A call that runs out of
+/// memory leaves the state unchanged.
 pub trait SaslAcceptor: Clone {
+    ghost use Rattle.fe2o3_sasl_core.specs.declared.rejection.Rejection.{Rejection};
+
     ghost State: { Type 0 };
 
     ghost state: { Self → State };
@@ -48,6 +56,8 @@ pub trait SaslAcceptor: Clone {
     ghost names: { State → List (List ℕ) };
 
     ghost machine: { State → List ℕ → SaslFrame → SaslFrame → State → Type 0 };
+
+    ghost reasons: { State → SaslFrame → Rejection → Type 0 };
 
     ghost allocates: { State → SaslFrame → Type 0 };
 
@@ -66,6 +76,8 @@ pub trait SaslAcceptor: Clone {
     ) -> Result<SaslServerFrame, OutOfMemory>
         ensures ok { IfOk result (λ reply.
             machine (state self.old) nonce.now (init_frame init) (sent_frame reply) (state self.new)) }
+        ensures reason { IfOk result (λ reply.
+            HasReason (reasons (state self.old) (init_frame init)) reply) }
         ensures memory { IfErr result (λ _. allocates (state self.old) (init_frame init)) }
         ensures err { OnErr result (state self.new ≡ state self.old) };
 
@@ -77,6 +89,8 @@ pub trait SaslAcceptor: Clone {
     ) -> Result<SaslServerFrame, OutOfMemory>
         ensures ok { IfOk result (λ reply. (nonce : List ℕ) →
             machine (state self.old) nonce (response_frame response) (sent_frame reply) (state self.new)) }
+        ensures reason { IfOk result (λ reply.
+            HasReason (reasons (state self.old) (response_frame response)) reply) }
         ensures memory { IfErr result (λ _. allocates (state self.old) (response_frame response)) }
         ensures err { OnErr result (state self.new ≡ state self.old) };
 
@@ -92,6 +106,8 @@ pub trait SaslAcceptor: Clone {
         requires { meter.old ≤ 2 ^ 63 }
         ensures ok { IfOk result (λ reply.
             machine (state self.old) nonce.now (init_frame init) (sent_frame reply) (state self.new)) }
+        ensures reason { IfOk result (λ reply.
+            HasReason (reasons (state self.old) (init_frame init)) reply) }
         ensures memory { IfErr result (λ _. allocates (state self.old) (init_frame init)) }
         ensures err { OnErr result (state self.new ≡ state self.old) }
         ensures cost { CostsAtMost hmacs (state self.old) (init_frame init) meter.old meter.new }
@@ -109,6 +125,8 @@ pub trait SaslAcceptor: Clone {
         requires { meter.old ≤ 2 ^ 63 }
         ensures ok { IfOk result (λ reply. (nonce : List ℕ) →
             machine (state self.old) nonce (response_frame response) (sent_frame reply) (state self.new)) }
+        ensures reason { IfOk result (λ reply.
+            HasReason (reasons (state self.old) (response_frame response)) reply) }
         ensures memory { IfErr result (λ _. allocates (state self.old) (response_frame response)) }
         ensures err { OnErr result (state self.new ≡ state self.old) }
         ensures cost { CostsAtMost hmacs (state self.old) (response_frame response) meter.old meter.new }
@@ -196,7 +214,7 @@ fn has_zero_part(bytes: &[u8], k: usize, wanted: &[u8]) -> bool
 #[derive(Drop)]
 pub struct SaslPlainMechanism {
     username: String,
-    password: String,
+    password: SecretText,
     accepted: bool,
 }
 
@@ -207,7 +225,7 @@ impl SaslPlainMechanism {
     {
         Self {
             username,
-            password,
+            password: SecretText::new(password),
             accepted: false,
         }
     }
@@ -215,7 +233,7 @@ impl SaslPlainMechanism {
     /// Returns this acceptor in the state after a login of its user, whom it then names. The caller vouches that the
     /// user has logged in, since no message is checked. The password is not saved: the acceptor has it.
     pub fn restore_authenticated(self) -> Self
-        ensures { plain_acceptor result ≡ PlainAcceptor (string_bytes self.username) (string_bytes self.password) true }
+        ensures { plain_acceptor result ≡ PlainAcceptor (string_bytes self.username) self.password true }
     {
         Self {
             username: self.username,
@@ -238,10 +256,27 @@ impl SaslPlainMechanism {
     /// Returns whether the message names the user and the password.
     fn is_named_by(&self, message: &[u8]) -> bool
         ensures { result ≡ true
-            ↔ NamesPlain (string_bytes self.now.username) (string_bytes self.now.password) message.now }
+            ↔ NamesPlain (string_bytes self.now.username) self.now.password message.now }
     {
         has_zero_part(message, 1, self.username.as_bytes())
-            && has_zero_part(message, 2, self.password.as_bytes())
+            && has_zero_part(message, 2, self.password.as_str().as_bytes())
+    }
+
+    /// Returns why the message is rejected, or `None` if it names the user and the password.
+    fn rejection_of(&self, message: &[u8]) -> Option<Rejection>
+        ensures named { MatchOption result
+            (NamesPlain (string_bytes self.now.username) self.now.password message.now)
+            (λ _. ¬ NamesPlain (string_bytes self.now.username) self.now.password message.now) }
+        ensures reason { MatchOption result ⊤ (λ reason. PlainRejected (string_bytes self.now.username)
+            self.now.password message.now reason) }
+    {
+        if self.is_named_by(message) {
+            return None;
+        }
+        match zero_part(message, 2) {
+            Some(_) => Some(Rejection::WrongPassword),
+            None => Some(Rejection::InvalidMessage),
+        }
     }
 }
 
@@ -277,6 +312,8 @@ impl SaslAcceptor for SaslPlainMechanism {
 
     ghost machine = { acceptor_machine };
 
+    ghost reasons = { acceptor_reasons };
+
     ghost allocates = { acceptor_allocates };
 
     ghost hmacs = { acceptor_hmacs };
@@ -295,13 +332,15 @@ impl SaslAcceptor for SaslPlainMechanism {
     ) -> Result<SaslServerFrame, OutOfMemory>
         ensures ok { IfOk result (λ reply. acceptor_machine (plain_acceptor self.old) _nonce.now (init_frame init)
             (sent_frame reply) (plain_acceptor self.new)) }
+        ensures reason { IfOk result (λ reply.
+            HasReason (acceptor_reasons (plain_acceptor self.old) (init_frame init)) reply) }
         ensures always { IsOk result }
     {
         let Some(message) = &init.initial_response else {
-            return Ok(outcome(SaslCode::Auth));
+            return Ok(SaslServerFrame::Rejected(Rejection::NoInitialResponse));
         };
-        if !self.is_named_by(&message.0) {
-            return Ok(outcome(SaslCode::Auth));
+        if let Some(reason) = self.rejection_of(&message.0) {
+            return Ok(SaslServerFrame::Rejected(reason));
         }
         self.accepted = true;
         Ok(outcome(SaslCode::Ok))
@@ -314,6 +353,8 @@ impl SaslAcceptor for SaslPlainMechanism {
     ) -> Result<SaslServerFrame, OutOfMemory>
         ensures ok { IfOk result (λ reply. (nonce : List ℕ) → acceptor_machine (plain_acceptor self.old) nonce
             (response_frame response) (sent_frame reply) (plain_acceptor self.new)) }
+        ensures reason { IfOk result (λ reply.
+            HasReason (acceptor_reasons (plain_acceptor self.old) (response_frame response)) reply) }
         ensures always { IsOk result }
     {
         drop(response);
@@ -367,6 +408,8 @@ impl SaslAcceptor for SaslAnonymousMechanism {
 
     ghost machine = { acceptor_machine };
 
+    ghost reasons = { acceptor_reasons };
+
     ghost allocates = { acceptor_allocates };
 
     ghost hmacs = { acceptor_hmacs };
@@ -385,6 +428,8 @@ impl SaslAcceptor for SaslAnonymousMechanism {
     ) -> Result<SaslServerFrame, OutOfMemory>
         ensures ok { IfOk result (λ reply.
             acceptor_machine AnonymousAcceptor _nonce.now (init_frame init) (sent_frame reply) AnonymousAcceptor) }
+        ensures reason { IfOk result (λ reply.
+            HasReason (acceptor_reasons AnonymousAcceptor (init_frame init)) reply) }
         ensures always { IsOk result }
     {
         drop(init);
@@ -398,6 +443,8 @@ impl SaslAcceptor for SaslAnonymousMechanism {
     ) -> Result<SaslServerFrame, OutOfMemory>
         ensures ok { IfOk result (λ reply. (nonce : List ℕ) →
             acceptor_machine AnonymousAcceptor nonce (response_frame response) (sent_frame reply) AnonymousAcceptor) }
+        ensures reason { IfOk result (λ reply.
+            HasReason (acceptor_reasons AnonymousAcceptor (response_frame response)) reply) }
         ensures always { IsOk result }
     {
         drop(response);
@@ -424,6 +471,8 @@ impl<C: ScramCredentialProvider> SaslAcceptor for ScramAuthenticator<C> {
 
     ghost machine = { acceptor_machine };
 
+    ghost reasons = { acceptor_reasons };
+
     ghost allocates = { acceptor_allocates };
 
     ghost hmacs = { acceptor_hmacs };
@@ -433,7 +482,7 @@ impl<C: ScramCredentialProvider> SaslAcceptor for ScramAuthenticator<C> {
         λ i. ScramAcceptor (mocking (same.3 i) (serving (same.1 i) (kept i))) (same.2 i) };
 
     fn mechanisms(&self, alloc: Global) -> Result<Array<Symbol>, OutOfMemory> {
-        one_name(alloc, self.credentials().scram_version().mechanism())
+        one_name(alloc, self.mechanism())
     }
 
     fn on_init(
@@ -464,6 +513,8 @@ impl<C: ScramCredentialProvider> SaslAcceptor for ScramAuthenticator<C> {
         ensures ok { IfOk result (λ reply. acceptor_machine
             (ScramAcceptor (served_by C.meaning self.old) (state_in self.old)) nonce.now (init_frame init)
             (sent_frame reply) (ScramAcceptor (served_by C.meaning self.new) (state_in self.new))) }
+        ensures reason { IfOk result (λ reply. HasReason (acceptor_reasons
+            (ScramAcceptor (served_by C.meaning self.old) (state_in self.old)) (init_frame init)) reply) }
         ensures memory { IfErr result (λ _. acceptor_allocates
             (ScramAcceptor (served_by C.meaning self.old) (state_in self.old)) (init_frame init)) }
         ensures err { OnErr result (◌≡◌ {A = Acceptor}
@@ -475,12 +526,12 @@ impl<C: ScramCredentialProvider> SaslAcceptor for ScramAuthenticator<C> {
             (ScramAcceptor (served_by C.meaning self.old) (state_in self.old)) (init_frame init) n
             → meter.new ≡ meter.old + n) }
     {
-        let Some(client_first) = &init.initial_response else {
-            return Ok(outcome(SaslCode::Auth));
-        };
-        if init.mechanism.as_str() != self.credentials().scram_version().mechanism() {
-            return Ok(outcome(SaslCode::Auth));
+        if init.mechanism.as_str() != self.mechanism() {
+            return Ok(SaslServerFrame::Rejected(Rejection::MechanismNotOffered));
         }
+        let Some(client_first) = &init.initial_response else {
+            return Ok(SaslServerFrame::Rejected(Rejection::NoInitialResponse));
+        };
         match self.compute_server_first_message_metered(alloc, &client_first.0, nonce, meter) {
             Ok(answer) => Ok(challenge(answer)),
             Err(kind) => refusal(kind),
@@ -497,6 +548,8 @@ impl<C: ScramCredentialProvider> SaslAcceptor for ScramAuthenticator<C> {
         ensures ok { IfOk result (λ reply. (nonce : List ℕ) → acceptor_machine
             (ScramAcceptor (served_by C.meaning self.old) (state_in self.old)) nonce (response_frame response)
             (sent_frame reply) (ScramAcceptor (served_by C.meaning self.new) (state_in self.new))) }
+        ensures reason { IfOk result (λ reply. HasReason (acceptor_reasons
+            (ScramAcceptor (served_by C.meaning self.old) (state_in self.old)) (response_frame response)) reply) }
         ensures memory { IfErr result (λ _. acceptor_allocates
             (ScramAcceptor (served_by C.meaning self.old) (state_in self.old)) (response_frame response)) }
         ensures err { OnErr result (◌≡◌ {A = Acceptor}
@@ -526,40 +579,43 @@ impl<C: ScramCredentialProvider> AuthenticatedUser for ScramAuthenticator<C> {
     }
 }
 
-/// Returns the frame of a server-first message, or the outcome for an unknown user if there is none.
+/// Returns the frame of a server-first message, or the rejection of an unknown user if there is none.
 fn challenge(answer: Option<Vec<u8>>) -> SaslServerFrame
-    ensures { sent_frame result
+    ensures frame { sent_frame result
         ≡ server_frame (λ message. Challenge message) (Ok (option_map (λ message. message.items) answer)) }
+    ensures reason { MatchOption answer (reason_in result ≡ Some UnknownUser) (λ _. reason_in result ≡ None) }
 {
     match answer {
         Some(server_first) => SaslServerFrame::Challenge(SaslChallenge {
             challenge: Binary(server_first),
         }),
-        None => outcome(SaslCode::Auth),
+        None => SaslServerFrame::Rejected(Rejection::UnknownUser),
     }
 }
 
-/// Returns the frame of a server-final message.
+/// Returns the frame of a server-final message. SCRAM answers a response never by `None`.
 fn conclusion(answer: Option<Vec<u8>>) -> SaslServerFrame
-    ensures { sent_frame result ≡ server_frame (λ message. Outcome OkCode (Some message))
+    ensures frame { sent_frame result ≡ server_frame (λ message. Outcome OkCode (Some message))
         (Ok (option_map (λ message. message.items) answer)) }
+    ensures reason { MatchOption answer ⊤ (λ _. reason_in result ≡ None) }
 {
     match answer {
         Some(server_final) => SaslServerFrame::Outcome(SaslOutcome {
             code: SaslCode::Ok,
             additional_data: Some(Binary(server_final)),
         }),
-        None => outcome(SaslCode::Auth),
+        None => SaslServerFrame::Rejected(Rejection::Other),
     }
 }
 
-/// Maps every SCRAM error to the outcome Auth, except `OutOfMemory`, which is returned as an error.
+/// Maps every SCRAM error to a rejection, except `OutOfMemory`, which is returned as an error.
 fn refusal(kind: ServerScramErrorKind) -> Result<SaslServerFrame, OutOfMemory>
     ensures auth { IfOk result (λ frame. (kind ≢ ScramOutOfMemory) × (sent_frame frame ≡ ends_with Auth)) }
+    ensures reason { IfOk result (λ frame. reason_in frame ≡ Some (Scram kind)) }
     ensures memory { IfErr result (λ _. kind ≡ ScramOutOfMemory) }
 {
     match kind {
         ServerScramErrorKind::OutOfMemory => Err(OutOfMemory),
-        _ => Ok(outcome(SaslCode::Auth)),
+        kind => Ok(SaslServerFrame::Rejected(Rejection::Scram(kind))),
     }
 }

@@ -151,9 +151,9 @@ impl SaslProfile {
             SaslProfile::External => EXTERNAL,
             SaslProfile::AnonymousAs(_) => ANONYMOUS,
             SaslProfile::ExternalAs(_) => EXTERNAL,
-            SaslProfile::ScramSha1(scram) => scram.client.version().mechanism(),
-            SaslProfile::ScramSha256(scram) => scram.client.version().mechanism(),
-            SaslProfile::ScramSha512(scram) => scram.client.version().mechanism(),
+            SaslProfile::ScramSha1(scram) => scram.client.mechanism(),
+            SaslProfile::ScramSha256(scram) => scram.client.mechanism(),
+            SaslProfile::ScramSha512(scram) => scram.client.mechanism(),
         }
     }
 

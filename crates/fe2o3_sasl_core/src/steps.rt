@@ -18,7 +18,9 @@ use crate::events::{ClientReply, Event, ServerReply};
 use crate::sasl_acceptor::{SaslAcceptor, SaslServerFrame};
 use crate::sasl_profile::{ProfileError, SaslProfile, outcome_of};
 use bytes::BytesMut;
-use fe2o3_sasl_wire::{Error, Frame, FrameCodec, FrameView, SaslCode, SymbolsView, view_frame};
+use fe2o3_sasl_wire::{
+    Error, Frame, FrameCodec, FrameView, SaslCode, SaslOutcome, SymbolsView, view_frame,
+};
 use fe2o3_scram::hmac::Meter;
 use std::alloc::Global;
 
@@ -44,6 +46,16 @@ fn write_reply(alloc: Global, frame: SaslServerFrame) -> Result<ServerReply, Err
             code: outcome.code,
             body: body_of(alloc, Frame::Outcome(outcome))?,
         }),
+        SaslServerFrame::Rejected(_) => {
+            let outcome = SaslOutcome {
+                code: SaslCode::Auth,
+                additional_data: None,
+            };
+            Ok(ServerReply::Outcome {
+                code: SaslCode::Auth,
+                body: body_of(alloc, Frame::Outcome(outcome))?,
+            })
+        }
     }
 }
 

@@ -1,8 +1,9 @@
 //! Runs over lists of frame bodies: what an acceptor and a profile answer to each, in order (AMQP 1.0, part 5, section
 //! 5.3.2).
 
-ghost use Rattle.std.specs.Prelude.{◌≡◌, ◌<◌, ◌≤◌, ◌+◌, ◌++◌, ◌∷◌, [], map, IfOk, OnErr, vec_len, vec_capacity, false};
+ghost use Rattle.std.specs.Prelude.{◌≡◌, ◌<◌, ◌≤◌, ◌+◌, ◌++◌, ◌∷◌, [], map, IfOk, OnErr, vec_len, vec_capacity};
 ghost use Rattle.fe2o3_sasl_wire.specs.FrameView.{shown};
+ghost use Rattle.fe2o3_scram.specs.ClientFirst.{default_rules};
 ghost use Rattle.fe2o3_scram.specs.Credentials.{serving};
 ghost use Rattle.fe2o3_scram.specs.ClientSecret.{no_limit};
 ghost use Rattle.fe2o3_sasl_core.specs.ClientHistory.{ClientHistory};
@@ -19,6 +20,7 @@ use crate::sasl_acceptor::SaslAcceptor;
 use crate::sasl_profile::{ProfileError, SaslProfile};
 use crate::steps::{acceptor_step, profile_step};
 use fe2o3_sasl_wire::Error;
+use fe2o3_scram::ServerRules;
 use fe2o3_scram::credentials::ScramCredentialProvider;
 use fe2o3_scram::hmac::ScramVersion;
 use fe2o3_scram::scram_server::ScramAuthenticator;
@@ -83,35 +85,32 @@ pub fn scram_server_run<C: ScramCredentialProvider>(
     credentials: &C,
     events: &[Event],
 ) -> Result<Vec<Result<ServerReply, Error>>, OutOfMemory>
-    ensures history { IfOk result (λ replies. ServerHistory (serving false (C.meaning credentials.now))
+    ensures history { IfOk result (λ replies. ServerHistory (serving default_rules (C.meaning credentials.now))
         (map given events.now) (map server_answer replies.items)) }
-    ensures exactly { IfOk result (λ replies. AnswersOkExactly (serving false (C.meaning credentials.now))
+    ensures exactly { IfOk result (λ replies. AnswersOkExactly (serving default_rules (C.meaning credentials.now))
         (map given events.now) (map server_answer replies.items)) }
-    ensures unaltered { IfOk result (λ replies. ServerLogsIn (serving false (C.meaning credentials.now))
+    ensures unaltered { IfOk result (λ replies. ServerLogsIn (serving default_rules (C.meaning credentials.now))
         (map given events.now) (map server_answer replies.items)) }
 {
-    scram_server_run_with_cbind_flag_y(alloc, false, credentials, events)
+    scram_server_run_with_rules(alloc, ServerRules::new(), credentials, events)
 }
 
-/// Like `scram_server_run`, but with `accept_cbind_flag_y` the server accepts a client with the GS2 header `y,,` too
-/// (`ScramAuthenticator::accept_cbind_flag_y`).
-pub fn scram_server_run_with_cbind_flag_y<C: ScramCredentialProvider>(
+/// Like `scram_server_run`, but by these rules for the messages of a client (`ScramAuthenticator::with_rules`).
+pub fn scram_server_run_with_rules<C: ScramCredentialProvider>(
     alloc: Global,
-    accept_cbind_flag_y: bool,
+    rules: ServerRules,
     credentials: &C,
     events: &[Event],
 ) -> Result<Vec<Result<ServerReply, Error>>, OutOfMemory>
-    ensures history { IfOk result (λ replies. ServerHistory (serving accept_cbind_flag_y (C.meaning credentials.now))
+    ensures history { IfOk result (λ replies. ServerHistory (serving rules (C.meaning credentials.now))
         (map given events.now) (map server_answer replies.items)) }
-    ensures exactly { IfOk result (λ replies. AnswersOkExactly (serving accept_cbind_flag_y (C.meaning credentials.now))
+    ensures exactly { IfOk result (λ replies. AnswersOkExactly (serving rules (C.meaning credentials.now))
         (map given events.now) (map server_answer replies.items)) }
-    ensures unaltered { IfOk result (λ replies. ServerLogsIn (serving accept_cbind_flag_y (C.meaning credentials.now))
+    ensures unaltered { IfOk result (λ replies. ServerLogsIn (serving rules (C.meaning credentials.now))
         (map given events.now) (map server_answer replies.items)) }
 {
     let provider = credentials.clone()?;
-    let mut authenticator = ScramAuthenticator::new(provider).accept_cbind_flag_y(
-        accept_cbind_flag_y,
-    );
+    let mut authenticator = ScramAuthenticator::new(provider).with_rules(rules);
     run_acceptor(alloc, &mut authenticator, events)
 }
 

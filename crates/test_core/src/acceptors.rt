@@ -13,7 +13,7 @@ use fe2o3_sasl::sasl_acceptor::{
     SaslServerFrame,
 };
 use fe2o3_sasl::scram_server::ScramAuthenticator;
-use fe2o3_sasl_wire::{Frame, view_frame};
+use fe2o3_sasl_wire::{Frame, SaslCode, SaslOutcome, view_frame};
 use std::process::Abort;
 use test_help_bodies::bodies::*;
 use test_help_bodies::replies::is_server_reply;
@@ -113,6 +113,10 @@ fn replies<R: Abort + AllocGlobal, A: SaslAcceptor + Drop>(rt: &R, acceptor: &A,
     let frame = match reply.expect(rt, "memory") {
         SaslServerFrame::Challenge(challenge) => Frame::Challenge(challenge),
         SaslServerFrame::Outcome(outcome) => Frame::Outcome(outcome),
+        SaslServerFrame::Rejected(_) => Frame::Outcome(SaslOutcome {
+            code: SaslCode::Auth,
+            additional_data: None,
+        }),
     };
     assert!(rt; body_of(rt, frame) == bytes_of(rt, wanted), "{given}");
 }

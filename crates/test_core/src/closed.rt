@@ -1,8 +1,8 @@
 //! An acceptor that the library does not know.
 
-ghost use Rattle.std.specs.Prelude.{◌≡◌, Bool, true, ℕ, List, [], IfOk, OnErr};
+ghost use Rattle.std.specs.Prelude.{◌≡◌, Bool, true, ℕ, List, [], None, IfOk, OnErr};
 ghost use Rattle.fe2o3_sasl_wire.specs.declared.amqp_types.SaslCode.TheVariants.{Sys};
-ghost use Rattle.fe2o3_sasl.specs.SaslAcceptor.{ends_with, sent_frame};
+ghost use Rattle.fe2o3_sasl.specs.SaslAcceptor.{ends_with, reason_in, sent_frame};
 
 use fe2o3_sasl::OutOfMemory;
 use fe2o3_sasl::sasl_acceptor::{SaslAcceptor, SaslServerFrame};
@@ -29,6 +29,7 @@ impl Closed {
     /// Returns the answer for everyone.
     fn turn_away(&mut self) -> SaslServerFrame
         ensures reply { sent_frame result ≡ ends_with Sys }
+        ensures reason { reason_in result ≡ None }
         ensures asked { self.new.asked ≡ true }
     {
         self.asked = true;
@@ -55,6 +56,8 @@ impl SaslAcceptor for Closed {
     ghost names = { λ _. [] };
 
     ghost machine = { λ asked nonce frame reply next. (reply ≡ ends_with Sys) × (next ≡ true) };
+
+    ghost reasons = { λ asked frame reason. ⊥ };
 
     ghost allocates = { λ asked frame. ⊥ };
 

@@ -33,4 +33,6 @@ mod profiles;
 #[cfg(test)]
 mod program;
 #[cfg(test)]
+mod rejections;
+#[cfg(test)]
 mod values;

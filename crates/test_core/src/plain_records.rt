@@ -56,6 +56,7 @@ fn outcome<R: Abort + AllocGlobal, A: SaslAcceptor>(
     let reply = plain.on_init_metered(rt.alloc(), init, &[7; 32], &mut meter);
     let code = match reply.expect(rt, "memory") {
         SaslServerFrame::Outcome(outcome) => Some(outcome.code),
+        SaslServerFrame::Rejected(_) => Some(SaslCode::Auth),
         SaslServerFrame::Challenge(_) => None,
     };
     (code, meter.count())

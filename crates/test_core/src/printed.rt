@@ -24,7 +24,7 @@ pub fn shows<R: Abort + AllocGlobal, T: Debug + Drop>(rt: &R, value: T, wanted: 
 }
 
 /// Checks that the errors have these texts.
-fn tell<R: Abort + AllocGlobal, T: Display>(rt: &R, faults: &[(T, &str)]) {
+pub fn tell<R: Abort + AllocGlobal, T: Display>(rt: &R, faults: &[(T, &str)]) {
     for (fault, wanted) in faults {
         let text = fault.to_string(rt.alloc()).expect(rt, "memory");
         assert!(rt; text.as_str() == *wanted, "{text}");

@@ -101,7 +101,7 @@ fn ends<R: Abort + AllocGlobal>(rt: &R, stop: Stop, wanted: &str) {
 }
 
 /// Each error of a SCRAM message, with the last line.
-static MESSAGES: [(ScramErrorKind, &str); 18] = [
+static MESSAGES: [(ScramErrorKind, &str); 19] = [
     (ScramErrorKind::Utf8Error, "refused Utf8Error\n"),
     (
         ScramErrorKind::InsufficientParts,
@@ -136,6 +136,10 @@ static MESSAGES: [(ScramErrorKind, &str); 18] = [
     (
         ScramErrorKind::IterationCountTooLarge,
         "refused IterationCountTooLarge\n",
+    ),
+    (
+        ScramErrorKind::MisplacedAttribute,
+        "refused MisplacedAttribute\n",
     ),
     (ScramErrorKind::NormalizeError, "refused NormalizeError\n"),
     (ScramErrorKind::StaleKeys, "refused StaleKeys\n"),

@@ -1,6 +1,7 @@
 //! A row of a file: its words, which are read one after another, and its answer, which grows by words.
 
 use bytes::BytesMut;
+use fe2o3_sasl::channel_binding::{ChannelBinding, ChannelData, ChannelKind};
 use fe2o3_sasl::hmac::ScramVersion;
 use fe2o3_sasl::runs::Event;
 use fe2o3_sasl_wire::{Frame, FrameCodec};
@@ -155,6 +156,18 @@ impl<'a> Row<'a> {
     pub fn version(&mut self) -> ScramVersion {
         let version = self.word().parse::<ScramVersion>();
         self.made(version, ScramVersion::Sha1)
+    }
+
+    /// Returns the channel of a kind, by its registered name, and of data in hexadecimal digits.
+    pub fn channel(&mut self) -> Option<ChannelBinding> {
+        let (kind, data) = (ChannelKind::from_name(self.word()), self.bytes());
+        match (kind, ChannelData::new(&data)) {
+            (Some(kind), Ok(cbind_data)) => Some(ChannelBinding { kind, cbind_data }),
+            _ => {
+                self.refuse("no channel");
+                None
+            }
+        }
     }
 
     /// Returns the value that was made, or this one in its place.

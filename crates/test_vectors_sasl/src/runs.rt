@@ -110,8 +110,10 @@ pub fn check(row: &mut Row<'_>) -> usize {
         "server" => acceptors::check_one(row, &run, false),
         "cbind_flag_y" => acceptors::check_one(row, &run, true),
         "records" => acceptors::check_records(row, &run),
+        "server_plus" => acceptors::check_bound(row, &run),
         "acceptor" => acceptors::check_plain(row, &run),
         "client" => check_client(row, &run),
+        "client_plus" => profiles::check_bound(row, &run),
         "audit" => audits::check(row, &run),
         kind => profiles::check(row, &run, kind),
     }

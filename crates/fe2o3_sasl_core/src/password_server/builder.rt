@@ -2,6 +2,7 @@
 
 ghost use Rattle.std.specs.Prelude.{◌≡◌, [], true, false, Some, None};
 ghost use Rattle.fe2o3_sasl_core.specs.PasswordServer.{settings_of};
+ghost use Rattle.fe2o3_scram.specs.ClientFirst.{default_rules};
 ghost use Rattle.fe2o3_scram.specs.Credentials.{kept};
 ghost use Rattle.fe2o3_scram.specs.ScramServer.{ServerFinalSent, ServerFirstSent, challenge_kept};
 ghost use Rattle.fe2o3_scram.specs.declared.hmac.ScramVersion.TheVariants.{Sha256};
@@ -11,11 +12,11 @@ ghost use Rattle.fe2o3_sasl_core.specs.declared.password_server.builder.BuildErr
 mod build;
 
 use crate::plain_server::PlainPasswords;
-use fe2o3_scram::OpenChallenge;
 use fe2o3_scram::credentials::MultiRecordStore;
 use fe2o3_scram::hmac::ScramVersion;
 use fe2o3_scram::provider::StoredPassword;
 use fe2o3_scram::scram_server::SaltTooLong;
+use fe2o3_scram::{OpenChallenge, ServerRules};
 use std::alloc::AllocError;
 use thiserror::Error;
 
@@ -106,7 +107,7 @@ pub struct PasswordServerBuilder<'a> {
     records: &'a MultiRecordStore,
     mock: Option<Mock<'a>>,
     hashes: ScramHashes,
-    cbind_flag_y: bool,
+    rules: ServerRules,
     plain: bool,
     plain_version: ScramVersion,
     plain_iterations: Option<u32>,
@@ -123,7 +124,7 @@ impl<'a> PasswordServerBuilder<'a> {
           records = records.now;
           mock = None;
           hashes = record { sha_512 = true; sha_256 = true; sha_1 = false };
-          cbind_flag_y = false;
+          rules = default_rules;
           plain = false;
           plain_version = Sha256;
           plain_count = None;
@@ -141,7 +142,7 @@ impl<'a> PasswordServerBuilder<'a> {
                 sha_256: true,
                 sha_1: false,
             },
-            cbind_flag_y: false,
+            rules: ServerRules::new(),
             plain: false,
             plain_version: ScramVersion::Sha256,
             plain_iterations: None,
@@ -187,10 +188,29 @@ impl<'a> PasswordServerBuilder<'a> {
     /// Returns this builder, whose SCRAM accepts the GS2 flag `y` if `accept` is true
     /// (`ScramAuthenticator::accept_cbind_flag_y`).
     pub fn accept_cbind_flag_y(self, accept: bool) -> Self
-        ensures { settings_of result ≡ record (settings_of self.entry) { cbind_flag_y = accept } }
+        ensures { settings_of result ≡ record (settings_of self.entry) {
+          rules = record ((settings_of self.entry).rules) { accept_cbind_flag_y = accept };
+        } }
     {
         let mut builder = self;
-        builder.cbind_flag_y = accept;
+        builder.rules = ServerRules {
+            accept_cbind_flag_y: accept,
+            ..self.rules
+        };
+        builder
+    }
+
+    /// Returns this builder, whose SCRAM is strict if `strict` is true (`ScramAuthenticator::strict`).
+    pub fn strict(self, strict: bool) -> Self
+        ensures { settings_of result ≡ record (settings_of self.entry) {
+          rules = record ((settings_of self.entry).rules) { strict = strict };
+        } }
+    {
+        let mut builder = self;
+        builder.rules = ServerRules {
+            strict,
+            ..self.rules
+        };
         builder
     }
 

@@ -4,7 +4,7 @@ ghost use Rattle.std.specs.Prelude.{◌≡◌, None};
 ghost use Rattle.std.proofs.Common.{ap};
 ghost use Rattle.fe2o3_sasl_core.specs.ExternalServer.{external_of};
 ghost use Rattle.fe2o3_sasl_core.specs.PlainServer.{plain_state};
-ghost use Rattle.fe2o3_sasl_core.specs.PasswordServer.{OtherStates, others_allocates, others_hmacs, others_machine, others_names, others_state, others_user};
+ghost use Rattle.fe2o3_sasl_core.specs.PasswordServer.{OtherStates, others_allocates, others_hmacs, others_machine, others_names, others_reasons, others_state, others_user};
 ghost use Rattle.fe2o3_sasl_core.specs.SaslAcceptor.{AnonymousAcceptor};
 
 use crate::OutOfMemory;
@@ -65,6 +65,8 @@ impl SaslAcceptor for Others {
     ghost names = { others_names };
 
     ghost machine = { others_machine };
+
+    ghost reasons = { others_reasons };
 
     ghost allocates = { others_allocates };
 

@@ -3,7 +3,7 @@
 ghost use Rattle.std.specs.Prelude.{◌≡◌, option_map};
 ghost use Rattle.std.proofs.Common.{ap};
 ghost use Rattle.fe2o3_sasl_core.specs.AnyMechanismSides.{both_states};
-ghost use Rattle.fe2o3_sasl_core.specs.PasswordServer.{ScramStates, challenge_with, first_asked, scram_state, scrams_allocates, scrams_hmacs, scrams_machine, scrams_names, scrams_open, scrams_state, scrams_user, second_asked, weaker_open};
+ghost use Rattle.fe2o3_sasl_core.specs.PasswordServer.{ScramStates, challenge_with, first_asked, scram_state, scrams_allocates, scrams_hmacs, scrams_machine, scrams_names, scrams_open, scrams_reasons, scrams_state, scrams_user, second_asked, weaker_open};
 ghost use Rattle.fe2o3_scram.specs.Credentials.{serving};
 ghost use Rattle.fe2o3_scram.specs.MockSettings.{mocking};
 ghost use Rattle.fe2o3_sasl_core.specs.SaslAcceptor.{ScramAcceptor};
@@ -108,6 +108,8 @@ impl SaslAcceptor for Scrams {
     ghost names = { scrams_names };
 
     ghost machine = { scrams_machine };
+
+    ghost reasons = { scrams_reasons };
 
     ghost allocates = { scrams_allocates };
 

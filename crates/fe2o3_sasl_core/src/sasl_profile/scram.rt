@@ -4,12 +4,13 @@ ghost use Rattle.std.specs.Prelude.{◌≡◌, ◌↔◌, IfOk, MatchOption, Som
 ghost use Rattle.fe2o3_scram.specs.declared.hmac.ScramVersion.{ScramVersion};
 ghost use Rattle.fe2o3_scram.specs.declared.hmac.ScramVersion.TheVariants.{Sha1, Sha256, Sha512};
 ghost use Rattle.fe2o3_scram.specs.ClientSecret.{IsOfVersion, no_limit, secret_of};
-ghost use Rattle.fe2o3_scram.specs.ScramClient.{fresh_client, login_keys, with_limits, with_signature_by_challenge};
+ghost use Rattle.fe2o3_scram.specs.ScramClient.{fresh_client, login_keys, with_channel, with_limits, with_signature_by_challenge, with_strict};
 ghost use Rattle.fe2o3_sasl_core.specs.Profiles.{ScramProfile, scram_profile};
 ghost use Rattle.fe2o3_sasl_core.specs.Runs.{login_of};
 ghost use Rattle.fe2o3_sasl_core.specs.SaslProfile.{profile_of, variant_version};
 
 use super::SaslProfile;
+use fe2o3_scram::ClientChannel;
 use fe2o3_scram::cached_keys::CachedKeys;
 use fe2o3_scram::client_secret::{ClientSecret, ClientSecretError};
 use fe2o3_scram::hmac::ScramVersion;
@@ -142,6 +143,22 @@ impl<V: OfVersion> SaslScram<V> {
         ensures { result ≡ with_limits self (record { min_iterations = min_iterations; max_iterations = self.limits.max_iterations }) }
     {
         Self::of(self.client.with_min_iterations(min_iterations))
+    }
+
+    /// Returns this client, but it says this of its channel (RFC 5802, section 6). With `ClientChannel::Bound` its
+    /// mechanism is the one with `-PLUS`, and it is always strict ([`ScramClient::with_channel`]).
+    pub fn with_channel(self, channel: ClientChannel) -> Self
+        ensures { result ≡ with_channel self channel }
+    {
+        Self::of(self.client.with_channel(channel))
+    }
+
+    /// Returns this client, but strict if `strict` is true: it rejects an attribute that RFC 5802 defines in the place of
+    /// an extension, by `MisplacedAttribute` ([`ScramClient::strict`]).
+    pub fn strict(self, strict: bool) -> Self
+        ensures { result ≡ with_strict self strict }
+    {
+        Self::of(self.client.strict(strict))
     }
 
     /// Returns this client, but with `accept` it accepts the server's signature in a challenge too

@@ -54,6 +54,9 @@ pub fn say_progress(row: &mut Row<'_>, progress: Progress) {
         Progress::Failed(CloseReason::Mechanism(fault)) => {
             row.say(format_args!("Mechanism {fault:?}"));
         }
+        Progress::Failed(CloseReason::ProtocolHeaderMismatch(_)) => {
+            row.say("ProtocolHeaderMismatch");
+        }
         Progress::Failed(why) => row.say(format_args!("{why:?}")),
         progress => row.say(format_args!("{progress:?}")),
     }

@@ -3,13 +3,14 @@
 use crate::replies::{Reply, agree_all};
 use crate::rows::Row;
 use crate::runs::{Part, Run, Side, check_side};
+use fe2o3_sasl::channel_binding::{ChannelBinding, ChannelBindings, ChannelData, ChannelKind};
 use fe2o3_sasl::credentials::{
     RecordStore, ScramCredentialProvider, ScramRecord, SingleScramCredential,
 };
 use fe2o3_sasl::hmac::ScramVersion;
-use fe2o3_sasl::runs::{Event, acceptor_step, run_acceptor, scram_server_run_with_cbind_flag_y};
+use fe2o3_sasl::runs::{Event, acceptor_step, run_acceptor, scram_server_run_with_rules};
 use fe2o3_sasl::sasl_acceptor::{SaslAcceptor, SaslAnonymousMechanism, SaslPlainMechanism};
-use fe2o3_sasl::scram_messages::ServerScramErrorKind;
+use fe2o3_sasl::scram_messages::{ServerRules, ServerScramErrorKind};
 use fe2o3_sasl::scram_server::ScramAuthenticator;
 use std::rc::Rc;
 
@@ -64,12 +65,56 @@ pub fn credential_of(
     SingleScramCredential::new(row.alloc, user, &password, version, salt)
 }
 
+/// Returns the rules of a server that accepts the GS2 header `y,,` or not, and is not strict.
+pub fn rules_of(accept_cbind_flag_y: bool) -> ServerRules {
+    ServerRules {
+        accept_cbind_flag_y,
+        strict: false,
+        channels: None,
+    }
+}
+
 /// Checks a server of one user, which accepts the GS2 header `y,,` or not: `VERSION USER PASSWORD SALT`.
 pub fn check_one(row: &mut Row<'_>, run: &Run<'_>, accept_cbind_flag_y: bool) {
     let version = row.version();
     match credential_of(row, version) {
-        Ok(credential) => check_shared(row, run, accept_cbind_flag_y, credential),
+        Ok(credential) => check_shared(row, run, rules_of(accept_cbind_flag_y), credential),
         Err(error) => row.refuse(error),
+    }
+}
+
+/// Returns the data of a channel, if its kind is this one.
+fn data_of(channel: ChannelBinding, kind: ChannelKind) -> Option<ChannelData> {
+    if channel.kind == kind {
+        Some(channel.cbind_data)
+    } else {
+        None
+    }
+}
+
+/// Returns the rules of a server that binds this channel, and accepts no other kind.
+fn rules_of_channel(channel: ChannelBinding) -> ServerRules {
+    let channels = ChannelBindings {
+        tls_unique: data_of(channel, ChannelKind::TlsUnique),
+        tls_server_end_point: data_of(channel, ChannelKind::TlsServerEndPoint),
+        tls_exporter: data_of(channel, ChannelKind::TlsExporter),
+    };
+    ServerRules {
+        accept_cbind_flag_y: false,
+        strict: false,
+        channels: Some(channels),
+    }
+}
+
+/// Checks a server of one user that binds a channel: `VERSION USER PASSWORD SALT KIND DATA`.
+pub fn check_bound(row: &mut Row<'_>, run: &Run<'_>) {
+    let version = row.version();
+    let credential = credential_of(row, version);
+    match (credential, row.channel()) {
+        (Ok(credential), Some(channel)) => {
+            check_shared(row, run, rules_of_channel(channel), credential)
+        }
+        _ => row.refuse("no server"),
     }
 }
 
@@ -84,39 +129,34 @@ pub fn check_records(row: &mut Row<'_>, run: &Run<'_>) {
         let record = ScramRecord::from_parts(version, salt, count, row.bytes(), row.bytes());
         row.made(store.add(name, record), ());
     }
-    check_shared(row, run, false, store);
+    check_shared(row, run, ServerRules::new(), store);
 }
 
 /// Checks a server of these credentials, by themselves, shared, and as an acceptor.
 fn check_shared<C: ScramCredentialProvider + Drop>(
     row: &mut Row<'_>,
     run: &Run<'_>,
-    accept_cbind_flag_y: bool,
+    rules: ServerRules,
     credentials: C,
 ) {
-    check_run(row, run, accept_cbind_flag_y, &credentials);
+    check_run(row, run, rules, &credentials);
     let Ok(shared) = Rc::new(row.alloc, credentials) else {
         return row.refuse("no memory");
     };
-    check_run(row, run, accept_cbind_flag_y, &shared);
+    check_run(row, run, rules, &shared);
     let fresh = ScramAuthenticator::new(shared);
-    check_acceptor(row, run, fresh.accept_cbind_flag_y(accept_cbind_flag_y));
+    check_acceptor(row, run, fresh.with_rules(rules));
 }
 
 /// Checks the answers of a server of these credentials in a run.
 fn check_run<C: ScramCredentialProvider>(
     row: &mut Row<'_>,
     run: &Run<'_>,
-    accept_cbind_flag_y: bool,
+    rules: ServerRules,
     credentials: &C,
 ) {
     let alloc = row.alloc;
-    let replies = scram_server_run_with_cbind_flag_y(
-        alloc,
-        accept_cbind_flag_y,
-        credentials,
-        &run.events,
-    );
+    let replies = scram_server_run_with_rules(alloc, rules, credentials, &run.events);
     let replies = row.made(replies, Vec::new(alloc));
     agree_all(row, &replies, &run.wanted);
 }

@@ -3,9 +3,9 @@
 use crate::replies::{Reply, agree_all};
 use crate::rows::Row;
 use crate::runs::Run;
-use crate::runs::acceptors::credential_of;
+use crate::runs::acceptors::{credential_of, rules_of};
 use fe2o3_sasl::audit::{
-    Finding, audit, audit_limited, audit_with_cbind_flag_y, audit_with_signature_by_challenge,
+    Finding, audit, audit_limited, audit_with_rules, audit_with_signature_by_challenge,
 };
 use sasl_lab_lib::audit::line_of;
 
@@ -30,15 +30,15 @@ pub fn check(row: &mut Row<'_>, run: &Run<'_>) {
     let found = match row.rest() {
         "" => audit(alloc, &user, &password, version, client, credential, server),
         "cbind_flag_y" => {
-            let limit = u32::MAX;
-            audit_with_cbind_flag_y(
-                alloc, &user, &password, version, limit, client, true, credential, server,
+            let (limit, rules) = (u32::MAX, rules_of(true));
+            audit_with_rules(
+                alloc, &user, &password, version, limit, client, rules, credential, server,
             )
         }
         "signature_by_challenge" => {
-            let limit = u32::MAX;
+            let (limit, rules) = (u32::MAX, rules_of(false));
             audit_with_signature_by_challenge(
-                alloc, &user, &password, version, limit, true, client, false, credential, server,
+                alloc, &user, &password, version, limit, true, client, rules, credential, server,
             )
         }
         limit => {

@@ -10,6 +10,7 @@ use fe2o3_sasl::passwords::Password;
 use fe2o3_sasl::runs::{Event, profile_step, run_profile};
 use fe2o3_sasl::sasl_profile::{SaslProfile, SaslScramSha256};
 use fe2o3_sasl::scram_client::ScramClient;
+use fe2o3_sasl::scram_messages::ClientChannel;
 use fe2o3_sasl_wire::view_frame;
 
 /// A profile as a side, and the hostname of its init.
@@ -60,6 +61,27 @@ impl Side for Profile {
 pub fn check(row: &mut Row<'_>, run: &Run<'_>, kind: &str) {
     let profile = profile_of(row, kind);
     let hostname = row.hostname();
+    check_profile(row, run, profile, hostname);
+}
+
+/// Checks a profile that binds a channel: `VERSION USER PASSWORD KIND DATA`.
+pub fn check_bound(row: &mut Row<'_>, run: &Run<'_>) {
+    let (version, user, password) = (row.version(), row.text(), row.text());
+    let client = ScramClient::new(user, password, version);
+    let profile = row.channel().map(|channel| {
+        let channel = ClientChannel::Bound(channel);
+        SaslProfile::from(client.with_channel(channel))
+    });
+    check_profile(row, run, profile, None);
+}
+
+/// Checks a profile, if there is one, with this hostname.
+fn check_profile(
+    row: &mut Row<'_>,
+    run: &Run<'_>,
+    profile: Option<SaslProfile>,
+    hostname: Option<String>,
+) {
     match profile.map(|profile| Box::new(row.alloc, profile)) {
         Some(Ok(profile)) => check_side(row, run, &mut Profile { profile, hostname }),
         _ => row.refuse("no profile"),

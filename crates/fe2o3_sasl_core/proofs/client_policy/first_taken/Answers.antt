@@ -6,7 +6,7 @@ use Rattle.std.specs.Prelude.{MatchBool}
 use Rattle.fe2o3_scram.specs.ClientSecret.{secret_of}
 use Rattle.fe2o3_sasl_core.specs.ClientPolicy.{CanTake}
 use Rattle.fe2o3_sasl_core.specs.declared.client_policy.Mechanism.{Mechanism}
-use Rattle.fe2o3_sasl_core.specs.declared.client_policy.Mechanism.TheVariants.{ScramSha512}
+use Rattle.fe2o3_sasl_core.specs.declared.client_policy.Mechanism.TheVariants.{ScramSha512Plus}
 use Rattle.fe2o3_sasl_core.proofs.lemmas.machines.PolicyLemmas.{each_more}
 use Rattle.fe2o3_sasl_core.proofs.client_policy.first_taken.Goals as goal
 
@@ -14,9 +14,9 @@ pub returns-then-can_take : goal.returns-then-can_take
 returns-then-can_take c user =
     let xs = c.args.mechanisms.now in
     let k = c.loop-mechanism.mechanism-index in
-    let can = CanTake c.args.policy user (secret_of c.args.secret.now) c.args.offer.now (get_or xs k ScramSha512) in (
+    let can = CanTake c.args.policy user (secret_of c.args.secret.now) c.args.offer.now (get_or xs k ScramSha512Plus) in (
       k,
-      slice_get-get_or xs k ScramSha512 c.loop-mechanism-test.true,
+      slice_get-get_or xs k ScramSha512Plus c.loop-mechanism-test.true,
       subst (λ (told : Bool). MatchBool told can (¬ can)) c.if-can_take.true (c.can_take.ensures user),
       c.loop-mechanism.invariant user,
     )
@@ -25,9 +25,9 @@ pub loop-mechanism-preserved : goal.loop-mechanism-preserved
 loop-mechanism-preserved c user =
     let xs = c.args.mechanisms.now in
     let k = c.loop-mechanism.mechanism-index in
-    let can = CanTake c.args.policy user (secret_of c.args.secret.now) c.args.offer.now (get_or xs k ScramSha512) in
+    let can = CanTake c.args.policy user (secret_of c.args.secret.now) c.args.offer.now (get_or xs k ScramSha512Plus) in
     each_more (λ (other : Mechanism). ¬ CanTake c.args.policy user (secret_of c.args.secret.now) c.args.offer.now other)
-    xs k ScramSha512 c.loop-mechanism-test.true (c.loop-mechanism.invariant user)
+    xs k ScramSha512Plus c.loop-mechanism-test.true (c.loop-mechanism.invariant user)
     (subst (λ (told : Bool). MatchBool told can (¬ can)) c.if-can_take.false (c.can_take.ensures user))
 
 pub returns : goal.returns

@@ -1,5 +1,5 @@
 -- What a canonical body spells, and what a body spells at most.
-use Rattle.std.proofs.Common.{◌≡◌, ◌⊎◌, inl, inr, ℕ, Option, List, [], ◌∷◌, Some, None, length, refl, sym, ap, ◌∙◌, subst, Result, Ok, Err}
+use Rattle.std.proofs.Common.{◌≡◌, ◌⊎◌, inl, inr, ℕ, Bool, true, false, Option, List, [], ◌∷◌, Some, None, length, refl, sym, ap, ◌∙◌, subst, Result, Ok, Err}
 use Rattle.std.specs.Prelude.{codes, IsAscii}
 use Rattle.std.specs.Str.{IsUtf8}
 use Rattle.std.proofs.lemmas.List.{append-nil}
@@ -12,6 +12,7 @@ use Rattle.fe2o3_sasl_wire.proofs.lemmas.frames.LawLemmas.{written_bodies_are_re
 use Rattle.fe2o3_sasl_wire.proofs.lemmas.reading.TextLemmas.{IsAscii-from_is_ascii}
 use Rattle.fe2o3_scram.specs.declared.hmac.ScramVersion.{ScramVersion}
 use Rattle.fe2o3_scram.specs.declared.hmac.ScramVersion.TheVariants.{Sha1, Sha256, Sha512}
+use Rattle.fe2o3_scram.specs.ChannelBinding.{mechanism_of}
 use Rattle.fe2o3_scram.specs.Hmac.{mechanism_name}
 use Rattle.fe2o3_sasl_core.specs.Runs.{SendsCanonical}
 use Rattle.fe2o3_sasl_core.specs.Bodies.{SpellsBody, carried}
@@ -62,23 +63,30 @@ IsAscii-mechanism_name Sha1 = IsAscii-from_is_ascii (codes "SCRAM-SHA-1") refl
 IsAscii-mechanism_name Sha256 = IsAscii-from_is_ascii (codes "SCRAM-SHA-256") refl
 IsAscii-mechanism_name Sha512 = IsAscii-from_is_ascii (codes "SCRAM-SHA-512") refl
 
--- the five frames of a run, from their bodies
-pub spells_mechanisms : (version : ScramVersion) (body : List ℕ)
-    → canonical (frames.Mechanisms (mechanism_name version ∷ [])) ≡ Some body
-    → SpellsBody body (Ok (frames.Mechanisms (mechanism_name version ∷ [])))
-spells_mechanisms version body is = spells_canonical (frames.Mechanisms (mechanism_name version ∷ [])) body
-    ((IsAscii-mechanism_name version, tt), tt) is
+-- also with channel binding
+pub IsAscii-mechanism_of : (version : ScramVersion) (bound : Bool) → IsAscii (mechanism_of version bound)
+IsAscii-mechanism_of version false = IsAscii-mechanism_name version
+IsAscii-mechanism_of Sha1 true = IsAscii-from_is_ascii (codes "SCRAM-SHA-1-PLUS") refl
+IsAscii-mechanism_of Sha256 true = IsAscii-from_is_ascii (codes "SCRAM-SHA-256-PLUS") refl
+IsAscii-mechanism_of Sha512 true = IsAscii-from_is_ascii (codes "SCRAM-SHA-512-PLUS") refl
 
-pub spells_init : (version : ScramVersion) (text : List ℕ) (hostname : Option (List ℕ)) (body : List ℕ)
+-- the five frames of a run, from their bodies
+pub spells_mechanisms : (version : ScramVersion) (bound : Bool) (body : List ℕ)
+    → canonical (frames.Mechanisms (mechanism_of version bound ∷ [])) ≡ Some body
+    → SpellsBody body (Ok (frames.Mechanisms (mechanism_of version bound ∷ [])))
+spells_mechanisms version bound body is = spells_canonical (frames.Mechanisms (mechanism_of version bound ∷ [])) body
+    ((IsAscii-mechanism_of version bound, tt), tt) is
+
+pub spells_init : (version : ScramVersion) (bound : Bool) (text : List ℕ) (hostname : Option (List ℕ)) (body : List ℕ)
     → ((host : List ℕ) → hostname ≡ Some host → IsUtf8 host)
-    → canonical (frames.Init (mechanism_name version) (Some text) hostname) ≡ Some body
-    → SpellsBody body (Ok (frames.Init (mechanism_name version) (Some text) hostname))
-spells_init version text None body utf8 is =
-    spells_canonical (frames.Init (mechanism_name version) (Some text) None) body
-    (IsAscii-mechanism_name version, (tt, (tt, tt))) is
-spells_init version text (Some host) body utf8 is =
-    spells_canonical (frames.Init (mechanism_name version) (Some text) (Some host)) body
-    (IsAscii-mechanism_name version, (tt, (utf8 host refl, tt))) is
+    → canonical (frames.Init (mechanism_of version bound) (Some text) hostname) ≡ Some body
+    → SpellsBody body (Ok (frames.Init (mechanism_of version bound) (Some text) hostname))
+spells_init version bound text None body utf8 is =
+    spells_canonical (frames.Init (mechanism_of version bound) (Some text) None) body
+    (IsAscii-mechanism_of version bound, (tt, (tt, tt))) is
+spells_init version bound text (Some host) body utf8 is =
+    spells_canonical (frames.Init (mechanism_of version bound) (Some text) (Some host)) body
+    (IsAscii-mechanism_of version bound, (tt, (utf8 host refl, tt))) is
 
 pub spells_challenge : (text body : List ℕ) → canonical (frames.Challenge text) ≡ Some body
     → SpellsBody body (Ok (frames.Challenge text))

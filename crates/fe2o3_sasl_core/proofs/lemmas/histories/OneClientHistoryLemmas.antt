@@ -8,11 +8,11 @@ use Rattle.fe2o3_sasl_wire.specs.SaslFrames as frames
 use Rattle.fe2o3_sasl_wire.specs.SaslFrames.{SaslFrame}
 use Rattle.fe2o3_scram.specs.declared.scram_messages.error.ScramErrorKind.{ScramErrorKind}
 use Rattle.fe2o3_scram.specs.Texts.{base64_text}
-use Rattle.fe2o3_sasl_core.specs.ClientHistory.{Answering, answer_at, says_answer, ReadsChallenge, ReadsOutcome, ReadsSigning, ClientAnswers, ClientAllocates, is_start, is_answer, ends_answer, NonceAt, IsDue, AnswersAt, OpenAnswer, SignsAt, VerifiedAnswer, ClientHistory}
+use Rattle.fe2o3_sasl_core.specs.ClientHistory.{Answering, answer_at, client_at, says_answer, ReadsChallenge, ReadsOutcome, ReadsSigning, ClientAnswers, ClientAllocates, is_start, is_answer, ends_answer, NonceAt, IsDue, AnswersAt, OpenAnswer, SignsAt, VerifiedAnswer, ClientHistory}
 use Rattle.fe2o3_sasl_core.specs.Events.{Given, Login, ClientSays, Refused, scram_fault}
 use Rattle.fe2o3_sasl_core.specs.Laws.{OneClientHistory}
 use Rattle.fe2o3_scram.specs.ServerFinal.{ReadsServerFinal}
-use Rattle.fe2o3_scram.specs.ServerFirst.{ServerFirst, ReadsServerFirst, client_of}
+use Rattle.fe2o3_scram.specs.ServerFirst.{ServerFirst, ReadsServerFirst}
 use Rattle.fe2o3_sasl_core.specs.Bodies.{SpellsBody}
 use Rattle.fe2o3_sasl_core.specs.Complete.{ClientComplete}
 use Rattle.fe2o3_sasl_core.proofs.lemmas.positions.OpenStateLemmas.{AreSame, OfOne, AgreeBelow, one_open_by, open_by_agrees}
@@ -107,12 +107,10 @@ one_reading_of_challenge login Due one text answer other = go answer other
   where
     -- against one nonce
     reads : (nonce again : List ℕ) (first second : Result ServerFirst ScramErrorKind) → Due nonce → Due again
-        → ReadsServerFirst nonce login.secret login.limits text first
-        → ReadsServerFirst again login.secret login.limits text second
+        → ReadsServerFirst (client_at login nonce) text first → ReadsServerFirst (client_at login again) text second
         → first ≡ second
-    reads nonce again first second due too h k = one_server_first
-        (client_of again login.secret login.limits) text first second
-        (subst (λ (n : List ℕ). ReadsServerFirst n login.secret login.limits text first) (one nonce again due too) h) k
+    reads nonce again first second due too h k = one_server_first (client_at login again) text first second
+        (subst (λ (n : List ℕ). ReadsServerFirst (client_at login n) text first) (one nonce again due too) h) k
 
     same_Ok : (x y : ServerFirst) → ◌≡◌ {A = Result ServerFirst ScramErrorKind} (Ok x) (Ok y) → x ≡ y
     same_Ok x y e = cc

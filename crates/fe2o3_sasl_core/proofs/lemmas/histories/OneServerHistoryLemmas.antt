@@ -30,7 +30,7 @@ one_fits provider event (frames.Response text) challenge other h k = absurd h
 one_fits provider event (frames.Outcome code more) challenge other h k = absurd h
 one_fits provider event (frames.Init mechanism None hostname) challenge other h k = absurd h
 one_fits provider event (frames.Init mechanism (Some text) hostname) challenge other h k =
-    let client = one_client_first_value provider.cbind_flag_y text challenge.client other.client h.1 k.1 in
+    let client = one_client_first_value provider.rules text challenge.client other.client h.1 k.1 in
     let stored = same_Some challenge.stored other.stored
     (sym h.2 ∙ (ap (λ (first : ClientFirst). provider.records first.user) client ∙ k.2)) in
     let nonce : challenge.nonce ≡ other.nonce = h.3 ∙ sym k.3 in

@@ -8,12 +8,12 @@ use Rattle.fe2o3_sasl_wire.specs.declared.sasl_frames.error.Error.TheVariants as
 use Rattle.fe2o3_sasl_wire.specs.SaslFrames.{canonical, SaslFrame}
 use Rattle.fe2o3_sasl_wire.specs.SaslFrames as frames
 use Rattle.fe2o3_scram.specs.Texts.{base64_text, HasBase64}
-use Rattle.fe2o3_scram.specs.ClientFirst.{client_first}
+use Rattle.fe2o3_scram.specs.ChannelBinding.{flag_of}
+use Rattle.fe2o3_scram.specs.ClientFirst.{client_first_with}
 use Rattle.fe2o3_sasl_core.specs.ClientHistory.{Answering, OpenAnswer, VerifiedAnswer, IsDue, ClientHistory, ClientAnswers, ClientAllocates, ReadsOutcome, answer_at}
 use Rattle.fe2o3_sasl_core.specs.Bodies.{SpellsBody}
 use Rattle.fe2o3_sasl_core.specs.TwoSides.{SignedAnswer, VerifierText}
-use Rattle.fe2o3_sasl_core.specs.Events.{Given, Login, ClientSays, Started, Answered, Reported, Refused}
-use Rattle.fe2o3_scram.specs.Hmac.{mechanism_name}
+use Rattle.fe2o3_sasl_core.specs.Events.{Given, Login, login_mechanism, ClientSays, Started, Answered, Reported, Refused}
 use Rattle.fe2o3_scram.proofs.lemmas.messages.OneValueLemmas.{names_server_final}
 use Rattle.fe2o3_sasl_core.proofs.lemmas.positions.PositionLemmas.{some_at}
 use Rattle.fe2o3_sasl_core.proofs.lemmas.frames.SpellingLemmas.{carried_not}
@@ -29,9 +29,9 @@ module _ (login : Login) (Due : List ℕ → Type 0) (IsOpen IsVerified : Answer
   reported event (Ok (frames.Response text)) more says = absurd (cc)
   reported event (Ok (frames.Mechanisms names)) more (inl says) =
       absurd (carried_not (Refused (Frame faults.TooLarge)) (λ body. Started body)
-      (canonical (frames.Init (mechanism_name login.version)
-      (Some (client_first login.user (base64_text event.nonce))) login.hostname)) (Reported outcomes.Ok more) (λ is. cc)
-      (λ body is. cc) (sym says.1))
+      (canonical (frames.Init (login_mechanism login)
+      (Some (client_first_with (flag_of login.channel) login.user (base64_text event.nonce))) login.hostname))
+      (Reported outcomes.Ok more) (λ is. cc) (λ body is. cc) (sym says.1))
   reported event (Ok (frames.Mechanisms names)) more (inr says) = let is = says.1 in absurd (cc)
   reported event (Ok (frames.Challenge text)) more (inl says) =
       absurd (carried_not (Refused (Frame faults.TooLarge)) (λ body. Answered body) (canonical (frames.Response []))

@@ -1,10 +1,10 @@
 -- An initial response claims one user name, or none: `one_claim`, `some_claim`.
-use Rattle.std.proofs.Common.{◌≡◌, ◌≢◌, ◌⊎◌, ◌≤◌, ℕ, true, arith, Option, Some, None, List, [], length, codes, refl, sym, ap, ◌∙◌, inl, inr, Result, Ok, Err}
+use Rattle.std.proofs.Common.{◌≡◌, ◌≢◌, ◌⊎◌, ◌≤◌, ℕ, arith, Option, Some, None, List, [], length, codes, refl, sym, ap, ◌∙◌, inl, inr, Result, Ok, Err}
 use Rattle.std.proofs.lemmas.Bool.{cases_lt}
 use Rattle.fe2o3_scram.specs.declared.hmac.ScramVersion.{ScramVersion}
 use Rattle.fe2o3_scram.specs.declared.hmac.ScramVersion.TheVariants as versions
 use Rattle.fe2o3_scram.specs.declared.scram_messages.error.ServerScramErrorKind.{ServerScramErrorKind}
-use Rattle.fe2o3_scram.specs.ClientFirst.{ClientFirst, ReadsClientFirst}
+use Rattle.fe2o3_scram.specs.ClientFirst.{ClientFirst, ReadsClientFirst, either_header}
 use Rattle.fe2o3_scram.specs.Hmac.{mechanism_name}
 use Rattle.fe2o3_scram.proofs.lemmas.messages.OneValueLemmas.{one_client_first_value}
 use Rattle.fe2o3_scram.proofs.lemmas.messages.SomeReadingLemmas.{some_client_first}
@@ -21,7 +21,7 @@ use Rattle.fe2o3_sasl_core.proofs.lemmas.machines.PlainMessageLemmas.{cut_once, 
 one_name : (mechanism text name other : List ℕ) → ClaimsUser mechanism text name → ClaimsUser mechanism text other
     → name ≡ other
 one_name mechanism text name other (inl (version, first, is, reads, same)) (inl (version', first', is', reads', same')) =
-    same ∙ (ap (λ (f : ClientFirst). f.user) (one_client_first_value true text first first' reads reads')
+    same ∙ (ap (λ (f : ClientFirst). f.user) (one_client_first_value either_header text first first' reads reads')
     ∙ sym same')
 one_name mechanism text name other (inl (version, first, is, reads, same)) (inr (plain, more)) =
     absurd (not_plain version (sym is ∙ plain))
@@ -111,7 +111,7 @@ taken_message_or text = elim (message_or text) [
 ]
 
 some_scram : (mechanism text : List ℕ) (version : ScramVersion) → mechanism_name version ≡ mechanism
-    → (answer : Result ClientFirst ServerScramErrorKind) → ReadsClientFirst true text answer
+    → (answer : Result ClientFirst ServerScramErrorKind) → ReadsClientFirst either_header text answer
     → (user : Option (List ℕ)) × ClaimOf mechanism text user
 some_scram mechanism text version is (Ok first) reads = (Some first.user, inl (version, first, sym is, reads, refl))
 some_scram mechanism text version is (Err why) reads =
@@ -133,7 +133,7 @@ some_other mechanism text other (inr not) = (None, other_claims_none mechanism t
 some_of : (mechanism text : List ℕ) → Found (λ (version : ScramVersion). mechanism_name version ≡ mechanism)
     → (user : Option (List ℕ)) × ClaimOf mechanism text user
 some_of mechanism text (inl (version, is)) =
-    let read = some_client_first true text in some_scram mechanism text version is read.0 read.1
+    let read = some_client_first either_header text in some_scram mechanism text version is read.0 read.1
 some_of mechanism text (inr other) = some_other mechanism text other (same_or mechanism (codes "PLAIN"))
 
 pub some_claim : SomeClaim

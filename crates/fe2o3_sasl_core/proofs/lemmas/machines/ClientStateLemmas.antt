@@ -1,4 +1,4 @@
--- What a state of a SCRAM client stands for: the nonce that is due and the answer that is open; and what it reads then.
+-- What a state of a SCRAM client determines: the nonce that is due and the answer that is open; and what it reads then.
 use Rattle.std.proofs.Common.{◌≡◌, ℕ, Bool, true, false, true≢false, ◌&&◌, Option, Some, None, List, refl, sym, ap, ◌∙◌, subst, inl, inr, Ok, Err}
 use Rattle.std.specs.Str.{IsUtf8}
 use Rattle.std.proofs.lemmas.Option.{none-some}
@@ -12,7 +12,7 @@ use Rattle.fe2o3_sasl_core.specs.Events.{Login}
 use Rattle.fe2o3_sasl_core.specs.Profiles.{Profile, ScramProfile}
 use Rattle.fe2o3_scram.specs.ServerFinal.{ReadsServerFinal}
 
--- ---- the state and what it stands for
+-- ---- the state and what it determines
 
 -- the login's client in this state, and its profile
 abbrev pub side_in : Login → ClientState → ClientSide
@@ -21,6 +21,8 @@ side_in login state = record {
   secret = login.secret;
   version = login.version;
   limits = login.limits;
+  channel = login.channel;
+  strict = login.strict;
   signature_by_challenge = login.signature_by_challenge;
   state = state;
 }
@@ -81,7 +83,7 @@ answers_due login (ClientFirstSent nonce bare) at text message after stands utf8
     let first = h.1.0 in
     let answer : Answering = record { nonce = nonce; text = text; first = first } in
     let same : h.0 ≡ answer_at login answer = h.1.2
-    ∙ ap (λ (b : List ℕ). answer_of login.version login.secret b text first) stands.3 in (
+    ∙ ap (λ (b : List ℕ). answer_of login.version login.secret login.channel b text first) stands.3 in (
       answer,
       (utf8, refl, stands.0, h.1.1),
       h.2 ∙ ap (λ (x : Answer). x.message) same,

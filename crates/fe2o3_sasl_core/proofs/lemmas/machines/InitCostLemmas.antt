@@ -7,7 +7,7 @@ use Rattle.fe2o3_scram.specs.declared.scram_messages.error.ServerScramErrorKind.
 use Rattle.fe2o3_scram.specs.declared.scram_messages.error.ServerScramErrorKind.TheVariants.{OutOfMemory}
 use Rattle.fe2o3_scram.specs.ClientFirst.{ClientFirst, ReadsClientFirst}
 use Rattle.fe2o3_scram.specs.Credentials.{Provider}
-use Rattle.fe2o3_scram.specs.Hmac.{mechanism_name}
+use Rattle.fe2o3_scram.specs.ChannelBinding.{server_mechanism}
 use Rattle.fe2o3_scram.specs.Readings.{Gives}
 use Rattle.fe2o3_scram.specs.ScramServer.{ServerState, ChallengesFrom, FirstCosts}
 use Rattle.fe2o3_scram.proofs.lemmas.messages.ClientFirstLemmas.{one_client_first}
@@ -21,15 +21,17 @@ module _ (provider : Provider) (state : ServerState) (mechanism text : List ℕ)
   Takes n = acceptor_hmacs (ScramAcceptor provider state) (frames.Init mechanism (Some text) hostname) n
 
   -- one of another mechanism takes none
-  pub other_takes : (before n : ℕ) → mechanism ≢ mechanism_name provider.version → Takes n → before ≡ before + n
+  pub other_takes : (before n : ℕ) → mechanism ≢ server_mechanism provider.version provider.rules → Takes n
+      → before ≡ before + n
   other_takes before n other (inl takes) = absurd (other takes.0.0)
   other_takes before n other (inr takes) = let none = takes.1 in omega (none, arith)
 
-  pub other_most : (before : ℕ) → mechanism ≢ mechanism_name provider.version
+  pub other_most : (before : ℕ) → mechanism ≢ server_mechanism provider.version provider.rules
       → CostsAtMost acceptor_hmacs (ScramAcceptor provider state) (frames.Init mechanism (Some text) hostname) before before
   other_most before other = (omega arith, λ n takes. omega arith)
 
-  module _ (next : ServerState) (nonce : List ℕ) (is_name : mechanism ≡ mechanism_name provider.version) where
+  module _ (next : ServerState) (nonce : List ℕ)
+      (is_name : mechanism ≡ server_mechanism provider.version provider.rules) where
     -- an answer is to a message that is read
     answer_reads : (answer : Option (List ℕ)) → ChallengesFrom state provider nonce text (Ok answer) next
         → ReachesLookUp provider mechanism text
@@ -61,9 +63,9 @@ module _ (provider : Provider) (state : ServerState) (mechanism text : List ℕ)
         → FirstCosts {A = A} provider text (Err kind) before after → Takes n → after ≤ before + n
     refused_most A OutOfMemory before after n costs (inl takes) =
         let all = takes.1 in let within = costs.1 in omega (within, all, arith)
-    refused_most A OutOfMemory before after n costs (inr takes) = go (some_client_first provider.cbind_flag_y text)
+    refused_most A OutOfMemory before after n costs (inr takes) = go (some_client_first provider.rules text)
       where
-        go : (answer : Result ClientFirst ServerScramErrorKind) × ReadsClientFirst provider.cbind_flag_y text answer
+        go : (answer : Result ClientFirst ServerScramErrorKind) × ReadsClientFirst provider.rules text answer
             → after ≤ before + n
         go (Ok client, reads) = absurd (takes.0 (is_name, (client, reads)))
         go (Err fault, refuses) = let none = costs.2 fault refuses in omega (none, arith)
@@ -77,10 +79,10 @@ module _ (provider : Provider) (state : ServerState) (mechanism text : List ℕ)
         (rises A kind before after costs, λ n takes. refused_most A kind before after n costs takes)
 
     -- and exactly, where memory does not run out
-    unread : (kind : ServerScramErrorKind) (n : ℕ) → ReadsClientFirst provider.cbind_flag_y text (Err kind) → Takes n
+    unread : (kind : ServerScramErrorKind) (n : ℕ) → ReadsClientFirst provider.rules text (Err kind) → Takes n
         → n ≡ 0
     unread kind n refuses (inl takes) =
-        let both = one_client_first provider.cbind_flag_y text (Err kind) (Ok takes.0.1.0) refuses takes.0.1.1 in absurd (cc)
+        let both = one_client_first provider.rules text (Err kind) (Ok takes.0.1.0) refuses takes.0.1.1 in absurd (cc)
     unread kind n refuses (inr takes) = takes.1
 
     same_meter : (A : Type 0) (kind : ServerScramErrorKind) (before after : ℕ) → kind ≢ OutOfMemory

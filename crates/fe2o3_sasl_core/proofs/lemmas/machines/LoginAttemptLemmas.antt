@@ -5,16 +5,16 @@ use Rattle.std.specs.Prelude.{Ok, Err, codes}
 use Rattle.fe2o3_scram.specs.declared.hmac.ScramVersion.{ScramVersion}
 use Rattle.fe2o3_scram.specs.declared.hmac.ScramVersion.TheVariants as versions
 use Rattle.fe2o3_scram.specs.declared.scram_messages.error.ServerScramErrorKind.{ServerScramErrorKind}
-use Rattle.fe2o3_scram.specs.ClientFirst.{ClientFirst, HasEscapes, ReadsClientFirst}
+use Rattle.fe2o3_scram.specs.ClientFirst.{ClientFirst, HasEscapes, ReadsClientFirst, either_header}
 use Rattle.fe2o3_scram.specs.Hmac.{mechanism_name}
 use Rattle.fe2o3_scram.proofs.lemmas.messages.ClientFirstLemmas.{one_client_first}
 use Rattle.fe2o3_sasl_core.specs.LoginAttempts.{ClaimAllocates, ClaimsUser}
 use Rattle.fe2o3_sasl_core.specs.PlainServer.{IsTaken, PlainParts, SpellsPlain}
 
 -- a client-first message that is rejected has no values
-pub refused : (text : List ℕ) (why : ServerScramErrorKind) (first : ClientFirst) → ReadsClientFirst true text (Err why)
-    → ReadsClientFirst true text (Ok first) → ⊥
-refused text why first wrong reads = let same = one_client_first true text (Err why) (Ok first) wrong reads in absurd
+pub refused : (text : List ℕ) (why : ServerScramErrorKind) (first : ClientFirst) → ReadsClientFirst either_header text (Err why)
+    → ReadsClientFirst either_header text (Ok first) → ⊥
+refused text why first wrong reads = let same = one_client_first either_header text (Err why) (Ok first) wrong reads in absurd
     (cc)
 
 pub ruleset unread = (refused)
@@ -28,12 +28,12 @@ not_plain versions.Sha512 same = let long : ◌≡◌ {A = ℕ} 13 5 = ap length
 -- ---- an initial response of SCRAM
 
 pub scram_claims : (mechanism text name : List ℕ) (version : ScramVersion) (first : ClientFirst)
-    → mechanism_name version ≡ mechanism → ReadsClientFirst true text (Ok first) → name ≡ first.user
+    → mechanism_name version ≡ mechanism → ReadsClientFirst either_header text (Ok first) → name ≡ first.user
     → ClaimsUser mechanism text name
 scram_claims mechanism text name version first is reads same = inl (version, first, sym is, reads, same)
 
 pub scram_claims_none : (mechanism text : List ℕ) (version : ScramVersion) → mechanism_name version ≡ mechanism
-    → ((first : ClientFirst) → ¬ ReadsClientFirst true text (Ok first)) → (name : List ℕ)
+    → ((first : ClientFirst) → ¬ ReadsClientFirst either_header text (Ok first)) → (name : List ℕ)
     → ¬ ClaimsUser mechanism text name
 scram_claims_none mechanism text version is none name (inl (other, first, same, reads, user)) = none first reads
 scram_claims_none mechanism text version is none name (inr (plain, rest)) = not_plain version (is ∙ plain)
@@ -63,7 +63,7 @@ other_claims_none mechanism text other none name (inr (plain, rest)) = none plai
 -- ---- where memory is requested
 
 pub scram_allocates : (mechanism text : List ℕ) (version : ScramVersion) → mechanism_name version ≡ mechanism
-    → HasEscapes true text ⊎ ((first : ClientFirst) × ReadsClientFirst true text (Ok first))
+    → HasEscapes either_header text ⊎ ((first : ClientFirst) × ReadsClientFirst either_header text (Ok first))
     → ClaimAllocates mechanism text
 scram_allocates mechanism text version is (inl escapes) = inl (version, sym is, escapes)
 scram_allocates mechanism text version is (inr (first, reads)) =

@@ -1,8 +1,13 @@
 -- Names in lists of names.
 use Rattle.std.proofs.Common.{◌≡◌, ◌≢◌, ◌<◌, ◌+◌, ℕ, zero, suc, Bool, true, false, List, [], ◌∷◌, ◌++◌, length, take, get_or, map, refl, sym, ◌∙◌, ap, arith}
-use Rattle.std.specs.Prelude.{if◌then◌else◌, not, nat_eq, filter}
+use Rattle.std.specs.Prelude.{if◌then◌else◌, not, nat_eq, filter, codes, is_some, IsAscii}
 use Rattle.std.specs.Cmp.Lexicographic.{pointwise, same_text, other_text}
 use Rattle.std.proofs.lemmas.List.{take_more, map-append}
+use Rattle.fe2o3_sasl_wire.proofs.lemmas.reading.TextLemmas.{IsAscii-from_is_ascii}
+use Rattle.fe2o3_scram.specs.ChannelBinding.{mechanism_of, server_mechanism}
+use Rattle.fe2o3_scram.specs.declared.hmac.ScramVersion.{ScramVersion}
+use Rattle.fe2o3_scram.specs.declared.hmac.ScramVersion.TheVariants.{Sha1, Sha256, Sha512}
+use Rattle.fe2o3_scram.specs.declared.scram_messages.server_rules.ServerRules.{ServerRules}
 use Rattle.fe2o3_sasl_core.specs.AnyMechanism.{has_name, both_names}
 
 -- a name is in one of two lists
@@ -101,3 +106,18 @@ nothing_at f xs own k other told below is false_here none =
     ap (λ (names : List (List ℕ)). filter (has_name names) own)
     (ap (map f) (take_more xs k other below) ∙ map-append f (take k xs) (get_or xs k other ∷ []))
     ∙ nothing_more (map f (take k xs)) own (f (get_or xs k other)) none (sym is ∙ false_here)
+
+-- ---- the name of a SCRAM server
+
+-- it is ASCII, with channel binding and without
+IsAscii-bound : (version : ScramVersion) (bound : Bool) → IsAscii (mechanism_of version bound)
+IsAscii-bound Sha1 false = IsAscii-from_is_ascii (codes "SCRAM-SHA-1") refl
+IsAscii-bound Sha256 false = IsAscii-from_is_ascii (codes "SCRAM-SHA-256") refl
+IsAscii-bound Sha512 false = IsAscii-from_is_ascii (codes "SCRAM-SHA-512") refl
+IsAscii-bound Sha1 true = IsAscii-from_is_ascii (codes "SCRAM-SHA-1-PLUS") refl
+IsAscii-bound Sha256 true = IsAscii-from_is_ascii (codes "SCRAM-SHA-256-PLUS") refl
+IsAscii-bound Sha512 true = IsAscii-from_is_ascii (codes "SCRAM-SHA-512-PLUS") refl
+
+pub IsAscii-server_mechanism : (version : ScramVersion) (rules : ServerRules)
+    → IsAscii (server_mechanism version rules)
+IsAscii-server_mechanism version rules = IsAscii-bound version (is_some rules.channels)

@@ -8,6 +8,7 @@ use Rattle.fe2o3_scram.specs.declared.hmac.ScramVersion.{ScramVersion}
 use Rattle.fe2o3_scram.specs.declared.scram_messages.error.ScramErrorKind.{ScramErrorKind}
 use Rattle.fe2o3_scram.specs.declared.scram_messages.error.ScramErrorKind.TheVariants.{ServerSignatureMismatch}
 use Rattle.fe2o3_scram.specs.declared.scram_messages.error.ServerScramErrorKind.{ServerScramErrorKind}
+use Rattle.fe2o3_scram.specs.declared.scram_messages.server_rules.ServerRules.{ServerRules}
 use Rattle.fe2o3_scram.specs.ClientFinal.{Server, ClientFinal, ReadsClientFinal, Answer, answer_of}
 use Rattle.fe2o3_scram.specs.ClientFirst.{ClientFirst, ReadsClientFirst}
 use Rattle.fe2o3_scram.specs.Credentials.{Record, Provider}
@@ -58,7 +59,7 @@ first_turn state provider nonce (Err fault) = (Err fault, state)
 challenge_made : (state : ServerState) (provider : Provider) (nonce text : List ℕ)
     (answer : Result (Option (List ℕ)) ServerScramErrorKind) (next : ServerState)
     → ChallengesFrom state provider nonce text answer next
-    → MadeOf (ReadsClientFirst provider.cbind_flag_y text) (first_turn state provider nonce) (answer, next)
+    → MadeOf (ReadsClientFirst provider.rules text) (first_turn state provider nonce) (answer, next)
 challenge_made state provider nonce text (Ok (Some message)) next is =
     let made = is.1.4 in
     let first = is.2 ∙ ap (λ (x : ServerChallenge). x.first) made in
@@ -79,35 +80,35 @@ final_turn challenge stored server (Ok final) =
     (Ok (Some (server_final_of server final)), server_states.ServerFinalSent challenge.user)
 final_turn challenge stored server (Err fault) = (Err fault, server_states.ServerFirstSent challenge stored)
 
-conclusion_made : (challenge : ServerChallenge) (stored : Record) (version : ScramVersion) (text : List ℕ)
+conclusion_made : (challenge : ServerChallenge) (stored : Record) (version : ScramVersion) (rules : ServerRules) (text : List ℕ)
     (answer : Result (Option (List ℕ)) ServerScramErrorKind) (next : ServerState)
-    → ConcludesFrom (server_states.ServerFirstSent challenge stored) version text answer next
-    → let server = server_against version challenge stored in
+    → ConcludesFrom (server_states.ServerFirstSent challenge stored) version rules text answer next
+    → let server = server_against version rules challenge stored in
     MadeOf (ReadsClientFinal server text) (final_turn challenge stored server) (answer, next)
-conclusion_made challenge stored version text (Ok None) next is = absurd is
-conclusion_made challenge stored version text (Ok (Some message)) next is =
+conclusion_made challenge stored version rules text (Ok None) next is = absurd is
+conclusion_made challenge stored version rules text (Ok (Some message)) next is =
     let said = is.0.2 in
     let after = is.1 in
     (Ok is.0.0, is.0.1, λ i. (Ok (Some (said i)), after i))
-conclusion_made challenge stored version text (Err fault) next is =
+conclusion_made challenge stored version rules text (Err fault) next is =
     let after = is.1 in (Err fault, is.0, λ i. (Err fault, after i))
 
-pub one_conclusion : (state : ServerState) (version : ScramVersion) (text : List ℕ)
+pub one_conclusion : (state : ServerState) (version : ScramVersion) (rules : ServerRules) (text : List ℕ)
     (answer other : Result (Option (List ℕ)) ServerScramErrorKind) (next last : ServerState)
-    → ConcludesFrom state version text answer next → ConcludesFrom state version text other last
+    → ConcludesFrom state version rules text answer next → ConcludesFrom state version rules text other last
     → ◌≡◌ {A = ServerTurn} (answer, next) (other, last)
-one_conclusion (server_states.ServerFirstSent challenge stored) version text answer other next last is too =
-    let server = server_against version challenge stored in
+one_conclusion (server_states.ServerFirstSent challenge stored) version rules text answer other next last is too =
+    let server = server_against version rules challenge stored in
     one_made (ReadsClientFinal server text) (final_turn challenge stored server) (answer, next) (other, last)
-    (one_client_final server text) (conclusion_made challenge stored version text answer next is)
-    (conclusion_made challenge stored version text other last too)
-one_conclusion server_states.Initial version text (Ok message) other next last is too = absurd is
-one_conclusion server_states.Initial version text (Err fault) (Ok message) next last is too = absurd too
-one_conclusion server_states.Initial version text (Err fault) (Err kind) next last is too =
+    (one_client_final server text) (conclusion_made challenge stored version rules text answer next is)
+    (conclusion_made challenge stored version rules text other last too)
+one_conclusion server_states.Initial version rules text (Ok message) other next last is too = absurd is
+one_conclusion server_states.Initial version rules text (Err fault) (Ok message) next last is too = absurd too
+one_conclusion server_states.Initial version rules text (Err fault) (Err kind) next last is too =
     λ i. (Err ((is.0 ∙ sym too.0) i), (is.1 ∙ sym too.1) i)
-one_conclusion (server_states.ServerFinalSent user) version text (Ok message) other next last is too = absurd is
-one_conclusion (server_states.ServerFinalSent user) version text (Err fault) (Ok message) next last is too = absurd too
-one_conclusion (server_states.ServerFinalSent user) version text (Err fault) (Err kind) next last is too =
+one_conclusion (server_states.ServerFinalSent user) version rules text (Ok message) other next last is too = absurd is
+one_conclusion (server_states.ServerFinalSent user) version rules text (Err fault) (Ok message) next last is too = absurd too
+one_conclusion (server_states.ServerFinalSent user) version rules text (Err fault) (Err kind) next last is too =
     λ i. (Err ((is.0 ∙ sym too.0) i), (is.1 ∙ sym too.1) i)
 
 -- ---- an acceptor
@@ -139,8 +140,8 @@ one_acceptor_reply (ScramAcceptor provider state) nonce (frames.Init mechanism (
     let turn : ServerTurn = (is.1.0, is.1.1) in
     let again : ServerTurn = (too.1.0, too.1.1) in
     turn_taken provider (λ message. frames.Challenge message) turn again reply other next last
-    (one_made (ReadsClientFirst provider.cbind_flag_y text) (first_turn state provider nonce) turn again
-    (one_client_first provider.cbind_flag_y text)
+    (one_made (ReadsClientFirst provider.rules text) (first_turn state provider nonce) turn again
+    (one_client_first provider.rules text)
     (challenge_made state provider nonce text is.1.0 is.1.1 is.1.2)
     (challenge_made state provider nonce text too.1.0 too.1.1 too.1.2))
     is.1.3 is.1.4 too.1.3 too.1.4
@@ -148,7 +149,7 @@ one_acceptor_reply (ScramAcceptor provider state) nonce (frames.Response text) r
     let turn : ServerTurn = (is.0, is.1) in
     let again : ServerTurn = (too.0, too.1) in
     turn_taken provider (λ message. frames.Outcome outcomes.Ok (Some message)) turn again reply other next last
-    (one_conclusion state provider.version text is.0 too.0 is.1 too.1 is.2 too.2) is.3 is.4 too.3 too.4
+    (one_conclusion state provider.version provider.rules text is.0 too.0 is.1 too.1 is.2 too.2) is.3 is.4 too.3 too.4
 one_acceptor_reply (PlainAcceptor user password accepted) nonce (frames.Init mechanism (Some text) hostname) reply other
     next last (inl is) (inl too) = (is.1 ∙ sym too.1, is.2 ∙ sym too.2)
 one_acceptor_reply (PlainAcceptor user password accepted) nonce (frames.Init mechanism (Some text) hostname) reply other
@@ -179,13 +180,13 @@ answered_side side answer = with_state side (client_states.ClientFinalSent answe
 -- the turn to a server-first message that was read
 abbrev answer_turn : ClientSide → List ℕ → List ℕ → Result ServerFirst ScramErrorKind → ClientTurn (List ℕ)
 answer_turn side bare text (Ok first) =
-    let answer = answer_of side.version side.secret bare text first in
+    let answer = answer_of side.version side.secret side.channel bare text first in
     (Ok answer.message, answered_side side answer)
 answer_turn side bare text (Err fault) = (Err fault, side)
 
 answer_made : (nonce bare : List ℕ) (side : ClientSide) (text : List ℕ) (answer : Result (List ℕ) ScramErrorKind)
     (next : ClientSide) → AnswersIn (client_states.ClientFirstSent nonce bare) side text answer next
-    → MadeOf (ReadsServerFirst nonce side.secret side.limits text) (answer_turn side bare text) (answer, next)
+    → MadeOf (ReadsServerFirst (holding side nonce) text) (answer_turn side bare text) (answer, next)
 answer_made nonce bare side text (Ok message) next is =
     let first = is.1 in
     let sent = is.2 ∙ ap (λ (x : Answer). x.message) first.2 in
@@ -197,7 +198,7 @@ one_answer : (state : ClientState) (side : ClientSide) (text : List ℕ) (answer
     (next last : ClientSide) → AnswersIn state side text answer next → AnswersIn state side text other last
     → ◌≡◌ {A = ClientTurn (List ℕ)} (answer, next) (other, last)
 one_answer (client_states.ClientFirstSent nonce bare) side text answer other next last is too =
-    one_made (ReadsServerFirst nonce side.secret side.limits text) (answer_turn side bare text) (answer, next)
+    one_made (ReadsServerFirst (holding side nonce) text) (answer_turn side bare text) (answer, next)
     (other, last) (one_server_first (holding side nonce) text) (answer_made nonce bare side text answer next is)
     (answer_made nonce bare side text other last too)
 one_answer client_states.ClientInitial side text (Ok message) other next last is too = absurd is

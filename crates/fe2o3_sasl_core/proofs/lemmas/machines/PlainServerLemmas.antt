@@ -1,6 +1,6 @@
 -- A server that tests the passwords of PLAIN: an init asks by one message, and what its answer costs.
 use Rattle.std.proofs.Common.{◌≡◌, ◌↔◌, ◌≤◌, ◌+◌, ℕ, Bool, IsTrue, List, [], ◌∷◌, Option, chars, sym, ◌∙◌, ap, subst, refl, inl, inr, arith}
-use Rattle.std.specs.Prelude.{None, Some, Result, Ok, Err, IfErr}
+use Rattle.std.specs.Prelude.{codes, None, Some, Result, Ok, Err, IfErr}
 use Rattle.saslprep.specs.Saslprep.{refusal}
 use Rattle.saslprep.specs.declared.Unassigned.TheVariants.{Allowed}
 use Rattle.saslprep.specs.declared.error.SaslprepError.{SaslprepError}
@@ -12,7 +12,8 @@ use Rattle.fe2o3_scram.specs.Readings.{NoneHolds}
 use Rattle.fe2o3_scram.proofs.lemmas.providers.PasswordLemmas.{keyless}
 use Rattle.fe2o3_scram.proofs.lemmas.texts.DecisionLemmas.{Decided, Found, both_or, not_or, printable_or, same_number_or}
 use Rattle.fe2o3_sasl_core.specs.Costs.{CostsAtMost}
-use Rattle.fe2o3_sasl_core.specs.PlainServer.{AsksPlain, HasPassword, MeetsUser, PlainLogsIn, PlainParts, PlainState, TestedPassword, TestingCosts, TestsPassword, count_or, plain_hmacs, saslprep_text}
+use Rattle.fe2o3_sasl_core.specs.PlainServer.{AsksPlain, HasPassword, IsTaken, MeetsUser, PlainLogsIn, PlainParts, PlainState, SpellsPlain, TestedPassword, TestingCosts, TestsPassword, count_or, plain_hmacs, plain_reasons, saslprep_text}
+use Rattle.fe2o3_sasl_core.specs.declared.rejection.Rejection.TheVariants.{WrongPassword}
 use Rattle.fe2o3_sasl_core.specs.declared.plain_server.passwords.PlainPasswords.{PlainPasswords}
 use Rattle.fe2o3_sasl_core.specs.declared.plain_server.passwords.PlainPasswords.TheVariants as forms
 use Rattle.fe2o3_sasl_core.proofs.lemmas.machines.PlainMessageLemmas.{one_message}
@@ -191,3 +192,12 @@ no_test server frame none n (inr (other, zero)) = zero
 pub err_where : {X F P : Type 0} (result : Result X F) → P → IfErr result (λ _. P)
 err_where (Ok value) so = tt
 err_where (Err fault) so = so
+
+-- a message that is accepted for a test, of an init that logs nobody in, has a wrong password
+pub wrong_password : (server : PlainState) (mechanism text : List ℕ) (hostname : Option (List ℕ)) (message : PlainParts)
+    → mechanism ≡ codes "PLAIN" → SpellsPlain message text → IsTaken message
+    → ((user : List ℕ) → ¬ PlainLogsIn server.passwords server.provider
+    (frames.Init mechanism (Some text) hostname) user)
+    → plain_reasons server (frames.Init mechanism (Some text) hostname) WrongPassword
+wrong_password server mechanism text hostname message named spells taken none =
+    inr (named, (message, spells, taken, λ has. none message.user (message, (named, spells, taken), has, refl)))

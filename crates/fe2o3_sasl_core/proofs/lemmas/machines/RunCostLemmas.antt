@@ -10,9 +10,10 @@ use Rattle.fe2o3_scram.specs.declared.scram_messages.error.ServerScramErrorKind.
 use Rattle.fe2o3_scram.specs.declared.scram_messages.error.ScramErrorKind.{ScramErrorKind}
 use Rattle.fe2o3_scram.specs.declared.client_secret.IterationLimits.{IterationLimits}
 use Rattle.fe2o3_scram.specs.declared.hmac.ScramVersion.{ScramVersion}
+use Rattle.fe2o3_scram.specs.declared.scram_messages.server_rules.ServerRules.{ServerRules}
 use Rattle.fe2o3_scram.specs.ClientFinal.{Server}
 use Rattle.fe2o3_scram.specs.ClientFirst.{ClientFirst, ReadsClientFirst}
-use Rattle.fe2o3_scram.specs.Hmac.{mechanism_name}
+use Rattle.fe2o3_scram.specs.ChannelBinding.{server_mechanism}
 use Rattle.fe2o3_scram.specs.Credentials.{Provider}
 use Rattle.fe2o3_scram.specs.ScramClient as client_states
 use Rattle.fe2o3_scram.specs.ScramClient.{ClientSide, ClientState, AnswerCostsIn, AnswersIn, ChecksSignatureIn, ConcludesIn, VerifiesIn, expects_signature, started}
@@ -44,13 +45,13 @@ some_final server text (Err AuthenticationFailed) = (1, omega (arith), refl)
 some_final server text (Err NoMemory) = (0, omega (arith), (omega (arith), omega (arith), λ fault reads. refl))
 some_final server text (Err fault) = (0, omega (arith), refl)
 
-some_takes : (state : ServerState) (version : ScramVersion) (text : List ℕ)
+some_takes : (state : ServerState) (version : ScramVersion) (rules : ServerRules) (text : List ℕ)
     (answer : Result (Option (List ℕ)) ServerScramErrorKind)
-    → (n : ℕ) × (n ≤ 2) × FinalCostsFrom state version text answer 0 n
-some_takes (server_states.ServerFirstSent challenge stored) version text answer =
-    some_final (server_against version challenge stored) text answer
-some_takes server_states.Initial version text answer = (0, omega (arith), refl)
-some_takes (server_states.ServerFinalSent user) version text answer = (0, omega (arith), refl)
+    → (n : ℕ) × (n ≤ 2) × FinalCostsFrom state version rules text answer 0 n
+some_takes (server_states.ServerFirstSent challenge stored) version rules text answer =
+    some_final (server_against version rules challenge stored) text answer
+some_takes server_states.Initial version rules text answer = (0, omega (arith), refl)
+some_takes (server_states.ServerFinalSent user) version rules text answer = (0, omega (arith), refl)
 
 -- an init takes those of a look-up at most
 init_costs : (provider : Provider) (state : ServerState) (mechanism text : List ℕ) (hostname : Option (List ℕ))
@@ -59,17 +60,17 @@ init_costs : (provider : Provider) (state : ServerState) (mechanism text : List 
     after
     → after ≤ before + provider.look_up_cost
 init_costs provider state mechanism text hostname before after costs =
-    go (same_or mechanism (mechanism_name provider.version)) (some_client_first provider.cbind_flag_y text)
+    go (same_or mechanism (server_mechanism provider.version provider.rules)) (some_client_first provider.rules text)
   where
     none : ¬ ReachesLookUp provider mechanism text → after ≤ before + provider.look_up_cost
     none other = let same = costs.1 0 (inr (other, refl)) in omega (arith, same)
 
-    go : Decided (mechanism ≡ mechanism_name provider.version)
-        → (answer : Result ClientFirst ServerScramErrorKind) × ReadsClientFirst provider.cbind_flag_y text answer
+    go : Decided (mechanism ≡ server_mechanism provider.version provider.rules)
+        → (answer : Result ClientFirst ServerScramErrorKind) × ReadsClientFirst provider.rules text answer
         → after ≤ before + provider.look_up_cost
     go (inl is) (Ok client, reads) = costs.1 provider.look_up_cost (inl ((is, (client, reads)), refl))
     go (inl is) (Err fault, refuses) = none (λ reaches.
-        let both = one_client_first provider.cbind_flag_y text (Err fault) (Ok reaches.1.0) refuses reaches.1.1 in absurd (cc))
+        let both = one_client_first provider.rules text (Err fault) (Ok reaches.1.0) refuses reaches.1.1 in absurd (cc))
     go (inr other) read = none (λ reaches. other reaches.0)
 
 -- a body costs a server no more than its bound
@@ -77,8 +78,8 @@ server_costs : (provider : Provider) (state : ServerState) (spelled : Result Sas
     → AcceptorCostsOf acceptor_hmacs (ScramAcceptor provider state) spelled before after
     → (before ≤ after) × (after ≤ before + server_most provider spelled)
 server_costs provider state (Ok (frames.Response text)) before after costs =
-    let answer = some_conclusion state provider.version text in
-    let takes = some_takes state provider.version text answer.0 in
+    let answer = some_conclusion state provider.version provider.rules text in
+    let takes = some_takes state provider.version provider.rules text answer.0 in
     let most = costs.1 takes.0 (answer.0, answer.1, answer.2, takes.2) in
     let two = takes.1 in
     (costs.0, omega (arith, most, two))

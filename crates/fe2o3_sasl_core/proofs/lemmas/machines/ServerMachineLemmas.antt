@@ -16,7 +16,7 @@ use Rattle.fe2o3_scram.specs.ClientFirst.{ClientFirst}
 use Rattle.fe2o3_scram.specs.Credentials.{Record, Provider}
 use Rattle.fe2o3_sasl_core.specs.Events.{Given, ServerSays, Challenged, Concluded, Failed}
 use Rattle.fe2o3_sasl_core.specs.Laws.{AcceptorRunsAreHistories, AcceptorRunsNameUsers}
-use Rattle.fe2o3_scram.specs.Hmac.{mechanism_name}
+use Rattle.fe2o3_scram.specs.ChannelBinding.{server_mechanism}
 use Rattle.fe2o3_sasl_core.specs.Runs.{AcceptorGives, AcceptorSteps, SendsCanonical, Runs}
 use Rattle.fe2o3_sasl_core.specs.SaslAcceptor.{acceptor_machine, acceptor_user, Acceptor, ScramAcceptor, ends_with, server_frame}
 use Rattle.fe2o3_scram.specs.ClientFinal.{ReadsClientFinal}
@@ -162,7 +162,7 @@ ok_step provider held event frame p (Some body) says state moved next shown fits
 init_step : (provider : Provider) (held : Option Challenging) (event : Given) (mechanism text : List ℕ)
     (hostname : Option (List ℕ)) (says : ServerSays) (state moved next : ServerState) (reply : SaslFrame)
     (answer : Result (Option (List ℕ)) ServerScramErrorKind)
-    → Shown held state → mechanism ≡ mechanism_name provider.version
+    → Shown held state → mechanism ≡ server_mechanism provider.version provider.rules
     → ChallengesFrom state provider event.nonce text answer moved
     → reply ≡ server_frame (λ message. frames.Challenge message) answer
     → SendsCanonical (Failed faults.TooLarge) (server_says reply) (canonical reply) state moved says next
@@ -189,16 +189,17 @@ init_step provider held event mechanism text hostname says state moved next repl
     auth_init provider held event mechanism (Some text) hostname says state moved next reply shown
     (λ c fits. none-some c.stored
     (sym from.0.2 ∙ (ap (λ (first : ClientFirst). provider.records first.user)
-    (one_client_first_value provider.cbind_flag_y text from.0.0 c.client from.0.1 fits.1) ∙ fits.2)))
+    (one_client_first_value provider.rules text from.0.0 c.client from.0.1 fits.1) ∙ fits.2)))
     r from.1 h
 init_step provider held event mechanism text hostname says state moved next reply (Err fault) shown name from r h =
     auth_init provider held event mechanism (Some text) hostname says state moved next reply shown (λ c fits. let e =
-    one_client_first provider.cbind_flag_y text (Err fault) (Ok c.client) from.0 fits.1 in absurd (cc)) r from.1 h
+    one_client_first provider.rules text (Err fault) (Ok c.client) from.0 fits.1 in absurd (cc)) r from.1 h
 
 -- the server reads a response against the challenge that is open
 response_step : (provider : Provider) (c : Challenging) (event : Given) (text : List ℕ) (says : ServerSays)
     (moved next : ServerState) (reply : SaslFrame) (answer : Result (Option (List ℕ)) ServerScramErrorKind)
-    → ConcludesFrom (ServerFirstSent (challenge_of c.client c.nonce c.stored) c.stored) provider.version text answer moved
+    → ConcludesFrom (ServerFirstSent (challenge_of c.client c.nonce c.stored) c.stored) provider.version provider.rules
+    text answer moved
     → reply ≡ server_frame (λ message. frames.Outcome outcomes.Ok (Some message)) answer
     → SendsCanonical (Failed faults.TooLarge) (server_says reply) (canonical reply)
     (ServerFirstSent (challenge_of c.client c.nonce c.stored) c.stored) moved says next
@@ -234,7 +235,7 @@ response_step provider c event text says moved next reply (Err fault) from r h =
 -- without an open challenge
 closed_step : (provider : Provider) (event : Given) (text : List ℕ) (says : ServerSays) (state moved next : ServerState)
     (reply : SaslFrame) (answer : Result (Option (List ℕ)) ServerScramErrorKind)
-    → Shown None state → ConcludesFrom state provider.version text answer moved
+    → Shown None state → ConcludesFrom state provider.version provider.rules text answer moved
     → reply ≡ server_frame (λ message. frames.Outcome outcomes.Ok (Some message)) answer
     → SendsCanonical (Failed faults.TooLarge) (server_says reply) (canonical reply) state moved says next
     → Stepped provider None event (Ok (frames.Response text)) says state next
@@ -254,14 +255,16 @@ closed_step provider event text says (ServerFinalSent user) moved next reply (Er
 -- the rows of the SCRAM acceptor, only over its state
 abbrev machine : Provider → ServerState → List ℕ → SaslFrame → SaslFrame → ServerState → Type 0
 machine provider state nonce (frames.Init mechanism (Some text) hostname) reply next =
-    ((mechanism ≢ mechanism_name provider.version) × (reply ≡ ends_with outcomes.Auth) × (next ≡ state))
-    ⊎ ((mechanism ≡ mechanism_name provider.version)
+    ((mechanism ≢ server_mechanism provider.version provider.rules) × (reply ≡ ends_with outcomes.Auth)
+    × (next ≡ state))
+    ⊎ ((mechanism ≡ server_mechanism provider.version provider.rules)
     × ((answer : Result (Option (List ℕ)) ServerScramErrorKind) × ChallengesFrom state provider nonce text answer next
     × (reply ≡ server_frame (λ message. frames.Challenge message) answer)))
 machine provider state nonce (frames.Init mechanism None hostname) reply next =
     (reply ≡ ends_with outcomes.Auth) × (next ≡ state)
 machine provider state nonce (frames.Response text) reply next =
-    (answer : Result (Option (List ℕ)) ServerScramErrorKind) × ConcludesFrom state provider.version text answer next
+    (answer : Result (Option (List ℕ)) ServerScramErrorKind)
+    × ConcludesFrom state provider.version provider.rules text answer next
     × (reply ≡ server_frame (λ message. frames.Outcome outcomes.Ok (Some message)) answer)
 machine provider state nonce frame reply next = ⊥
 
@@ -289,7 +292,7 @@ gives_response provider None event text says state moved next reply shown m h =
 gives_response provider (Some c) event text says state moved next reply shown m h =
     subst (λ (s : ServerState). Stepped provider (Some c) event (Ok (frames.Response text)) says s next) (sym shown)
     (response_step provider c event text says moved next reply m.0
-    (subst (λ (s : ServerState). ConcludesFrom s provider.version text m.0 moved) shown m.1) m.2
+    (subst (λ (s : ServerState). ConcludesFrom s provider.version provider.rules text m.0 moved) shown m.1) m.2
     (subst (λ (s : ServerState). SendsCanonical (Failed faults.TooLarge) (server_says reply)
     (canonical reply) s moved says next) shown h))
 

@@ -10,10 +10,12 @@ use Rattle.fe2o3_sasl_wire.specs.declared.amqp_types.SaslCode.TheVariants as out
 use Rattle.fe2o3_sasl_wire.specs.declared.sasl_frames.error.Error.{Error}
 use Rattle.fe2o3_sasl_wire.specs.declared.sasl_frames.error.Error.TheVariants as faults
 use Rattle.fe2o3_sasl_wire.proofs.lemmas.frames.LawLemmas.{bodies_have_one_answer}
+use Rattle.fe2o3_scram.specs.ChannelBinding.{server_mechanism}
 use Rattle.fe2o3_scram.specs.ClientFinal.{ClientFinal, ReadsClientFinal, answer_of}
 use Rattle.fe2o3_scram.specs.ClientFirst.{ClientFirst, ReadsClientFirst}
 use Rattle.fe2o3_scram.specs.Credentials.{Record, Provider}
 use Rattle.fe2o3_scram.specs.declared.hmac.ScramVersion.{ScramVersion}
+use Rattle.fe2o3_scram.specs.declared.scram_messages.server_rules.ServerRules.{ServerRules}
 use Rattle.fe2o3_scram.specs.Hmac.{mechanism_name}
 use Rattle.fe2o3_scram.specs.ScramClient as client_states
 use Rattle.fe2o3_scram.specs.ScramClient.{ClientSide, ClientState, AnswersIn, ChecksSignatureIn, ConcludesIn, VerifiesIn, expects_signature, started, with_state, holding}
@@ -31,7 +33,7 @@ use Rattle.fe2o3_sasl_core.specs.Events.{Given, ServerSays, Failed, ClientSays, 
 use Rattle.fe2o3_sasl_core.specs.Laws.{BodiesAreBytes, SomeServerHistory, SomeClientHistory}
 use Rattle.fe2o3_sasl_core.specs.Runs.{Runs, AcceptorGives, AcceptorSteps, ProfileGives, ProfileSteps, Replies, SendsCanonical}
 use Rattle.fe2o3_sasl_core.specs.SaslAcceptor.{ScramAcceptor, acceptor_machine, ends_with, server_frame}
-use Rattle.fe2o3_sasl_core.specs.Profiles.{ScramProfile, ChallengeReplies, profile_machine, client_frame, initial_response}
+use Rattle.fe2o3_sasl_core.specs.Profiles.{ScramProfile, ChallengeReplies, profile_machine, profile_name, client_frame, initial_response}
 use Rattle.fe2o3_sasl_core.specs.Complete.{ServerComplete, ClientComplete}
 use Rattle.fe2o3_sasl_core.specs.Bodies.{SpellsBody, server_says}
 use Rattle.fe2o3_sasl_core.proofs.lemmas.machines.ClientMachineLemmas.{profile_runs_are_histories}
@@ -62,9 +64,9 @@ some_spelling body are = let read = bodies_have_one_answer body are in go read.0
 some_challenge : (state : ServerState) (provider : Provider) (nonce text : List ℕ)
     → (answer : Result (Option (List ℕ)) ServerScramErrorKind) × (after : ServerState)
     × ChallengesFrom state provider nonce text answer after
-some_challenge state provider nonce text = let read = some_client_first provider.cbind_flag_y text in go read.0 read.1
+some_challenge state provider nonce text = let read = some_client_first provider.rules text in go read.0 read.1
   where
-    known : (client : ClientFirst) → ReadsClientFirst provider.cbind_flag_y text (Ok client) → (found : Option Record)
+    known : (client : ClientFirst) → ReadsClientFirst provider.rules text (Ok client) → (found : Option Record)
         → provider.records client.user ≡ found
         → (answer : Result (Option (List ℕ)) ServerScramErrorKind) × (after : ServerState)
         × ChallengesFrom state provider nonce text answer after
@@ -76,31 +78,31 @@ some_challenge state provider nonce text = let read = some_client_first provider
           (challenge, (client, stored, reads, is, refl), refl, (stored, is, refl)),
         )
 
-    go : (read : Result ClientFirst ServerScramErrorKind) → ReadsClientFirst provider.cbind_flag_y text read
+    go : (read : Result ClientFirst ServerScramErrorKind) → ReadsClientFirst provider.rules text read
         → (answer : Result (Option (List ℕ)) ServerScramErrorKind) × (after : ServerState)
         × ChallengesFrom state provider nonce text answer after
     go (Ok client) reads = known client reads (provider.records client.user) refl
     go (Err fault) reads = (Err fault, state, (reads, refl))
 
 -- an answer to a client-final message
-pub some_conclusion : (state : ServerState) (version : ScramVersion) (text : List ℕ)
+pub some_conclusion : (state : ServerState) (version : ScramVersion) (rules : ServerRules) (text : List ℕ)
     → (answer : Result (Option (List ℕ)) ServerScramErrorKind) × (after : ServerState)
-    × ConcludesFrom state version text answer after
-some_conclusion Initial version text = (Err IllegalAuthenticatorState, Initial, (refl, refl))
-some_conclusion (ServerFinalSent user) version text =
+    × ConcludesFrom state version rules text answer after
+some_conclusion Initial version rules text = (Err IllegalAuthenticatorState, Initial, (refl, refl))
+some_conclusion (ServerFinalSent user) version rules text =
     (Err IllegalAuthenticatorState, ServerFinalSent user, (refl, refl))
-some_conclusion (ServerFirstSent challenge stored) version text = read answer.0 answer.1
+some_conclusion (ServerFirstSent challenge stored) version rules text = read answer.0 answer.1
   where
     answer : (read : Result ClientFinal ServerScramErrorKind)
-        × ReadsClientFinal (server_against version challenge stored) text read
-    answer = some_client_final (server_against version challenge stored) text
+        × ReadsClientFinal (server_against version rules challenge stored) text read
+    answer = some_client_final (server_against version rules challenge stored) text
 
     read : (read : Result ClientFinal ServerScramErrorKind)
-        → ReadsClientFinal (server_against version challenge stored) text read
+        → ReadsClientFinal (server_against version rules challenge stored) text read
         → (answer : Result (Option (List ℕ)) ServerScramErrorKind) × (after : ServerState)
-        × ConcludesFrom (ServerFirstSent challenge stored) version text answer after
+        × ConcludesFrom (ServerFirstSent challenge stored) version rules text answer after
     read (Ok final) reads = (
-      Ok (Some (server_final_of (server_against version challenge stored) final)),
+      Ok (Some (server_final_of (server_against version rules challenge stored) final)),
       ServerFinalSent challenge.user,
       ((final, reads, refl), refl),
     )
@@ -114,9 +116,10 @@ pub some_start : (provider : Provider) (state : ServerState) (nonce mechanism : 
     (ScramAcceptor provider moved)
 some_start provider state nonce mechanism None hostname = (ends_with outcomes.Auth, state, (refl, refl))
 some_start provider state nonce mechanism (Some text) hostname =
-    go (same_or mechanism (mechanism_name provider.version))
+    go (same_or mechanism (server_mechanism provider.version provider.rules))
   where
-    go : Decided (mechanism ≡ mechanism_name provider.version) → (reply : SaslFrame) × (moved : ServerState)
+    go : Decided (mechanism ≡ server_mechanism provider.version provider.rules)
+        → (reply : SaslFrame) × (moved : ServerState)
         × acceptor_machine (ScramAcceptor provider state) nonce (frames.Init mechanism (Some text) hostname) reply
         (ScramAcceptor provider moved)
     go (inl same) = let answer = some_challenge state provider nonce text in (
@@ -163,7 +166,7 @@ some_given provider state event (Ok (frames.Init mechanism response hostname)) r
     let reply = some_sent provider state answer.1 answer.0 (canonical answer.0) in
     (reply.0, reply.1, inr (answer.0, ScramAcceptor provider answer.1, answer.2, reply.2), reply.3)
 some_given provider state event (Ok (frames.Response text)) readable =
-    let answer = some_conclusion state provider.version text in
+    let answer = some_conclusion state provider.version provider.rules text in
     let frame = server_frame (λ message. frames.Outcome outcomes.Ok (Some message)) answer.0 in
     let reply = some_sent provider state answer.1 frame (canonical frame) in (
       reply.0,
@@ -225,10 +228,10 @@ some_answer (client_states.Complete keys) side text = (Err IllegalClientState, s
 some_answer (client_states.ClientFirstSent nonce bare) side text =
     let read = some_server_first (holding side nonce) text in go read.0 read.1
   where
-    go : (read : Result ServerFirst ScramErrorKind) → ReadsServerFirst nonce side.secret side.limits text read
+    go : (read : Result ServerFirst ScramErrorKind) → ReadsServerFirst (holding side nonce) text read
         → (answer : Result (List ℕ) ScramErrorKind) × (after : ClientSide)
         × AnswersIn (client_states.ClientFirstSent nonce bare) side text answer after
-    go (Ok first) reads = let answer = answer_of side.version side.secret bare text first in (
+    go (Ok first) reads = let answer = answer_of side.version side.secret side.channel bare text first in (
       Ok answer.message,
       with_state side (client_states.ClientFinalSent answer.signature (Some answer.keys)),
       (answer, (first, reads, refl), refl, refl),
@@ -304,11 +307,11 @@ Moves hostname side nonce frame = (reply : Result SaslFrame ProfileError) × (mo
 
 pub some_move : (hostname : Option (List ℕ)) (side : ClientSide) (nonce : List ℕ) (frame : SaslFrame)
     → Moves hostname side nonce frame
-some_move hostname side nonce (frames.Mechanisms names) = go (contains_or names (mechanism_name side.version))
+some_move hostname side nonce (frames.Mechanisms names) = go (contains_or names (profile_name (ScramProfile side)))
   where
-    go : Decided (Contains names (mechanism_name side.version)) → Moves hostname side nonce (frames.Mechanisms names)
+    go : Decided (Contains names (profile_name (ScramProfile side))) → Moves hostname side nonce (frames.Mechanisms names)
     go (inl has) = (
-      Ok (frames.Init (mechanism_name side.version) (initial_response (ScramProfile side) nonce) hostname),
+      Ok (frames.Init (profile_name (ScramProfile side)) (initial_response (ScramProfile side) nonce) hostname),
       started side nonce,
       inl (has, refl, refl),
       tt,
@@ -411,6 +414,8 @@ some_client_history login events are =
       secret = login.secret;
       version = login.version;
       limits = login.limits;
+      channel = login.channel;
+      strict = login.strict;
       signature_by_challenge = login.signature_by_challenge;
       state = client_states.ClientInitial;
     } in

@@ -1,9 +1,10 @@
 -- An unknown user of a server with mock authentication is answered as a user whose record is the mock record.
-use Rattle.std.proofs.Common.{◌≡◌, ℕ, Bool, true, false, List, ◌++◌, Option, None, Some, refl, sym, ap, ◌∙◌, subst, get_or, drop, eq-eqb}
+use Rattle.std.proofs.Common.{◌≡◌, ℕ, true, false, List, ◌++◌, Option, None, Some, refl, sym, ap, ◌∙◌, subst, get_or, drop, eq-eqb}
 use Rattle.std.proofs.lemmas.Option.{same_Some}
 use Rattle.std.specs.Prelude.{nat_eq, codes}
 use Rattle.fe2o3_sasl_wire.specs.SaslFrames as frames
 use Rattle.fe2o3_sasl_wire.specs.SaslFrames.{SaslFrame}
+use Rattle.fe2o3_scram.specs.declared.scram_messages.server_rules.ServerRules.{ServerRules}
 use Rattle.fe2o3_scram.specs.declared.hmac.ScramVersion.{ScramVersion}
 use Rattle.fe2o3_scram.specs.declared.hmac.ScramVersion.TheVariants.{Sha1, Sha256, Sha512}
 use Rattle.fe2o3_scram.specs.ClientFinal.{ReadsClientFinal, recovered_key}
@@ -21,14 +22,14 @@ use Rattle.fe2o3_sasl_core.specs.ServerHistory.{Accepted, Challenging, FitsAsIni
 use Rattle.fe2o3_sasl_core.specs.UnknownUsers.{GivesAlike, GivesReplies, SaltTextsDiffer, UnknownCostsAsMock, UnknownIsMock, UnknownIsMockInBoth, MockRecordIsMet, mock_server, with_mock, without_user}
 
 -- both servers are one: each name has one record at both
-one_server : (cbind_flag_y : Bool) (mock : MockSettings) (store : Store) (name : List ℕ) (state : ServerState)
-    → mock_server cbind_flag_y mock (without_user store name) state
-    ≡ mock_server cbind_flag_y mock (with_mock store mock name) state
-one_server cbind_flag_y mock store name state = λ i. ScramAcceptor (record {
+one_server : (rules : ServerRules) (mock : MockSettings) (store : Store) (name : List ℕ) (state : ServerState)
+    → mock_server rules mock (without_user store name) state
+    ≡ mock_server rules mock (with_mock store mock name) state
+one_server rules mock store name state = λ i. ScramAcceptor (record {
   version = store.version;
   records = λ user. mock_alike mock store.records name user i;
   look_up_cost = 3;
-  cbind_flag_y = cbind_flag_y;
+  rules = rules;
 }) state
 
 -- one state gives one list of replies
@@ -39,21 +40,21 @@ one_gives {S} machine state other same events replies = (
 )
 
 pub unknown_is_mock : UnknownIsMock
-unknown_is_mock cbind_flag_y mock store name state =
-    one_gives acceptor_machine (mock_server cbind_flag_y mock (without_user store name) state)
-    (mock_server cbind_flag_y mock (with_mock store mock name) state) (one_server cbind_flag_y mock store name state)
+unknown_is_mock rules mock store name state =
+    one_gives acceptor_machine (mock_server rules mock (without_user store name) state)
+    (mock_server rules mock (with_mock store mock name) state) (one_server rules mock store name state)
 
 pub unknown_costs_as_mock : UnknownCostsAsMock
-unknown_costs_as_mock cbind_flag_y mock store name state frame n =
-    let same = one_server cbind_flag_y mock store name state in (
+unknown_costs_as_mock rules mock store name state frame n =
+    let same = one_server rules mock store name state in (
       subst (λ (at : Acceptor). acceptor_hmacs at frame n) same,
       subst (λ (at : Acceptor). acceptor_hmacs at frame n) (sym same),
     )
 
 pub unknown_is_mock_in_both : UnknownIsMockInBoth
-unknown_is_mock_in_both cbind_flag_y other_flag mock other_mock store other name state other_state asked =
-    let first = one_server cbind_flag_y mock store name state in
-    let second = one_server other_flag other_mock other name other_state in
+unknown_is_mock_in_both rules other_rules mock other_mock store other name state other_state asked =
+    let first = one_server rules mock store name state in
+    let second = one_server other_rules other_mock other name other_state in
     one_gives (any_mechanism_machine acceptor_names acceptor_names acceptor_machine acceptor_machine) _ _
     (λ i. record { first = first i; second = second i; selected = asked })
 

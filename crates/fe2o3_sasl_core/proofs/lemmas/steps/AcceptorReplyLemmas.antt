@@ -7,7 +7,7 @@ use Rattle.fe2o3_sasl_wire.specs.SaslFrames.{SaslFrame}
 use Rattle.fe2o3_scram.specs.declared.scram_messages.error.ServerScramErrorKind.{ServerScramErrorKind}
 use Rattle.fe2o3_scram.specs.declared.scram_messages.error.ServerScramErrorKind.TheVariants.{OutOfMemory}
 use Rattle.fe2o3_scram.specs.Credentials.{Provider}
-use Rattle.fe2o3_scram.specs.Hmac.{mechanism_name}
+use Rattle.fe2o3_scram.specs.ChannelBinding.{server_mechanism}
 use Rattle.fe2o3_scram.specs.Readings.{Gives}
 use Rattle.fe2o3_scram.specs.ScramServer.{ServerState, ChallengesFrom, ConcludesFrom, ReachesBase64In}
 use Rattle.fe2o3_scram.specs.ServerFirst.{ReachesChallenge}
@@ -21,7 +21,7 @@ moved provider other next same = ap (λ (p : Provider). ScramAcceptor p next) sa
 -- what is replied to an init that has an answer
 pub init_answered : (provider other : Provider) (state next : ServerState) (nonce mechanism text : List ℕ)
     (hostname : Option (List ℕ)) (answer : Result (Option (List ℕ)) ServerScramErrorKind) (reply : SaslFrame)
-    → other ≡ provider → mechanism ≡ mechanism_name provider.version
+    → other ≡ provider → mechanism ≡ server_mechanism provider.version provider.rules
     → ChallengesFrom state provider nonce text answer next
     → reply ≡ server_frame (λ message. frames.Challenge message) answer
     → acceptor_machine (ScramAcceptor provider state) nonce (frames.Init mechanism (Some text) hostname) reply
@@ -33,7 +33,7 @@ init_answered provider other state next nonce mechanism text hostname answer rep
 pub init_refused : {X V E Allocates : Type 0} (sent : X → SaslFrame) (view : V → Option (List ℕ))
     (provider other : Provider) (state next : ServerState) (nonce mechanism text : List ℕ) (hostname : Option (List ℕ))
     (kind : ServerScramErrorKind) (result : Result X E)
-    → other ≡ provider → mechanism ≡ mechanism_name provider.version
+    → other ≡ provider → mechanism ≡ server_mechanism provider.version provider.rules
     → Gives OutOfMemory Allocates view (Err kind) (λ answer. ChallengesFrom state provider nonce text answer next)
     → IfOk result (λ frame. (kind ≢ OutOfMemory) × (sent frame ≡ ends_with outcomes.Auth))
     → IfOk result (λ frame. acceptor_machine (ScramAcceptor provider state) nonce
@@ -45,7 +45,7 @@ init_refused sent view provider other state next nonce mechanism text hostname k
 -- where it runs out of memory, it has reached an allocation
 pub init_wants : {X V E : Type 0} (view : V → Option (List ℕ)) (provider : Provider) (state next : ServerState)
     (nonce mechanism text : List ℕ) (hostname : Option (List ℕ)) (kind : ServerScramErrorKind) (result : Result X E)
-    → mechanism ≡ mechanism_name provider.version
+    → mechanism ≡ server_mechanism provider.version provider.rules
     → Gives OutOfMemory (ReachesChallenge provider text) view (Err kind)
     (λ answer. ChallengesFrom state provider nonce text answer next)
     → IfErr result (λ _. kind ≡ OutOfMemory)
@@ -57,7 +57,7 @@ init_wants view provider state next nonce mechanism text hostname kind (Err faul
 -- what is replied to a response that has an answer
 pub response_answered : (provider other : Provider) (state next : ServerState) (nonce text : List ℕ)
     (answer : Result (Option (List ℕ)) ServerScramErrorKind) (reply : SaslFrame)
-    → other ≡ provider → ConcludesFrom state provider.version text answer next
+    → other ≡ provider → ConcludesFrom state provider.version provider.rules text answer next
     → reply ≡ server_frame (λ message. frames.Outcome outcomes.Ok (Some message)) answer
     → acceptor_machine (ScramAcceptor provider state) nonce (frames.Response text) reply (ScramAcceptor other next)
 response_answered provider other state next nonce text answer reply same from is =
@@ -68,7 +68,7 @@ pub response_refused : {X V E Allocates : Type 0} (sent : X → SaslFrame) (view
     (provider other : Provider) (state next : ServerState) (text : List ℕ) (kind : ServerScramErrorKind)
     (result : Result X E)
     → other ≡ provider
-    → Gives OutOfMemory Allocates view (Err kind) (λ answer. ConcludesFrom state provider.version text answer next)
+    → Gives OutOfMemory Allocates view (Err kind) (λ answer. ConcludesFrom state provider.version provider.rules text answer next)
     → IfOk result (λ frame. (kind ≢ OutOfMemory) × (sent frame ≡ ends_with outcomes.Auth))
     → IfOk result (λ frame. (nonce : List ℕ) → acceptor_machine (ScramAcceptor provider state) nonce
     (frames.Response text) (sent frame) (ScramAcceptor other next))
@@ -79,8 +79,8 @@ response_refused sent view provider other state next text kind (Err fault) same 
 -- where it runs out of memory, it has reached an allocation
 pub response_wants : {X V E : Type 0} (view : V → Option (List ℕ)) (provider : Provider) (state next : ServerState)
     (text : List ℕ) (kind : ServerScramErrorKind) (result : Result X E)
-    → Gives OutOfMemory (ReachesBase64In state text) view (Err kind)
-    (λ answer. ConcludesFrom state provider.version text answer next) → IfErr result (λ _. kind ≡ OutOfMemory)
+    → Gives OutOfMemory (ReachesBase64In state provider.rules text) view (Err kind)
+    (λ answer. ConcludesFrom state provider.version provider.rules text answer next) → IfErr result (λ _. kind ≡ OutOfMemory)
     → IfErr result (λ _. acceptor_allocates (ScramAcceptor provider state) (frames.Response text))
 response_wants view provider state next text kind (Ok frame) from is = tt
 response_wants view provider state next text kind (Err fault) from is = from.0 is

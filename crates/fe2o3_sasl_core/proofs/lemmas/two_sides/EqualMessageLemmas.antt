@@ -4,10 +4,10 @@ use Rattle.fe2o3_sasl_wire.specs.SaslFrames as frames
 use Rattle.fe2o3_sasl_wire.specs.SaslFrames.{SaslFrame}
 use Rattle.fe2o3_scram.specs.Texts.{base64_text, NoComma}
 use Rattle.fe2o3_scram.specs.ClientFirst.{NamesClientFirst}
-use Rattle.fe2o3_sasl_core.specs.ClientHistory.{Answering, AnswersAt}
+use Rattle.fe2o3_sasl_core.specs.ClientHistory.{Answering, AnswersAt, client_at}
 use Rattle.fe2o3_scram.specs.Credentials.{Provider}
 use Rattle.fe2o3_sasl_core.specs.Events.{Given, Login, IsRecord, ServerSays, ClientSays}
-use Rattle.fe2o3_scram.specs.ServerFirst.{NamesServerFirst, client_of}
+use Rattle.fe2o3_scram.specs.ServerFirst.{NamesServerFirst}
 use Rattle.fe2o3_sasl_core.specs.ServerHistory.{Challenging, Accepted, FitsAsInit, FitsAsResponse, Open, AcceptsAt, server_at}
 use Rattle.fe2o3_sasl_core.specs.TwoSides.{Sides, client_message, server_message}
 use Rattle.fe2o3_scram.proofs.lemmas.messages.AgreementLemmas.{ClientHas, SameLogin, ServerHas, same_login}
@@ -24,13 +24,13 @@ is_answering login events replies k answer is =
       plain = subst NoComma (sym due.2.2) (no_comma-base64_text due.2.0.nonce);
       names =
           subst (λ (text : List ℕ). NamesServerFirst text answer.first) (sym is.4.1)
-          (names_server_first (client_of answer.nonce login.secret login.limits) is.1 answer.first is.4.3);
+          (names_server_first (client_at login answer.nonce) is.1 answer.first is.4.3);
     }
 
 -- a challenge as the server makes it
 pub record IsChallenging (provider : Provider) (event : Given) (challenge : Challenging) : Type 0 where
   pub text : List ℕ
-  pub names : NamesClientFirst provider.cbind_flag_y text challenge.client
+  pub names : NamesClientFirst provider.rules text challenge.client
   pub known : provider.records challenge.client.user ≡ Some challenge.stored
   pub nonce : challenge.nonce ≡ base64_text event.nonce
 
@@ -44,7 +44,7 @@ is_challenging provider event (frames.Init mechanism None hostname) challenge fi
 is_challenging provider event (frames.Init mechanism (Some text) hostname) challenge fits =
     record {
       text = text;
-      names = names_client_first provider.cbind_flag_y text challenge.client fits.1;
+      names = names_client_first provider.rules text challenge.client fits.1;
       known = fits.2;
       nonce = fits.3;
     }
@@ -70,13 +70,12 @@ accepts_open provider events replies n accepted is =
 -- a response as the server accepts it
 pub is_accepted : (provider : Provider) (events : List Given) (replies : List ServerSays) (n : ℕ) (accepted : Accepted)
     → AcceptsAt provider events replies n accepted → let challenge = accepted.challenge in
-    ServerHas provider.version challenge.client challenge.nonce challenge.stored accepted.final
+    ServerHas provider.version provider.rules challenge.client challenge.nonce challenge.stored accepted.final
 is_accepted provider events replies n accepted is =
     let fits = fits_open provider (Open provider events replies n) is.1 accepted is.4 in
     let at = fits.0.2 in
     let challenge = is_challenging provider at.0 at.1 accepted.challenge at.4 in
     record {
-      cbind_flag_y = provider.cbind_flag_y;
       init = challenge.text;
       response = fits.1.0;
       plain = subst NoComma (sym challenge.nonce) (no_comma-base64_text at.0.nonce);
@@ -85,18 +84,19 @@ is_accepted provider events replies n accepted is =
     }
 
 -- equal AuthMessages of an answer and of what was accepted mean one login
-abbrev pub SameMessages : Login → Answering → Accepted → Type 0
-SameMessages login answer accepted = SameLogin login.user answer.nonce answer.text answer.first
+abbrev pub SameMessages : Login → Provider → Answering → Accepted → Type 0
+SameMessages login provider answer accepted = SameLogin login.channel provider.rules login.user answer.nonce answer.text answer.first
     accepted.challenge.client accepted.challenge.nonce accepted.challenge.stored accepted.final.without
 
 pub same_messages : (sides : Sides) (k n : ℕ) (answer : Answering) (accepted : Accepted)
     → IsRecord accepted.challenge.stored
     → AnswersAt sides.login sides.client_events sides.client_replies k answer
     → AcceptsAt sides.provider sides.server_events sides.server_replies n accepted
-    → client_message sides.login answer ≡ server_message accepted → SameMessages sides.login answer accepted
+    → client_message sides.login answer ≡ server_message accepted
+    → SameMessages sides.login sides.provider answer accepted
 same_messages sides k n answer accepted kept answers accepts same =
     let challenge = accepted.challenge in
-    same_login sides.login.user answer.nonce answer.text answer.first sides.provider.version challenge.client
+    same_login sides.login.channel sides.provider.rules sides.login.user answer.nonce answer.text answer.first sides.provider.version challenge.client
     challenge.nonce challenge.stored accepted.final (kept.count, kept.salt, kept.stored_key, kept.server_key)
     (is_answering sides.login sides.client_events sides.client_replies k answer answers)
     (is_accepted sides.provider sides.server_events sides.server_replies n accepted accepts) same

@@ -104,7 +104,8 @@ shown_version sides k n answer accepted held shows =
 -- what a meeting says
 pub record Met (sides : Sides) (answer : Answering) (accepted : Accepted) : Type 0 where
   pub version : (keys_at sides.login answer).version ≡ sides.provider.version
-  pub same : client_message sides.login answer ≡ server_message accepted → SameMessages sides.login answer accepted
+  pub same : client_message sides.login answer ≡ server_message accepted
+      → SameMessages sides.login sides.provider answer accepted
 
 -- where the client took the verifier
 pub met_taken : (sides : Sides) (m n : ℕ) (answer : Answering) (accepted : Accepted) → Histories sides
@@ -141,6 +142,7 @@ agree sides answer accepted is same =
     record {
       version = is.version;
       header = messages.header;
+      channel = messages.channel;
       user = messages.user;
       nonce = messages.nonce;
       full_nonce = messages.full_nonce;

@@ -9,15 +9,15 @@ use Rattle.fe2o3_sasl_wire.specs.SaslFrames.{canonical, SaslFrame}
 use Rattle.fe2o3_sasl_wire.specs.SaslFrames as frames
 use Rattle.fe2o3_scram.specs.declared.scram_messages.error.ScramErrorKind.{ScramErrorKind}
 use Rattle.fe2o3_scram.specs.Texts.{base64_text}
-use Rattle.fe2o3_scram.specs.ClientFirst.{client_first}
-use Rattle.fe2o3_sasl_core.specs.ClientHistory.{Answering, answer_at, MaySign, ReadsChallenge, ClientAnswers, ClientAllocates, ClientHistory, IsDue, OpenAnswer, VerifiedAnswer, is_answer}
+use Rattle.fe2o3_scram.specs.ChannelBinding.{flag_of}
+use Rattle.fe2o3_scram.specs.ClientFirst.{client_first_with}
+use Rattle.fe2o3_sasl_core.specs.ClientHistory.{Answering, answer_at, client_at, MaySign, ReadsChallenge, ClientAnswers, ClientAllocates, ClientHistory, IsDue, OpenAnswer, VerifiedAnswer, is_answer}
 use Rattle.fe2o3_scram.specs.Credentials.{Provider}
-use Rattle.fe2o3_sasl_core.specs.Events.{Given, Login, ServerSays, Challenged, Concluded, Failed, ClientSays, Started, Answered, Reported, Refused}
-use Rattle.fe2o3_scram.specs.Hmac.{mechanism_name}
+use Rattle.fe2o3_sasl_core.specs.Events.{Given, Login, login_mechanism, ServerSays, Challenged, Concluded, Failed, ClientSays, Started, Answered, Reported, Refused}
 use Rattle.fe2o3_sasl_core.specs.Positions.{test_at, IsLastOpen, OpenBy}
 use Rattle.fe2o3_scram.specs.ClientFinal.{ClientFinal, ReadsClientFinal}
 use Rattle.fe2o3_scram.specs.ServerFinal.{ReadsServerFinal}
-use Rattle.fe2o3_scram.specs.ServerFirst.{ServerFirst, ReadsServerFirst, client_of}
+use Rattle.fe2o3_scram.specs.ServerFirst.{ServerFirst, ReadsServerFirst}
 use Rattle.fe2o3_sasl_core.specs.Bodies.{SpellsBody, carried}
 use Rattle.fe2o3_sasl_core.specs.ServerHistory.{Challenging, Accepted, FitsAsInit, FitsAsResponse, Open, ServerAnswers, ServerAllocates, ServerHistory, first_message, final_message, server_at}
 use Rattle.fe2o3_sasl_core.specs.UnalteredRuns.{client_body, server_body, Arrives}
@@ -105,30 +105,30 @@ open_value opens closes At replies k j value is opened =
 
 start_row : (login : Login) (events : List Given) (replies : List ClientSays) (k : ℕ) (event : Given)
     (says : ClientSays) (body : List ℕ) → ClientRow login events replies k event
-    (Ok (frames.Mechanisms (mechanism_name login.version ∷ []))) says
+    (Ok (frames.Mechanisms (login_mechanism login ∷ []))) says
     → says ≢ Refused OutOfMemory → says ≢ Refused (Frame faults.TooLarge) → Arrives (client_body (Some says)) body
     → (says ≡ Started body)
-    × (canonical (frames.Init (mechanism_name login.version)
-    (Some (client_first login.user (base64_text event.nonce))) login.hostname) ≡ Some body)
+    × (canonical (frames.Init (login_mechanism login)
+    (Some (client_first_with (flag_of login.channel) login.user (base64_text event.nonce))) login.hostname) ≡ Some body)
 start_row login events replies k event says body (inl wants) memory small arrives = absurd (memory wants.1)
 start_row login events replies k event says body (inr (inl starts)) memory small arrives =
     sent_as client_body (Refused (Frame faults.TooLarge)) (λ (b : List ℕ). Started b) (λ bytes. refl)
-    (canonical (frames.Init (mechanism_name login.version)
-    (Some (client_first login.user (base64_text event.nonce))) login.hostname)) says body starts.1 small arrives
+    (canonical (frames.Init (login_mechanism login)
+    (Some (client_first_with (flag_of login.channel) login.user (base64_text event.nonce))) login.hostname)) says body starts.1 small arrives
 start_row login events replies k event says body (inr (inr other)) memory small arrives =
     absurd (other.0 (0, omega arith, refl))
 
 -- the list of the one mechanism is answered by a start
 pub client_starts : (login : Login) (events : List Given) (replies : List ClientSays) (k : ℕ) (event : Given)
     (body : List ℕ) → ClientHistory login events replies → slice_get events k ≡ Some event
-    → SpellsBody event.body (Ok (frames.Mechanisms (mechanism_name login.version ∷ [])))
+    → SpellsBody event.body (Ok (frames.Mechanisms (login_mechanism login ∷ [])))
     → ClientComplete replies → ClientSmall replies → Arrives (client_body (slice_get replies k)) body
     → (slice_get replies k ≡ Some (Started body))
-    × (canonical (frames.Init (mechanism_name login.version)
-    (Some (client_first login.user (base64_text event.nonce))) login.hostname) ≡ Some body)
+    × (canonical (frames.Init (login_mechanism login)
+    (Some (client_first_with (flag_of login.channel) login.user (base64_text event.nonce))) login.hostname) ≡ Some body)
 client_starts login events replies k event body history at spells complete small arrives =
     let reply = client_reply login events replies k event
-    (frames.Mechanisms (mechanism_name login.version ∷ [])) history at spells in
+    (frames.Mechanisms (login_mechanism login ∷ [])) history at spells in
     let some = λ (r : ClientSays). Some r in
     let step = start_row login events replies k event reply.0 body reply.2 (λ e. complete k (reply.1 ∙ ap some e))
     (λ e. small k (reply.1 ∙ ap some e)) (arrives_at client_body (slice_get replies k) reply.0 body reply.1 arrives) in
@@ -185,8 +185,8 @@ pub one_answering : (login : Login) (Due : List ℕ → Type 0) (text : List ℕ
     → ReadsChallenge login Due text (Ok other) → other ≡ answer
 one_answering login Due text answer other one is too =
     let nonce = one other.nonce too.2 in
-    let first = one_server_first_value (client_of answer.nonce login.secret login.limits) text other.first answer.first
-    (subst (λ (n : List ℕ). ReadsServerFirst n login.secret login.limits text (Ok other.first)) nonce too.3) is.3 in
+    let first = one_server_first_value (client_at login answer.nonce) text other.first answer.first
+    (subst (λ (n : List ℕ). ReadsServerFirst (client_at login n) text (Ok other.first)) nonce too.3) is.3 in
     let same : other.text ≡ answer.text = too.1 ∙ sym is.1 in
     λ i. answering (nonce i) (same i) (first i)
 
@@ -197,9 +197,8 @@ read_not_refused : (login : Login) (Due : List ℕ → Type 0) (text : List ℕ)
 read_not_refused login Due text answer kind one reads (inl x) = x.0 reads.0
 read_not_refused login Due text answer kind one reads (inr (inl x)) = x.1 answer.nonce reads.2
 read_not_refused login Due text answer kind one reads (inr (inr x)) =
-    differ answer.first (one_server_first (client_of answer.nonce login.secret login.limits) text (Ok answer.first)
-    (Err kind) reads.3
-    (subst (λ (n : List ℕ). ReadsServerFirst n login.secret login.limits text (Err kind)) (one x.1.0 x.1.1) x.1.2))
+    differ answer.first (one_server_first (client_at login answer.nonce) text (Ok answer.first) (Err kind) reads.3
+    (subst (λ (n : List ℕ). ReadsServerFirst (client_at login n) text (Err kind)) (one x.1.0 x.1.1) x.1.2))
   where
     differ : (first : ServerFirst) → ◌≡◌ {A = Result ServerFirst ScramErrorKind} (Ok first) (Err kind) → ⊥
     differ first e = absurd (cc)

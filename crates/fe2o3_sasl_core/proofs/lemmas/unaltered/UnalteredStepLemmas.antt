@@ -1,6 +1,6 @@
 -- What each body of an unaltered login is answered, given what was said before it.
-use Rattle.std.proofs.Common.{Bool, ◌≡◌, ◌<◌, ◌^◌, ℕ, Option, Some, List, [], ◌∷◌, ◌++◌, codes, refl, sym, ap, ◌∙◌, subst, arith, Result, Ok}
-use Rattle.std.specs.Prelude.{slice_get}
+use Rattle.std.proofs.Common.{◌≡◌, ◌<◌, ◌^◌, ℕ, Bool, Option, Some, None, List, [], ◌∷◌, ◌++◌, codes, refl, sym, ap, ◌∙◌, subst, arith, Result, Ok}
+use Rattle.std.specs.Prelude.{is_some, slice_get}
 use Rattle.std.specs.Fmt.{decimal}
 use Rattle.std.specs.Str.{IsUtf8}
 use Rattle.std.proofs.lemmas.Fmt.{IsAscii-decimal}
@@ -11,16 +11,21 @@ use Rattle.fe2o3_sasl_wire.specs.declared.sasl_frames.error.Error.{Error}
 use Rattle.fe2o3_sasl_wire.specs.SaslFrames.{canonical, SaslFrame}
 use Rattle.fe2o3_sasl_wire.specs.SaslFrames as frames
 use Rattle.fe2o3_scram.specs.declared.hmac.ScramVersion.{ScramVersion}
+use Rattle.fe2o3_scram.specs.declared.scram_messages.server_rules.ServerRules.{ServerRules}
 use Rattle.fe2o3_scram.specs.Texts.{base64_text}
-use Rattle.fe2o3_scram.specs.ClientFirst.{client_first}
+use Rattle.fe2o3_scram.specs.declared.channel_binding.ChannelBindings.{ChannelBindings}
+use Rattle.fe2o3_scram.specs.declared.scram_messages.client_channel.ClientChannel.{ClientChannel}
+use Rattle.fe2o3_scram.specs.declared.scram_messages.client_channel.ClientChannel.TheVariants.{Absent, NotOffered, Bound}
+use Rattle.fe2o3_scram.specs.declared.scram_messages.channel_binding_flag.ChannelBindingFlag.{ChannelBindingFlag}
+use Rattle.fe2o3_scram.specs.declared.scram_messages.channel_binding_flag.ChannelBindingFlag.TheVariants.{NotSupported, ClientSupports, Required}
+use Rattle.fe2o3_scram.specs.ChannelBinding.{TakesFlag, cbind_data, expected_channel, flag_of, header_text, is_bound, is_strict, mechanism_of, server_mechanism}
+use Rattle.fe2o3_scram.specs.ClientFirst.{client_first_with}
 use Rattle.fe2o3_scram.specs.ClientFinal.{ReadsClientFinal, server_of}
-use Rattle.fe2o3_scram.specs.declared.scram_messages.channel_binding_flag.ChannelBindingFlag.TheVariants.{NotSupported}
 use Rattle.fe2o3_scram.specs.Exchanges.{Exchange, IsSound, Succeeds, nonce_in, bare_in, record_in, first_in, named_in, answer_in, final_in}
-use Rattle.fe2o3_scram.specs.Hmac.{mechanism_name}
 use Rattle.fe2o3_scram.specs.ServerFinal.{server_final_of, ReadsServerFinal}
 use Rattle.fe2o3_sasl_core.specs.Bodies.{SpellsBody}
 use Rattle.fe2o3_sasl_core.specs.ClientHistory.{Answering, AnswersAt, ReadsChallenge, IsDue, NonceAt, OpenAnswer, is_start, is_answer, ends_answer}
-use Rattle.fe2o3_sasl_core.specs.Events.{Given, Login, IsLogin, Challenged, Concluded, Started, Answered, Reported}
+use Rattle.fe2o3_sasl_core.specs.Events.{Given, Login, login_mechanism, IsLogin, Challenged, Concluded, Started, Answered, Reported}
 use Rattle.fe2o3_sasl_core.specs.Positions.{test_at, IsLastOpen}
 use Rattle.fe2o3_sasl_core.specs.ServerHistory.{Challenging, Accepted, FitsAsInit, FitsAsResponse, FitsAt, Open, final_message, is_challenge, is_ok}
 use Rattle.fe2o3_sasl_core.specs.TwoSides.{Sides, Histories}
@@ -36,15 +41,16 @@ use Rattle.fe2o3_sasl_core.proofs.lemmas.unaltered.UnalteredReplyLemmas.{none_ma
 -- ---- the exchange of a login
 
 -- a login with the password, the salt and the count of a record, and with the nonces of both sides
-abbrev pub exchange_of : Login → Bool → List ℕ → List ℕ → ℕ → List ℕ → List ℕ → Exchange
-exchange_of login cbind_flag_y password salt count mine theirs =
+abbrev pub exchange_of : Login → ServerRules → List ℕ → List ℕ → ℕ → List ℕ → List ℕ → Exchange
+exchange_of login rules password salt count mine theirs =
     record {
       version = login.version;
-      header = NotSupported;
-      cbind_flag_y = cbind_flag_y;
+      channel = login.channel;
+      rules = rules;
       user = login.user;
       secret = login.secret;
       limits = login.limits;
+      strict = login.strict;
       password = password;
       salt = salt;
       count = count;
@@ -52,11 +58,39 @@ exchange_of login cbind_flag_y password salt count mine theirs =
       server_nonce = base64_text theirs;
     }
 
+-- the channel that a server expects after a flag has that flag
+expected_flag : (channels : Option ChannelBindings) (flag : ChannelBindingFlag)
+    → flag_of (expected_channel channels flag) ≡ flag
+expected_flag channels NotSupported = refl
+expected_flag channels ClientSupports = refl
+expected_flag channels (Required kind) = refl
+
+-- a client binds a channel exactly if a server that accepts its header does
+bound_alike : (channels : Option ChannelBindings) (accept_y : Bool) (channel : ClientChannel)
+    → TakesFlag channels accept_y (flag_of channel) → is_bound channel ≡ is_some channels
+bound_alike None accept_y Absent takes = refl
+bound_alike None accept_y NotOffered takes = refl
+bound_alike None accept_y (Bound binding) takes = absurd takes
+bound_alike (Some channels) accept_y Absent takes = absurd takes
+bound_alike (Some channels) accept_y NotOffered takes = absurd takes
+bound_alike (Some channels) accept_y (Bound binding) takes = refl
+
+-- the mechanism that a login selects is that of the server
+pub one_mechanism : (sides : Sides) (password salt : List ℕ) (count : ℕ) → HoldsLogin sides password salt count
+    → login_mechanism sides.login ≡ server_mechanism sides.provider.version sides.provider.rules
+one_mechanism sides password salt count holds =
+    let rules = sides.provider.rules in
+    let bound = bound_alike rules.channels rules.accept_cbind_flag_y sides.login.channel holds.header in
+    λ i. mechanism_of (sym holds.version i) (bound i)
+
 pub sound_exchange : (sides : Sides) (password salt : List ℕ) (count : ℕ) (mine theirs : List ℕ) → IsLogin sides.login
     → HoldsLogin sides password salt count → IsSound
-    (exchange_of sides.login sides.provider.cbind_flag_y password salt count mine theirs)
+    (exchange_of sides.login sides.provider.rules password salt count mine theirs)
 sound_exchange sides password salt count mine theirs is holds = record {
-  header = tt;
+  header = holds.header;
+  channel = let expected = expected_flag sides.provider.rules.channels (flag_of sides.login.channel) in
+      λ i. header_text (expected i) ++ sym holds.channel i;
+  bytes = is.channel;
   opens = holds.opens;
   some = holds.some;
   least = holds.least;
@@ -73,7 +107,7 @@ sound_exchange sides password salt count mine theirs is holds = record {
 -- its challenge, its answer, and what its server accepts
 abbrev pub challenge_in : Exchange → Challenging
 challenge_in x = record {
-  client = record { header = x.header; user = x.user; nonce = x.client_nonce; bare = bare_in x };
+  client = record { header = flag_of x.channel; user = x.user; nonce = x.client_nonce; bare = bare_in x };
   nonce = x.server_nonce;
   stored = record_in x;
 }
@@ -86,7 +120,8 @@ accepted_in x = record { challenge = challenge_in x; final = final_in x }
 
 -- its init, with this hostname
 abbrev pub init_in : Option (List ℕ) → Exchange → SaslFrame
-init_in hostname x = frames.Init (mechanism_name x.version) (Some (client_first x.user x.client_nonce)) hostname
+init_in hostname x = frames.Init (mechanism_of x.version (is_bound x.channel))
+    (Some (client_first_with (flag_of x.channel) x.user x.client_nonce)) hostname
 
 -- the server-first message is UTF-8
 first_text : (x : Exchange) → IsSound x → IsUtf8 (first_in x)
@@ -105,10 +140,13 @@ first_text x sound =
 module _ (sides : Sides) (password salt : List ℕ) (count : ℕ) (offer init : Given) (histories : Histories sides)
     (login : IsLogin sides.login) (holds : HoldsLogin sides password salt count) (fits : Suffices sides) where
   abbrev pub exchange : Exchange
-  exchange = exchange_of sides.login sides.provider.cbind_flag_y password salt count offer.nonce init.nonce
+  exchange = exchange_of sides.login sides.provider.rules password salt count offer.nonce init.nonce
 
   abbrev pub final_sent : List ℕ
   final_sent = final_message sides.provider (accepted_in exchange)
+
+  abbrev text_sent : List ℕ
+  text_sent = client_first_with (flag_of sides.login.channel) sides.login.user exchange.client_nonce
 
   abbrev pub init_sent : SaslFrame
   init_sent = init_in sides.login.hostname exchange
@@ -122,7 +160,7 @@ module _ (sides : Sides) (password salt : List ℕ) (count : ℕ) (offer init : 
   -- what a side has received and what it has said, first
   abbrev pub Offered : Type 0
   Offered = (slice_get sides.client_events 0 ≡ Some offer)
-      × (canonical (frames.Mechanisms (mechanism_name sides.login.version ∷ [])) ≡ Some offer.body)
+      × (canonical (frames.Mechanisms (login_mechanism sides.login ∷ [])) ≡ Some offer.body)
 
   abbrev pub HasStarted : Type 0
   HasStarted = Offered × ((body : List ℕ) × (slice_get sides.client_replies 0 ≡ Some (Started body)))
@@ -154,23 +192,22 @@ module _ (sides : Sides) (password salt : List ℕ) (count : ℕ) (offer init : 
   pub starts : (body : List ℕ) → Offered → Arrives (client_body (slice_get sides.client_replies 0)) body
       → (slice_get sides.client_replies 0 ≡ Some (Started body)) × (canonical init_sent ≡ Some body)
   starts body offered arrives = client_starts sides.login sides.client_events sides.client_replies 0 offer body
-      histories.client offered.0 (spells_mechanisms sides.login.version offer.body offered.1) fits.client
+      histories.client offered.0 (spells_mechanisms sides.login.version (is_bound sides.login.channel) offer.body offered.1) fits.client
       fits.client_small arrives
 
   -- the server challenges
   init_spelled : HasInit → SpellsBody init.body (Ok init_sent)
-  init_spelled has = spells_init sides.login.version (client_first sides.login.user exchange.client_nonce)
+  init_spelled has = spells_init sides.login.version (is_bound sides.login.channel) text_sent
       sides.login.hostname init.body login.hostname has.1
 
   init_fits : FitsAsInit sides.provider init init_sent (challenge_in exchange)
-  init_fits = (ap mechanism_name (sym holds.version), meets.client_first, holds.stored, refl)
+  init_fits = (one_mechanism sides password salt count holds, meets.client_first, holds.stored, refl)
 
   pub challenges : (body : List ℕ) → HasInit → Arrives (server_body (slice_get sides.server_replies 0)) body
       → (slice_get sides.server_replies 0 ≡ Some (Challenged body))
       × (canonical (frames.Challenge (first_in exchange)) ≡ Some body)
   challenges body has arrives = server_challenges sides.provider sides.server_events sides.server_replies 0 init
-      (mechanism_name sides.login.version) (client_first sides.login.user exchange.client_nonce) sides.login.hostname
-      (challenge_in exchange) body histories.server has.0 (init_spelled has) init_fits fits.server fits.server_small
+      (login_mechanism sides.login) text_sent sides.login.hostname (challenge_in exchange) body histories.server has.0 (init_spelled has) init_fits fits.server fits.server_small
       arrives
 
   -- the client answers
@@ -225,8 +262,7 @@ module _ (sides : Sides) (password salt : List ℕ) (count : ℕ) (offer init : 
       let event = same_Some at.0 init (sym at.2 ∙ has.0.0) in
       let frame = same_frame at.1 init_sent (one_spelling init.body (Ok at.1) (Ok init_sent)
       (subst (λ (e : Given). SpellsBody e.body (Ok at.1)) event at.3) (init_spelled has.0)) in
-      one_fits sides.provider init (frames.Init (mechanism_name sides.login.version)
-      (Some (client_first sides.login.user exchange.client_nonce)) sides.login.hostname) challenge
+      one_fits sides.provider init (frames.Init (login_mechanism sides.login) (Some text_sent) sides.login.hostname) challenge
       (challenge_in exchange)
       (subst (λ (f : SaslFrame). FitsAsInit sides.provider init f challenge) frame
       (subst (λ (e : Given). FitsAsInit sides.provider e at.1 challenge) event at.4)) init_fits
@@ -234,14 +270,18 @@ module _ (sides : Sides) (password salt : List ℕ) (count : ℕ) (offer init : 
       same_frame : (frame other : SaslFrame) → ◌≡◌ {A = Result SaslFrame Error} (Ok frame) (Ok other) → frame ≡ other
       same_frame frame other e = cc
 
+  -- the channel that the server expects
+  abbrev expected : ClientChannel
+  expected = expected_channel exchange.rules.channels (flag_of exchange.channel)
+
   pub response_fits : HasChallenged
       → FitsAsResponse sides.provider (Open sides.provider sides.server_events sides.server_replies 1)
       (frames.Response (answer_in exchange).message) (accepted_in exchange)
   response_fits has = (
     is_open has,
     subst (λ (version : ScramVersion). ReadsClientFinal
-        (server_of version NotSupported (bare_in exchange) (first_in exchange) (nonce_in exchange) (record_in exchange))
-        (answer_in exchange).message (Ok (final_in exchange))) (sym holds.version) meets.client_final,
+        (server_of version expected (is_strict exchange.rules) (bare_in exchange) (first_in exchange)
+        (nonce_in exchange) (record_in exchange)) (answer_in exchange).message (Ok (final_in exchange))) (sym holds.version) meets.client_final,
   )
 
   pub accepts : (response : Given) (body : List ℕ) → HasChallenged → HasResponse response
@@ -289,8 +329,8 @@ module _ (sides : Sides) (password salt : List ℕ) (count : ℕ) (offer init : 
 
   verifier_read : ReadsServerFinal (answer_in exchange).signature final_sent (Ok tt)
   verifier_read = subst (λ (version : ScramVersion). ReadsServerFinal (answer_in exchange).signature
-      (server_final_of (server_of version NotSupported (bare_in exchange) (first_in exchange) (nonce_in exchange)
-      (record_in exchange)) (final_in exchange)) (Ok tt)) (sym holds.version) meets.server_final
+      (server_final_of (server_of version expected (is_strict exchange.rules) (bare_in exchange) (first_in exchange)
+      (nonce_in exchange) (record_in exchange)) (final_in exchange)) (Ok tt)) (sym holds.version) meets.server_final
 
   pub reports : (challenge outcome : Given) → HasStarted → HasAnswered challenge → HasOutcome outcome
       → slice_get sides.client_replies 2 ≡ Some (Reported outcomes.Ok (Some final_sent))

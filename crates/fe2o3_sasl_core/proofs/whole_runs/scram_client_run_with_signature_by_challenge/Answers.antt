@@ -1,5 +1,6 @@
 use Rattle.std.proofs.Common.{arith, refl}
 use Rattle.std.proofs.lemmas.Option.{none-some}
+use Rattle.fe2o3_scram.proofs.lemmas.hashes.DigestLemmas.{IsBytes-nil}
 use Rattle.fe2o3_sasl_core.specs.Events.{Login}
 use Rattle.fe2o3_sasl_core.specs.Runs.{accepting, login_of}
 use Rattle.fe2o3_sasl_core.proofs.lemmas.steps.LongerRunLemmas.{if_ok_map}
@@ -34,5 +35,6 @@ returns-clause-unaltered c =
     if_ok_map _ _ c.run_profile.result (λ replies has. has login (made, refl) (record {
       user = c.utf8.user;
       limit = omega arith;
+      channel = IsBytes-nil;
       hostname = λ host is. absurd (none-some host is);
     })) c.run_profile.ensures.unaltered

@@ -188,7 +188,7 @@ impl PasswordServerBuilder<'_> {
             × (error ≡ BuildSaltTooLong → HasLongSalts (settings_of self.now))) }
     {
         let scram = ScramAuthenticator::new(self.store(version)?);
-        let scram = scram.accept_cbind_flag_y(self.cbind_flag_y);
+        let scram = scram.with_rules(self.rules);
         match &self.mock {
             Some(mock) => {
                 let secret = mock.secret.to_vec(alloc)?;

@@ -20,8 +20,8 @@ returns-in-Ok-clause-ok g c =
     (state_in c.args.self.now) (state_in made.new.self) c.args.nonce.now c.args.init.mechanism
     c.in-Some.client_first.0.items (option_map string_bytes c.args.init.hostname)
     (Ok (option_map (λ message. message.items) c.in-Ok.answer)) (sent_frame c.challenge.result)
-    (λ i. mocking (made.ensures.mock i) (serving (made.ensures.cbind_flag_y i) (m.meaning (made.ensures.provider i))))
-    (search rules) answers c.challenge.ensures)
+    (λ i. mocking (made.ensures.mock i) (serving (made.ensures.rules i) (m.meaning (made.ensures.provider i))))
+    (search rules) answers c.challenge.ensures.frame)
 
 pub returns-clause-ok : goal.returns-clause-ok
 returns-clause-ok g c =
@@ -32,7 +32,7 @@ returns-clause-ok g c =
     (served_by m.meaning c.args.self.now) (served_by m.meaning made.new.self) (state_in c.args.self.now)
     (state_in made.new.self) c.args.nonce.now c.args.init.mechanism c.in-Some.client_first.0.items
     (option_map string_bytes c.args.init.hostname) c.in-Err.kind c.refusal.result
-    (λ i. mocking (made.ensures.mock i) (serving (made.ensures.cbind_flag_y i) (m.meaning (made.ensures.provider i))))
+    (λ i. mocking (made.ensures.mock i) (serving (made.ensures.rules i) (m.meaning (made.ensures.provider i))))
     (search rules) answers c.refusal.ensures.auth)
 
 pub returns-clause-memory : goal.returns-clause-memory

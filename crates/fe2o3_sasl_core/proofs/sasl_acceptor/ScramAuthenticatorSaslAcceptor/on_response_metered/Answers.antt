@@ -3,7 +3,7 @@ use Rattle.std.specs.Prelude.{⊤, option_map, Vec}
 use Rattle.std.specs.declared.alloc.Global.{Global}
 use Rattle.fe2o3_scram.specs.Credentials.{serving}
 use Rattle.fe2o3_scram.specs.MockSettings.{mocking}
-use Rattle.fe2o3_scram.specs.ScramServer.{served_by, state_in, ReachesBase64In}
+use Rattle.fe2o3_scram.specs.ScramServer.{rules_in, served_by, state_in, ReachesBase64In}
 use Rattle.fe2o3_sasl_wire.specs.declared.amqp_types.SaslCode.TheVariants.{Auth}
 use Rattle.fe2o3_sasl_core.specs.SaslAcceptor.{sent_frame, ends_with}
 use Rattle.fe2o3_sasl_core.proofs.lemmas.machines.ResponseCostLemmas.{response_costs, answer_costs, refusal_costs}
@@ -19,8 +19,8 @@ returns-in-Ok-clause-ok g c =
     (state_in c.compute_server_final_message_metered.new.self) nonce _
     (Ok (option_map (λ message. message.items) c.in-Ok.answer)) (sent_frame c.conclusion.result)
     (λ i. mocking (c.compute_server_final_message_metered.ensures.mock i)
-    (serving (c.compute_server_final_message_metered.ensures.cbind_flag_y i)
-    (m.meaning (c.compute_server_final_message_metered.ensures.provider i)))) answers c.conclusion.ensures
+    (serving (c.compute_server_final_message_metered.ensures.rules i)
+    (m.meaning (c.compute_server_final_message_metered.ensures.provider i)))) answers c.conclusion.ensures.frame
 
 pub returns-clause-ok : goal.returns-clause-ok
 returns-clause-ok g c =
@@ -31,7 +31,7 @@ returns-clause-ok g c =
     (state_in c.args.self.now) (state_in c.compute_server_final_message_metered.new.self) _ c.in-Err.kind
     c.refusal.result
     (λ i. mocking (c.compute_server_final_message_metered.ensures.mock i)
-    (serving (c.compute_server_final_message_metered.ensures.cbind_flag_y i)
+    (serving (c.compute_server_final_message_metered.ensures.rules i)
     (m.meaning (c.compute_server_final_message_metered.ensures.provider i)))) answers c.refusal.ensures.auth
 
 pub returns-clause-memory : goal.returns-clause-memory
@@ -46,7 +46,8 @@ returns-clause-memory g c =
 pub returns-in-Ok-clause-cost : goal.returns-in-Ok-clause-cost
 returns-in-Ok-clause-cost g c =
     let m = g.C.ScramCredentialProvider in
-    response_costs (ReachesBase64In (state_in c.args.self.now) c.args.response.response.0.items)
+    response_costs (ReachesBase64In (state_in c.args.self.now) (rules_in c.args.self.now)
+    c.args.response.response.0.items)
     (option_map (λ (message : Vec ℕ Global). message.items)) (served_by m.meaning c.args.self.now)
     (state_in c.args.self.now) (state_in c.compute_server_final_message_metered.new.self)
     c.args.response.response.0.items (Ok c.in-Ok.answer)
@@ -56,7 +57,8 @@ returns-in-Ok-clause-cost g c =
 pub returns-clause-cost : goal.returns-clause-cost
 returns-clause-cost g c =
     let m = g.C.ScramCredentialProvider in
-    response_costs (ReachesBase64In (state_in c.args.self.now) c.args.response.response.0.items)
+    response_costs (ReachesBase64In (state_in c.args.self.now) (rules_in c.args.self.now)
+    c.args.response.response.0.items)
     (option_map (λ (message : Vec ℕ Global). message.items)) (served_by m.meaning c.args.self.now)
     (state_in c.args.self.now) (state_in c.compute_server_final_message_metered.new.self)
     c.args.response.response.0.items (Err c.in-Err.kind)
@@ -66,7 +68,8 @@ returns-clause-cost g c =
 pub returns-in-Ok-clause-exactly : goal.returns-in-Ok-clause-exactly
 returns-in-Ok-clause-exactly g c =
     let m = g.C.ScramCredentialProvider in
-    λ n takes. answer_costs {E = ⊤} (ReachesBase64In (state_in c.args.self.now) c.args.response.response.0.items)
+    λ n takes. answer_costs {E = ⊤} (ReachesBase64In (state_in c.args.self.now) (rules_in c.args.self.now)
+    c.args.response.response.0.items)
     (option_map (λ (message : Vec ℕ Global). message.items)) (served_by m.meaning c.args.self.now)
     (state_in c.args.self.now) (state_in c.compute_server_final_message_metered.new.self)
     c.args.response.response.0.items c.in-Ok.answer (Ok c.conclusion.result) c.args.meter.now
@@ -76,7 +79,8 @@ returns-in-Ok-clause-exactly g c =
 pub returns-clause-exactly : goal.returns-clause-exactly
 returns-clause-exactly g c =
     let m = g.C.ScramCredentialProvider in
-    refusal_costs (ReachesBase64In (state_in c.args.self.now) c.args.response.response.0.items) (λ frame. sent_frame frame ≡ ends_with Auth)
+    refusal_costs (ReachesBase64In (state_in c.args.self.now) (rules_in c.args.self.now)
+    c.args.response.response.0.items) (λ frame. sent_frame frame ≡ ends_with Auth)
     (option_map (λ (message : Vec ℕ Global). message.items)) (served_by m.meaning c.args.self.now)
     (state_in c.args.self.now) (state_in c.compute_server_final_message_metered.new.self)
     c.args.response.response.0.items c.in-Err.kind c.refusal.result c.args.meter.now

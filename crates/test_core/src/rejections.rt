@@ -1,0 +1,155 @@
+//! Why a server rejects a login, as it keeps the reason for its log.
+
+use crate::printed::tell;
+use crate::values::bytes;
+use fe2o3_sasl::any_mechanism::HasMechanism;
+use fe2o3_sasl::credentials::MultiRecordStore;
+use fe2o3_sasl::extra_challenges::{ExtraChallenges, WithExtraChallenges};
+use fe2o3_sasl::login_attempts::WithLastAttempt;
+use fe2o3_sasl::password_server::{PasswordServer, PasswordServerBuilder};
+use fe2o3_sasl::rejection::Rejection;
+use fe2o3_sasl::sasl_acceptor::SaslAcceptor;
+use fe2o3_sasl::scram_messages::ServerScramErrorKind;
+use fe2o3_sasl_wire::{Binary, SaslInit, SaslResponse, Symbol};
+use std::process::Abort;
+
+/// A file of one user, with the password `pencil`.
+const LINES: &str =
+    "user SCRAM-SHA-256$4096:+JH2W68K7GjfMP0LX43J0w==$BWDYt7JIe5bgxedNkST7Cp4q/eiYnxJvFUdthbN4rsA=:\
+        N1M1QURGjAh4ce7CvsAbYSXgOHtbNACLHcXTskAJ1zM=\n";
+
+/// A mechanism and its initial response, or no mechanism and a response, and the reason that is kept after the reply.
+type Row = (
+    Option<&'static str>,
+    Option<&'static str>,
+    Option<Rejection>,
+);
+
+/// The frames in this order, to one server. A challenge and an outcome Ok leave no reason.
+static ROWS: [Row; 11] = [
+    (None, Some(""), Some(Rejection::UnexpectedResponse)),
+    (
+        Some("SCRAM-SHA-1"),
+        Some("n,,n=user,r=abc"),
+        Some(Rejection::MechanismNotOffered),
+    ),
+    (
+        Some("SCRAM-SHA-256"),
+        None,
+        Some(Rejection::NoInitialResponse),
+    ),
+    (
+        Some("SCRAM-SHA-256"),
+        Some("n,,n=nobody,r=abc"),
+        Some(Rejection::UnknownUser),
+    ),
+    (
+        Some("SCRAM-SHA-256"),
+        Some("p=tls-unique,,n=user,r=abc"),
+        Some(Rejection::Scram(ServerScramErrorKind::CannotParseGs2Header)),
+    ),
+    (Some("SCRAM-SHA-256"), Some("n,,n=user,r=abc"), None),
+    (
+        None,
+        Some("c=biws,r=abc,p=AAAA"),
+        Some(Rejection::Scram(ServerScramErrorKind::IncorrectClientFinalNonce)),
+    ),
+    (
+        Some("PLAIN"),
+        Some("user\0pencil"),
+        Some(Rejection::InvalidMessage),
+    ),
+    (
+        Some("PLAIN"),
+        Some("\0user\0crayon"),
+        Some(Rejection::WrongPassword),
+    ),
+    (Some("PLAIN"), Some("\0user\0pencil"), None),
+    (
+        Some("EXTERNAL"),
+        Some("other"),
+        Some(Rejection::OtherIdentity),
+    ),
+];
+
+/// Inits without an initial response, to a server that asks for it: the second arrives where a response is expected.
+static ASKED: [Row; 2] = [
+    (Some("PLAIN"), None, None),
+    (Some("PLAIN"), None, Some(Rejection::UnexpectedInit)),
+];
+
+/// A text for each reason.
+static TEXTS: [(Rejection, &str); 10] = [
+    (Rejection::MechanismNotOffered, "Mechanism not offered"),
+    (Rejection::NoInitialResponse, "No initial response"),
+    (Rejection::InvalidMessage, "Invalid message of PLAIN"),
+    (
+        Rejection::Scram(ServerScramErrorKind::AuthenticationFailed),
+        "SCRAM: Authentication failed",
+    ),
+    (Rejection::UnknownUser, "Unknown user"),
+    (Rejection::WrongPassword, "Unknown user or wrong password"),
+    (
+        Rejection::OtherIdentity,
+        "Another identity than that of the transport",
+    ),
+    (Rejection::UnexpectedInit, "Unexpected init"),
+    (Rejection::UnexpectedResponse, "Unexpected response"),
+    (Rejection::Other, "Rejected"),
+];
+
+/// Returns a server of SCRAM, PLAIN and EXTERNAL.
+fn server<R: Abort + AllocGlobal>(rt: &R) -> PasswordServer {
+    let users = MultiRecordStore::parse_lines(rt.alloc(), LINES).expect(rt, "users");
+    let builder = PasswordServerBuilder::new(&users).plain_under_tls(true);
+    builder
+        .external("user")
+        .build(rt.alloc())
+        .expect(rt, "a server")
+}
+
+/// Checks that a server keeps the reason of each row.
+fn keeps<R: Abort + AllocGlobal, A: HasMechanism + Drop>(
+    rt: &R,
+    mut server: WithLastAttempt<A>,
+    rows: &[Row],
+) {
+    assert!(rt; server.last_rejection() == None);
+    for &(mechanism, message, reason) in rows {
+        let message = match message {
+            Some(text) => Some(Binary(bytes(rt, text.as_bytes()))),
+            None => None,
+        };
+        let reply = match (mechanism, message) {
+            (Some(name), initial_response) => {
+                let init = SaslInit {
+                    mechanism: Symbol::new(rt.alloc(), name).expect(rt, "a symbol"),
+                    initial_response,
+                    hostname: None,
+                };
+                server.on_init(rt.alloc(), init, &[2; 32])
+            }
+            (None, Some(response)) => server.on_response(rt.alloc(), SaslResponse { response }),
+            (None, None) => panic!(rt; "a frame"),
+        };
+        drop(reply.expect(rt, "memory"));
+        assert!(rt; server.last_rejection() == reason, "{reason:?}");
+    }
+}
+
+#[test]
+fn the_last_rejection(rt: HostRuntime) {
+    keeps(&rt, WithLastAttempt::new(server(&rt)), &ROWS);
+
+    let extra = ExtraChallenges {
+        initial_response: true,
+        signature: false,
+    };
+    let asking = WithExtraChallenges::new(server(&rt), extra);
+    keeps(&rt, WithLastAttempt::new(asking), &ASKED);
+}
+
+#[test]
+fn texts_of_rejections(rt: HostRuntime) {
+    tell(&rt, &TEXTS);
+}
