@@ -36,6 +36,7 @@ pub use Rattle.fe2o3_scram.specs.Escape
 pub use Rattle.fe2o3_scram.specs.SaslprepAscii
 pub use Rattle.fe2o3_scram.specs.Passwords
 pub use Rattle.fe2o3_scram.specs.Hmac
+pub use Rattle.fe2o3_scram.specs.ChannelBinding
 pub use Rattle.fe2o3_scram.specs.Pbkdf2Hi
 pub use Rattle.fe2o3_scram.specs.Keys
 pub use Rattle.fe2o3_scram.specs.Credentials

@@ -7,6 +7,7 @@
 //! keys of theirs collide.
 
 ghost use Rattle.std.specs.Prelude.{◌≡◌, IfOk, map, false};
+ghost use Rattle.fe2o3_scram.specs.ClientFirst.{default_rules};
 ghost use Rattle.fe2o3_scram.specs.Credentials.{serving};
 ghost use Rattle.fe2o3_scram.specs.ClientSecret.{no_limit};
 ghost use Rattle.fe2o3_sasl_core.specs.Verdicts.{AuditsEvents};
@@ -24,8 +25,9 @@ use crate::audit::matching::{match_proofs, match_verifiers};
 use crate::audit::server_receipts::{server_is_complete, server_receipts};
 use fe2o3_sasl_core::events::Event;
 use fe2o3_sasl_core::whole_runs::{
-    scram_client_run_with_signature_by_challenge, scram_server_run_with_cbind_flag_y,
+    scram_client_run_with_signature_by_challenge, scram_server_run_with_rules,
 };
+use fe2o3_scram::ServerRules;
 use fe2o3_scram::credentials::ScramCredentialProvider;
 use fe2o3_scram::hmac::ScramVersion;
 use std::alloc::{AllocError, Global};
@@ -165,8 +167,8 @@ pub struct Finding {
 
 /// Audits two lists of bodies, of the client of this user and the server of these credentials. Returns a finding for
 /// each verifier that the client took and the server gave. A finding for each proof that the client showed and the
-/// server accepted follows. Both are ordered by the client's position and then by the server's. The client accepts
-/// every iteration count from 1 on.
+/// server accepted follows. Both are ordered by the client's position and then by the server's. The client has no
+/// channel to bind, and accepts every iteration count from 1 on.
 ///
 /// The only error is `OutOfMemory`, and nothing is done then.
 pub fn audit<C: ScramCredentialProvider>(
@@ -179,7 +181,7 @@ pub fn audit<C: ScramCredentialProvider>(
     server_events: &[Event],
 ) -> Result<Vec<Finding>, AuditError>
     ensures { IfOk result (λ findings. AuditsEvents (login_of version user.now password.now no_limit)
-        (map given client_events.now) (serving false (C.meaning credentials.now)) (map given server_events.now)
+        (map given client_events.now) (serving default_rules (C.meaning credentials.now)) (map given server_events.now)
         (map finding_of findings.items)) }
 {
     audit_limited(
@@ -206,37 +208,37 @@ pub fn audit_limited<C: ScramCredentialProvider>(
     server_events: &[Event],
 ) -> Result<Vec<Finding>, AuditError>
     ensures { IfOk result (λ findings. AuditsEvents (login_of version user.now password.now limit)
-        (map given client_events.now) (serving false (C.meaning credentials.now)) (map given server_events.now)
+        (map given client_events.now) (serving default_rules (C.meaning credentials.now)) (map given server_events.now)
         (map finding_of findings.items)) }
 {
-    audit_with_cbind_flag_y(
+    audit_with_rules(
         alloc,
         user,
         password,
         version,
         limit,
         client_events,
-        false,
+        ServerRules::new(),
         credentials,
         server_events,
     )
 }
 
-/// Like `audit_limited`, but with `accept_cbind_flag_y` the server accepts a client with the GS2 header `y,,` too
-/// (`ScramAuthenticator::accept_cbind_flag_y`).
-pub fn audit_with_cbind_flag_y<C: ScramCredentialProvider>(
+/// Like `audit_limited`, but with these rules of the server for the messages of a client
+/// (`ScramAuthenticator::with_rules`).
+pub fn audit_with_rules<C: ScramCredentialProvider>(
     alloc: Global,
     user: &str,
     password: &str,
     version: ScramVersion,
     limit: u32,
     client_events: &[Event],
-    accept_cbind_flag_y: bool,
+    rules: ServerRules,
     credentials: &C,
     server_events: &[Event],
 ) -> Result<Vec<Finding>, AuditError>
     ensures { IfOk result (λ findings. AuditsEvents (login_of version user.now password.now limit)
-        (map given client_events.now) (serving accept_cbind_flag_y (C.meaning credentials.now))
+        (map given client_events.now) (serving rules (C.meaning credentials.now))
         (map given server_events.now) (map finding_of findings.items)) }
 {
     audit_with_signature_by_challenge(
@@ -247,13 +249,13 @@ pub fn audit_with_cbind_flag_y<C: ScramCredentialProvider>(
         limit,
         false,
         client_events,
-        accept_cbind_flag_y,
+        rules,
         credentials,
         server_events,
     )
 }
 
-/// Like `audit_with_cbind_flag_y`, but with `signature_by_challenge` the client accepts the server's signature in a
+/// Like `audit_with_rules`, but with `signature_by_challenge` the client accepts the server's signature in a
 /// challenge too (`ScramClient::signature_by_challenge`; RFC 4422, section 5). Its finding is at the Ok without data
 /// that follows. The empty response to that challenge shows no proof.
 pub fn audit_with_signature_by_challenge<C: ScramCredentialProvider>(
@@ -264,13 +266,13 @@ pub fn audit_with_signature_by_challenge<C: ScramCredentialProvider>(
     limit: u32,
     signature_by_challenge: bool,
     client_events: &[Event],
-    accept_cbind_flag_y: bool,
+    rules: ServerRules,
     credentials: &C,
     server_events: &[Event],
 ) -> Result<Vec<Finding>, AuditError>
     ensures { IfOk result (λ findings. AuditsEvents
         (accepting signature_by_challenge (login_of version user.now password.now limit))
-        (map given client_events.now) (serving accept_cbind_flag_y (C.meaning credentials.now))
+        (map given client_events.now) (serving rules (C.meaning credentials.now))
         (map given server_events.now) (map finding_of findings.items)) }
 {
     let client_replies = scram_client_run_with_signature_by_challenge(
@@ -282,12 +284,7 @@ pub fn audit_with_signature_by_challenge<C: ScramCredentialProvider>(
         signature_by_challenge,
         client_events,
     )?;
-    let server_replies = scram_server_run_with_cbind_flag_y(
-        alloc,
-        accept_cbind_flag_y,
-        credentials,
-        server_events,
-    )?;
+    let server_replies = scram_server_run_with_rules(alloc, rules, credentials, server_events)?;
     if !client_is_complete(&client_replies) {
         return Err(AuditError::OutOfMemory);
     }
@@ -304,13 +301,7 @@ pub fn audit_with_signature_by_challenge<C: ScramCredentialProvider>(
         client_events,
         &client_replies,
     )?;
-    let oks = server_receipts(
-        alloc,
-        accept_cbind_flag_y,
-        credentials,
-        server_events,
-        &server_replies,
-    )?;
+    let oks = server_receipts(alloc, rules, credentials, server_events, &server_replies)?;
     let mut findings = Vec::new(alloc);
     match_verifiers(alloc, &mut findings, &client.taken, &oks)?;
     match_proofs(alloc, &mut findings, &client.shown, &oks)?;

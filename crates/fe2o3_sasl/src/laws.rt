@@ -13,7 +13,7 @@ ghost use Rattle.fe2o3_sasl_core.specs.AnyMechanismLaws.{AnyMechanismRunsAreSpli
 ghost use Rattle.fe2o3_sasl_core.specs.AnyMechanismUsers.{AnyMechanismNamesUsers, OfferedNamesUsers};
 ghost use Rattle.fe2o3_sasl_core.specs.UnknownUsers.{MockRecordIsMet, SaltTextsDiffer, UnknownCostsAsMock, UnknownIsMock, UnknownIsMockInBoth};
 ghost use Rattle.fe2o3_sasl_core.specs.StepLaws.{OksLogIn, PlainOksLogIn, ReportedOksAreSigned, VerifiedOnSignature};
-ghost use Rattle.fe2o3_sasl_core.specs.Laws.{EveryServer, EveryClient, OneServerHistory, OneClientHistory, SomeServerHistory, SomeClientHistory, AcceptorRunsAreHistories, AcceptorRunsNameUsers, AgreedUsersAreNamed, ProfileRunsAreHistories, KeyedRunsAreRuns, KeyedRunsAreHistories, OksWithinChallenges, RepeatedResponsesAreRefused, OneResponseOneNonce, RefusalsLeaveOpen, PositionsAreUsedOnce, EqualMessagesAgree, NoShortExtensions, TakenVerifiersAreJudged, ShownProofsAreJudged, OneVerdictEach, OneAuditEach, RepeatedClientPositions, RepeatedServerPositions, RepeatedClientFindings, RepeatedServerFindings, ClientsLogIn, ServersLogIn, ServersWantMemory, ClientsWantMemory, ProfilesWantMemory};
+ghost use Rattle.fe2o3_sasl_core.specs.Laws.{EveryServer, EveryClient, OneServerHistory, OneClientHistory, SomeServerHistory, SomeClientHistory, AcceptorRunsAreHistories, AcceptorRunsNameUsers, AgreedUsersAreNamed, ProfileRunsAreHistories, KeyedRunsAreRuns, KeyedRunsAreHistories, OksWithinChallenges, RepeatedResponsesAreRefused, OneResponseOneNonce, RefusalsLeaveOpen, PositionsAreUsedOnce, EqualMessagesAgree, NoShortExtensions, OneStrictSideIsEnough, EqualMessagesBindOneChannel, TakenVerifiersAreJudged, ShownProofsAreJudged, OneVerdictEach, OneAuditEach, RepeatedClientPositions, RepeatedServerPositions, RepeatedClientFindings, RepeatedServerFindings, ClientsLogIn, ServersLogIn, ServersWantMemory, ClientsWantMemory, ProfilesWantMemory};
 
 use fe2o3_sasl_core::any_mechanism::HasMechanism;
 pub use fe2o3_scram::laws::{
@@ -28,7 +28,7 @@ pub use fe2o3_scram::laws::{
 /// answered last; and if that verifier is one that a server issued, both agree on user name and client nonce, or their
 /// own differing AuthMessages share one HMAC value. If the init had two parts, or one side received no attribute of RFC
 /// 5802 in the place of an extension, they also agree on full nonce, salt and count, and in the second case on the
-/// header.
+/// header and on the data of the channel.
 pub fn headline()
     ensures server { EveryServer AnswersOkExactly }
     ensures client { EveryClient ReportsOkExactly }
@@ -159,6 +159,22 @@ pub fn equal_messages()
     ensures no_short_extensions { NoShortExtensions }
 {}
 
+/// One strict side is enough. Where the client or the server is strict (`SaslScram::strict`,
+/// `ScramAuthenticator::strict`), as each is that binds a channel, one of them received no attribute of RFC 5802 in the
+/// place of an extension. So `Agree` speaks of the header, the data of the channel, the full nonce, salt and count too,
+/// whatever the other side is.
+pub fn strict_sides()
+    ensures { OneStrictSideIsEnough }
+{}
+
+/// Channel binding (RFC 5802, section 6). Where a client has a channel (`SaslScram::with_channel`), the server takes no
+/// `y,,` and one of them is strict, as each is that binds a channel, equal AuthMessages of an answer and of an accepted
+/// response mean one channel: of one kind, with the same data. So where `verdicts` says that the sides agree, nobody
+/// has two channels between them, whatever mechanisms the client was offered.
+pub fn bound_channels()
+    ensures { EqualMessagesBindOneChannel }
+{}
+
 /// Each verifier that a client took and a server issued, and each proof that it showed and a server
 /// accepted, has one verdict: the sides agree, or their own texts or keys collide, or, for a proof, the
 /// client's key was another.
@@ -193,7 +209,8 @@ pub fn repeated_findings()
 /// - no body is altered on the way, no allocation fails, and no frame is too large;
 /// - its secret opens the server's record: a password that is printable ASCII or was passed as prepared, the keys of
 ///   the record's password, salt and count, or such a password beside stale keys;
-/// - the count is from 1 on and within the client's limits.
+/// - the count is from 1 on and within the client's limits;
+/// - the server accepts the client's GS2 header, and expects the channel that the client binds, if any.
 ///
 /// An audit of it has exactly two findings, and in both the sides agree.
 pub fn unaltered_runs()

@@ -1,8 +1,8 @@
 //! Events, steps, whole runs, and the audit of two of them, under one name.
 
 pub use crate::audit::{
-    AuditError, Finding, FindingKind, Parameters, Verdict, audit, audit_limited,
-    audit_with_cbind_flag_y, audit_with_signature_by_challenge,
+    AuditError, Finding, FindingKind, Parameters, Verdict, audit, audit_limited, audit_with_rules,
+    audit_with_signature_by_challenge,
 };
 pub use fe2o3_sasl_core::events::{ClientReply, Event, EventError, ServerReply};
 pub use fe2o3_sasl_core::steps::{
@@ -11,6 +11,5 @@ pub use fe2o3_sasl_core::steps::{
 };
 pub use fe2o3_sasl_core::whole_runs::{
     run_acceptor, run_profile, scram_client_run, scram_client_run_limited,
-    scram_client_run_with_signature_by_challenge, scram_server_run,
-    scram_server_run_with_cbind_flag_y,
+    scram_client_run_with_signature_by_challenge, scram_server_run, scram_server_run_with_rules,
 };

@@ -4,6 +4,8 @@ use Rattle.std.specs.Prelude.{◌≢◌, ℕ, Some, None, List, [], ◌∷◌, �
 use Rattle.fe2o3_sasl_wire.specs.declared.amqp_types.SaslCode.TheVariants as outcomes
 use Rattle.fe2o3_sasl_wire.specs.SaslFrames.{canonical, SaslFrame}
 use Rattle.fe2o3_sasl_wire.specs.SaslFrames as frames
+use Rattle.fe2o3_scram.specs.ClientFirst.{default_rules}
+use Rattle.fe2o3_scram.specs.declared.scram_messages.client_channel.ClientChannel.TheVariants.{Absent}
 use Rattle.fe2o3_scram.specs.declared.hmac.ScramVersion.TheVariants.{Sha256}
 use Rattle.fe2o3_scram.specs.Texts.{base64_text, joined}
 use Rattle.fe2o3_scram.specs.ClientSecret.{Password, no_limit, up_to}
@@ -51,6 +53,8 @@ login = record {
   secret = Password (Typed (codes "pencil"));
   version = Sha256;
   limits = up_to no_limit;
+  channel = Absent;
+  strict = false;
   signature_by_challenge = false;
   hostname = None;
 }
@@ -61,7 +65,7 @@ stored = record_of Sha256 (codes "pencil") salt 4096
 
 -- a provider with only that record
 abbrev pub provider : Provider
-provider = serving false (record { version = Sha256; records = (codes "user", stored) ∷ [] })
+provider = serving default_rules (record { version = Sha256; records = (codes "user", stored) ∷ [] })
 
 -- ---- messages
 

@@ -6,8 +6,8 @@ use Rattle.fe2o3_sasl_wire.specs.declared.amqp_types.SaslCode.TheVariants as out
 use Rattle.fe2o3_sasl_wire.specs.declared.sasl_frames.error.Error.{Error}
 use Rattle.fe2o3_sasl_wire.specs.SaslFrames as frames
 use Rattle.fe2o3_sasl_wire.specs.SaslFrames.{SaslFrame}
+use Rattle.fe2o3_scram.specs.ChannelBinding.{server_mechanism}
 use Rattle.fe2o3_scram.specs.Credentials.{Provider}
-use Rattle.fe2o3_scram.specs.Hmac.{mechanism_name}
 use Rattle.fe2o3_scram.specs.ScramClient as client_states
 use Rattle.fe2o3_scram.specs.ScramClient.{ClientSide}
 use Rattle.fe2o3_scram.specs.ScramServer as server_states
@@ -25,7 +25,7 @@ abbrev pub AcceptorsAskForNone : Type 0
 AcceptorsAskForNone = ((provider : Provider) (state : ServerState) (text : List ℕ) (hostname : Option (List ℕ))
     → ¬ acceptor_allocates (ScramAcceptor provider state) (frames.Init (codes "PLAIN") (Some text) hostname))
     × ((provider : Provider) (state : ServerState) (hostname : Option (List ℕ)) → ¬ acceptor_allocates
-    (ScramAcceptor provider state) (frames.Init (mechanism_name provider.version) None hostname))
+    (ScramAcceptor provider state) (frames.Init (server_mechanism provider.version provider.rules) None hostname))
     × ((provider : Provider) (text : List ℕ)
     → ¬ acceptor_allocates (ScramAcceptor provider server_states.Initial) (frames.Response text))
     × ((provider : Provider) (user text : List ℕ)

@@ -7,7 +7,7 @@ use Rattle.fe2o3_sasl_wire.specs.SaslFrames as frames
 use Rattle.fe2o3_scram.specs.ClientKeys.{ClientKeys, keys_of}
 use Rattle.fe2o3_scram.specs.ServerFirst.{ServerFirst, ReadsServerFirst}
 use Rattle.fe2o3_scram.specs.Texts.{Part, base64_text}
-use Rattle.fe2o3_sasl_core.specs.ClientHistory.{is_start, is_answer, ends_answer}
+use Rattle.fe2o3_sasl_core.specs.ClientHistory.{is_start, is_answer, ends_answer, client_at}
 use Rattle.fe2o3_sasl.specs.declared.audit.client_receipts.Last.{Last}
 use Rattle.fe2o3_sasl.specs.declared.audit.client_receipts.Words.{Words}
 use Rattle.fe2o3_sasl_core.specs.Events.{Given, Login, ClientSays, Started, Answered, Reported, Refused}
@@ -32,7 +32,8 @@ pub record ClientSoFar (login : Login) (events : List Given) (replies : List Cli
 abbrev pub ShownFor : Login → ℕ → List ℕ → List ℕ → ClientReceipt → Type 0
 ShownFor login place nonce body receipt =
     (text : List ℕ) × (first : ServerFirst) × SpellsBody body (Ok (frames.Challenge text)) × IsUtf8 text
-    × ReadsServerFirst (base64_text nonce) login.secret login.limits text (Ok first) × (receipt.place ≡ place)
+    × ReadsServerFirst (client_at login (base64_text nonce)) text (Ok first)
+    × (receipt.place ≡ place)
     × (receipt.shown ≡ proof_at login (record { nonce = base64_text nonce; text = text; first = first }))
     × OfAnswer login (record { nonce = base64_text nonce; text = text; first = first }) receipt
 

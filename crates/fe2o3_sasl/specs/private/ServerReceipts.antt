@@ -45,7 +45,7 @@ pub record OpenedFor (provider : Provider) (init : Given) (challenge : Challengi
   pub text : List ℕ
   pub hostname : Option (List ℕ)
   pub spells : SpellsBody init.body (Ok (frames.Init mechanism (Some text) hostname))
-  pub reads : ReadsClientFirst provider.cbind_flag_y text (Ok challenge.client)
+  pub reads : ReadsClientFirst provider.rules text (Ok challenge.client)
   pub known : provider.records challenge.client.user ≡ Some challenge.stored
   pub nonce : challenge.nonce ≡ base64_text init.nonce
 

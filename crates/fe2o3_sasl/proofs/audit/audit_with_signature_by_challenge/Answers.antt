@@ -14,7 +14,7 @@ returns g c =
     let login : Login = accepting c.args.signature_by_challenge
     (login_of c.args.version c.args.user.now c.args.password.now c.args.limit) in
     let provider : Provider =
-    serving c.args.accept_cbind_flag_y (g.C.ScramCredentialProvider.meaning c.args.credentials.now) in
+    serving c.args.rules (g.C.ScramCredentialProvider.meaning c.args.credentials.now) in
     let inputs = map given c.args.client_events.now in
     let others = map given c.args.server_events.now in
     let shown = c.in_ok-client.client.shown.items in

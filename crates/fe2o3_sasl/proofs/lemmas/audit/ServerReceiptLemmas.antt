@@ -5,8 +5,9 @@ use Rattle.std.proofs.lemmas.Option.{same_Some}
 use Rattle.fe2o3_sasl_wire.specs.declared.amqp_types.SaslCode.TheVariants as outcomes
 use Rattle.fe2o3_sasl_wire.specs.SaslFrames as frames
 use Rattle.fe2o3_sasl_wire.specs.SaslFrames.{SaslFrame}
+use Rattle.fe2o3_scram.specs.declared.scram_messages.server_rules.ServerRules.{ServerRules}
 use Rattle.fe2o3_scram.specs.ClientFinal.{ClientFinal, HasProof, ReadsFinalText}
-use Rattle.fe2o3_scram.specs.declared.scram_messages.channel_binding_flag.ChannelBindingFlag.{ChannelBindingFlag}
+use Rattle.fe2o3_scram.specs.declared.scram_messages.client_channel.ClientChannel.{ClientChannel}
 use Rattle.fe2o3_scram.specs.ClientFirst.{ClientFirst, ReadsClientFirst}
 use Rattle.fe2o3_scram.specs.Credentials.{Provider, Record, Store, serving}
 use Rattle.fe2o3_scram.specs.ServerFirst.{ServerChallenge, challenge_of, AnswersClientFirst}
@@ -40,35 +41,34 @@ HasParts-length text n has =
 -- what is answered to a message that was read, where this is the record of its user
 pub challenge_again : (provider : Provider) (nonce text : List ℕ) (challenge : ServerChallenge) (client : ClientFirst)
     (stored : Record) → AnswersClientFirst provider nonce text (Ok (Some challenge))
-    → ReadsClientFirst provider.cbind_flag_y text (Ok client) → Some stored ≡ provider.records client.user
+    → ReadsClientFirst provider.rules text (Ok client) → Some stored ≡ provider.records client.user
     → challenge ≡ challenge_of client nonce stored
 challenge_again provider nonce text challenge client stored answers reads known =
-    let one = one_client_first_value provider.cbind_flag_y text answers.0 client answers.2 reads in
+    let one = one_client_first_value provider.rules text answers.0 client answers.2 reads in
     let same = same_Some answers.1 stored
     (sym answers.3 ∙ (ap (λ (first : ClientFirst). provider.records first.user) one ∙ sym known)) in
     answers.4 ∙ (λ i. challenge_of (one i) nonce (same i))
 
-pub proof_again : (header : ChannelBindingFlag) (nonce text : List ℕ) (final : ClientFinal)
-    → ReadsFinalText header nonce text (Ok final) → HasProof text final
-proof_again header nonce text final reads = (names_final_text header nonce text final reads).proof
+pub proof_again : (channel : ClientChannel) (strict : Bool) (nonce text : List ℕ) (final : ClientFinal)
+    → ReadsFinalText channel strict nonce text (Ok final) → HasProof text final
+proof_again channel strict nonce text final reads = (names_final_text channel strict nonce text final reads).proof
 
--- the receipt of an accepted response, whatever GS2 headers the server takes
-pub receipt_for : {R E : Type 0} (view : R → ServerReceipt) (store : Store) (position : ℕ) (challenge : Challenging)
-    (body text : List ℕ) (final : ClientFinal) (result : Result R E) → SpellsBody body (Ok (frames.Response text))
-    → HasProof text final → IfOk result (λ receipt. (view receipt).place ≡ position)
-    → IfOk result (λ receipt. (cbind_flag_y : Bool)
-    → OfAccepted (serving cbind_flag_y store) (record { challenge = challenge; final = final }) (view receipt))
-    → IfOk result (λ receipt. (cbind_flag_y : Bool)
-    → OkFor (serving cbind_flag_y store) position challenge body (view receipt))
-receipt_for view store position challenge body text final (Ok receipt) spells has is accepted = λ cbind_flag_y. record {
+-- the receipt of an accepted response
+pub receipt_for : {R E : Type 0} (view : R → ServerReceipt) (store : Store) (rules : ServerRules) (position : ℕ)
+    (challenge : Challenging) (body text : List ℕ) (final : ClientFinal) (result : Result R E)
+    → SpellsBody body (Ok (frames.Response text)) → HasProof text final
+    → IfOk result (λ receipt. (view receipt).place ≡ position) → IfOk result (λ receipt. (others : ServerRules)
+    → OfAccepted (serving others store) (record { challenge = challenge; final = final }) (view receipt))
+    → IfOk result (λ receipt. OkFor (serving rules store) position challenge body (view receipt))
+receipt_for view store rules position challenge body text final (Ok receipt) spells has is accepted = record {
   place = is;
   text = text;
   final = final;
   spells = spells;
   proof = has;
-  accepted = accepted cbind_flag_y;
+  accepted = accepted rules;
 }
-receipt_for view store position challenge body text final (Err fault) spells has is accepted = tt
+receipt_for view store rules position challenge body text final (Err fault) spells has is accepted = tt
 
 -- a challenge that is made again is the one that fitted
 same_init : (provider : Provider) (init : Given) (frame : SaslFrame) (challenge opened : Challenging)

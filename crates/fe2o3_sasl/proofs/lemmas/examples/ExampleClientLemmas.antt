@@ -47,7 +47,8 @@ none_may_sign some IsOpen unsigned answer may = absurd (true≢false (sym may.0 
 refuses : (some : Login) (events : List Given) (replies : List ClientSays) (k : ℕ) (bytes : List ℕ)
     (kind : ScramErrorKind) → some.signature_by_challenge ≡ false → length bytes ≡ 32
     → IsDue events replies k client_nonce
-    → ReadsServerFirst client_nonce some.secret some.limits (joined (salted bytes both)) (Err kind)
+    → ReadsServerFirst (client_of client_nonce some.secret some.limits some.channel some.strict)
+    (joined (salted bytes both)) (Err kind)
     → SaysAt some events replies k (asks bytes) (Refused (scram_fault kind))
 refuses some events replies k bytes kind unsigned long due reads =
     let utf8 = utf8_joined (salted bytes both) (plain_salted bytes both plain_both) in (
@@ -63,7 +64,8 @@ refuses some events replies k bytes kind unsigned long due reads =
 
 module _ (some : Login) (unsigned : some.signature_by_challenge ≡ false)
     (one : answer_at some made ≡ answer_at login made)
-    (reads : ReadsServerFirst client_nonce some.secret some.limits made.text (Ok made.first)) where
+    (reads : ReadsServerFirst (client_of client_nonce some.secret some.limits some.channel some.strict) made.text
+    (Ok made.first)) where
   -- its reading of the challenge, where that is due
   challenge_read : (events : List Given) (replies : List ClientSays) (k : ℕ) → IsDue events replies k client_nonce
       → ReadsChallenge some (IsDue events replies k) made.text (Ok made)
@@ -108,14 +110,16 @@ module _ (some : Login) (unsigned : some.signature_by_challenge ≡ false)
 
 -- ---- keys in place of the password
 
-keys_read : ReadsServerFirst client_nonce with_keys.secret with_keys.limits made.text (Ok made.first)
+keys_read : ReadsServerFirst (client_of client_nonce with_keys.secret with_keys.limits with_keys.channel with_keys.strict)
+    made.text (Ok made.first)
 keys_read =
     let named = names_salted salt salt_bytes both server_nonce [] refl plain_both tt in
-    values_read (client_of client_nonce with_keys.secret with_keys.limits) made.text made.first
+    values_read (client_of client_nonce with_keys.secret with_keys.limits with_keys.channel with_keys.strict) made.text
+    made.first
     (nonce_passes salt salt_bytes both server_nonce [] refl plain_both tt)
     (salt_passes salt salt_bytes both server_nonce [] refl plain_both tt)
     (count_passes salt salt_bytes both server_nonce [] refl plain_both tt with_keys.limits (omega arith) (omega arith))
-    (λ other. other (named.salt, named.count), tt) named
+    (λ wrong. wrong.0) (λ other. other (named.salt, named.count), tt) named
 
 -- it starts as the client with the password does
 keys_start : (events : List Given) (replies : List ClientSays)
@@ -141,18 +145,19 @@ keys_log_in =
 other_bytes : IsBytes other_salt
 other_bytes = IsBytes-replicate 32 4 (omega arith)
 
-others_refused : ReadsServerFirst client_nonce with_keys.secret with_keys.limits (joined (salted other_salt both))
-    (Err NamesStaleKeys)
+others_refused : ReadsServerFirst (client_of client_nonce with_keys.secret with_keys.limits with_keys.channel with_keys.strict)
+    (joined (salted other_salt both)) (Err NamesStaleKeys)
 others_refused =
     let text = joined (salted other_salt both) in
     let named = names_salted other_salt other_bytes both server_nonce [] refl plain_both tt in
     let apart : ¬ (other_salt ≡ salt) = λ same. absurd (cc) in
-    secret_refused (client_of client_nonce with_keys.secret with_keys.limits) text NamesStaleKeys
+    secret_refused (client_of client_nonce with_keys.secret with_keys.limits with_keys.channel with_keys.strict) text
+    NamesStaleKeys
     (nonce_passes other_salt other_bytes both server_nonce [] refl plain_both tt)
     (salt_passes other_salt other_bytes both server_nonce [] refl plain_both tt)
     (count_passes other_salt other_bytes both server_nonce [] refl plain_both tt with_keys.limits (omega arith)
     (omega arith))
-    (inl (λ has. apart (one_has_salt text other_salt salt named.salt has.0), refl))
+    (λ wrong. wrong.0) (inl (λ has. apart (one_has_salt text other_salt salt named.salt has.0), refl))
 
 pub stale_keys_log_in_later : StaleKeysLogInLater
 stale_keys_log_in_later =

@@ -55,6 +55,8 @@ run = record {
 holds : HoldsLogin (sides_with unaltered) (codes "pencil") salt 4096
 holds = record {
   version = refl;
+  header = tt;
+  channel = refl;
   stored = refl;
   bytes = IsBytes-replicate 32 3 (omega arith);
   opens = (refl, password_printable);
@@ -161,7 +163,8 @@ not_either (inr none) = misplaced none
 agree : Agree login (sides_with shifted).provider (answer_to shifted) (accepted_with shifted)
 agree = record {
   version = refl;
-  header = λ none. refl;
+  header = λ bytes none. refl;
+  channel = λ bytes none. refl;
   user = refl;
   nonce = refl;
   full_nonce = λ either. absurd (not_either either);

@@ -159,7 +159,7 @@ module _ (added : Added) (is : PassesUnseen added) where
   response_fits : FitsAsResponse provider (Open provider events replies 1) response accepted
   response_fits = (
     open_one,
-    reads_final added.response is.response proof (server_at provider accepted.challenge) refl refl
+    reads_final added.response is.response proof (server_at provider accepted.challenge) refl refl refl
         (IsBytes-proof text nonce) (length-proof text nonce)
         (proof_meets text nonce (server_message accepted) is.message),
   )

@@ -1,6 +1,6 @@
 -- Worked examples of frames at which no memory is asked for.
 use Rattle.std.proofs.Common.{◌≡◌, ℕ, Bool, true, false, true≢false, Option, None, List, [], ◌∷◌, sym, ◌∙◌, subst, arith, inl, inr, Ok}
-use Rattle.std.specs.Prelude.{◌&&◌}
+use Rattle.std.specs.Prelude.{◌&&◌, is_some}
 use Rattle.std.specs.List.{Contains}
 use Rattle.std.specs.Str.{IsUtf8, is_utf8, chars}
 use Rattle.std.proofs.lemmas.Str.{is_utf8-from_IsUtf8}
@@ -53,7 +53,7 @@ no_signature state reaches = reaches
 
 pub acceptors_ask_for_none : AcceptorsAskForNone
 acceptors_ask_for_none = (
-  λ provider state text hostname asks. (other_name provider.version).0 (sym asks.0),
+  λ provider state text hostname asks. (other_name provider.version (is_some provider.rules.channels)).0 (sym asks.0),
   λ provider state hostname asks. asks,
   λ provider text asks. asks,
   λ provider user text asks. asks,

@@ -1,4 +1,5 @@
 -- How the messages of the worked examples are read.
+use Rattle.std.specs.Prelude.{T, false}
 use Rattle.std.proofs.Common.{◌≡◌, ◌≤◌, ℕ, List, [], ◌∷◌, ◌++◌, length, refl, sym, ◌∙◌, ap, subst, arith, codes, Ok, false}
 use Rattle.std.specs.List.{AllByRecursion}
 use Rattle.std.specs.Str.{IsUtf8}
@@ -6,11 +7,13 @@ use Rattle.std.proofs.lemmas.List.Elements.{All-from_recursion}
 use Rattle.std.proofs.lemmas.Option.{none-some}
 use Rattle.std.proofs.lemmas.Str.{IsUtf8-append}
 use Rattle.base64.specs.GeneralPurpose.{IsBytes}
+use Rattle.fe2o3_scram.specs.ClientFirst.{default_rules}
 use Rattle.fe2o3_scram.specs.declared.hmac.ScramVersion.TheVariants.{Sha256}
 use Rattle.fe2o3_scram.specs.Texts.{base64_text, IsCount, Parts, Part, joined, HasBase64}
 use Rattle.fe2o3_scram.specs.ClientFinal.{HasProof, Meets, ReadsClientFinal, Server, without_proof}
-use Rattle.fe2o3_scram.specs.ClientFirst as client_first
-use Rattle.fe2o3_scram.specs.declared.scram_messages.channel_binding_flag.ChannelBindingFlag.{ChannelBindingFlag}
+use Rattle.fe2o3_scram.specs.ChannelBinding.{cbind_input}
+use Rattle.fe2o3_scram.specs.declared.scram_messages.client_channel.ClientChannel.{ClientChannel}
+use Rattle.fe2o3_scram.specs.declared.scram_messages.client_channel.ClientChannel.TheVariants.{Absent}
 use Rattle.fe2o3_scram.specs.declared.scram_messages.channel_binding_flag.ChannelBindingFlag.TheVariants.{NotSupported}
 use Rattle.fe2o3_scram.specs.ClientFirst.{ReadsClientFirst}
 use Rattle.fe2o3_sasl_core.specs.ClientHistory.{answer_at}
@@ -28,9 +31,9 @@ use Rattle.fe2o3_sasl_core.specs.ServerHistory.{first_message}
 use Rattle.fe2o3_sasl_core.specs.TwoSides.{keys_at, proof_at, client_message}
 use Rattle.fe2o3_scram.proofs.lemmas.texts.AsciiLemmas.{IsUtf8-literal}
 use Rattle.fe2o3_scram.proofs.lemmas.messages.ClientFirstLemmas.{named}
-use Rattle.fe2o3_scram.proofs.lemmas.hashes.DigestLemmas.{length-hmac_of, IsBytes-digest, IsBytes-hmac_of}
+use Rattle.fe2o3_scram.proofs.lemmas.hashes.DigestLemmas.{length-hmac_of, IsBytes-digest, IsBytes-hmac_of, IsBytes-literal, IsBytes-nil}
 use Rattle.fe2o3_sasl.proofs.lemmas.examples.ExampleTextLemmas.{Plain, plain-literal, plain-append, plain-base64_text, parts_joined, utf8_joined, joined-append, header_text, user_text, count_text, IsBytes-replicate}
-use Rattle.fe2o3_scram.proofs.lemmas.messages.ExchangeLemmas.{IsBytes-literal, IsBytes-exclusive_or, length-exclusive_or, exclusive_or-back, IsCount-decimal, not_extended, final_read, reads_signature}
+use Rattle.fe2o3_scram.proofs.lemmas.messages.ExchangeLemmas.{IsBytes-exclusive_or, length-exclusive_or, exclusive_or-back, IsCount-decimal, not_extended, final_read, reads_signature}
 use Rattle.fe2o3_scram.proofs.lemmas.messages.ServerFirstLemmas.{values_read, same_nonce, not_too_small, not_too_large}
 use Rattle.fe2o3_sasl_core.proofs.lemmas.lists.EachLemmas.{each_append}
 use Rattle.fe2o3_scram.specs.private.Tests.{salt_tests, count_tests}
@@ -41,6 +44,7 @@ pub is_login : IsLogin login
 is_login = record {
   user = IsUtf8-literal (codes "user") refl;
   limit = omega arith;
+  channel = IsBytes-nil;
   hostname = λ host is. absurd (none-some host is);
 }
 
@@ -88,15 +92,15 @@ plain_binds nonce plain = (plain-literal (codes "c=biws") refl refl, (plain_nonc
 -- ---- the client-first message, with more parts after the nonce
 
 pub reads_names : (user : List ℕ) (more : List (List ℕ)) → escaped user ≡ user → Plain user → AllByRecursion Plain more
-    → ReadsClientFirst false (codes "n,," ++ joined (names user ++ more))
+    → ReadsClientFirst default_rules (codes "n,," ++ joined (names user ++ more))
     (Ok (record { header = NotSupported; user = user; nonce = client_nonce; bare = joined (names user ++ more) }))
 reads_names user more sent plain too =
     let all = each_append Plain (names user) more (plain_names user plain) too in
     let parts = parts_joined (codes "n=" ++ user) ((codes "r=" ++ client_nonce) ∷ more) all in
-    named false NotSupported (codes "n,," ++ joined (names user ++ more)) (joined (names user ++ more))
+    named default_rules NotSupported (codes "n,," ++ joined (names user ++ more)) (joined (names user ++ more))
     (IsUtf8-append (codes "n,,") (joined (names user ++ more)) (IsUtf8-literal (codes "n,,") refl)
     (utf8_joined (names user ++ more) all)) tt refl user user client_nonce
-    (names user ++ more, parts, refl) sent (names user ++ more, parts, refl)
+    (names user ++ more, parts, refl) sent (names user ++ more, parts, refl) (λ wrong. wrong.0)
 
 -- ---- the server-first message, with more parts after the count
 
@@ -173,14 +177,15 @@ module _ (bytes : List ℕ) (is : IsBytes bytes) (nonce rest : List ℕ) (more :
 
 pub reads_values : (nonce rest : List ℕ) (more : List (List ℕ)) → nonce ≡ client_nonce ++ rest → Plain nonce
     → AllByRecursion Plain more
-    → ReadsServerFirst client_nonce login.secret login.limits (joined (values nonce ++ more))
-    (Ok (answering (joined (values nonce ++ more)) nonce).first)
+    → ReadsServerFirst (client_of client_nonce login.secret login.limits login.channel login.strict)
+    (joined (values nonce ++ more)) (Ok (answering (joined (values nonce ++ more)) nonce).first)
 reads_values nonce rest more begins plain too =
-    values_read (client_of client_nonce login.secret login.limits) (joined (values nonce ++ more)) _
+    values_read (client_of client_nonce login.secret login.limits login.channel login.strict)
+    (joined (values nonce ++ more)) _
     (nonce_passes salt salt_bytes nonce rest more begins plain too)
     (salt_passes salt salt_bytes nonce rest more begins plain too)
     (count_passes salt salt_bytes nonce rest more begins plain too login.limits (omega arith) (omega arith))
-    (λ un. un password_printable, tt) (names_salted salt salt_bytes nonce rest more begins plain too)
+    (λ wrong. wrong.0) (λ un. un password_printable, tt) (names_salted salt salt_bytes nonce rest more begins plain too)
 
 -- ---- the AuthMessage
 
@@ -290,18 +295,19 @@ module _ (more : List (List ℕ)) (too : AllByRecursion Plain more) (proof : Lis
       (record { without = joined (binds both ++ more); proof = proof })
   has_final bytes = (bytes, (plain_last.0, refl))
 
-  pub reads_final : (server : Server) → NotSupported ≡ server.header → server.nonce ≡ both → IsBytes proof
+  pub reads_final : (server : Server) → Absent ≡ server.channel → server.strict ≡ false → server.nonce ≡ both
+      → IsBytes proof
       → length proof ≡ digest_len server.version
       → Meets server (record { without = joined (binds both ++ more); proof = proof })
       → ReadsClientFinal server (final_text more proof) (Ok
       (record { without = joined (binds both ++ more); proof = proof }))
-  reads_final server header same bytes sized meets =
+  reads_final server channel lax same bytes sized meets =
       let text = final_text more proof in
       let binding : Part text 0 (codes "c=" ++ codes "biws") = (parts, final_parts, refl) in
       let nonce : Part text 1 (codes "r=" ++ both) = (parts, final_parts, refl) in
       final_read server text (record { without = joined (binds both ++ more); proof = proof }) utf8_final
       (record {
-        binding = subst (λ (own : ChannelBindingFlag). HasBase64 text 0 (codes "c=") (client_first.header_text own)) header (
+        binding = subst (λ (own : ClientChannel). HasBase64 text 0 (codes "c=") (cbind_input own)) channel (
           IsBytes-literal (codes "n,,") refl,
           subst
               (λ (spelling : List ℕ). Part text 0 (codes "c=" ++ spelling)) (sym header_text) binding,
@@ -311,3 +317,4 @@ module _ (more : List (List ℕ)) (too : AllByRecursion Plain more) (proof : Lis
         sized = sized;
         meets = meets;
       })
+      (λ wrong. subst T lax wrong.0)

@@ -6,6 +6,7 @@ use Rattle.fe2o3_sasl_wire.specs.declared.amqp_types.SaslCode.TheVariants as out
 use Rattle.fe2o3_sasl_wire.specs.declared.sasl_frames.error.Error.{Error}
 use Rattle.fe2o3_sasl_wire.specs.SaslFrames.{canonical, SaslFrame}
 use Rattle.fe2o3_sasl_wire.specs.SaslFrames as frames
+use Rattle.fe2o3_scram.specs.declared.scram_messages.client_channel.ClientChannel.{ClientChannel}
 use Rattle.fe2o3_scram.specs.declared.client_secret.IterationLimits.{IterationLimits}
 use Rattle.fe2o3_scram.specs.declared.hmac.ScramVersion.{ScramVersion}
 use Rattle.fe2o3_scram.specs.declared.scram_messages.error.ScramErrorKind.{ScramErrorKind}
@@ -26,8 +27,8 @@ use Rattle.fe2o3_sasl_core.proofs.lemmas.machines.ClientMachineLemmas.{profile_r
 use Rattle.fe2o3_sasl_core.specs.declared.sasl_profile.error.ProfileError.{ProfileError}
 use Rattle.fe2o3_sasl_core.specs.declared.sasl_profile.error.ProfileError.TheVariants.{StaleKeys}
 
-module _ (user : List ℕ) (limits : IterationLimits) (accept : Bool) (keys : ClientKeys) (password : PasswordText)
-    (normal : IsNormal password) (are : AreKeysOf keys (password_bytes password)) where
+module _ (user : List ℕ) (limits : IterationLimits) (channel : ClientChannel) (strict accept : Bool) (keys : ClientKeys)
+    (password : PasswordText) (normal : IsNormal password) (are : AreKeysOf keys (password_bytes password)) where
   -- the client with this secret, and the two profiles
   abbrev side : Secret → ClientState → ClientSide
   side secret state = record {
@@ -35,6 +36,8 @@ module _ (user : List ℕ) (limits : IterationLimits) (accept : Bool) (keys : Cl
     secret = secret;
     version = keys.version;
     limits = limits;
+    channel = channel;
+    strict = strict;
     signature_by_challenge = accept;
     state = state;
   }
@@ -61,10 +64,10 @@ module _ (user : List ℕ) (limits : IterationLimits) (accept : Bool) (keys : Cl
   answer_alike (ClientFirstSent nonce bare) own text (Ok message) next fit is = (
     ClientFinalSent is.0.signature (Some is.0.keys),
     is.3,
-    (is.0, keys_stand keys password nonce bare text limits (Ok is.0) normal are (λ e. cc) is.1, is.2, refl),
+    (is.0, keys_stand keys password nonce bare text limits channel strict (Ok is.0) normal are (λ e. cc) is.1, is.2, refl),
   )
   answer_alike (ClientFirstSent nonce bare) own text (Err fault) next fit is =
-      (own, is.1, (keys_stand keys password nonce bare text limits (Err fault) normal are other is.0, refl))
+      (own, is.1, (keys_stand keys password nonce bare text limits channel strict (Err fault) normal are other is.0, refl))
     where
       same_fault : ◌≡◌ {A = Result Answer ScramErrorKind} (Err fault) (Err kinds.StaleKeys) → fault ≡ kinds.StaleKeys
       same_fault e = cc
@@ -268,6 +271,8 @@ profile_by login version secret = ScramProfile (record {
   secret = secret;
   version = version;
   limits = login.limits;
+  channel = login.channel;
+  strict = login.strict;
   signature_by_challenge = login.signature_by_challenge;
   state = ClientInitial;
 })
@@ -278,8 +283,9 @@ keyed_runs_are_runs login keys password events replies last same normal are run 
     replies last → (after : Profile)
     × Runs (ProfileSteps login.hostname) (profile_by login version (Password password)) events replies after)
     same
-    (λ here. runs_alike login.user login.limits login.signature_by_challenge keys password normal are ClientInitial
-    login.hostname events replies last here fit) run
+    (λ here. runs_alike login.user login.limits login.channel login.strict login.signature_by_challenge keys password
+    normal are
+    ClientInitial login.hostname events replies last here fit) run
 
 pub keyed_runs_are_histories : KeyedRunsAreHistories
 keyed_runs_are_histories login keys password events replies last same normal are run fit =

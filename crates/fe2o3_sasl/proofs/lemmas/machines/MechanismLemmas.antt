@@ -1,13 +1,13 @@
 -- Acceptors and profiles of one mechanism find each other, and PLAIN and ANONYMOUS let in whom they should.
-use Rattle.std.proofs.Common.{◌≡◌, ◌≢◌, ℕ, zero, suc, false, true≢false, None, List, [], ◌∷◌, refl, sym, ap, ◌∙◌, subst, arith, codes, inl, inr}
-use Rattle.std.specs.Prelude.{nat_eq}
+use Rattle.std.proofs.Common.{◌≡◌, ◌≢◌, ℕ, zero, suc, Bool, true, false, true≢false, None, List, [], ◌∷◌, get_or, length, if◌then◌else◌, refl, sym, ap, ◌∙◌, subst, arith, codes, inl, inr}
+use Rattle.std.specs.Prelude.{is_some, nat_eq, nat_lt}
 use Rattle.std.specs.List.{Contains}
 use Rattle.std.specs.Cmp.Lexicographic.{pointwise}
 use Rattle.std.proofs.lemmas.Cmp.{nat_list_eq_equiv}
 use Rattle.fe2o3_scram.specs.declared.hmac.ScramVersion.{ScramVersion}
 use Rattle.fe2o3_scram.specs.declared.hmac.ScramVersion.TheVariants.{Sha1, Sha256, Sha512}
-use Rattle.fe2o3_scram.specs.Hmac.{mechanism_name}
-use Rattle.fe2o3_sasl_core.specs.MechanismLaws.{PlainLetsIn, PlainRefuses, AnonymousLetsIn, OffersAgree, SomethingIsOffered, NamesDiffer}
+use Rattle.fe2o3_scram.specs.ChannelBinding.{is_bound, mechanism_of, server_mechanism}
+use Rattle.fe2o3_sasl_core.specs.MechanismLaws.{PlainLetsIn, PlainRefuses, AnonymousLetsIn, OffersAgree, SomethingIsOffered, NamesDiffer, Differ}
 use Rattle.fe2o3_sasl_core.specs.SaslAcceptor.{ScramAcceptor, PlainAcceptor, AnonymousAcceptor}
 use Rattle.fe2o3_sasl_core.specs.Profiles.{ScramProfile, PlainProfile, AnonymousProfile, ExternalProfile, MessageProfile, AnonymousMessage, ExternalMessage, initial_response}
 use Rattle.fe2o3_sasl_wire.specs.SaslFrames as frames
@@ -28,42 +28,67 @@ pub the_one : (name other : List ℕ) → Contains (name ∷ []) other → name 
 the_one name other (zero, within, is) = is
 the_one name other (suc k, within, is) = absurd (omega (arith, within))
 
--- a name of SCRAM is only that of its version
-one_version : (version other : ScramVersion) → mechanism_name version ≡ mechanism_name other → other ≡ version
-one_version Sha1 Sha1 same = refl
-one_version Sha1 Sha256 same = absurd (differ _ _ refl same)
-one_version Sha1 Sha512 same = absurd (differ _ _ refl same)
-one_version Sha256 Sha1 same = absurd (differ _ _ refl same)
-one_version Sha256 Sha256 same = refl
-one_version Sha256 Sha512 same = absurd (differ _ _ refl same)
-one_version Sha512 Sha1 same = absurd (differ _ _ refl same)
-one_version Sha512 Sha256 same = absurd (differ _ _ refl same)
-one_version Sha512 Sha512 same = refl
+-- the version that a name of SCRAM tells: 49 and 50 are 1 and 2
+abbrev version_at : List ℕ → ScramVersion
+version_at name = if nat_eq (get_or name 10 0) 49 then Sha1 else (if nat_eq (get_or name 10 0) 50 then Sha256 else Sha512)
+
+-- and whether it is with channel binding: such a name has at least 16 characters, and any other at most 13
+abbrev bound_at : List ℕ → Bool
+bound_at name = nat_lt 13 (length name)
+
+version_read : (version : ScramVersion) (bound : Bool) → version_at (mechanism_of version bound) ≡ version
+version_read Sha1 true = refl
+version_read Sha1 false = refl
+version_read Sha256 true = refl
+version_read Sha256 false = refl
+version_read Sha512 true = refl
+version_read Sha512 false = refl
+
+bound_read : (version : ScramVersion) (bound : Bool) → bound_at (mechanism_of version bound) ≡ bound
+bound_read Sha1 true = refl
+bound_read Sha1 false = refl
+bound_read Sha256 true = refl
+bound_read Sha256 false = refl
+bound_read Sha512 true = refl
+bound_read Sha512 false = refl
+
+-- a name of SCRAM is only that of its version, with or without channel binding
+one_mechanism : (version other : ScramVersion) (bound too : Bool) → mechanism_of version bound ≡ mechanism_of other too
+    → (other ≡ version) × (too ≡ bound)
+one_mechanism version other bound too same = (
+  sym (version_read other too) ∙ (ap version_at (sym same) ∙ version_read version bound),
+  sym (bound_read other too) ∙ (ap bound_at (sym same) ∙ bound_read version bound),
+)
 
 -- and no other mechanism has it
-pub other_name : (version : ScramVersion) → (mechanism_name version ≢ codes "PLAIN")
-    × (mechanism_name version ≢ codes "ANONYMOUS") × (mechanism_name version ≢ codes "EXTERNAL")
-other_name Sha1 = (differ _ _ refl, differ _ _ refl, differ _ _ refl)
-other_name Sha256 = (differ _ _ refl, differ _ _ refl, differ _ _ refl)
-other_name Sha512 = (differ _ _ refl, differ _ _ refl, differ _ _ refl)
+pub other_name : (version : ScramVersion) (bound : Bool) → (mechanism_of version bound ≢ codes "PLAIN")
+    × (mechanism_of version bound ≢ codes "ANONYMOUS") × (mechanism_of version bound ≢ codes "EXTERNAL")
+other_name Sha1 true = (differ _ _ refl, differ _ _ refl, differ _ _ refl)
+other_name Sha1 false = (differ _ _ refl, differ _ _ refl, differ _ _ refl)
+other_name Sha256 true = (differ _ _ refl, differ _ _ refl, differ _ _ refl)
+other_name Sha256 false = (differ _ _ refl, differ _ _ refl, differ _ _ refl)
+other_name Sha512 true = (differ _ _ refl, differ _ _ refl, differ _ _ refl)
+other_name Sha512 false = (differ _ _ refl, differ _ _ refl, differ _ _ refl)
 
 pub offers_agree : OffersAgree
 offers_agree (ScramAcceptor provider state) (ScramProfile client) = (
-  λ has. one_version provider.version client.version (the_one _ _ has),
-  λ same. subst (Contains (mechanism_name provider.version ∷ [])) (ap mechanism_name (sym same)) (contains_one _),
+  λ has. one_mechanism provider.version client.version (is_some provider.rules.channels) (is_bound client.channel)
+      (the_one _ _ has),
+  λ same. subst (Contains (server_mechanism provider.version provider.rules ∷ []))
+      (λ i. mechanism_of (sym same.0 i) (sym same.1 i)) (contains_one _),
 )
 offers_agree (ScramAcceptor provider state) (PlainProfile user password) =
-    (λ has. absurd ((other_name provider.version).0 (the_one _ _ has)), λ same. absurd same)
+    (λ has. absurd ((other_name provider.version (is_some provider.rules.channels)).0 (the_one _ _ has)), λ same. absurd same)
 offers_agree (ScramAcceptor provider state) AnonymousProfile =
-    (λ has. absurd ((other_name provider.version).1 (the_one _ _ has)), λ same. absurd same)
+    (λ has. absurd ((other_name provider.version (is_some provider.rules.channels)).1 (the_one _ _ has)), λ same. absurd same)
 offers_agree (ScramAcceptor provider state) ExternalProfile =
-    (λ has. absurd ((other_name provider.version).2 (the_one _ _ has)), λ same. absurd same)
+    (λ has. absurd ((other_name provider.version (is_some provider.rules.channels)).2 (the_one _ _ has)), λ same. absurd same)
 offers_agree (ScramAcceptor provider state) (MessageProfile AnonymousMessage message is_due) =
-    (λ has. absurd ((other_name provider.version).1 (the_one _ _ has)), λ same. absurd same)
+    (λ has. absurd ((other_name provider.version (is_some provider.rules.channels)).1 (the_one _ _ has)), λ same. absurd same)
 offers_agree (ScramAcceptor provider state) (MessageProfile ExternalMessage message is_due) =
-    (λ has. absurd ((other_name provider.version).2 (the_one _ _ has)), λ same. absurd same)
+    (λ has. absurd ((other_name provider.version (is_some provider.rules.channels)).2 (the_one _ _ has)), λ same. absurd same)
 offers_agree (PlainAcceptor user password accepted) (ScramProfile client) =
-    (λ has. absurd ((other_name client.version).0 (sym (the_one _ _ has))), λ same. absurd same)
+    (λ has. absurd ((other_name client.version (is_bound client.channel)).0 (sym (the_one _ _ has))), λ same. absurd same)
 offers_agree (PlainAcceptor user password accepted) (PlainProfile other secret) = (λ has. tt, λ same. contains_one _)
 offers_agree (PlainAcceptor user password accepted) AnonymousProfile =
     (λ has. absurd (differ _ _ refl (the_one _ _ has)), λ same. absurd same)
@@ -74,7 +99,7 @@ offers_agree (PlainAcceptor user password accepted) (MessageProfile AnonymousMes
 offers_agree (PlainAcceptor user password accepted) (MessageProfile ExternalMessage message is_due) =
     (λ has. absurd (differ _ _ refl (the_one _ _ has)), λ same. absurd same)
 offers_agree AnonymousAcceptor (ScramProfile client) =
-    (λ has. absurd ((other_name client.version).1 (sym (the_one _ _ has))), λ same. absurd same)
+    (λ has. absurd ((other_name client.version (is_bound client.channel)).1 (sym (the_one _ _ has))), λ same. absurd same)
 offers_agree AnonymousAcceptor (PlainProfile user password) =
     (λ has. absurd (differ _ _ refl (the_one _ _ has)), λ same. absurd same)
 offers_agree AnonymousAcceptor AnonymousProfile = (λ has. tt, λ same. contains_one _)
@@ -89,18 +114,35 @@ pub something_is_offered : SomethingIsOffered
 something_is_offered [] = (λ e. absurd (cc), λ some. absurd (some refl))
 something_is_offered (name ∷ names) = (λ e. absurd (cc), λ some. refl)
 
+-- the names of the six profiles, with or without channel binding
+abbrev six_names : Bool → List (List ℕ)
+six_names bound = mechanism_of Sha1 bound ∷ mechanism_of Sha256 bound ∷ mechanism_of Sha512 bound ∷ codes "PLAIN"
+    ∷ codes "ANONYMOUS" ∷ codes "EXTERNAL" ∷ []
+
+six_differ : (bound : Bool) → Differ (six_names bound)
+six_differ true = (
+  (differ _ _ refl, (differ _ _ refl, (differ _ _ refl, (differ _ _ refl, (differ _ _ refl, tt))))),
+  (
+    (differ _ _ refl, (differ _ _ refl, (differ _ _ refl, (differ _ _ refl, tt)))),
+    (
+      (differ _ _ refl, (differ _ _ refl, (differ _ _ refl, tt))),
+      ((differ _ _ refl, (differ _ _ refl, tt)), ((differ _ _ refl, tt), (tt, tt))),
+    ),
+  ),
+)
+six_differ false = (
+  (differ _ _ refl, (differ _ _ refl, (differ _ _ refl, (differ _ _ refl, (differ _ _ refl, tt))))),
+  (
+    (differ _ _ refl, (differ _ _ refl, (differ _ _ refl, (differ _ _ refl, tt)))),
+    (
+      (differ _ _ refl, (differ _ _ refl, (differ _ _ refl, tt))),
+      ((differ _ _ refl, (differ _ _ refl, tt)), ((differ _ _ refl, tt), (tt, tt))),
+    ),
+  ),
+)
+
 pub names_differ : NamesDiffer
-names_differ login password =
-    let apart : (text other : List ℕ) → pointwise nat_eq text other ≡ false → text ≢ other = differ in (
-      (apart _ _ refl, (apart _ _ refl, (apart _ _ refl, (apart _ _ refl, (apart _ _ refl, tt))))),
-      (
-        (apart _ _ refl, (apart _ _ refl, (apart _ _ refl, (apart _ _ refl, tt)))),
-        (
-          (apart _ _ refl, (apart _ _ refl, (apart _ _ refl, tt))),
-          ((apart _ _ refl, (apart _ _ refl, tt)), ((apart _ _ refl, tt), (tt, tt))),
-        ),
-      ),
-    )
+names_differ login password = six_differ (is_bound login.channel)
 
 -- ---- PLAIN and ANONYMOUS
 

@@ -6,6 +6,7 @@ ghost use Rattle.fe2o3_scram.specs.ClientFinal.{ClientFinal as Final, HasProof, 
 ghost use Rattle.fe2o3_scram.specs.Keys.{auth_message as auth_message_of, recovered_client_key, server_signature};
 ghost use Rattle.fe2o3_scram.specs.Texts.{base64_text};
 ghost use Rattle.fe2o3_scram.specs.Credentials.{serving};
+ghost use Rattle.fe2o3_scram.specs.declared.scram_messages.server_rules.ServerRules.{ServerRules as Rules};
 ghost use Rattle.fe2o3_sasl_core.specs.Verdicts.{AreParameters};
 ghost use Rattle.fe2o3_sasl.specs.Audit.{parameters_of};
 ghost use Rattle.fe2o3_sasl_core.specs.Events.{IsRecord};
@@ -22,28 +23,31 @@ use crate::audit::receipts::ServerReceipt;
 use crate::audit::server_receipts::challenges::Opened;
 use base64::engine::general_purpose::STANDARD;
 use fe2o3_sasl_wire::{FrameView, view_frame};
+use fe2o3_scram::ServerRules;
 use fe2o3_scram::credentials::ScramCredentialProvider;
 use fe2o3_scram::hmac::{Meter, ScramVersion};
 use fe2o3_scram::keys::auth_message;
-use fe2o3_scram::scram_messages::{ChannelBindingFlag, ClientFinal};
+use fe2o3_scram::scram_messages::{ClientChannel, ClientFinal};
 use std::alloc::Global;
 
 /// Returns the receipt of an Ok to the response in this body. The only error is `OutOfMemory`, also for a body that is
 /// no response to this challenge.
 pub(crate) fn ok_receipt<C: ScramCredentialProvider>(
     alloc: Global,
+    rules: ServerRules,
     credentials: &C,
     place: usize,
     opened: &Opened<'_>,
     body: &[u8],
 ) -> Result<ServerReceipt, OutOfMemory>
     requires { HoldsMessage opened.now }
-    ensures { IfOk result (λ receipt. (cbind_flag_y : Bool) → OkFor (serving cbind_flag_y (C.meaning credentials.now)) place
+    ensures { IfOk result (λ receipt. OkFor (serving rules (C.meaning credentials.now)) place
         (opened_challenge opened.now) body.now (server_receipt receipt)) }
 {
+    let channel = rules.expected_channel(opened.client_first.header);
     let client_final = response_again(
         alloc,
-        opened.client_first.header,
+        &channel,
         &opened.server_first.client_server_nonce,
         body,
     )?;
@@ -51,10 +55,10 @@ pub(crate) fn ok_receipt<C: ScramCredentialProvider>(
 }
 
 /// Reads the response in this body again. The only error is `OutOfMemory`, also for a body that is no response with
-/// this header and this nonce.
+/// this channel and this nonce.
 fn response_again<'a>(
     alloc: Global,
-    header: ChannelBindingFlag,
+    channel: &ClientChannel,
     client_server_nonce: &[u8],
     body: &'a [u8],
 ) -> Result<ClientFinal<'a>, OutOfMemory>
@@ -64,9 +68,11 @@ fn response_again<'a>(
     let Ok((FrameView::Response(text), _)) = view_frame(body) else {
         return Err(OutOfMemory);
     };
-    let Ok(client_final) = ClientFinal::parse_with_gs2_header(
+    // The response has passed the tests of the server, of a strict one too: it is read here for its proof.
+    let Ok(client_final) = ClientFinal::parse_with_channel(
         alloc,
-        header,
+        channel,
+        false,
         client_server_nonce,
         text,
     ) else {
@@ -85,8 +91,8 @@ fn receipt_of<C: ScramCredentialProvider>(
 ) -> Result<ServerReceipt, OutOfMemory>
     requires { HoldsMessage opened.now }
     ensures place { IfOk result (λ receipt. receipt.place ≡ place) }
-    ensures accepted { IfOk result (λ receipt. (cbind_flag_y : Bool)
-        → OfAccepted (serving cbind_flag_y (C.meaning credentials.now)) (record {
+    ensures accepted { IfOk result (λ receipt. (rules : Rules)
+        → OfAccepted (serving rules (C.meaning credentials.now)) (record {
           challenge = opened_challenge opened.now;
           final = client_final_values client_final.entry;
         }) (server_receipt receipt)) }

@@ -11,6 +11,7 @@ use crate::OutOfMemory;
 use base64::engine::general_purpose::STANDARD;
 use fe2o3_sasl_core::events::Event;
 use fe2o3_sasl_wire::{FrameView, view_frame};
+use fe2o3_scram::ServerRules;
 use fe2o3_scram::credentials::{ScramCredentialProvider, StoredPassword};
 use fe2o3_scram::scram_messages::{ClientFirst, ServerFirstMessage};
 use std::alloc::Global;
@@ -29,12 +30,12 @@ pub(crate) struct Opened<'a> {
 /// answered with a challenge.
 pub(crate) fn opened_again<'a, C: ScramCredentialProvider>(
     alloc: Global,
-    accept_cbind_flag_y: bool,
+    rules: ServerRules,
     credentials: &'a C,
     init: &'a Event,
 ) -> Result<Opened<'a>, OutOfMemory>
     ensures opened { IfOk result (λ opened.
-        OpenedFor (serving accept_cbind_flag_y (C.meaning credentials.now)) (given init.now) (opened_challenge opened)) }
+        OpenedFor (serving rules (C.meaning credentials.now)) (given init.now) (opened_challenge opened)) }
     ensures message { IfOk result HoldsMessage }
 {
     let Some(text) = initial_response(&init.body) else {
@@ -42,17 +43,16 @@ pub(crate) fn opened_again<'a, C: ScramCredentialProvider>(
     };
     let server_nonce = STANDARD.encode(alloc, &init.nonce)?;
     let version = credentials.scram_version();
-    let Ok(Some(server_first)) = version.compute_server_first_message_with_cbind_flag_y(
+    let Ok(Some(server_first)) = version.compute_server_first_message_with_rules(
         alloc,
         text,
         &server_nonce,
-        accept_cbind_flag_y,
+        rules,
         credentials,
     ) else {
         return Err(OutOfMemory);
     };
-    let Ok(client_first) = ClientFirst::parse_with_cbind_flag_y(alloc, text, accept_cbind_flag_y)
-    else {
+    let Ok(client_first) = ClientFirst::parse_with_rules(alloc, text, rules) else {
         return Err(OutOfMemory);
     };
     let Some(stored_password) = credentials.get_stored_password(&client_first.username) else {

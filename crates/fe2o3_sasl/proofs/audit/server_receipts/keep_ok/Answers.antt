@@ -9,6 +9,6 @@ returns g c = (
   opened_challenge c.in_ok-opened.opened,
   server_receipt c.in_ok-receipt.receipt,
   c.in_ok-opened.ensures.opened,
-  rw c.deref.ensures.value at (c.in_ok-receipt.ensures c.args.accept_cbind_flag_y),
+  rw c.deref.ensures.value at c.in_ok-receipt.ensures,
   ap (map server_receipt) c.in_ok-push.ensures.items ∙ map-append server_receipt _ _,
 )

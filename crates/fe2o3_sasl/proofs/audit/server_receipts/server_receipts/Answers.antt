@@ -8,7 +8,7 @@ use Rattle.fe2o3_sasl.proofs.audit.server_receipts.server_receipts.Goals as goal
 
 pub loop-place-preserved : goal.loop-place-preserved
 loop-place-preserved g c =
-    let provider = serving c.args.accept_cbind_flag_y (g.C.ScramCredentialProvider.meaning c.args.credentials.now) in
+    let provider = serving c.args.rules (g.C.ScramCredentialProvider.meaning c.args.credentials.now) in
     let events = c.args.events.now in
     let replies = c.args.replies.now in
     let i = c.loop-place.place in

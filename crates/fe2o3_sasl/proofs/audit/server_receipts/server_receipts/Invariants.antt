@@ -8,7 +8,7 @@ use Rattle.fe2o3_sasl.proofs.audit.server_receipts.server_receipts.Given as goal
 abbrev pub invariant-loop-place : goal.invariant-loop-place
 invariant-loop-place g l =
     record {
-      so_far : ServerSoFar (serving l.accept_cbind_flag_y (g.C.ScramCredentialProvider.meaning l.credentials))
+      so_far : ServerSoFar (serving l.rules (g.C.ScramCredentialProvider.meaning l.credentials))
           (map given l.events) (map server_answer l.replies) l.place l.challenge (map server_receipt l.oks.items);
       behind : l.challenge ≤ l.place;
     }

@@ -6,7 +6,7 @@ use Rattle.fe2o3_sasl.specs.private.ServerReceipts.{opened_challenge}
 use Rattle.fe2o3_sasl.proofs.audit.server_receipts.accepted.receipt_of.Goals as goal
 
 pub returns-clause-accepted : goal.returns-clause-accepted
-returns-clause-accepted g c = λ cbind_flag_y.
+returns-clause-accepted g c = λ rules.
     let provider = g.C.ScramCredentialProvider.meaning c.args.credentials.now in
     let opened = opened_challenge c.args.opened.now in
     let final = client_final_values c.args.client_final in

@@ -28,7 +28,7 @@ returns-clause-opened g c =
 
 pub returns-clause-message : goal.returns-clause-message
 returns-clause-message g c =
-    let provider = serving c.args.accept_cbind_flag_y (g.C.ScramCredentialProvider.meaning c.args.credentials.now) in
+    let provider = serving c.args.rules (g.C.ScramCredentialProvider.meaning c.args.credentials.now) in
     let answers : AnswersClientFirst provider c.deref-2.result.now c.in-Some.text.now
     (Ok (Some (challenge_values c.in-Ok-Some.server_first))) =
     rw c.in-Ok-Some.field-0-is at c.in-Ok-Some.ensures in
