@@ -2,6 +2,7 @@
 -- part 5, section 5.3.2). Each law is the contract of a clause of `unaltered::unaltered`.
 use Rattle.std.specs.Prelude.{◌≡◌, ◌≤◌, ◌+◌, ℕ, Some, List, [], ◌++◌, length}
 use Rattle.std.specs.List.{AllByRecursion}
+use Rattle.fe2o3_scram.specs.ChannelBinding.{cbind_data}
 use Rattle.fe2o3_scram.specs.Credentials.{Provider}
 use Rattle.fe2o3_scram.specs.Escape.{escaped}
 use Rattle.fe2o3_scram.specs.ScramServer.{Initial}
@@ -16,7 +17,7 @@ use Rattle.fe2o3_sasl_core.specs.UnalteredRuns.{HoldsLogin, UnalteredRun, LogsIn
 use Rattle.fe2o3_sasl_negotiation.specs.declared.progress.Progress.TheVariants.{Authenticated}
 use Rattle.fe2o3_sasl_negotiation.specs.ClientNegotiation.{ClientReceives}
 use Rattle.fe2o3_sasl_negotiation.specs.Connections.{Piece, frames_of, ClientNegotiated, ServerNegotiated, fresh}
-use Rattle.fe2o3_sasl_negotiation.specs.FrameSizes.{length_of}
+use Rattle.fe2o3_sasl_negotiation.specs.FrameSizes.{bytes_for, length_of}
 use Rattle.fe2o3_sasl_negotiation.specs.Framing.{sasl_header, framed}
 use Rattle.fe2o3_sasl_negotiation.specs.Laws.{Call, Calls}
 use Rattle.fe2o3_sasl_negotiation.specs.Negotiations.{Side}
@@ -42,10 +43,12 @@ abbrev pub HasNonce : Call → Type 0
 HasNonce call = length call.nonce ≡ 32
 
 -- the texts of a login fit in the frames of SASL (part 5, section 5.3.1): the escaped name and the hostname have at most
--- 412 bytes together, and the salt has at most 285
+-- 412 bytes together, or less by those that the channel needs; the salt has at most 285; and the data of the channel, if
+-- one is bound, have at most 64
 pub record FitsFrames (login : Login) (bytes : List ℕ) : Type 0 where
-  pub names : length (escaped login.user) + length_of login.hostname ≤ 412
+  pub names : bytes_for login.channel + length (escaped login.user) + length_of login.hostname ≤ 412
   pub salt : length bytes ≤ 285
+  pub channel : length (cbind_data login.channel) ≤ 64
 
 -- both sides take frames of 512 bytes, as AMQP requires, and their nonces have 32 bytes
 pub record TakesFrames {login : Login} {provider : Provider} {client : Side Profile} {server : Side Acceptor}

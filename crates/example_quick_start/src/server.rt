@@ -2,7 +2,7 @@
 
 ghost use Rattle.std.specs.Prelude.{◌≡◌, ℕ, List, Some, IfOk};
 ghost use Rattle.fe2o3_sasl_wire.specs.declared.amqp_types.SaslCode.TheVariants.{Ok as OkCode};
-ghost use Rattle.fe2o3_scram.specs.ScramServer.{logged_in, provider_in, state_in};
+ghost use Rattle.fe2o3_scram.specs.ScramServer.{logged_in, provider_in, rules_in, state_in};
 ghost use Rattle.fe2o3_sasl_core.specs.StepLaws.{BodyLogsIn};
 
 use anyhow::Result;
@@ -38,7 +38,7 @@ pub fn answer(
     event: &Event,
 ) -> Result<(Vec<u8>, Option<SaslCode>)>
     ensures { IfOk result (λ answer. answer.1 ≡ Some OkCode → (user : List ℕ)
-        × BodyLogsIn (provider_in server.old).version (state_in server.old) event.now.body.items user
+        × BodyLogsIn (provider_in server.old).version (rules_in server.old) (state_in server.old) event.now.body.items user
         × (logged_in (state_in server.new) ≡ Some user)) }
 {
     match acceptor_step(alloc, server, event)? {

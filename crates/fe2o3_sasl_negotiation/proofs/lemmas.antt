@@ -3,6 +3,7 @@ pub mod ReceivingLemmas
 pub mod ServerAnswerLemmas
 pub mod ClientAnswerLemmas
 pub mod RefusalLemmas
+pub mod RefusedBodyLemmas
 pub mod CutLemmas
 pub mod UnitLemmas
 pub mod KindLemmas

@@ -23,7 +23,7 @@ use Rattle.fe2o3_sasl_core.specs.declared.sasl_profile.error.ProfileError.TheVar
 -- what a client answers to a header: it waits after the one of SASL, and closes after another
 abbrev pub ClientOpens : List ℕ → SideOutput → Type 0
 ClientOpens header answer =
-    ((header ≢ sasl_header) × (answer ≡ closes ProtocolHeaderMismatch Header))
+    ((header ≢ sasl_header) × (answer ≡ closes (ProtocolHeaderMismatch header) Header))
     ⊎ ((header ≡ sasl_header) × (answer ≡ record { sent = []; progress = InProgress; expected = Frame turns.Mechanisms }))
 
 -- the frame that is expected after a client's answer to one of this turn, by whether it accepts the server's signature in

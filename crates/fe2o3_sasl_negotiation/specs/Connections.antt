@@ -135,8 +135,8 @@ IsHeaderPart limit state taken sent last = (length taken < 8) × (sent ≡ []) �
 
 -- the side has closed at a header of another protocol or version
 abbrev pub IsOtherHeader : {S : Type 0} → S → List ℕ → Side S → Type 0
-IsOtherHeader state taken last = (length taken ≡ 8) × (taken ≢ sasl_header) × (last.progress ≡ Failed ProtocolHeaderMismatch)
-    × (last.state ≡ state)
+IsOtherHeader state taken last = (length taken ≡ 8) × (taken ≢ sasl_header)
+    × (last.progress ≡ Failed (ProtocolHeaderMismatch taken)) × (last.state ≡ state)
 
 -- the list of mechanisms does not fit in a frame of 512 bytes
 abbrev pub OffersNone : List (List ℕ) → Type 0

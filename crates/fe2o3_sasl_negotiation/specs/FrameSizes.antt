@@ -4,10 +4,12 @@ use Rattle.std.specs.Prelude.{◌≡◌, ◌≤◌, ◌+◌, ℕ, Option, Some, 
 use Rattle.fe2o3_sasl_wire.specs.declared.amqp_types.SaslCode.{SaslCode}
 use Rattle.fe2o3_sasl_wire.specs.SaslFrames.{SaslFrame, canonical}
 use Rattle.fe2o3_sasl_wire.specs.SaslFrames as frames
+use Rattle.fe2o3_scram.specs.declared.scram_messages.client_channel.ClientChannel.{ClientChannel}
+use Rattle.fe2o3_scram.specs.declared.scram_messages.client_channel.ClientChannel.TheVariants.{Absent, NotOffered, Bound}
 use Rattle.fe2o3_scram.specs.declared.hmac.ScramVersion.{ScramVersion}
-use Rattle.fe2o3_scram.specs.ClientFirst.{client_first}
+use Rattle.fe2o3_scram.specs.ChannelBinding.{flag_of, is_bound, kind_name, mechanism_of}
+use Rattle.fe2o3_scram.specs.ClientFirst.{client_first_with}
 use Rattle.fe2o3_scram.specs.Escape.{escaped}
-use Rattle.fe2o3_scram.specs.Hmac.{mechanism_name}
 
 -- a frame is sent: it has a canonical body, and at most 512 bytes with its size
 abbrev pub CanBeSent : SaslFrame → Type 0
@@ -24,12 +26,21 @@ InitsFit = (mechanism : List ℕ) (response hostname : Option (List ℕ))
     → length mechanism + length_of response + length_of hostname ≤ 477
     → CanBeSent (frames.Init mechanism response hostname)
 
--- the init of a SCRAM client whose escaped name and hostname have at most 412 bytes together, with a nonce of at most 44
--- bytes, as 32 bytes have in base64 (RFC 5802, section 7)
+-- how many bytes more an init has if the client binds a channel (RFC 5802, sections 4 and 7): those of "-PLUS", and
+-- those that "p=", the name of the kind and ",," have more than "n,,"
+abbrev pub bytes_for : ClientChannel → ℕ
+bytes_for Absent = 0
+bytes_for NotOffered = 0
+bytes_for (Bound binding) = length (kind_name binding.kind) + 6
+
+-- the init of a SCRAM client whose escaped name and hostname have at most 412 bytes together, or less by those that the
+-- channel needs, with a nonce of at most 44 bytes, as 32 bytes have in base64 (RFC 5802, section 7)
 abbrev pub ScramInitsFit : Type 0
-ScramInitsFit = (version : ScramVersion) (user nonce : List ℕ) (hostname : Option (List ℕ)) → length nonce ≤ 44
-    → length (escaped user) + length_of hostname ≤ 412
-    → CanBeSent (frames.Init (mechanism_name version) (Some (client_first user nonce)) hostname)
+ScramInitsFit = (version : ScramVersion) (channel : ClientChannel) (user nonce : List ℕ)
+    (hostname : Option (List ℕ)) → length nonce ≤ 44
+    → bytes_for channel + length (escaped user) + length_of hostname ≤ 412
+    → CanBeSent (frames.Init (mechanism_of version (is_bound channel))
+    (Some (client_first_with (flag_of channel) user nonce)) hostname)
 
 -- a challenge and a response of at most 487 bytes
 abbrev pub TextsFit : Type 0

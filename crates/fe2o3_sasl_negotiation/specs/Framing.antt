@@ -1,5 +1,6 @@
 -- Headers and frames as bytes of a connection (AMQP 1.0, part 2, sections 2.2 and 2.3.1; part 5, section 5.3.1).
-use Rattle.std.specs.Prelude.{ℕ, ◌+◌, ◌<◌, ◌≤◌, max, List, ◌++◌, length, take}
+use Rattle.std.specs.Prelude.{ℕ, ◌+◌, ◌<◌, ◌≤◌, max, Bool, List, ◌++◌, length, take, nat_eq}
+use Rattle.std.specs.Cmp.Lexicographic.{pointwise}
 use Rattle.std.specs.Coded.{le_prop}
 use Rattle.std.specs.Int.{w32, to_be_bytes, from_be_bytes}
 use Rattle.fe2o3_sasl_wire.specs.ProtocolHeader.{header_bytes, first_version}
@@ -10,6 +11,10 @@ use Rattle.fe2o3_sasl_negotiation.specs.declared.progress.Expected.TheVariants.{
 -- the header of SASL 1.0.0, with which each side begins (part 5, section 5.3.2)
 abbrev pub sasl_header : List ℕ
 sasl_header = header_bytes (first_version Sasl)
+
+-- whether a header is that of SASL 1.0.0
+abbrev pub is_sasl_header : List ℕ → Bool
+is_sasl_header header = pointwise nat_eq header sasl_header
 
 -- a frame: its size in four bytes, big-endian, which counts itself, and its body (part 2, section 2.3.1)
 abbrev pub framed : List ℕ → List ℕ

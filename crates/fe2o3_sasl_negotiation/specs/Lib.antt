@@ -13,6 +13,7 @@ pub mod private
 pub mod CostLaws
 pub mod Memory
 pub mod Retries
+pub mod Refusals
 pub mod FrameSizes
 pub mod Nonces
 pub mod PolicyClient

@@ -4,7 +4,7 @@ use Rattle.fe2o3_sasl_wire.specs.declared.sasl_frames.error.Error.{Error}
 use Rattle.fe2o3_sasl_wire.specs.SaslFrames.{SaslFrame}
 use Rattle.fe2o3_sasl_wire.specs.SaslFrames as frames
 use Rattle.fe2o3_sasl_negotiation.specs.declared.progress.CloseReason.{CloseReason}
-use Rattle.fe2o3_sasl_negotiation.specs.declared.progress.CloseReason.TheVariants.{FrameSize, UnexpectedFrame, ReplyTooLarge, MalformedFrame}
+use Rattle.fe2o3_sasl_negotiation.specs.declared.progress.CloseReason.TheVariants.{EndOfInput, FrameSize, UnexpectedFrame, ReplyTooLarge, MalformedFrame}
 use Rattle.fe2o3_sasl_negotiation.specs.declared.progress.Expected.{Expected}
 use Rattle.fe2o3_sasl_negotiation.specs.declared.progress.Expected.TheVariants.{Frame}
 use Rattle.fe2o3_sasl_negotiation.specs.declared.progress.FrameKind.{FrameKind}
@@ -96,6 +96,16 @@ ReceivesAt (Failed why) Answers side bytes nonce taken sent next = Rests side ta
 abbrev pub Receives : {S : Type 0} → (Expected → S → List ℕ → List ℕ → SideOutput → S → Type 0) → Side S → List ℕ → List ℕ → ℕ
     → List ℕ → Side S → Type 0
 Receives Answers side bytes nonce taken sent next = ReceivesAt side.progress Answers side bytes nonce taken sent next
+
+-- a side after the other side has ended its stream, by its progress before: a side in progress fails, and what had
+-- arrived of the unit is dropped (AMQP 1.0, part 5, section 5.3.2: no outcome has been sent or received)
+abbrev pub ended_at : {S : Type 0} → Progress → Side S → Side S
+ended_at InProgress side = record side { progress = Failed EndOfInput; held = [] }
+ended_at Authenticated side = side
+ended_at (Failed why) side = side
+
+abbrev pub after_end_of_input : {S : Type 0} → Side S → Side S
+after_end_of_input side = ended_at side.progress side
 
 -- these bytes complete a frame of this body
 abbrev pub Completes : {S : Type 0} → Side S → List ℕ → FrameKind → List ℕ → Type 0

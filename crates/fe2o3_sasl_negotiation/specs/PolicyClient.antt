@@ -40,7 +40,7 @@ pub record Selection : Type 0 where
 abbrev pub IsSelected : Selection → List (List ℕ) → Profile → Type 0
 IsSelected selection names profile = (mechanism : Mechanism)
     × IsFirstTaken selection.policy selection.user selection.secret names by_strength mechanism
-    × (profile_by selection.policy.limits selection.user selection.secret mechanism ≡ Some profile)
+    × (profile_by selection.policy selection.user selection.secret mechanism ≡ Some profile)
 
 -- none of these mechanisms can be selected
 abbrev pub NoneIsSelected : Selection → List (List ℕ) → Type 0

@@ -35,7 +35,7 @@ behind_header answer = record answer { sent = sasl_header ++ answer.sent }
 -- what a server answers to a header: to that of SASL its own and its mechanisms, to another its own
 abbrev pub ServerOpens : List (List ℕ) → List ℕ → SideOutput → Type 0
 ServerOpens names header answer =
-    ((header ≢ sasl_header) × (answer ≡ behind_header (closes ProtocolHeaderMismatch Header)))
+    ((header ≢ sasl_header) × (answer ≡ behind_header (closes (ProtocolHeaderMismatch header) Header)))
     ⊎ ((header ≡ sasl_header) × ((first : SideOutput) × Offers (offer_body names) first × (answer ≡ behind_header first)))
 
 -- the frame that a server expects after its answer to one of this turn: a response, in any number (RFC 4422, section 5)

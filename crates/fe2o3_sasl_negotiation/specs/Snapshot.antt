@@ -1,17 +1,17 @@
 -- A side of a connection that is saved as plain values, and restored.
-use Rattle.std.specs.Prelude.{◌≡◌, ◌≢◌, ◌≤◌, ℕ, Bool, true, false, Option, None, List, [], IsTrue}
+use Rattle.std.specs.Prelude.{◌≡◌, ◌≢◌, ◌≤◌, ℕ, Bool, true, false, not, Option, None, List, [], IsTrue}
 use Rattle.fe2o3_sasl_wire.specs.FrameView.{shown}
 use Rattle.fe2o3_sasl_wire.specs.declared.amqp_types.SaslCode.TheVariants as outcomes
 use Rattle.fe2o3_sasl_wire.specs.declared.sasl_frames.error.Error.TheVariants as faults
 use Rattle.fe2o3_sasl_core.specs.declared.sasl_profile.error.ProfileError.TheVariants as profile_faults
 use Rattle.fe2o3_sasl_negotiation.specs.declared.snapshot.Snapshot.{Snapshot}
-use Rattle.fe2o3_sasl_negotiation.specs.declared.progress.CloseReason.TheVariants.{ProtocolHeaderMismatch, MalformedFrame, ReplyTooLarge, Refused, Mechanism as ProfileRefused}
+use Rattle.fe2o3_sasl_negotiation.specs.declared.progress.CloseReason.TheVariants.{EndOfInput, ProtocolHeaderMismatch, MalformedFrame, ReplyTooLarge, Refused, Mechanism as ProfileRefused}
 use Rattle.fe2o3_sasl_negotiation.specs.declared.progress.Expected.{Expected}
 use Rattle.fe2o3_sasl_negotiation.specs.declared.progress.Expected.TheVariants.{Header, Frame}
 use Rattle.fe2o3_sasl_negotiation.specs.declared.progress.Progress.{Progress}
 use Rattle.fe2o3_sasl_negotiation.specs.declared.progress.Progress.TheVariants.{InProgress, Authenticated, Failed}
 use Rattle.fe2o3_sasl_negotiation.specs.declared.progress.FrameKind.TheVariants as turns
-use Rattle.fe2o3_sasl_negotiation.specs.Framing.{IsPart}
+use Rattle.fe2o3_sasl_negotiation.specs.Framing.{is_sasl_header, IsPart}
 use Rattle.fe2o3_sasl_negotiation.specs.Negotiations.{Side}
 
 -- a side that waits can have these values: the limit of a frame is kept, and less than the whole expected unit has
@@ -34,14 +34,15 @@ abbrev pub server_due : Expected → Bool
 server_due Header = true
 server_due expected = server_awaits expected
 
--- a server with this progress can expect this. One that waits, or whose answer was too large, can expect anything;
--- another header closes it at the header, and every other reason at a frame. No server is closed for memory, by an Ok,
--- or by a profile
+-- a server with this progress can expect this. One that waits, whose answer was too large, or whose client has ended the
+-- stream, can expect anything; another header than that of SASL closes it at the header, and every other reason at a
+-- frame. No server is closed for memory, by an Ok, or by a profile
 abbrev pub server_fits : Progress → Expected → Bool
 server_fits InProgress expected = server_due expected
 server_fits (Failed ReplyTooLarge) expected = server_due expected
-server_fits (Failed ProtocolHeaderMismatch) Header = true
-server_fits (Failed ProtocolHeaderMismatch) (Frame turn) = false
+server_fits (Failed EndOfInput) expected = server_due expected
+server_fits (Failed (ProtocolHeaderMismatch received)) Header = not (is_sasl_header received)
+server_fits (Failed (ProtocolHeaderMismatch received)) (Frame turn) = false
 server_fits (Failed (MalformedFrame faults.OutOfMemory)) expected = false
 server_fits (Failed (Refused outcomes.Ok)) expected = false
 server_fits (Failed (ProfileRefused fault)) expected = false
@@ -67,15 +68,16 @@ outcome_due (Frame turns.Outcome) = true
 outcome_due (Frame turns.SignatureChallenge) = true
 outcome_due expected = false
 
--- a client with this progress can expect this. One that waits can expect anything; another header closes it at the
--- header; an outcome, and an answer that was too large, end it after the mechanisms, and every other reason at any
--- frame. No client is closed for memory, or by an Ok
+-- a client with this progress can expect this. One that waits, or whose server has ended the stream, can expect
+-- anything; another header than that of SASL closes it at the header; an outcome, and an answer that was too large, end
+-- it after the mechanisms, and every other reason at any frame. No client is closed for memory, or by an Ok
 abbrev pub client_fits : Progress → Expected → Bool
 client_fits InProgress expected = client_due expected
+client_fits (Failed EndOfInput) expected = client_due expected
 client_fits Authenticated expected = outcome_due expected
 client_fits (Failed ReplyTooLarge) expected = outcome_due expected
-client_fits (Failed ProtocolHeaderMismatch) Header = true
-client_fits (Failed ProtocolHeaderMismatch) (Frame turn) = false
+client_fits (Failed (ProtocolHeaderMismatch received)) Header = not (is_sasl_header received)
+client_fits (Failed (ProtocolHeaderMismatch received)) (Frame turn) = false
 client_fits (Failed (MalformedFrame faults.OutOfMemory)) expected = false
 client_fits (Failed (Refused outcomes.Ok)) expected = false
 client_fits (Failed (Refused code)) expected = outcome_due expected

@@ -17,7 +17,7 @@ ghost use Rattle.fe2o3_sasl_wire.specs.FrameView.{shown};
 ghost use Rattle.fe2o3_sasl_negotiation.specs.declared.progress.Expected.TheVariants.{Header};
 ghost use Rattle.fe2o3_sasl_negotiation.specs.declared.progress.Progress.TheVariants.{InProgress};
 
-use crate::framing::{MAX_FRAME, Step, is_sasl, screen, send};
+use crate::framing::{MAX_FRAME, Step, is_sasl, refuse_header, screen, send};
 use crate::progress::{CloseReason, Expected, FrameKind, Progress};
 use crate::side::{ConnectionSide, Endpoint, Role};
 use crate::snapshot::{RestoreError, Snapshot};
@@ -47,6 +47,7 @@ pub type ClientNegotiation = ConnectionSide<ClientEndpoint, ClientRole>;
 
 /// Answers the server's header. A client continues only after the header of SASL.
 pub(crate) fn open(header: &[u8]) -> Step
+    requires { length header.now ≡ 8 }
     ensures { (out : List ℕ) → Appends (ClientOpens header.now) out out result }
 {
     if is_sasl(header) {
@@ -55,7 +56,7 @@ pub(crate) fn open(header: &[u8]) -> Step
             expected: Expected::Frame(FrameKind::Mechanisms),
         }
     } else {
-        Step::closed(CloseReason::ProtocolHeaderMismatch, Expected::Header)
+        refuse_header(header)
     }
 }
 
@@ -189,6 +190,8 @@ impl Endpoint<ClientRole> for ClientEndpoint {
     ghost asks_room = { λ room side bytes going few. (going, inl few) };
 
     ghost size_fits = { λ kind fits. fits };
+
+    ghost input_fits = { λ expected fits. fits };
 
     fn answer(
         &mut self,

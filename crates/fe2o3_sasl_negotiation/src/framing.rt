@@ -2,11 +2,12 @@
 
 ghost use Rattle.std.specs.Prelude.{◌≡◌, ◌↔◌, ◌+◌, ◌-◌, ◌<◌, ◌≤◌, ◌++◌, ◌⊎◌, true, ℕ, [], length, take, drop, IfOk, OnOk, OnErr, MatchOption, vec_len, vec_capacity, max};
 ghost use Rattle.fe2o3_sasl_wire.specs.FrameView.{viewed_frame};
-ghost use Rattle.fe2o3_sasl_negotiation.specs.Framing.{sasl_header, size_of, Fits, IsPart};
+ghost use Rattle.fe2o3_sasl_negotiation.specs.Framing.{sasl_header, is_sasl_header, size_of, Fits, IsPart};
 ghost use Rattle.fe2o3_sasl_negotiation.specs.Negotiations.{IsInTurn, Sends, closes};
 ghost use Rattle.fe2o3_sasl_negotiation.specs.private.Units.{TakesUnit, Appends, Screens};
 ghost use Rattle.fe2o3_sasl_negotiation.specs.declared.progress.Expected.TheVariants.{Header, Frame};
 ghost use Rattle.fe2o3_sasl_negotiation.specs.declared.progress.Progress.TheVariants.{Failed};
+ghost use Rattle.fe2o3_sasl_negotiation.specs.declared.progress.CloseReason.TheVariants.{ProtocolHeaderMismatch};
 
 use crate::progress::{CloseReason, Expected, FrameKind, Progress};
 use bytes::BytesMut;
@@ -178,9 +179,23 @@ pub fn end_unit(held: &mut Vec<u8>, had: usize) -> usize
 
 /// Returns whether the bytes are the header of SASL 1.0.0 (AMQP 1.0, part 5, section 5.3.2).
 pub fn is_sasl(header: &[u8]) -> bool
-    ensures { result ≡ true ↔ (header.now ≡ sasl_header) }
+    ensures is { result ≡ true ↔ (header.now ≡ sasl_header) }
+    ensures same { result ≡ is_sasl_header header.now }
 {
     header == <[u8; 8]>::from(ProtocolHeader::sasl()).as_slice()
+}
+
+/// Fails at this header, which is another than that of SASL 1.0.0.
+pub fn refuse_header(header: &[u8]) -> Step
+    requires { length header.now ≡ 8 }
+    ensures { result ≡ record { progress = Failed (ProtocolHeaderMismatch header.now); expected = Header } }
+{
+    let mut received = [0; 8];
+    received.copy_from_slice(header);
+    Step::closed(
+        CloseReason::ProtocolHeaderMismatch(received),
+        Expected::Header,
+    )
 }
 
 /// Returns whether the frame is the expected one.

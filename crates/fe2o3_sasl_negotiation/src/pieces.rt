@@ -3,6 +3,7 @@
 ghost use Rattle.std.specs.Prelude.{◌≡◌, ◌≢◌, ◌↔◌, ◌<◌, ◌≤◌, ◌++◌, List, ℕ, IfOk, length, map, false, option_map, string_bytes};
 ghost use Rattle.fe2o3_sasl_wire.specs.SaslFrames.{IsBytes};
 ghost use Rattle.fe2o3_sasl_negotiation.specs.declared.progress.Progress.TheVariants.{InProgress, Authenticated};
+ghost use Rattle.fe2o3_scram.specs.ClientFirst.{default_rules};
 ghost use Rattle.fe2o3_scram.specs.Credentials.{serving};
 ghost use Rattle.fe2o3_scram.specs.ScramServer.{Initial, served_by, state_in};
 ghost use Rattle.fe2o3_sasl_core.specs.Profiles.{Profile};
@@ -123,19 +124,19 @@ pub fn scram_server_connection<C: ScramCredentialProvider>(
 ) -> Result<Negotiated<ServerNegotiation<ScramAuthenticator<C>>>, OutOfMemory>
     ensures connection { IfOk result (λ served. IsBytes (bytes_of (map piece_of pieces.now))
         → ServerConnection acceptor_names acceptor_machine 512
-        (ScramAcceptor (serving false (C.meaning credentials.now)) Initial) (map piece_of pieces.now)
+        (ScramAcceptor (serving default_rules (C.meaning credentials.now)) Initial) (map piece_of pieces.now)
         (first_bytes (map piece_of pieces.now) served.pieces served.bytes) served.sent.items
         (server_side (λ server. ScramAcceptor (served_by C.meaning server) (state_in server)) served.side)) }
     ensures headline { IfOk result (λ served. (taken out : List ℕ)
         (negotiated : ServerNegotiated acceptor_machine 512
-        (ScramAcceptor (serving false (C.meaning credentials.now)) Initial) (map piece_of pieces.now) taken out
+        (ScramAcceptor (serving default_rules (C.meaning credentials.now)) Initial) (map piece_of pieces.now) taken out
         (server_side (λ server. ScramAcceptor (served_by C.meaning server) (state_in server)) served.side))
-        → ScramServes (serving false (C.meaning credentials.now)) negotiated.events negotiated.replies
+        → ScramServes (serving default_rules (C.meaning credentials.now)) negotiated.events negotiated.replies
         (acceptor_user
         (server_side (λ server. ScramAcceptor (served_by C.meaning server) (state_in server)) served.side).state)) }
     ensures logged_in { IfOk result (λ served. (taken out : List ℕ)
         (negotiated : ServerNegotiated acceptor_machine 512
-        (ScramAcceptor (serving false (C.meaning credentials.now)) Initial) (map piece_of pieces.now) taken out
+        (ScramAcceptor (serving default_rules (C.meaning credentials.now)) Initial) (map piece_of pieces.now) taken out
         (server_side (λ server. ScramAcceptor (served_by C.meaning server) (state_in server)) served.side))
         → ((server_side (λ server. ScramAcceptor (served_by C.meaning server) (state_in server)) served.side).progress
         ≡ Authenticated) ↔ LastReply IsOkSent negotiated.replies) }

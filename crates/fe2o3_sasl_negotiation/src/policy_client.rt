@@ -129,6 +129,8 @@ impl Endpoint<ClientRole> for PolicyEndpoint<'_> {
 
     ghost size_fits = { λ kind fits. fits };
 
+    ghost input_fits = { λ expected fits. fits };
+
     fn answer(
         &mut self,
         alloc: Global,

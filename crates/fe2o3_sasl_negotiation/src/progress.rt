@@ -6,9 +6,13 @@ use fe2o3_sasl_wire::{Error, SaslCode};
 /// Why a negotiation has failed.
 #[derive(Clone, Copy, Debug, PartialEq, Eq, thiserror::Error)]
 pub enum CloseReason {
-    /// The other side's header is not that of SASL 1.0.0 (AMQP 1.0, part 5, section 5.3.2).
+    /// The other side's header is not that of SASL 1.0.0 (AMQP 1.0, part 5, section 5.3.2), but these eight bytes.
+    ///
+    /// Read them with [`ProtocolHeader::try_from`](fe2o3_sasl_wire::ProtocolHeader). A server that requires TLS first
+    /// sends `AMQP 2 1 0 0`. A broker that accepts clients without SASL drops the eight bytes in `out`, and continues
+    /// with AMQP after the received header.
     #[error("The header is not that of SASL")]
-    ProtocolHeaderMismatch,
+    ProtocolHeaderMismatch([u8; 8]),
 
     /// The size of a frame is below 8 or above the limit (AMQP 1.0, part 2, section 2.3.1; part 5, section 5.3.1). No
     /// byte after the size was taken.
@@ -35,6 +39,11 @@ pub enum CloseReason {
     /// The client's mechanism rejects what the server sent.
     #[error("The server's message was rejected")]
     Mechanism(ProfileError),
+
+    /// The other side ended its stream before the negotiation was complete
+    /// ([`ConnectionSide::end_of_input`](crate::ConnectionSide)).
+    #[error("The other side ended the stream before the negotiation was complete")]
+    EndOfInput,
 }
 
 /// How far a negotiation is.

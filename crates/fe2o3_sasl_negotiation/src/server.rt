@@ -14,7 +14,7 @@ ghost use Rattle.fe2o3_sasl_wire.specs.declared.sasl_frames.error.Error.TheVaria
 ghost use Rattle.fe2o3_sasl_negotiation.specs.declared.progress.Expected.TheVariants.{Header};
 ghost use Rattle.fe2o3_sasl_negotiation.specs.declared.progress.Progress.TheVariants.{InProgress, Authenticated};
 
-use crate::framing::{MAX_FRAME, Step, is_sasl, screen, send};
+use crate::framing::{MAX_FRAME, Step, is_sasl, refuse_header, screen, send};
 use crate::progress::{CloseReason, Expected, FrameKind, Progress};
 use crate::side::{ConnectionSide, Endpoint, Role};
 use crate::snapshot::{RestoreError, Snapshot, is_user};
@@ -57,6 +57,7 @@ fn open<A: SaslAcceptor>(
     header: &[u8],
     out: &mut BytesMut,
 ) -> Result<Step, OutOfMemory>
+    requires { length header.now ≡ 8 }
     ensures ok { IfOk result (λ step.
         Appends (ServerOpens (A.names (A.state acceptor.now)) header.now) out.old.items out.new.items step) }
     ensures err { OnErr result (out.new.items ≡ out.old.items) }
@@ -64,7 +65,7 @@ fn open<A: SaslAcceptor>(
     let sasl = <[u8; 8]>::from(ProtocolHeader::sasl());
     if !is_sasl(header) {
         out.extend_from_slice(&sasl)?;
-        return Ok(Step::closed(CloseReason::ProtocolHeaderMismatch, Expected::Header));
+        return Ok(refuse_header(header));
     }
     let offer = offer_body(alloc, acceptor)?;
     out.reserve(8 + MAX_FRAME)?;
@@ -173,6 +174,8 @@ impl<A: AuthenticatedUser> Endpoint<ServerRole> for A {
     ghost asks_room = { λ room side bytes going few. (going, inl few) };
 
     ghost size_fits = { λ kind fits. fits };
+
+    ghost input_fits = { λ expected fits. fits };
 
     fn answer(
         &mut self,

@@ -2,9 +2,9 @@
 
 ghost use Rattle.std.specs.Prelude.{◌≡◌, ◌≢◌, ◌<◌, ◌≤◌, ◌^◌, ◌++◌, ℕ, Bool, List, Option, [], IsTrue, IfOk, IfErr, OnOk, OnErr, length, min};
 ghost use Rattle.fe2o3_sasl_negotiation.specs.Framing.{IsPart, IsPart-prop, longest_unit};
-ghost use Rattle.fe2o3_sasl_negotiation.specs.Negotiations.{Side, SideOutput, Receives};
+ghost use Rattle.fe2o3_sasl_negotiation.specs.Negotiations.{Side, SideOutput, Receives, after_end_of_input};
 ghost use Rattle.fe2o3_sasl_negotiation.specs.private.Units.{Appends, CompletesUnit};
-ghost use Rattle.fe2o3_sasl_negotiation.specs.declared.progress.CloseReason.TheVariants.{FrameSize};
+ghost use Rattle.fe2o3_sasl_negotiation.specs.declared.progress.CloseReason.TheVariants.{EndOfInput, FrameSize};
 ghost use Rattle.fe2o3_sasl_negotiation.specs.declared.progress.Expected.{Expected};
 ghost use Rattle.fe2o3_sasl_negotiation.specs.declared.progress.Expected.TheVariants.{Header, Frame};
 ghost use Rattle.fe2o3_sasl_negotiation.specs.declared.progress.FrameKind.{FrameKind as Kind};
@@ -57,6 +57,7 @@ pub trait Endpoint<R: Role> {
         out: &mut BytesMut,
     ) -> Result<Step, OutOfMemory>
         requires four { 4 ≤ length unit.now }
+        requires header { expected ≡ Header → length unit.now ≡ 8 }
         requires meter { meter.old ≤ 2 ^ 63 }
         ensures ok { IfOk result (λ step. Appends (λ answer. answers (config self.old) expected (state self.old)
             nonce.now unit.now answer (state self.new)) out.old.items out.new.items step) }
@@ -80,6 +81,10 @@ pub trait Endpoint<R: Role> {
     /// A side that expects a frame can fail at its size.
     ghost size_fits: { (kind : Kind) → IsTrue (R.fits InProgress (Frame kind))
         → IsTrue (R.fits (Failed FrameSize) (Frame kind)) };
+
+    /// A side in progress can fail at the end of the stream.
+    ghost input_fits: { (expected : Expected) → IsTrue (R.fits InProgress expected)
+        → IsTrue (R.fits (Failed EndOfInput) expected) };
 }
 
 /// One side of a connection: [`ServerNegotiation`](crate::ServerNegotiation) or
@@ -156,6 +161,22 @@ impl<E: Endpoint<R>, R: Role> ConnectionSide<E, R> {
     pub fn progress(&self) -> Progress
         ensures { result ≡ (connection_side E.state self.now).progress }
     {
+        self.progress
+    }
+
+    /// Ends the side after the other side has ended its stream (end of file), and returns the new progress. A negotiation
+    /// in progress fails with [`CloseReason::EndOfInput`], and the part of a header or frame that has arrived is dropped.
+    /// Otherwise nothing changes. There is nothing to send.
+    pub fn end_of_input(&mut self) -> Progress
+        ensures side { connection_side E.state self.new ≡ after_end_of_input (connection_side E.state self.old) }
+        ensures endpoint { endpoint_in self.new ≡ endpoint_in self.old }
+        ensures progress { result ≡ (connection_side E.state self.new).progress }
+        ensures room { room_in self.new ≡ room_in self.old }
+    {
+        if let Progress::InProgress = self.progress {
+            self.held.clear();
+            self.progress = Progress::Failed(CloseReason::EndOfInput);
+        }
         self.progress
     }
 

@@ -10,7 +10,7 @@ ghost use Rattle.fe2o3_sasl_negotiation.specs.declared.progress.Progress.TheVari
 ghost use Rattle.fe2o3_sasl_negotiation.specs.declared.progress.FrameKind.{FrameKind as TurnKind};
 ghost use Rattle.fe2o3_sasl_negotiation.specs.declared.snapshot.RestoreError.TheVariants.{OutOfMemory as RestoreOutOfMemory};
 
-use crate::framing::{Arrived, MAX_FRAME, size, take_unit};
+use crate::framing::{Arrived, MAX_FRAME, is_sasl, size, take_unit};
 use crate::progress::{CloseReason, Expected, FrameKind, Progress};
 use fe2o3_sasl_core::ProfileError;
 use fe2o3_sasl_wire::{Error as FrameError, SaslCode};
@@ -163,13 +163,13 @@ fn is_server_at(progress: Progress, expected: Expected) -> bool
         Expected::Frame(FrameKind::Init | FrameKind::Response)
     );
     match progress {
-        Progress::InProgress | Progress::Failed(CloseReason::ReplyTooLarge) => {
+        Progress::InProgress
+        | Progress::Failed(CloseReason::ReplyTooLarge | CloseReason::EndOfInput) => {
             matches!(expected, Expected::Header) || is_frame
         }
-        Progress::Failed(CloseReason::ProtocolHeaderMismatch) => matches!(
-            expected,
-            Expected::Header
-        ),
+        Progress::Failed(CloseReason::ProtocolHeaderMismatch(received)) => {
+            matches!(expected, Expected::Header) && !is_sasl(&received)
+        }
         Progress::Failed(
             CloseReason::MalformedFrame(FrameError::OutOfMemory)
             | CloseReason::Refused(SaslCode::Ok)
@@ -189,11 +189,12 @@ fn is_client_at(progress: Progress, expected: Expected) -> bool
     );
     let is_frame = matches!(expected, Expected::Frame(FrameKind::Mechanisms)) || is_outcome;
     match progress {
-        Progress::InProgress => matches!(expected, Expected::Header) || is_frame,
-        Progress::Failed(CloseReason::ProtocolHeaderMismatch) => matches!(
-            expected,
-            Expected::Header
-        ),
+        Progress::InProgress | Progress::Failed(CloseReason::EndOfInput) => {
+            matches!(expected, Expected::Header) || is_frame
+        }
+        Progress::Failed(CloseReason::ProtocolHeaderMismatch(received)) => {
+            matches!(expected, Expected::Header) && !is_sasl(&received)
+        }
         Progress::Failed(
             CloseReason::MalformedFrame(FrameError::OutOfMemory)
             | CloseReason::Refused(SaslCode::Ok)

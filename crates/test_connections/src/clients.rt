@@ -49,7 +49,7 @@ static ROWS: [Row; 7] = [
         name: "Another header",
         given: &[OTHER_HEADER, SASL],
         sent: &[],
-        progress: Progress::Failed(CloseReason::ProtocolHeaderMismatch),
+        progress: Progress::Failed(CloseReason::ProtocolHeaderMismatch(TLS)),
         stops: [(0, 8), (8, 0), (1, 1)],
     },
     Row {

@@ -8,6 +8,8 @@ mod clients;
 #[cfg(test)]
 mod cuts;
 #[cfg(test)]
+mod ends;
+#[cfg(test)]
 mod policies;
 #[cfg(test)]
 mod saved;

@@ -110,7 +110,7 @@ static SCRAM: [Row; 5] = [
         name: "Another header",
         given: &[OTHER_HEADER, SASL],
         sent: &[SASL],
-        progress: Progress::Failed(CloseReason::ProtocolHeaderMismatch),
+        progress: Progress::Failed(CloseReason::ProtocolHeaderMismatch(TLS)),
         stops: [(0, 8), (8, 0), (1, 1)],
     },
     Row {

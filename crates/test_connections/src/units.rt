@@ -14,6 +14,9 @@ pub const SASL: &str = "414d515003010000";
 /// The header of the TLS layer of AMQP.
 pub const OTHER_HEADER: &str = "414d515002010000";
 
+/// The bytes of the header of the TLS layer of AMQP.
+pub const TLS: [u8; 8] = *b"AMQP\x02\x01\x00\x00";
+
 /// The header of AMQP, which follows a login.
 pub const AMQP: &str = "414d515000010000";
 

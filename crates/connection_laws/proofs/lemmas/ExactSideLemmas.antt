@@ -1,11 +1,12 @@
 -- What a side of a connection makes of a header and of a frame that its limit allows, where each nonce has 32 bytes.
 use Rattle.std.proofs.Common.{◌≡◌, ℕ, ◌+◌, ◌≤◌, Option, Some, None, List, [], ◌∷◌, ◌++◌, length, drop, refl, sym, ap, ◌∙◌, subst, inl, inr, append_assoc, arith, length-append, Result, Ok}
 use Rattle.std.specs.List.{AllByRecursion}
+use Rattle.std.specs.Prelude.{is_some}
 use Rattle.fe2o3_sasl_wire.specs.declared.sasl_frames.error.Error.{Error}
 use Rattle.fe2o3_sasl_wire.specs.SaslFrames.{SaslFrame, canonical}
 use Rattle.fe2o3_sasl_wire.specs.SaslFrames as frames
 use Rattle.fe2o3_scram.specs.Credentials.{Provider}
-use Rattle.fe2o3_scram.specs.Hmac.{mechanism_name}
+use Rattle.fe2o3_scram.specs.ChannelBinding.{server_mechanism}
 use Rattle.fe2o3_scram.specs.ScramServer.{Initial}
 use Rattle.fe2o3_sasl_core.specs.Bodies.{SpellsBody}
 use Rattle.fe2o3_sasl_core.specs.Events.{Given}
@@ -106,12 +107,12 @@ ServerMakes limit expected acceptor nonces bytes sent last =
 
 -- the one mechanism of a SCRAM server is offered in a frame
 offers : (provider : Provider) (offer : Option (List ℕ)) (answer : SideOutput)
-    → offer ≡ canonical (frames.Mechanisms (mechanism_name provider.version ∷ [])) → of_server.Offers offer answer
+    → offer ≡ canonical (frames.Mechanisms (server_mechanism provider.version provider.rules ∷ [])) → of_server.Offers offer answer
     → (body : List ℕ) × (offer ≡ Some body) × (length body + 4 ≤ 512)
     × (answer ≡ record { sent = framed body; progress = InProgress; expected = Frame turns.Init })
-offers provider None answer is same = let fits = names_fit provider.version in let none = is ∙ fits.1 in absurd (cc)
+offers provider None answer is same = let fits = names_fit provider.version (is_some provider.rules.channels) in let none = is ∙ fits.1 in absurd (cc)
 offers provider (Some body) answer is sent =
-    let small = fits_as (frames.Mechanisms (mechanism_name provider.version ∷ [])) body (names_fit provider.version)
+    let small = fits_as (frames.Mechanisms (server_mechanism provider.version provider.rules ∷ [])) body (names_fit provider.version (is_some provider.rules.channels))
     (sym is) in
     (body, refl, small, sends_small body InProgress (Frame turns.Init) answer small sent)
 
@@ -120,7 +121,7 @@ pub record ServerOffers (provider : Provider) (limit : ℕ) (more sent : List �
   pub body : List ℕ
   pub nonces : List (List ℕ)
   pub after : List ℕ
-  pub offer : canonical (frames.Mechanisms (mechanism_name provider.version ∷ [])) ≡ Some body
+  pub offer : canonical (frames.Mechanisms (server_mechanism provider.version provider.rules ∷ [])) ≡ Some body
   pub small : length body + 4 ≤ 512
   pub all : sent ≡ sasl_header ++ (framed body ++ after)
   pub goes_on : ServerMakes limit (Frame turns.Init) (ScramAcceptor provider Initial) nonces more after last

@@ -5,13 +5,12 @@ use Rattle.fe2o3_sasl_wire.specs.declared.amqp_types.SaslCode.TheVariants as out
 use Rattle.fe2o3_sasl_wire.specs.declared.sasl_frames.error.Error.TheVariants as faults
 use Rattle.fe2o3_sasl_wire.specs.SaslFrames.{canonical}
 use Rattle.fe2o3_sasl_wire.specs.SaslFrames as frames
-use Rattle.fe2o3_scram.specs.declared.hmac.ScramVersion.{ScramVersion}
 use Rattle.fe2o3_scram.specs.Credentials.{Provider}
-use Rattle.fe2o3_scram.specs.Hmac.{mechanism_name}
+use Rattle.fe2o3_scram.specs.ChannelBinding.{server_mechanism}
 use Rattle.fe2o3_scram.specs.ScramServer.{Initial}
 use Rattle.fe2o3_sasl_core.specs.ClientHistory.{ClientHistory}
 use Rattle.fe2o3_sasl_core.specs.Complete.{ClientComplete, ServerComplete}
-use Rattle.fe2o3_sasl_core.specs.Events.{Given, Login, ServerSays, Challenged, Concluded, Failed, ClientSays, Started, Answered, Reported, Refused}
+use Rattle.fe2o3_sasl_core.specs.Events.{Given, Login, login_mechanism, ServerSays, Challenged, Concluded, Failed, ClientSays, Started, Answered, Reported, Refused}
 use Rattle.fe2o3_sasl_core.specs.Profiles.{Profile, scram_profile, accepts_signature_by_challenge}
 use Rattle.fe2o3_sasl_core.specs.Runs.{ProfileSteps}
 use Rattle.fe2o3_sasl_core.specs.SaslAcceptor.{Acceptor, ScramAcceptor, acceptor_machine}
@@ -106,12 +105,12 @@ module _ (init response challenge outcome : List ℕ) (more : Option (List ℕ))
   server_small : (k : ℕ) → slice_get server_list k ≡ Some (Failed faults.TooLarge) → ⊥
   server_small = none_at (Failed faults.TooLarge) server_list ((λ same. cc), ((λ same. cc), tt))
 
-module _ (login : Login) (provider : Provider) (version : provider.version ≡ login.version)
-    (client_limit server_limit : ℕ)
-    (client : Side Profile) (server : Side Acceptor) (client_in : client.progress ≡ Authenticated)
+module _ (login : Login) (provider : Provider)
+    (mechanism : login_mechanism login ≡ server_mechanism provider.version provider.rules)
+    (client_limit server_limit : ℕ) (client : Side Profile) (server : Side Acceptor) (client_in : client.progress ≡ Authenticated)
     (server_in : server.progress ≡ Authenticated) (client_pieces server_pieces : List Piece)
     (client_taken client_sent server_taken server_sent offer : List ℕ)
-    (offered : canonical (frames.Mechanisms (mechanism_name provider.version ∷ [])) ≡ Some offer)
+    (offered : canonical (frames.Mechanisms (server_mechanism provider.version provider.rules ∷ [])) ≡ Some offer)
     (offer_small : length offer + 4 ≤ 512) (to_client : client_taken ≡ sasl_header ++ (framed offer ++ server_sent))
     (to_server : server_taken ≡ sasl_header ++ client_sent)
     (mine : ClientNegotiated (ProfileSteps login.hostname) client_limit (scram_profile login) client_pieces client_taken
@@ -186,7 +185,7 @@ module _ (login : Login) (provider : Provider) (version : provider.version ≡ l
     response = served.response;
     client_events = client_three.are;
     server_events = served.events_are;
-    offered = ap (λ (v : ScramVersion). canonical (frames.Mechanisms (mechanism_name v ∷ []))) (sym version)
+    offered = ap (λ (name : List ℕ). canonical (frames.Mechanisms (name ∷ []))) mechanism
         ∙ (offered ∙ ap (λ (l : List ℕ). Some l) (sym client_three.first));
     started = subst (λ (replies : List ClientSays). Arrives (client_body (slice_get replies 0)) served.init.body)
         (sym said.replies_are) server_two.0;

@@ -4,6 +4,7 @@ use Rattle.std.specs.List.{AllByRecursion}
 use Rattle.std.specs.Prelude.{replicate}
 use Rattle.std.proofs.lemmas.List.{length-replicate}
 use Rattle.fe2o3_sasl_wire.specs.SaslFrames as frames
+use Rattle.fe2o3_scram.specs.ChannelBinding.{is_bound}
 use Rattle.fe2o3_scram.specs.Escape.{escaped}
 use Rattle.fe2o3_scram.specs.Exchanges.{first_in}
 use Rattle.fe2o3_sasl.specs.examples.Examples.{login as user_login, provider as user_provider, salt as user_salt, client_bytes, server_bytes}
@@ -239,9 +240,9 @@ joined_sides_exist login provider password salt count client_limit server_limit 
     c0 : Finished 8 client_calls 1536 3
     c0 = finish 8 8 1536 3 client_calls (omega arith) (omega arith) (omega arith) client_longs client_enough
 
-    c1 : Finished (length (framed (names_fit login.version).0)) c0.after 1024 2
-    c1 = let (some, small) = size_of_sent _ (names_fit login.version) in
-        finish (length (framed (names_fit login.version).0)) 512 1024 2 c0.after some small (omega arith) c0.longs c0.enough
+    c1 : Finished (length (framed (names_fit login.version (is_bound login.channel)).0)) c0.after 1024 2
+    c1 = let (some, small) = size_of_sent _ (names_fit login.version (is_bound login.channel)) in
+        finish (length (framed (names_fit login.version (is_bound login.channel)).0)) 512 1024 2 c0.after some small (omega arith) c0.longs c0.enough
 
     s0 : Finished 8 server_calls 1024 2
     s0 = finish 8 8 1024 2 server_calls (omega arith) (omega arith) (omega arith) server_longs server_enough
@@ -290,11 +291,13 @@ user_holds = let holds = premises_can_be_met.3 in record {
   some = holds.some;
   least = holds.least;
   within = holds.within;
+  header = holds.header;
+  channel = holds.channel;
 }
 
 user_fits : FitsFrames user_login user_salt
 unfolding escaped
-user_fits = record { names = omega arith; salt = omega arith }
+user_fits = record { names = omega arith; salt = omega arith; channel = omega arith }
 
 each_equal : (Is : Call → Type 0) (call : Call) (n : ℕ) → Is call → AllByRecursion Is (replicate n call)
 each_equal Is call zero is = tt

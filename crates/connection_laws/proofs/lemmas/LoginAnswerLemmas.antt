@@ -10,13 +10,13 @@ use Rattle.fe2o3_sasl_wire.specs.declared.amqp_types.SaslCode.TheVariants as out
 use Rattle.fe2o3_sasl_wire.specs.declared.sasl_frames.error.Error.TheVariants as faults
 use Rattle.fe2o3_sasl_wire.specs.SaslFrames.{SaslFrame, canonical}
 use Rattle.fe2o3_sasl_wire.specs.SaslFrames as frames
+use Rattle.fe2o3_scram.specs.declared.scram_messages.client_channel.ClientChannel.{ClientChannel}
 use Rattle.fe2o3_scram.specs.declared.hmac.ScramVersion.{ScramVersion}
-use Rattle.fe2o3_scram.specs.declared.scram_messages.channel_binding_flag.ChannelBindingFlag.TheVariants.{NotSupported}
-use Rattle.fe2o3_scram.specs.ClientFirst.{ClientFirst, client_first}
+use Rattle.fe2o3_scram.specs.ClientFirst.{ClientFirst, client_first_with}
 use Rattle.fe2o3_scram.specs.ClientFinal.{ReadsClientFinal, server_of}
 use Rattle.fe2o3_scram.specs.Credentials.{Provider}
 use Rattle.fe2o3_scram.specs.Exchanges.{Exchange, IsSound, nonce_in, bare_in, named_in, first_in, answer_in, final_in, record_in}
-use Rattle.fe2o3_scram.specs.Hmac.{mechanism_name}
+use Rattle.fe2o3_scram.specs.ChannelBinding.{expected_channel, flag_of, is_bound, is_strict, server_mechanism}
 use Rattle.fe2o3_scram.specs.ScramClient.{ClientSide, ClientInitial, ClientFinalSent, Complete, started, with_state}
 use Rattle.fe2o3_scram.specs.ScramServer.{Initial, ServerFirstSent, ServerFinalSent}
 use Rattle.fe2o3_scram.specs.ServerFinal.{ReadsServerFinal, server_final_of}
@@ -24,12 +24,14 @@ use Rattle.fe2o3_scram.specs.ServerFirst.{ServerChallenge, challenge_of}
 use Rattle.fe2o3_scram.specs.Texts.{base64_text}
 use Rattle.fe2o3_scram.proofs.lemmas.messages.ExchangeLemmas.{nonce_text}
 use Rattle.fe2o3_scram.proofs.lemmas.texts.AsciiLemmas.{IsUtf8-base64_text, IsUtf8-literal}
-use Rattle.fe2o3_sasl_core.specs.Events.{Login, Challenged, Concluded, Failed, Started, Answered, Reported, Refused, ServerSays, ClientSays}
+use Rattle.fe2o3_sasl_core.specs.Events.{Login, login_mechanism, Challenged, Concluded, Failed, Started, Answered, Reported, Refused, ServerSays, ClientSays}
 use Rattle.fe2o3_sasl_core.specs.declared.sasl_profile.error.ProfileError.TheVariants.{Frame as FrameFault}
 use Rattle.fe2o3_sasl_core.specs.Profiles.{Profile, ScramProfile, ChallengeReplies, scram_profile, accepts_signature_by_challenge}
 use Rattle.fe2o3_sasl_core.specs.Runs.{SendsCanonical, AcceptorGives, ProfileReplies}
 use Rattle.fe2o3_sasl_core.specs.SaslAcceptor.{Acceptor, ScramAcceptor, acceptor_names, acceptor_machine}
+use Rattle.fe2o3_sasl_core.specs.TwoSides.{sides_of}
 use Rattle.fe2o3_sasl_core.proofs.lemmas.frames.SpellingLemmas.{spells_mechanisms, spells_init, spells_challenge, spells_response, spells_outcome}
+use Rattle.fe2o3_sasl_core.proofs.lemmas.unaltered.UnalteredStepLemmas.{one_mechanism}
 use Rattle.fe2o3_sasl_negotiation.specs.declared.progress.Expected.{Expected}
 use Rattle.fe2o3_sasl_negotiation.specs.declared.progress.Expected.TheVariants.{Header, Frame}
 use Rattle.fe2o3_sasl_negotiation.specs.declared.progress.Progress.{Progress}
@@ -150,6 +152,13 @@ module _ (p : Premises) where
   abbrev outcome_body : List ℕ
   outcome_body = frame.outcome_body p
 
+  -- the server has the client's mechanism, and expects this of its channel
+  mechanism : login_mechanism login ≡ server_mechanism provider.version provider.rules
+  mechanism = one_mechanism (sides_of login [] [] provider [] []) p.password p.salt p.count p.holds
+
+  abbrev channel : ClientChannel
+  channel = expected_channel provider.rules.channels (flag_of login.channel)
+
   -- ---- the client, answer by answer
 
   -- the turn after its response
@@ -162,6 +171,8 @@ module _ (p : Premises) where
     secret = login.secret;
     version = login.version;
     limits = login.limits;
+    channel = login.channel;
+    strict = login.strict;
     signature_by_challenge = login.signature_by_challenge;
     state = ClientInitial;
   }
@@ -189,7 +200,7 @@ module _ (p : Premises) where
   starts = inr (
     Ok init,
     ScramProfile started_side,
-    inl (one_name (mechanism_name login.version), refl, refl),
+    inl (one_name (login_mechanism login), refl, refl),
     sends_canonical (Refused (FrameFault faults.TooLarge)) (λ (b : List ℕ). Started b) (canonical init) init_body
         (scram_profile login) (ScramProfile started_side) (frame.init_sent p).1,
   )
@@ -198,7 +209,7 @@ module _ (p : Premises) where
       (waits init_body turns.Challenge) (ScramProfile started_side)
   client_starts = client_answer login.hostname turns.Mechanisms (scram_profile login) (ScramProfile started_side)
       names_body mine names (Started init_body) (waits init_body turns.Challenge)
-      (spells_mechanisms login.version names_body (frame.names_sent p).1) tt starts (inl ((frame.init_sent p).2, refl))
+      (spells_mechanisms login.version (is_bound login.channel) names_body (frame.names_sent p).1) tt starts (inl ((frame.init_sent p).2, refl))
 
   answers : (nonce : List ℕ) → ProfileReplies login.hostname (ScramProfile started_side) nonce
       (frames.Challenge (first_in exchange)) (Answered response_body) (ScramProfile answered_side)
@@ -231,8 +242,8 @@ module _ (p : Premises) where
 
   verifier_read : ReadsServerFinal (answer_in exchange).signature final_sent (Ok tt)
   verifier_read = subst (λ (version : ScramVersion). ReadsServerFinal (answer_in exchange).signature
-      (server_final_of (server_of version NotSupported (bare_in exchange) (first_in exchange) (nonce_in exchange)
-      (record_in exchange)) (final_in exchange)) (Ok tt)) (sym p.holds.version) (frame.meets p).server_final
+      (server_final_of (server_of version channel (is_strict exchange.rules) (bare_in exchange) (first_in exchange)
+      (nonce_in exchange) (record_in exchange)) (final_in exchange)) (Ok tt)) (sym p.holds.version) (frame.meets p).server_final
 
   reports : (nonce : List ℕ) → ProfileReplies login.hostname (ScramProfile answered_side) nonce outcome
       (Reported outcomes.Ok (Some final_sent)) (ScramProfile complete_side)
@@ -254,7 +265,7 @@ module _ (p : Premises) where
   -- ---- the server, answer by answer
 
   abbrev read_first : ClientFirst
-  read_first = record { header = NotSupported; user = login.user; nonce = base64_text mine; bare = bare_in exchange }
+  read_first = record { header = flag_of login.channel; user = login.user; nonce = base64_text mine; bare = bare_in exchange }
 
   abbrev challenge : ServerChallenge
   challenge = challenge_of read_first (base64_text theirs) (record_in exchange)
@@ -275,8 +286,8 @@ module _ (p : Premises) where
   pub server_opens : (nonce : List ℕ) → ServerAnswersBy Header first_acceptor nonce sasl_header
       (of_server.behind_header (waits names_body turns.Init)) first_acceptor
   server_opens nonce =
-      let offer : canonical (frames.Mechanisms (mechanism_name provider.version ∷ [])) ≡ Some names_body =
-      ap (λ (v : ScramVersion). canonical (frames.Mechanisms (mechanism_name v ∷ []))) p.holds.version ∙ (frame.names_sent p).1 in (
+      let offer : canonical (frames.Mechanisms (server_mechanism provider.version provider.rules ∷ [])) ≡ Some names_body =
+      ap (λ (name : List ℕ). canonical (frames.Mechanisms (name ∷ []))) (sym mechanism) ∙ (frame.names_sent p).1 in (
         inr (
           refl,
           (
@@ -295,7 +306,7 @@ module _ (p : Premises) where
     frames.Challenge (first_in exchange),
     challenged_acceptor,
     inr (
-      ap mechanism_name (sym p.holds.version),
+      mechanism,
       (
         Ok (Some (first_in exchange)),
         ServerFirstSent challenge (record_in exchange),
@@ -318,14 +329,16 @@ module _ (p : Premises) where
       (waits challenge_body turns.Response) challenged_acceptor
   server_challenges = server_answer turns.Init first_acceptor challenged_acceptor init_body theirs init
       (Challenged challenge_body) (waits challenge_body turns.Response)
-      (spells_init login.version (client_first login.user (base64_text mine)) login.hostname init_body p.is.hostname (frame.init_sent p).1) tt challenges
+      (spells_init login.version (is_bound login.channel)
+      (client_first_with (flag_of login.channel) login.user (base64_text mine)) login.hostname init_body p.is.hostname
+      (frame.init_sent p).1) tt challenges
       (inl ((frame.challenge_sent p).2, refl))
 
-  response_read : ReadsClientFinal (server_of provider.version NotSupported (bare_in exchange) (first_in exchange)
-      (nonce_in exchange) (record_in exchange)) message (Ok (final_in exchange))
+  response_read : ReadsClientFinal (server_of provider.version channel (is_strict exchange.rules) (bare_in exchange)
+      (first_in exchange) (nonce_in exchange) (record_in exchange)) message (Ok (final_in exchange))
   response_read = subst (λ (version : ScramVersion). ReadsClientFinal
-      (server_of version NotSupported (bare_in exchange) (first_in exchange) (nonce_in exchange) (record_in exchange))
-      message (Ok (final_in exchange))) (sym p.holds.version) (frame.meets p).client_final
+      (server_of version channel (is_strict exchange.rules) (bare_in exchange) (first_in exchange) (nonce_in exchange)
+      (record_in exchange)) message (Ok (final_in exchange))) (sym p.holds.version) (frame.meets p).client_final
 
   accepts : (nonce : List ℕ) → AcceptorGives acceptor_machine challenged_acceptor
       (record { body = response_body; nonce = nonce }) (Ok (frames.Response message))

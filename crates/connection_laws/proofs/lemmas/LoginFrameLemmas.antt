@@ -5,16 +5,16 @@ use Rattle.fe2o3_sasl_wire.specs.declared.amqp_types.SaslCode.{SaslCode}
 use Rattle.fe2o3_sasl_wire.specs.declared.amqp_types.SaslCode.TheVariants as outcomes
 use Rattle.fe2o3_sasl_wire.specs.SaslFrames.{SaslFrame}
 use Rattle.fe2o3_sasl_wire.specs.SaslFrames as frames
-use Rattle.fe2o3_scram.specs.ClientFirst.{client_first}
-use Rattle.fe2o3_scram.specs.ClientFinal.{keys_for, without_proof}
+use Rattle.fe2o3_scram.specs.ChannelBinding.{flag_of, is_bound}
+use Rattle.fe2o3_scram.specs.ClientFirst.{client_first_with}
+use Rattle.fe2o3_scram.specs.ClientFinal.{keys_for, without_proof_with}
 use Rattle.fe2o3_scram.specs.ClientKeys.{ClientKeys, keys_of}
 use Rattle.fe2o3_scram.specs.Credentials.{Provider}
 use Rattle.fe2o3_scram.specs.Exchanges.{Exchange, IsSound, Succeeds, nonce_in, bare_in, named_in, first_in, answer_in}
-use Rattle.fe2o3_scram.specs.Hmac.{mechanism_name}
 use Rattle.fe2o3_scram.specs.Keys.{auth_message, client_proof}
 use Rattle.fe2o3_scram.specs.Texts.{base64_text}
 use Rattle.fe2o3_scram.proofs.lemmas.messages.ExchangeLemmas.{succeeds, opened}
-use Rattle.fe2o3_sasl_core.specs.Events.{Login, IsLogin}
+use Rattle.fe2o3_sasl_core.specs.Events.{Login, login_mechanism, IsLogin}
 use Rattle.fe2o3_sasl_core.specs.ServerHistory.{final_message}
 use Rattle.fe2o3_sasl_core.specs.TwoSides.{sides_of}
 use Rattle.fe2o3_sasl_core.specs.UnalteredRuns.{HoldsLogin}
@@ -23,9 +23,9 @@ use Rattle.fe2o3_sasl_negotiation.specs.declared.progress.FrameKind.TheVariants 
 use Rattle.fe2o3_sasl_negotiation.specs.ClientNegotiation.{client_follows}
 use Rattle.fe2o3_sasl_negotiation.specs.FrameSizes.{CanBeSent}
 use Rattle.fe2o3_sasl_negotiation.specs.Negotiations.{IsInTurn}
-use Rattle.fe2o3_sasl_negotiation.proofs.lemmas.FrameSizeLemmas.{scram_inits_fit, texts_fit}
+use Rattle.fe2o3_sasl_negotiation.proofs.lemmas.FrameSizeLemmas.{texts_fit}
 use Rattle.connection_laws.specs.Unaltered.{FitsFrames}
-use Rattle.connection_laws.proofs.lemmas.SmallReplyLemmas.{nonce_length, first_length, proof_length, response_length, names_fit, ok_fits}
+use Rattle.connection_laws.proofs.lemmas.SmallReplyLemmas.{login_init_fits, nonce_length, first_length, proof_length, response_length, names_fit, ok_fits}
 
 -- an outcome is in turn after a response, whether or not the client accepts the signature in a challenge
 pub outcome_in_turn : (signs : Bool) (code : SaslCode) (more : Option (List ℕ))
@@ -50,12 +50,12 @@ pub record Premises : Type 0 where
 
 -- the init with this nonce
 abbrev pub init_of : Login → List ℕ → SaslFrame
-init_of login nonce = frames.Init (mechanism_name login.version) (Some (client_first login.user (base64_text nonce))) login.hostname
+init_of login nonce = frames.Init (login_mechanism login)
+    (Some (client_first_with (flag_of login.channel) login.user (base64_text nonce))) login.hostname
 
 pub init_fits : (login : Login) (salt nonce : List ℕ) → FitsFrames login salt → length nonce ≡ 32
     → CanBeSent (init_of login nonce)
-init_fits login salt nonce fits long = scram_inits_fit login.version login.user (base64_text nonce) login.hostname
-    (omega (arith, nonce_length nonce long)) fits.names
+init_fits = login_init_fits
 
 module _ (p : Premises) where
   abbrev login : Login
@@ -71,7 +71,7 @@ module _ (p : Premises) where
   theirs = p.theirs
 
   abbrev pub exchange : Exchange
-  exchange = step.exchange_of login provider.cbind_flag_y p.password p.salt p.count mine theirs
+  exchange = step.exchange_of login provider.rules p.password p.salt p.count mine theirs
 
   pub sound : IsSound exchange
   sound = step.sound_exchange (sides_of login [] [] provider [] []) p.password p.salt p.count mine theirs p.is p.holds
@@ -82,7 +82,7 @@ module _ (p : Premises) where
   -- ---- the frames
 
   abbrev pub names : SaslFrame
-  names = frames.Mechanisms (mechanism_name login.version ∷ [])
+  names = frames.Mechanisms (login_mechanism login ∷ [])
 
   abbrev pub init : SaslFrame
   init = init_of login mine
@@ -103,7 +103,7 @@ module _ (p : Premises) where
   theirs_long = nonce_length theirs p.theirs_long
 
   abbrev pub names_sent : CanBeSent names
-  names_sent = names_fit login.version
+  names_sent = names_fit login.version (is_bound login.channel)
 
   abbrev pub init_sent : CanBeSent init
   init_sent = init_fits login p.salt mine p.fits p.mine_long
@@ -118,9 +118,9 @@ module _ (p : Premises) where
   pub response_sent : CanBeSent (frames.Response message)
   response_sent =
       let keys : ClientKeys = keys_for login.version login.secret (named_in exchange) in
-      let auth : List ℕ = auth_message (bare_in exchange) (first_in exchange) (without_proof (nonce_in exchange)) in
+      let auth : List ℕ = auth_message (bare_in exchange) (first_in exchange) (without_proof_with login.channel (nonce_in exchange)) in
       (texts_fit message
-      (response_length (nonce_in exchange) (client_proof keys.version keys.client_key auth)
+      (response_length login.channel (nonce_in exchange) (client_proof keys.version keys.client_key auth) p.fits.channel
       (length-append (base64_text mine) (base64_text theirs) ∙ omega (arith, mine_long, theirs_long))
       (proof_length keys login.version p.password p.salt auth p.count by_keys))).1
 

@@ -18,12 +18,19 @@ use Rattle.fe2o3_scram.specs.declared.hmac.ScramVersion.{ScramVersion}
 use Rattle.fe2o3_scram.specs.declared.hmac.ScramVersion.TheVariants.{Sha1, Sha256, Sha512}
 use Rattle.fe2o3_scram.specs.declared.scram_messages.error.ScramErrorKind.{ScramErrorKind}
 use Rattle.fe2o3_scram.specs.declared.scram_messages.error.ScramErrorKind.TheVariants as kinds
-use Rattle.fe2o3_scram.specs.declared.scram_messages.channel_binding_flag.ChannelBindingFlag.TheVariants.{NotSupported}
-use Rattle.fe2o3_scram.specs.ClientFinal.{client_final_of, without_proof}
-use Rattle.fe2o3_scram.specs.ClientFirst.{client_first, header_text}
+use Rattle.fe2o3_scram.specs.declared.channel_binding.ChannelKind.{ChannelKind}
+use Rattle.fe2o3_scram.specs.declared.channel_binding.ChannelKind.TheVariants.{TlsUnique, TlsServerEndPoint, TlsExporter}
+use Rattle.fe2o3_scram.specs.declared.scram_messages.client_channel.ClientChannel.{ClientChannel}
+use Rattle.fe2o3_scram.specs.declared.scram_messages.client_channel.ClientChannel.TheVariants.{Absent, NotOffered, Bound}
+use Rattle.fe2o3_scram.specs.declared.scram_messages.channel_binding_flag.ChannelBindingFlag.{ChannelBindingFlag}
+use Rattle.fe2o3_scram.specs.declared.scram_messages.channel_binding_flag.ChannelBindingFlag.TheVariants.{NotSupported, ClientSupports, Required}
+use Rattle.fe2o3_scram.specs.ChannelBinding.{cbind_data, cbind_input, flag_of, header_text, is_bound, kind_name, mechanism_of, plus_name}
+use Rattle.fe2o3_scram.specs.ClientFinal.{client_final_of, without_proof_with}
+use Rattle.fe2o3_scram.specs.ClientFirst.{client_first_bare, client_first_with}
 use Rattle.fe2o3_scram.specs.ClientKeys.{ClientKeys, keys_of}
 use Rattle.fe2o3_scram.specs.Credentials.{Provider}
 use Rattle.fe2o3_scram.specs.Exchanges.{Exchange, first_in, nonce_in}
+use Rattle.fe2o3_scram.specs.Escape.{escaped}
 use Rattle.fe2o3_scram.specs.Hmac.{mechanism_name, digest_len}
 use Rattle.fe2o3_scram.specs.Keys.{auth_message, client_key, client_proof, client_signature, stored_key}
 use Rattle.fe2o3_scram.specs.Pbkdf2Hi.{salted_of}
@@ -32,13 +39,14 @@ use Rattle.fe2o3_scram.proofs.lemmas.hashes.DigestLemmas.{length-hmac_of}
 use Rattle.fe2o3_scram.proofs.lemmas.messages.ExchangeLemmas.{length-exclusive_or}
 use Rattle.fe2o3_sasl_core.specs.Bodies.{SpellsBody, carried}
 use Rattle.fe2o3_sasl_core.specs.ClientHistory.{Answering, answer_at, ReadsChallenge, ClientAnswers, ClientAllocates, ClientHistory, IsDue, OpenAnswer, VerifiedAnswer}
-use Rattle.fe2o3_sasl_core.specs.Events.{Given, Login, ServerSays, Challenged, Concluded, Failed, ClientSays, Started, Answered, Reported, Refused, scram_fault}
+use Rattle.fe2o3_sasl_core.specs.Events.{Given, Login, login_mechanism, ServerSays, Challenged, Concluded, Failed, ClientSays, Started, Answered, Reported, Refused, scram_fault}
 use Rattle.fe2o3_sasl_core.specs.ServerHistory.{Challenging, Accepted, FitsAsInit, Open, ServerAnswers, ServerAllocates, ServerHistory, first_message, final_message}
 use Rattle.fe2o3_sasl_core.proofs.lemmas.frames.SpellingLemmas.{one_spelling}
 use Rattle.fe2o3_sasl_core.proofs.lemmas.histories.OneServerHistoryLemmas.{one_fits}
 use Rattle.fe2o3_sasl_core.proofs.lemmas.unaltered.UnalteredReplyLemmas.{NoneMaySign, one_answering}
-use Rattle.fe2o3_sasl_negotiation.specs.FrameSizes.{CanBeSent}
-use Rattle.fe2o3_sasl_negotiation.proofs.lemmas.FrameSizeLemmas.{outcomes_fit}
+use Rattle.fe2o3_sasl_negotiation.specs.FrameSizes.{CanBeSent, bytes_for}
+use Rattle.fe2o3_sasl_negotiation.proofs.lemmas.FrameSizeLemmas.{inits_fit, outcomes_fit}
+use Rattle.connection_laws.specs.Unaltered.{FitsFrames}
 use Rattle.fe2o3_sasl_core.specs.declared.sasl_profile.error.ProfileError.TheVariants.{NotImplemented, Frame, OutOfMemory}
 
 -- ---- lengths of texts
@@ -102,15 +110,34 @@ proof_length keys version password salt auth count same =
     other : length mac ≡ digest_len version
     other = length-hmac_of version _ _
 
--- a response of two nonces of 44 bytes and a proof of at most 64
-pub response_length : (nonce proof : List ℕ) → length nonce ≡ 88 → length proof ≤ 64
-    → length (client_final_of (without_proof nonce) proof) ≤ 487
-response_length nonce proof long few = omega (
+-- a GS2 header
+header_length : (flag : ChannelBindingFlag) → length (header_text flag) ≤ 24
+header_length NotSupported = omega arith
+header_length ClientSupports = omega arith
+header_length (Required TlsUnique) = omega arith
+header_length (Required TlsServerEndPoint) = omega arith
+header_length (Required TlsExporter) = omega arith
+
+-- a channel binding with at most 64 bytes of data
+binding_length : (channel : ClientChannel) → length (cbind_data channel) ≤ 64
+    → length (base64_text (cbind_input channel)) ≤ 120
+binding_length channel few = omega (
+  arith,
+  few,
+  length-append (header_text (flag_of channel)) (cbind_data channel),
+  header_length (flag_of channel),
+  text_length (cbind_input channel),
+)
+
+-- a response of such a channel binding, two nonces of 44 bytes and a proof of at most 64
+pub response_length : (channel : ClientChannel) (nonce proof : List ℕ) → length (cbind_data channel) ≤ 64
+    → length nonce ≡ 88 → length proof ≤ 64 → length (client_final_of (without_proof_with channel nonce) proof) ≤ 487
+response_length channel nonce proof short long few = omega (
   arith,
   long,
-  length-append (without_proof nonce) (44 ∷ (codes "p=" ++ base64_text proof)),
-  length-append (codes "c=" ++ base64_text (header_text NotSupported)) (44 ∷ (codes "r=" ++ nonce)),
-  text_length (header_text NotSupported),
+  length-append (without_proof_with channel nonce) (44 ∷ (codes "p=" ++ base64_text proof)),
+  length-append (codes "c=" ++ base64_text (cbind_input channel)) (44 ∷ (codes "r=" ++ nonce)),
+  binding_length channel short,
   digest_text proof few,
 )
 
@@ -126,11 +153,59 @@ final_length provider accepted = omega (
 -- ---- bodies
 
 -- the list of one mechanism of SCRAM is sent
-pub names_fit : (version : ScramVersion) → CanBeSent (frames.Mechanisms (mechanism_name version ∷ []))
+pub names_fit : (version : ScramVersion) (bound : Bool) → CanBeSent (frames.Mechanisms (mechanism_of version bound ∷ []))
 unfolding canonical
-names_fit Sha1 = (_, refl, omega arith)
-names_fit Sha256 = (_, refl, omega arith)
-names_fit Sha512 = (_, refl, omega arith)
+names_fit Sha1 false = (_, refl, omega arith)
+names_fit Sha256 false = (_, refl, omega arith)
+names_fit Sha512 false = (_, refl, omega arith)
+names_fit Sha1 true = (_, refl, omega arith)
+names_fit Sha256 true = (_, refl, omega arith)
+names_fit Sha512 true = (_, refl, omega arith)
+
+-- a mechanism and a GS2 header
+short_mechanism : (version : ScramVersion) → length (mechanism_name version) ≤ 13
+short_mechanism Sha1 = omega arith
+short_mechanism Sha256 = omega arith
+short_mechanism Sha512 = omega arith
+
+bound_length : (version : ScramVersion) (kind : ChannelKind)
+    → length (plus_name version) + length (header_text (Required kind)) ≤ length (kind_name kind) + 22
+bound_length version TlsUnique =
+    omega (arith, short_mechanism version, length-append (mechanism_name version) (codes "-PLUS"))
+bound_length version TlsServerEndPoint =
+    omega (arith, short_mechanism version, length-append (mechanism_name version) (codes "-PLUS"))
+bound_length version TlsExporter =
+    omega (arith, short_mechanism version, length-append (mechanism_name version) (codes "-PLUS"))
+
+start_length : (version : ScramVersion) (channel : ClientChannel)
+    → length (mechanism_of version (is_bound channel)) + length (header_text (flag_of channel)) ≤ bytes_for channel + 16
+start_length version Absent = omega (arith, short_mechanism version)
+start_length version NotOffered = omega (arith, short_mechanism version)
+start_length version (Bound binding) = omega (arith, bound_length version binding.kind)
+
+-- a client-first message without its header adds five bytes to its name and its nonce
+bare_length : (user nonce : List ℕ) → length (client_first_bare user nonce) ≡ length (escaped user) + length nonce + 5
+bare_length user nonce = omega (
+  arith,
+  length-append (codes "n=" ++ escaped user) (44 ∷ (codes "r=" ++ nonce)),
+  length-append (codes "n=") (escaped user),
+  length-append (codes "r=") nonce,
+)
+
+-- the init of a login whose texts fit is sent, with a nonce of 32 bytes
+pub login_init_fits : (login : Login) (salt nonce : List ℕ) → FitsFrames login salt → length nonce ≡ 32
+    → CanBeSent (frames.Init (login_mechanism login)
+    (Some (client_first_with (flag_of login.channel) login.user (base64_text nonce))) login.hostname)
+login_init_fits login salt nonce fits long =
+    inits_fit (login_mechanism login) (Some (client_first_with (flag_of login.channel) login.user (base64_text nonce)))
+    login.hostname (omega (
+      arith,
+      fits.names,
+      start_length login.version login.channel,
+      length-append (header_text (flag_of login.channel)) (client_first_bare login.user (base64_text nonce)),
+      bare_length login.user (base64_text nonce),
+      nonce_length nonce long,
+    ))
 
 -- a body of a frame that is sent has at most 512 bytes with its size
 pub fits_as : (frame : SaslFrame) (body : List ℕ) → CanBeSent frame → canonical frame ≡ Some body
@@ -178,6 +253,7 @@ scram_is_small kinds.IterationCountNotFound large = cc
 scram_is_small kinds.IterationCountParseError large = cc
 scram_is_small kinds.IterationCountTooSmall large = cc
 scram_is_small kinds.IterationCountTooLarge large = cc
+scram_is_small kinds.MisplacedAttribute large = cc
 scram_is_small kinds.NormalizeError large = cc
 scram_is_small kinds.StaleKeys large = cc
 scram_is_small kinds.HmacErrorInvalidLength large = cc
@@ -200,16 +276,16 @@ module _ (login : Login) (events : List Given) (replies : List ClientSays) (k : 
       subst (λ (spelled : Result SaslFrame Error). ClientRow spelled)
       (one_spelling event.body row.0 (Ok frame) row.1 spells) row.2
 
-  pub start_is_small : SpellsBody event.body (Ok (frames.Mechanisms (mechanism_name login.version ∷ [])))
-      → CanBeSent (frames.Init (mechanism_name login.version)
-      (Some (client_first login.user (base64_text event.nonce))) login.hostname)
+  pub start_is_small : SpellsBody event.body (Ok (frames.Mechanisms (login_mechanism login ∷ [])))
+      → CanBeSent (frames.Init (login_mechanism login)
+      (Some (client_first_with (flag_of login.channel) login.user (base64_text event.nonce))) login.hostname)
       → says ≢ Refused (Frame faults.TooLarge)
-  start_is_small spells sent large = go (client_row (frames.Mechanisms (mechanism_name login.version ∷ [])) spells)
+  start_is_small spells sent large = go (client_row (frames.Mechanisms (login_mechanism login ∷ [])) spells)
     where
       none : says ≢ Refused NotImplemented
       none is = cc
 
-      go : ClientRow (Ok (frames.Mechanisms (mechanism_name login.version ∷ []))) → ⊥
+      go : ClientRow (Ok (frames.Mechanisms (login_mechanism login ∷ []))) → ⊥
       go (inl wants) = client_memory says wants.1 large
       go (inr (inl row)) = carried_is_small (Refused (Frame faults.TooLarge)) (λ (b : List ℕ). Started b) _ sent.0 says
           (λ b same. cc) sent.1 row.1 large

@@ -6,23 +6,23 @@ use Rattle.std.proofs.lemmas.Option.{same_Some}
 use Rattle.fe2o3_sasl_wire.specs.declared.amqp_types.SaslCode.TheVariants as outcomes
 use Rattle.fe2o3_sasl_wire.specs.SaslFrames.{canonical}
 use Rattle.fe2o3_sasl_wire.specs.SaslFrames as frames
-use Rattle.fe2o3_scram.specs.ClientFirst.{client_first}
-use Rattle.fe2o3_scram.specs.ClientFinal.{keys_for, without_proof}
+use Rattle.fe2o3_scram.specs.ChannelBinding.{flag_of, is_bound, server_mechanism}
+use Rattle.fe2o3_scram.specs.ClientFirst.{client_first_with}
+use Rattle.fe2o3_scram.specs.ClientFinal.{keys_for, without_proof_with}
 use Rattle.fe2o3_scram.specs.ClientKeys.{ClientKeys, keys_of}
 use Rattle.fe2o3_scram.specs.Exchanges.{Exchange, IsSound, Succeeds, nonce_in, bare_in, named_in, first_in, answer_in}
-use Rattle.fe2o3_scram.specs.Hmac.{mechanism_name}
 use Rattle.fe2o3_scram.specs.Keys.{auth_message, client_proof}
 use Rattle.fe2o3_scram.specs.ScramServer.{Initial}
 use Rattle.fe2o3_scram.specs.Texts.{base64_text}
 use Rattle.fe2o3_scram.proofs.lemmas.messages.ExchangeLemmas.{succeeds, opened}
 use Rattle.fe2o3_sasl_core.specs.ClientHistory.{ReadsChallenge, IsDue, NonceAt, is_start, is_answer}
-use Rattle.fe2o3_sasl_core.specs.Events.{Given, ServerSays, Challenged, Concluded, ClientSays, Started, Answered}
+use Rattle.fe2o3_sasl_core.specs.Events.{Given, login_mechanism, ServerSays, Challenged, Concluded, ClientSays, Started, Answered}
 use Rattle.fe2o3_sasl_core.specs.Positions.{IsLastOpen, test_at}
 use Rattle.fe2o3_sasl_core.specs.Profiles.{scram_profile, accepts_signature_by_challenge}
 use Rattle.fe2o3_sasl_core.specs.Runs.{AcceptorSteps, ProfileSteps, Runs}
 use Rattle.fe2o3_sasl_core.specs.SaslAcceptor.{ScramAcceptor, acceptor_names, acceptor_machine}
 use Rattle.fe2o3_sasl_core.specs.ServerHistory.{FitsAsInit, final_message}
-use Rattle.fe2o3_sasl_core.specs.TwoSides.{Histories}
+use Rattle.fe2o3_sasl_core.specs.TwoSides.{sides_of, Histories}
 use Rattle.fe2o3_sasl_core.specs.UnalteredRuns.{Suffices, client_body, server_body}
 use Rattle.fe2o3_sasl_core.proofs.lemmas.frames.SpellingLemmas.{spells_init, spells_challenge, spells_response, spells_outcome}
 use Rattle.fe2o3_sasl_core.proofs.lemmas.machines.ClientMachineLemmas.{profile_runs_are_histories}
@@ -46,11 +46,11 @@ use Rattle.connection_laws.proofs.lemmas.UnalteredSideLemmas.{Case, UpToOk, Clie
 module _ (c : Case) where
   -- the server challenges
   module _ (offer init server_sends client_sends : List ℕ)
-      (offered : canonical (frames.Mechanisms (mechanism_name c.login.version ∷ [])) ≡ Some offer)
+      (offered : canonical (frames.Mechanisms (login_mechanism c.login ∷ [])) ≡ Some offer)
       (zeroth : ClientTakes c.login c.joined.client_limit turns.Mechanisms (scram_profile c.login) offer server_sends c.joined.client_sent c.client)
       (started : zeroth.says ≡ Started init)
-      (sent_init : canonical (frames.Init (mechanism_name c.login.version)
-      (Some (client_first c.login.user (base64_text zeroth.nonce))) c.login.hostname) ≡ Some init)
+      (sent_init : canonical (frames.Init (login_mechanism c.login)
+      (Some (client_first_with (flag_of c.login.channel) c.login.user (base64_text zeroth.nonce))) c.login.hostname) ≡ Some init)
       (first : ServerTakes c.joined.server_limit turns.Init (ScramAcceptor c.provider Initial) init client_sends server_sends c.server) where
     abbrev exchange : Exchange
     exchange = exchange_by c zeroth.nonce first.nonce
@@ -83,6 +83,9 @@ module _ (c : Case) where
     meets : Succeeds exchange
     meets = succeeds exchange sound
 
+    mechanism : login_mechanism c.login ≡ server_mechanism c.provider.version c.provider.rules
+    mechanism = step.one_mechanism (sides_of c.login [] [] c.provider [] []) c.password c.salt c.count c.holds
+
     mine : length (base64_text zeroth.nonce) ≡ 44
     mine = nonce_length zeroth.nonce zeroth.long
 
@@ -93,18 +96,18 @@ module _ (c : Case) where
     challenge_fits = (texts_fit (first_in exchange)
         (first_length exchange mine theirs c.fits.salt (omega (arith, c.holds.within, c.is.limit)))).0
 
-    fits_as_init : FitsAsInit c.provider (event init first.nonce) (frames.Init (mechanism_name c.login.version)
-        (Some (client_first c.login.user (base64_text zeroth.nonce))) c.login.hostname) (step.challenge_in exchange)
-    fits_as_init = (ap mechanism_name (sym c.holds.version), meets.client_first, c.holds.stored, refl)
+    fits_as_init : FitsAsInit c.provider (event init first.nonce) (frames.Init (login_mechanism c.login)
+        (Some (client_first_with (flag_of c.login.channel) c.login.user (base64_text zeroth.nonce))) c.login.hostname) (step.challenge_in exchange)
+    fits_as_init = (mechanism, meets.client_first, c.holds.stored, refl)
 
     first_fine : ServerFine first.says
     first_fine = (
       server_memory first.says turns.Init first.answer first.said,
       challenge_is_small c.provider server_events server_replies 0 (event init first.nonce) first.says
           (acceptor_runs_are_histories c.provider server_events server_replies first.next server_run) refl refl
-          (mechanism_name c.login.version) (client_first c.login.user (base64_text zeroth.nonce)) c.login.hostname
+          (login_mechanism c.login) (client_first_with (flag_of c.login.channel) c.login.user (base64_text zeroth.nonce)) c.login.hostname
           (step.challenge_in exchange)
-          (spells_init c.login.version (client_first c.login.user (base64_text zeroth.nonce)) c.login.hostname init
+          (spells_init c.login.version (is_bound c.login.channel) (client_first_with (flag_of c.login.channel) c.login.user (base64_text zeroth.nonce)) c.login.hostname init
           c.is.hostname sent_init) fits_as_init challenge_fits,
     )
 
@@ -173,10 +176,10 @@ module _ (c : Case) where
         response_fits : CanBeSent (frames.Response (answer_in exchange).message)
         response_fits =
             let keys : ClientKeys = keys_for c.login.version c.login.secret (named_in exchange) in
-            let auth : List ℕ = auth_message (bare_in exchange) (first_in exchange) (without_proof (nonce_in exchange))
+            let auth : List ℕ = auth_message (bare_in exchange) (first_in exchange) (without_proof_with c.login.channel (nonce_in exchange))
             in
             (texts_fit (answer_in exchange).message
-            (response_length (nonce_in exchange) (client_proof keys.version keys.client_key auth)
+            (response_length c.login.channel (nonce_in exchange) (client_proof keys.version keys.client_key auth) c.fits.channel
             (length-append (base64_text zeroth.nonce) (base64_text first.nonce) ∙ omega (arith, mine, theirs))
             (proof_length keys c.login.version c.password c.salt auth c.count by_keys))).1
 
@@ -366,22 +369,22 @@ module _ (c : Case) where
         (server_all ∙ ap (λ (l : List ℕ). sasl_header ++ (framed offer ++ l)) all) client_all server_waits
 
   pub from_offer : (offer server_sends : List ℕ) (server_nonces : List (List ℕ))
-      (offered : canonical (frames.Mechanisms (mechanism_name c.login.version ∷ [])) ≡ Some offer)
+      (offered : canonical (frames.Mechanisms (login_mechanism c.login ∷ [])) ≡ Some offer)
       (zeroth : ClientTakes c.login c.joined.client_limit turns.Mechanisms (scram_profile c.login) offer server_sends c.joined.client_sent
       c.client) → c.joined.server_sent ≡ sasl_header ++ (framed offer ++ server_sends)
       → ServerMakes c.joined.server_limit (Frame turns.Init) (ScramAcceptor c.provider Initial) server_nonces c.joined.client_sent server_sends c.server
       → UpToOk c
   from_offer offer server_sends server_nonces offered zeroth server_all waits =
       let (init, started, sent_init) = starts c offer server_sends c.joined.client_sent offered zeroth in
-      let text : List ℕ = client_first c.login.user (base64_text zeroth.nonce) in
-      let small = fits_as (frames.Init (mechanism_name c.login.version) (Some text) c.login.hostname) init
+      let text : List ℕ = client_first_with (flag_of c.login.channel) c.login.user (base64_text zeroth.nonce) in
+      let small = fits_as (frames.Init (login_mechanism c.login) (Some text) c.login.hostname) init
       (init_fits c offer server_sends c.joined.client_sent offered zeroth) sent_init in
       let (all, client_waits) = client_goes_on c turns.Mechanisms (scram_profile c.login) offer server_sends c.joined.client_sent
       zeroth init turns.Challenge small
       (subst (λ (s : ClientSays). ClientSends (scram_profile c.login) s turns.Mechanisms zeroth.answer) started
       zeroth.said) in
       let first = server_takes c turns.Init (ScramAcceptor c.provider Initial) server_nonces init zeroth.after c.joined.client_sent server_sends
-      (frames.Init (mechanism_name c.login.version) (Some text) c.login.hostname) sent_init small
-      (spells_init c.login.version text c.login.hostname init c.is.hostname sent_init) tt all waits in
+      (frames.Init (login_mechanism c.login) (Some text) c.login.hostname) sent_init small
+      (spells_init c.login.version (is_bound c.login.channel) text c.login.hostname init c.is.hostname sent_init) tt all waits in
       from_init offer init server_sends zeroth.after offered zeroth started sent_init first server_all
       all client_waits

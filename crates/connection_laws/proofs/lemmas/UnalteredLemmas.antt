@@ -3,12 +3,14 @@ use Rattle.std.proofs.Common.{◌≡◌, ℕ, Some, List, [], ◌∷◌, ◌++�
 use Rattle.std.proofs.lemmas.List.{append-nil}
 use Rattle.fe2o3_sasl_wire.specs.SaslFrames.{canonical}
 use Rattle.fe2o3_sasl_wire.specs.SaslFrames as frames
-use Rattle.fe2o3_scram.specs.declared.hmac.ScramVersion.{ScramVersion}
-use Rattle.fe2o3_scram.specs.Hmac.{mechanism_name}
+use Rattle.fe2o3_scram.specs.ChannelBinding.{is_bound}
 use Rattle.fe2o3_scram.specs.ScramServer.{Initial}
+use Rattle.fe2o3_sasl_core.specs.Events.{login_mechanism}
 use Rattle.fe2o3_sasl_core.specs.Profiles.{scram_profile}
 use Rattle.fe2o3_sasl_core.specs.SaslAcceptor.{ScramAcceptor, acceptor_names, acceptor_machine}
+use Rattle.fe2o3_sasl_core.specs.TwoSides.{sides_of}
 use Rattle.fe2o3_sasl_core.proofs.lemmas.frames.SpellingLemmas.{spells_mechanisms}
+use Rattle.fe2o3_sasl_core.proofs.lemmas.unaltered.UnalteredStepLemmas.{one_mechanism}
 use Rattle.fe2o3_sasl_negotiation.specs.declared.progress.Expected.{Expected}
 use Rattle.fe2o3_sasl_negotiation.specs.declared.progress.Expected.TheVariants.{Header}
 use Rattle.fe2o3_sasl_negotiation.specs.declared.progress.FrameKind.TheVariants as turns
@@ -44,8 +46,9 @@ module _ (c : Case) where
     where
       opened_by : ServerOffers c.provider c.joined.server_limit c.joined.client_sent c.joined.server_sent c.server → BothLogIn c.joined c.salt c.count
       opened_by offer =
-          let offered : canonical (frames.Mechanisms (mechanism_name c.login.version ∷ [])) ≡ Some offer.body =
-          ap (λ (v : ScramVersion). canonical (frames.Mechanisms (mechanism_name v ∷ []))) (sym c.holds.version)
+          let offered : canonical (frames.Mechanisms (login_mechanism c.login ∷ [])) ≡ Some offer.body =
+          ap (λ (name : List ℕ). canonical (frames.Mechanisms (name ∷ [])))
+          (one_mechanism (sides_of c.login [] [] c.provider [] []) c.password c.salt c.count c.holds)
           ∙ offer.offer in
           let (nonces, waits) = client_header c.login.hostname c.joined.client_limit (scram_profile c.login) client_nonces
           (framed offer.body ++ offer.after) c.joined.client_sent c.client
@@ -53,8 +56,8 @@ module _ (c : Case) where
           c.joined.client_sent c.client) offer.all client_made) in
           let zeroth = client_takes c turns.Mechanisms (scram_profile c.login) nonces offer.body offer.after
           (framed offer.body ++ offer.after) c.joined.client_sent
-          (frames.Mechanisms (mechanism_name c.login.version ∷ [])) offered offer.small
-          (spells_mechanisms c.login.version offer.body offered) tt refl waits in
+          (frames.Mechanisms (login_mechanism c.login ∷ [])) offered offer.small
+          (spells_mechanisms c.login.version (is_bound c.login.channel) offer.body offered) tt refl waits in
           both_log_in c (from_offer c offer.body offer.after offer.nonces offered zeroth offer.all offer.goes_on)
 
 pub unaltered_sides_log_in : UnalteredSidesLogIn

@@ -6,6 +6,7 @@ use Rattle.fe2o3_sasl_core.specs.UnalteredRuns.{UnalteredRun, agreed_verdict, ag
 use Rattle.fe2o3_sasl_core.specs.Verdicts.{Finding, OfVerifier, OfProof, IsVerifierFinding, IsProofFinding, Audits}
 use Rattle.fe2o3_sasl_core.proofs.lemmas.lists.EachLemmas.{each_append, each_weaker}
 use Rattle.fe2o3_sasl_core.proofs.lemmas.unaltered.UnalteredRunLemmas as unaltered
+use Rattle.fe2o3_sasl_core.proofs.lemmas.unaltered.UnalteredStepLemmas.{one_mechanism}
 use Rattle.connection_laws.specs.Pairs.{sides, TakesEqually, ShowsEqually, UnalteredConnectionsAgree}
 use Rattle.connection_laws.proofs.lemmas.ExchangedLemmas as exchanged
 
@@ -39,14 +40,15 @@ meet_equally sides run salt count audits = (verifier all.0, proof all.1.0)
 
 pub unaltered_connections_agree : UnalteredConnectionsAgree
 unaltered_connections_agree login provider client server password salt count is holds bytes logged_in server_logged_in =
-    let run = exchanged.run login provider holds.version client.limit server.limit client.last server.last logged_in
+    let mechanism = one_mechanism (sides client server) password salt count holds in
+    let run = exchanged.run login provider mechanism client.limit server.limit client.last server.last logged_in
     server_logged_in client.pieces server.pieces client.taken client.sent server.taken server.sent bytes.offer
     bytes.offered
     bytes.small bytes.to_client bytes.to_server client.connection server.connection in
-    let histories = exchanged.histories login provider holds.version client.limit server.limit client.last server.last
+    let histories = exchanged.histories login provider mechanism client.limit server.limit client.last server.last
     logged_in server_logged_in client.pieces server.pieces client.taken client.sent server.taken server.sent bytes.offer
     bytes.offered bytes.small bytes.to_client bytes.to_server client.connection server.connection in
-    let fits = exchanged.fits login provider holds.version client.limit server.limit client.last server.last logged_in
+    let fits = exchanged.fits login provider mechanism client.limit server.limit client.last server.last logged_in
     server_logged_in client.pieces server.pieces client.taken client.sent server.taken server.sent bytes.offer
     bytes.offered
     bytes.small bytes.to_client bytes.to_server client.connection server.connection in

@@ -9,16 +9,16 @@ use Rattle.fe2o3_sasl_wire.specs.declared.amqp_types.SaslCode.TheVariants as out
 use Rattle.fe2o3_sasl_wire.specs.declared.sasl_frames.error.Error.TheVariants as faults
 use Rattle.fe2o3_sasl_wire.specs.SaslFrames.{SaslFrame, canonical}
 use Rattle.fe2o3_sasl_wire.specs.SaslFrames as frames
-use Rattle.fe2o3_scram.specs.ClientFirst.{client_first}
+use Rattle.fe2o3_scram.specs.ChannelBinding.{flag_of, is_bound}
+use Rattle.fe2o3_scram.specs.ClientFirst.{client_first_with}
 use Rattle.fe2o3_scram.specs.Credentials.{Provider}
 use Rattle.fe2o3_scram.specs.Exchanges.{Exchange, IsSound, nonce_in, first_in, answer_in}
-use Rattle.fe2o3_scram.specs.Hmac.{mechanism_name}
 use Rattle.fe2o3_scram.specs.ScramServer.{Initial}
 use Rattle.fe2o3_scram.specs.Texts.{base64_text}
 use Rattle.fe2o3_scram.proofs.lemmas.messages.ExchangeLemmas.{nonce_text}
 use Rattle.fe2o3_scram.proofs.lemmas.texts.AsciiLemmas.{IsUtf8-base64_text, IsUtf8-literal}
 use Rattle.fe2o3_sasl_core.specs.Bodies.{SpellsBody}
-use Rattle.fe2o3_sasl_core.specs.Events.{Given, Login, IsLogin, ServerSays, Challenged, Concluded, Failed, ClientSays, Started, Answered, Refused}
+use Rattle.fe2o3_sasl_core.specs.Events.{Given, Login, login_mechanism, IsLogin, ServerSays, Challenged, Concluded, Failed, ClientSays, Started, Answered, Refused}
 use Rattle.fe2o3_sasl_core.specs.declared.sasl_profile.error.ProfileError.TheVariants.{Frame as FrameFault, OutOfMemory}
 use Rattle.fe2o3_sasl_core.specs.Profiles.{Profile, scram_profile, accepts_signature_by_challenge}
 use Rattle.fe2o3_sasl_core.specs.Runs.{AcceptorSteps, ProfileSteps, Runs}
@@ -42,11 +42,10 @@ use Rattle.fe2o3_sasl_negotiation.specs.FrameSizes.{CanBeSent}
 use Rattle.fe2o3_sasl_negotiation.specs.Framing.{sasl_header, framed}
 use Rattle.fe2o3_sasl_negotiation.specs.Laws.{Negotiates}
 use Rattle.fe2o3_sasl_negotiation.specs.Negotiations.{Side, SideOutput, Sends, IsInTurn}
-use Rattle.fe2o3_sasl_negotiation.proofs.lemmas.FrameSizeLemmas.{scram_inits_fit}
 use Rattle.connection_laws.proofs.lemmas.ReplyListLemmas.{NoneIs, none_at, arriving}
 use Rattle.connection_laws.specs.Unaltered.{Joined, FitsFrames, TakesFrames}
 use Rattle.connection_laws.proofs.lemmas.ExactSideLemmas.{Exact, ClientMakes, ServerMakes, Takes, takes, goes_on_with}
-use Rattle.connection_laws.proofs.lemmas.SmallReplyLemmas.{nonce_length, long_enough, start_is_small}
+use Rattle.connection_laws.proofs.lemmas.SmallReplyLemmas.{login_init_fits, long_enough, start_is_small}
 
 -- ---- what is said is neither that memory ran out nor too large
 
@@ -160,6 +159,8 @@ module _ (c : Case) where
     some = c.holds.some;
     least = c.holds.least;
     within = c.holds.within;
+    header = c.holds.header;
+    channel = c.holds.channel;
   }
 
   pub suffices : (events : List Given) (replies : List ClientSays) (server_events : List Given)
@@ -235,7 +236,7 @@ module _ (c : Case) where
 
   -- the client starts
   module _ (offer more sent : List ℕ)
-      (offered : canonical (frames.Mechanisms (mechanism_name c.login.version ∷ [])) ≡ Some offer)
+      (offered : canonical (frames.Mechanisms (login_mechanism c.login ∷ [])) ≡ Some offer)
       (zeroth : ClientTakes c.login c.joined.client_limit turns.Mechanisms (scram_profile c.login) offer more sent c.client) where
     abbrev offer_event : Given
     offer_event = event offer zeroth.nonce
@@ -243,10 +244,9 @@ module _ (c : Case) where
     start_run : Runs (ProfileSteps c.login.hostname) (scram_profile c.login) (offer_event ∷ []) (zeroth.says ∷ []) zeroth.next
     start_run = (zeroth.says, zeroth.next, [], zeroth.steps, refl, (refl, refl))
 
-    pub init_fits : CanBeSent (frames.Init (mechanism_name c.login.version)
-        (Some (client_first c.login.user (base64_text zeroth.nonce))) c.login.hostname)
-    init_fits = scram_inits_fit c.login.version c.login.user (base64_text zeroth.nonce) c.login.hostname
-        (omega (arith, nonce_length zeroth.nonce zeroth.long)) c.fits.names
+    pub init_fits : CanBeSent (frames.Init (login_mechanism c.login)
+        (Some (client_first_with (flag_of c.login.channel) c.login.user (base64_text zeroth.nonce))) c.login.hostname)
+    init_fits = login_init_fits c.login c.salt zeroth.nonce c.fits zeroth.long
 
     pub zeroth_fine : ClientFine zeroth.says
     zeroth_fine = (
@@ -254,12 +254,12 @@ module _ (c : Case) where
           zeroth.said,
       start_is_small c.login (offer_event ∷ []) (zeroth.says ∷ []) 0 offer_event zeroth.says
           (profile_runs_are_histories c.login (offer_event ∷ []) (zeroth.says ∷ []) zeroth.next start_run) refl refl
-          (spells_mechanisms c.login.version offer offered) init_fits,
+          (spells_mechanisms c.login.version (is_bound c.login.channel) offer offered) init_fits,
     )
 
     pub starts : (body : List ℕ) × (zeroth.says ≡ Started body)
-        × (canonical (frames.Init (mechanism_name c.login.version)
-        (Some (client_first c.login.user (base64_text zeroth.nonce))) c.login.hostname) ≡ Some body)
+        × (canonical (frames.Init (login_mechanism c.login)
+        (Some (client_first_with (flag_of c.login.channel) c.login.user (base64_text zeroth.nonce))) c.login.hostname) ≡ Some body)
     starts =
         let (body, arrives) = arriving (client_body (Some zeroth.says)) in
         let events : List Given = offer_event ∷ [] in
@@ -274,7 +274,7 @@ module _ (c : Case) where
 
 -- the client's and the server's exchange with these nonces
 abbrev pub exchange_by : Case → List ℕ → List ℕ → Exchange
-exchange_by c mine theirs = step.exchange_of c.login c.provider.cbind_flag_y c.password c.salt c.count mine theirs
+exchange_by c mine theirs = step.exchange_of c.login c.provider.rules c.password c.salt c.count mine theirs
 
 -- an unaltered connection up to the server's Ok, which the client has taken
 pub record UpToOk (c : Case) : Type 0 where
@@ -297,10 +297,10 @@ pub record UpToOk (c : Case) : Type 0 where
   pub third : ServerTakes c.joined.server_limit turns.Response first.next response client_ends server_ends c.server
   pub fourth : ClientTakes c.login c.joined.client_limit (turn_after_response zeroth.next) second.next outcome more
       client_ends c.client
-  pub offered : canonical (frames.Mechanisms (mechanism_name c.login.version ∷ [])) ≡ Some offer
+  pub offered : canonical (frames.Mechanisms (login_mechanism c.login ∷ [])) ≡ Some offer
   pub started : zeroth.says ≡ Started init
-  pub sent_init : canonical (frames.Init (mechanism_name c.login.version)
-      (Some (client_first c.login.user (base64_text zeroth.nonce))) c.login.hostname) ≡ Some init
+  pub sent_init : canonical (frames.Init (login_mechanism c.login)
+      (Some (client_first_with (flag_of c.login.channel) c.login.user (base64_text zeroth.nonce))) c.login.hostname) ≡ Some init
   pub challenged : first.says ≡ Challenged challenge
   pub sent_challenge : canonical (frames.Challenge (first_in (exchange_by c zeroth.nonce first.nonce))) ≡ Some challenge
   pub answered : second.says ≡ Answered response

@@ -2,7 +2,7 @@
 
 ghost use Rattle.std.specs.Prelude.{◌≡◌, ℕ, List, Some, IfOk};
 ghost use Rattle.fe2o3_scram.specs.Logins.{TextLogsIn};
-ghost use Rattle.fe2o3_scram.specs.ScramServer.{logged_in, provider_in, state_in};
+ghost use Rattle.fe2o3_scram.specs.ScramServer.{logged_in, provider_in, rules_in, state_in};
 
 use super::accounts::{Account, Accounts};
 use crate::login::fresh;
@@ -130,7 +130,7 @@ fn challenge(
 /// then names.
 fn conclude(alloc: Global, server: &mut Server, client_final: &[u8]) -> Result<Vec<u8>>
     ensures { IfOk result (λ _. (user : List ℕ)
-        × TextLogsIn (provider_in server.old).value.version (state_in server.old) client_final.now user
+        × TextLogsIn (provider_in server.old).value.version (rules_in server.old) (state_in server.old) client_final.now user
         × (logged_in (state_in server.new) ≡ Some user)) }
 {
     let signature = server.compute_server_final_message(alloc, client_final)?;

@@ -102,7 +102,8 @@ module _ (hostname : Option (List ℕ)) (limit : ℕ) (profile : Profile) (piece
         (
           ap length come ∙ length-take-le 8 (taken ++ bytes) whole,
           (λ header. other.0 (sym come ∙ header)),
-          ap (λ (s : Side Profile). s.progress) ends.2 ∙ progress_of answer _ other.1,
+          ap (λ (s : Side Profile). s.progress) ends.2 ∙ progress_of answer _ other.1
+              ∙ ap (λ (h : List ℕ). Failed (ProtocolHeaderMismatch h)) (sym come),
           ap (λ (s : Side Profile). s.state) ends.2 ∙ answers.1,
         ),
         ends.1 ∙ ap (λ (a : SideOutput). a.sent) other.1,
@@ -141,7 +142,7 @@ module _ (hostname : Option (List ℕ)) (limit : ℕ) (profile : Profile) (piece
       (header_call taken bytes nonce first k next few
       (subst (λ (s : Side Profile). ReceivesAt InProgress (ClientSideAnswers hostname) s bytes nonce k first next) same receives))
   call_at InProgress taken sent side next bytes nonce first k at (inr (inl other)) are_bytes nonces receives =
-      absurd (failed_is_not_in_progress ProtocolHeaderMismatch (sym other.0.2 ∙ at))
+      absurd (failed_is_not_in_progress (ProtocolHeaderMismatch taken) (sym other.0.2 ∙ at))
   call_at InProgress taken sent side next bytes nonce first k at (inr (inr negotiated)) are_bytes nonces receives =
       inr (inr (negotiated_call (ClientSideAnswers hostname) (ProfileSteps hostname) (ClientOutputs signs)
       (client_follows signs) turns.Mechanisms Kept keeps (client_chain signs) asks limit profile pieces taken sent side next

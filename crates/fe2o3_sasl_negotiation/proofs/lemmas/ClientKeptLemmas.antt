@@ -23,7 +23,7 @@ use Rattle.fe2o3_sasl_negotiation.specs.Negotiations.{SideOutput, closes, Sends,
 use Rattle.fe2o3_sasl_negotiation.specs.ClientNegotiation.{ClientOpens, ClientOutputs, ClientReplies, ClientSideAnswers}
 use Rattle.fe2o3_sasl_negotiation.specs.Snapshot.{client_due, outcome_due, client_fits}
 use Rattle.fe2o3_sasl_negotiation.specs.private.Units.{Appends}
-use Rattle.fe2o3_sasl_negotiation.proofs.lemmas.KeptLemmas.{unread_is_no_memory}
+use Rattle.fe2o3_sasl_negotiation.proofs.lemmas.KeptLemmas.{other_fits, unread_is_no_memory}
 use Rattle.fe2o3_sasl_core.specs.declared.sasl_profile.error.ProfileError.TheVariants.{NotImplemented, Scram, StaleKeys, Frame as FrameFault, OutOfMemory}
 
 -- where an answer is this one
@@ -42,7 +42,7 @@ pub opened_at_client : (header out : List ℕ) (step : Step) → Appends (Client
     → IsTrue (client_fits step.progress step.expected)
 opened_at_client header out step (sent, appended, inl (other, is)) =
     at_client (record { sent = sent; progress = step.progress; expected = step.expected })
-    (closes ProtocolHeaderMismatch Header) is refl
+    (closes (ProtocolHeaderMismatch header) Header) is (other_fits header other)
 opened_at_client header out step (sent, appended, inr (sasl, is)) =
     at_client (record { sent = sent; progress = step.progress; expected = step.expected })
     (record { sent = []; progress = InProgress; expected = Frame turns.Mechanisms }) is refl
@@ -180,7 +180,7 @@ module _ (hostname : Option (List ℕ)) where
       → IsTrue (client_due expected) → ClientSideAnswers hostname expected profile nonce unit answer next
       → IsTrue (client_fits answer.progress answer.expected)
   answered_at_client Header profile next nonce unit answer is (inl (other, same), after) =
-      at_client answer (closes ProtocolHeaderMismatch Header) same refl
+      at_client answer (closes (ProtocolHeaderMismatch unit) Header) same (other_fits unit other)
   answered_at_client Header profile next nonce unit answer is (inr (sasl, same), after) =
       at_client answer (record { sent = []; progress = InProgress; expected = Frame turns.Mechanisms }) same refl
   answered_at_client (Frame turn) profile next nonce unit answer is answers =

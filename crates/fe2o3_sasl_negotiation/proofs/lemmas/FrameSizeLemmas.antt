@@ -5,7 +5,14 @@ use Rattle.std.proofs.lemmas.List.{length-append}
 use Rattle.std.proofs.Common.{codes}
 use Rattle.fe2o3_scram.specs.declared.hmac.ScramVersion.{ScramVersion}
 use Rattle.fe2o3_scram.specs.declared.hmac.ScramVersion.TheVariants as versions
-use Rattle.fe2o3_scram.specs.ClientFirst.{client_first, client_first_bare}
+use Rattle.fe2o3_scram.specs.declared.channel_binding.ChannelKind.{ChannelKind}
+use Rattle.fe2o3_scram.specs.declared.channel_binding.ChannelKind.TheVariants.{TlsUnique, TlsServerEndPoint, TlsExporter}
+use Rattle.fe2o3_scram.specs.declared.scram_messages.client_channel.ClientChannel.{ClientChannel}
+use Rattle.fe2o3_scram.specs.declared.scram_messages.client_channel.ClientChannel.TheVariants.{Absent, NotOffered, Bound}
+use Rattle.fe2o3_scram.specs.declared.scram_messages.channel_binding_flag.ChannelBindingFlag.{ChannelBindingFlag}
+use Rattle.fe2o3_scram.specs.declared.scram_messages.channel_binding_flag.ChannelBindingFlag.TheVariants.{Required}
+use Rattle.fe2o3_scram.specs.ChannelBinding.{flag_of, header_text, is_bound, kind_name, mechanism_of}
+use Rattle.fe2o3_scram.specs.ClientFirst.{client_first_bare, client_first_with}
 use Rattle.fe2o3_scram.specs.Escape.{escaped}
 use Rattle.fe2o3_scram.specs.Hmac.{mechanism_name}
 use Rattle.fe2o3_sasl_wire.specs.declared.sasl_frames.forms.Form.{Form}
@@ -15,7 +22,7 @@ use Rattle.fe2o3_sasl_wire.specs.SaslFrames as frames
 use Rattle.fe2o3_sasl_wire.specs.private.Writing.{width, canonical_variable, canonical_list, count_of, items_of}
 use Rattle.fe2o3_sasl_wire.proofs.lemmas.writing.BodyPartsLemmas.{has_body}
 use Rattle.fe2o3_sasl_wire.proofs.lemmas.writing.CanonicalSpellsLemmas.{length-content}
-use Rattle.fe2o3_sasl_negotiation.specs.FrameSizes.{CanBeSent, ScramInitsFit, InitsFit, TextsFit, OutcomesFit}
+use Rattle.fe2o3_sasl_negotiation.specs.FrameSizes.{CanBeSent, bytes_for, ScramInitsFit, InitsFit, TextsFit, OutcomesFit}
 
 most_width : (form : Form) → width form ≤ 4
 most_width Eight = omega arith
@@ -112,23 +119,41 @@ short_mechanism versions.Sha1 = omega arith
 short_mechanism versions.Sha256 = omega arith
 short_mechanism versions.Sha512 = omega arith
 
--- a client-first message adds eight bytes to its name and its nonce
-length-client_first : (user nonce : List ℕ)
-    → length (client_first user nonce) ≡ length (escaped user) + length nonce + 8
-length-client_first user nonce = omega (
+length-header : (kind : ChannelKind) → length (header_text (Required kind)) ≡ length (kind_name kind) + 4
+length-header TlsUnique = refl
+length-header TlsServerEndPoint = refl
+length-header TlsExporter = refl
+
+-- a mechanism and its header have at most 16 bytes, and those that the channel needs
+short_header : (version : ScramVersion) (channel : ClientChannel)
+    → length (mechanism_of version (is_bound channel)) + length (header_text (flag_of channel)) ≤ bytes_for channel + 16
+short_header version Absent = omega (arith, short_mechanism version)
+short_header version NotOffered = omega (arith, short_mechanism version)
+short_header version (Bound binding) = omega (
   arith,
-  length-append (codes "n,,") (client_first_bare user nonce),
+  short_mechanism version,
+  length-append (mechanism_name version) (codes "-PLUS"),
+  length-header binding.kind,
+)
+
+-- a client-first message adds five bytes to its header, its name and its nonce
+length-client_first : (flag : ChannelBindingFlag) (user nonce : List ℕ) → length (client_first_with flag user nonce)
+    ≡ length (header_text flag) + length (escaped user) + length nonce + 5
+length-client_first flag user nonce = omega (
+  arith,
+  length-append (header_text flag) (client_first_bare user nonce),
   length-append (codes "n=" ++ escaped user) (44 ∷ (codes "r=" ++ nonce)),
   length-append (codes "n=") (escaped user),
   length-append (codes "r=") nonce,
 )
 
 pub scram_inits_fit : ScramInitsFit
-scram_inits_fit version user nonce hostname long few =
-    inits_fit (mechanism_name version) (Some (client_first user nonce)) hostname (omega (
+scram_inits_fit version channel user nonce hostname long few =
+    inits_fit (mechanism_of version (is_bound channel)) (Some (client_first_with (flag_of channel) user nonce)) hostname
+    (omega (
       arith,
       few,
-      short_mechanism version,
-      length-client_first user nonce,
+      short_header version channel,
+      length-client_first (flag_of channel) user nonce,
       long,
     ))

@@ -1,5 +1,6 @@
 -- A side's progress and what is expected to it, after an answer to a unit.
-use Rattle.std.proofs.Common.{◌≡◌, ◌≢◌, ℕ, Option, Some, None, List, length, drop, nat_lt, slice_index, ◌==◌, ◌&&◌, if◌then◌else◌, Bool, true, false, IsTrue, refl, sym, ◌∙◌, subst, inl, inr, Result, Ok, Err, IfOk}
+use Rattle.std.proofs.Common.{◌≡◌, ◌≢◌, ℕ, Option, Some, None, List, length, drop, nat_lt, slice_index, ◌==◌, ◌&&◌, if◌then◌else◌, Bool, true, false, not, IsTrue, refl, sym, ◌∙◌, subst, inl, inr, Result, Ok, Err, IfOk}
+use Rattle.std.specs.Cmp.Lexicographic.{same_text}
 use Rattle.fe2o3_sasl_wire.specs.declared.amqp_types.SaslCode.TheVariants as outcomes
 use Rattle.fe2o3_sasl_wire.specs.declared.sasl_frames.error.Error.{Error}
 use Rattle.fe2o3_sasl_wire.specs.declared.sasl_frames.error.Error.TheVariants as faults
@@ -13,10 +14,19 @@ use Rattle.fe2o3_sasl_negotiation.specs.declared.progress.Progress.{Progress}
 use Rattle.fe2o3_sasl_negotiation.specs.declared.progress.Progress.TheVariants.{InProgress, Authenticated, Failed as HasFailed}
 use Rattle.fe2o3_sasl_negotiation.specs.declared.progress.FrameKind.{FrameKind}
 use Rattle.fe2o3_sasl_negotiation.specs.declared.progress.FrameKind.TheVariants as turns
+use Rattle.fe2o3_sasl_negotiation.specs.Framing.{sasl_header, is_sasl_header}
 use Rattle.fe2o3_sasl_negotiation.specs.Negotiations.{SideOutput, closes, Sends}
 use Rattle.fe2o3_sasl_negotiation.specs.ServerNegotiation.{offer_body, ServerOpens, Offers, ServerOutputs, ServerReplies, ServerSideAnswers}
 use Rattle.fe2o3_sasl_negotiation.specs.Snapshot.{server_due, server_fits}
 use Rattle.fe2o3_sasl_negotiation.specs.private.Units.{Appends}
+
+-- a header other than that of SASL is none that it is
+pub other_fits : (header : List ℕ) → header ≢ sasl_header → IsTrue (not (is_sasl_header header))
+other_fits header other = go (is_sasl_header header) refl
+  where
+    go : (is : Bool) → is ≡ is_sasl_header header → IsTrue (not is)
+    go true same = absurd (other (same_text header sasl_header same))
+    go false same = refl
 
 -- a body of which no beginning spells a frame is not out of memory
 pub unread_is_no_memory : (body : List ℕ) → fault_of body ≢ faults.OutOfMemory
@@ -83,7 +93,8 @@ offered_at_server None answer offers = at_server answer (closes ReplyTooLarge He
 
 opened_at_server : (names : List (List ℕ)) (header : List ℕ) (answer : SideOutput) → ServerOpens names header answer
     → IsTrue (server_fits answer.progress answer.expected)
-opened_at_server names header answer (inl (other, is)) = at_server answer _ is refl
+opened_at_server names header answer (inl (other, is)) =
+    at_server answer _ is (other_fits header other)
 opened_at_server names header answer (inr (sasl, (first, offers, is))) =
     at_server answer _ is (offered_at_server (offer_body names) first offers)
 

@@ -1,21 +1,25 @@
 -- A client sends no init of a mechanism that its policy does not allow, or that is not offered.
-use Rattle.std.proofs.Common.{◌≡◌, ◌≢◌, ℕ, Bool, Option, Some, None, List, [], ◌++◌, drop, take, refl, sym, ◌∙◌, ap, subst, inl, inr, Result, Ok, Err}
+use Rattle.std.proofs.Common.{◌≡◌, ◌≢◌, ◌&&◌, ℕ, Bool, true, false, Option, Some, None, List, [], ◌++◌, drop, take, refl, sym, ◌∙◌, ap, subst, inl, inr, Result, Ok, Err}
+use Rattle.std.specs.Prelude.{is_some}
 use Rattle.fe2o3_sasl_wire.specs.SaslFrames as frames
 use Rattle.fe2o3_sasl_wire.specs.SaslFrames.{SaslFrame, canonical}
 use Rattle.fe2o3_sasl_wire.specs.declared.sasl_frames.error.Error.{Error}
 use Rattle.fe2o3_sasl_wire.specs.declared.sasl_frames.error.Error.TheVariants as faults
-use Rattle.fe2o3_scram.specs.declared.client_secret.IterationLimits.{IterationLimits}
+use Rattle.fe2o3_scram.specs.declared.channel_binding.ChannelBinding.{ChannelBinding}
+use Rattle.fe2o3_scram.specs.declared.scram_messages.client_channel.ClientChannel.{ClientChannel}
 use Rattle.fe2o3_scram.specs.declared.hmac.ScramVersion.{ScramVersion}
 use Rattle.fe2o3_scram.specs.declared.hmac.ScramVersion.TheVariants.{Sha1, Sha256, Sha512}
+use Rattle.fe2o3_scram.specs.ChannelBinding.{is_bound, mechanism_of, plus_name}
 use Rattle.fe2o3_scram.specs.ClientSecret.{Secret, Password, Keys, Both}
 use Rattle.fe2o3_scram.specs.Hmac.{mechanism_name}
 use Rattle.fe2o3_sasl_core.specs.Bodies.{SpellsBody, carried}
-use Rattle.fe2o3_sasl_core.specs.ClientPolicy.{policy_name, profile_by, scram_by, secret_for}
+use Rattle.fe2o3_sasl_core.specs.ClientPolicy.{bound_channel, is_allowed, is_from, policy_name, profile_by, scram_by, secret_for, unbound_channel}
 use Rattle.fe2o3_sasl_core.specs.Events.{ClientSays, Given, Refused, Started}
 use Rattle.fe2o3_sasl_core.specs.Profiles.{Profile, accepts_signature_by_challenge, initial_response, profile_name}
 use Rattle.fe2o3_sasl_core.specs.Runs.{ProfileGives, Replies}
+use Rattle.fe2o3_sasl_core.specs.declared.client_policy.ClientPolicy.{ClientPolicy}
 use Rattle.fe2o3_sasl_core.specs.declared.client_policy.Mechanism.{Mechanism}
-use Rattle.fe2o3_sasl_core.specs.declared.client_policy.Mechanism.TheVariants.{ScramSha512, ScramSha256, ScramSha1, External, Plain, Anonymous}
+use Rattle.fe2o3_sasl_core.specs.declared.client_policy.Mechanism.TheVariants.{ScramSha512Plus, ScramSha256Plus, ScramSha1Plus, ScramSha512, ScramSha256, ScramSha1, External, Plain, Anonymous}
 use Rattle.fe2o3_sasl_core.specs.declared.sasl_profile.error.ProfileError.{ProfileError}
 use Rattle.fe2o3_sasl_core.specs.declared.sasl_profile.error.ProfileError.TheVariants.{Frame as FrameFault}
 use Rattle.fe2o3_sasl_core.proofs.lemmas.frames.SpellingLemmas.{one_spelled_frame, one_spelling}
@@ -38,23 +42,52 @@ abbrev name_in : Option Profile → List ℕ
 name_in None = []
 name_in (Some profile) = profile_name profile
 
-scram_name : (limits : IterationLimits) (user : List ℕ) (version : ScramVersion) (secret : Option Secret) (profile : Profile)
-    → scram_by limits user version secret ≡ Some profile → profile_name profile ≡ mechanism_name version
-scram_name limits user version None profile is = absurd (cc)
-scram_name limits user version (Some secret) profile is = sym (ap name_in is)
+-- a policy that allows a mechanism with -PLUS has a channel, which such a profile binds
+binds : (channel : Option ChannelBinding) (is_strong : Bool) → (is_some channel && is_strong) ≡ true
+    → is_bound (bound_channel channel) ≡ true
+binds None is_strong allowed = absurd (cc)
+binds (Some binding) is_strong allowed = refl
 
-selected_name : (limits : IterationLimits) (user : List ℕ) (secret : Secret) (mechanism : Mechanism) (profile : Profile)
-    → profile_by limits user secret mechanism ≡ Some profile → profile_name profile ≡ policy_name mechanism
-selected_name limits user secret ScramSha512 profile is =
-    scram_name limits user Sha512 (secret_for Sha512 secret) profile is
-selected_name limits user secret ScramSha256 profile is =
-    scram_name limits user Sha256 (secret_for Sha256 secret) profile is
-selected_name limits user secret ScramSha1 profile is = scram_name limits user Sha1 (secret_for Sha1 secret) profile is
-selected_name limits user secret External profile is = sym (ap name_in is)
-selected_name limits user (Password password) Plain profile is = sym (ap name_in is)
-selected_name limits user (Keys keys) Plain profile is = absurd (cc)
-selected_name limits user (Both password keys) Plain profile is = sym (ap name_in is)
-selected_name limits user secret Anonymous profile is = sym (ap name_in is)
+-- and one without -PLUS binds none
+binds_none : (channel : Option ChannelBinding) → is_bound (unbound_channel channel) ≡ false
+binds_none None = refl
+binds_none (Some binding) = refl
+
+module _ (policy : ClientPolicy) (user : List ℕ) where
+  scram_name : (channel : ClientChannel) (version : ScramVersion) (secret : Option Secret) (profile : Profile)
+      → scram_by policy channel user version secret ≡ Some profile
+      → profile_name profile ≡ mechanism_of version (is_bound channel)
+  scram_name channel version None profile is = absurd (cc)
+  scram_name channel version (Some secret) profile is = sym (ap name_in is)
+
+  bound_name : (version : ScramVersion) (secret : Secret) (profile : Profile)
+      → (is_some policy.channel && is_from policy.floor version) ≡ true
+      → scram_by policy (bound_channel policy.channel) user version (secret_for version secret) ≡ Some profile
+      → profile_name profile ≡ plus_name version
+  bound_name version secret profile allowed is =
+      scram_name (bound_channel policy.channel) version (secret_for version secret) profile is
+      ∙ ap (mechanism_of version) (binds policy.channel (is_from policy.floor version) allowed)
+
+  unbound_name : (version : ScramVersion) (secret : Secret) (profile : Profile)
+      → scram_by policy (unbound_channel policy.channel) user version (secret_for version secret) ≡ Some profile
+      → profile_name profile ≡ mechanism_name version
+  unbound_name version secret profile is =
+      scram_name (unbound_channel policy.channel) version (secret_for version secret) profile is
+      ∙ ap (mechanism_of version) (binds_none policy.channel)
+
+  selected_name : (secret : Secret) (mechanism : Mechanism) (profile : Profile) → is_allowed policy mechanism ≡ true
+      → profile_by policy user secret mechanism ≡ Some profile → profile_name profile ≡ policy_name mechanism
+  selected_name secret ScramSha512Plus profile allowed is = bound_name Sha512 secret profile allowed is
+  selected_name secret ScramSha256Plus profile allowed is = bound_name Sha256 secret profile allowed is
+  selected_name secret ScramSha1Plus profile allowed is = bound_name Sha1 secret profile allowed is
+  selected_name secret ScramSha512 profile allowed is = unbound_name Sha512 secret profile is
+  selected_name secret ScramSha256 profile allowed is = unbound_name Sha256 secret profile is
+  selected_name secret ScramSha1 profile allowed is = unbound_name Sha1 secret profile is
+  selected_name secret External profile allowed is = sym (ap name_in is)
+  selected_name (Password password) Plain profile allowed is = sym (ap name_in is)
+  selected_name (Keys keys) Plain profile allowed is = absurd (cc)
+  selected_name (Both password keys) Plain profile allowed is = sym (ap name_in is)
+  selected_name secret Anonymous profile allowed is = sym (ap name_in is)
 
 -- ---- the init that a profile sends
 
@@ -128,7 +161,8 @@ module _ (selection : Selection) (side next : Side (Option Profile)) (bytes nonc
       record { body = drop 4 (take (size_of (side.held ++ bytes)) (side.held ++ bytes)); nonce = nonce } in
       let init = init_sent selection.hostname profile moved event names answer (λ empty. some (same ∙ empty)) spells
       (subst (λ (t : FrameKind). ClientReplies selection.hostname t profile event answer moved) is replies) in
-      let named = selected_name selection.policy.limits selection.user selection.secret selected.0 profile selected.2 in
+      let named = selected_name selection.policy selection.user selection.secret selected.0 profile selected.1.2.0
+      selected.2 in
       record {
         body = event.body;
         names = names;

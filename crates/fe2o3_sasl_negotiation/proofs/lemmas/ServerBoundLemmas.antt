@@ -116,7 +116,7 @@ module _ {S : Type 0} (names : S → List (List ℕ)) (machine : S → List ℕ 
       → ServerSideAnswers names machine expected state nonce unit answer next → ServerKeeps expected state next answer
   server_keeps Header state next nonce unit answer (inl (other, same), kept) =
       subst (λ (s : S). ServerKeeps Header s next answer) kept
-      (with_header next answer (closes ProtocolHeaderMismatch Header) same
+      (with_header next answer (closes (ProtocolHeaderMismatch unit) Header) same
       (closes_keeps {expected = Header} (budget next) ((most next + 3) * 512) _ refl))
   server_keeps Header state next nonce unit answer (inr (is, (first, offered, same)), kept) =
       subst (λ (s : S). ServerKeeps Header s next answer) kept

@@ -55,13 +55,14 @@ module _ {S : Type 0} (names : S → List (List ℕ)) (machine : S → List ℕ 
     state_is = ap (λ (s : Side S). s.state) same ∙ kept
 
     other_header : take 8 (taken ++ bytes) ≢ sasl_header
-        → answer ≡ record { sent = sasl_header ++ []; progress = HasFailed ProtocolHeaderMismatch; expected = Header }
+        → answer ≡ record { sent = sasl_header ++ []; progress = HasFailed (ProtocolHeaderMismatch (take 8 (taken ++ bytes))); expected = Header }
         → Is (taken ++ take k bytes) first next
     other_header other is = inr (inl (
       (
         ap length come ∙ length-take-le 8 (taken ++ bytes) whole,
         (λ header. other (sym come ∙ header)),
-        ap (λ (s : Side S). s.progress) same ∙ progress_of answer _ is,
+        ap (λ (s : Side S). s.progress) same ∙ progress_of answer _ is
+            ∙ ap (λ (h : List ℕ). HasFailed (ProtocolHeaderMismatch h)) (sym come),
         state_is,
       ),
       sends ∙ (ap (λ (a : SideOutput). a.sent) is ∙ append-nil sasl_header),
@@ -161,7 +162,7 @@ module _ {S : Type 0} (names : S → List (List ℕ)) (machine : S → List ℕ 
       (header_call taken bytes nonce first k next few
       (subst (λ (s : Side S). ReceivesAt InProgress (ServerSideAnswers names machine) s bytes nonce k first next) same receives))
   call_at InProgress taken sent side next bytes nonce first k at (inr (inl other)) are_bytes nonces receives =
-      absurd (failed_is_not_in_progress ProtocolHeaderMismatch (sym other.0.2 ∙ at))
+      absurd (failed_is_not_in_progress (ProtocolHeaderMismatch taken) (sym other.0.2 ∙ at))
   call_at InProgress taken sent side next bytes nonce first k at (inr (inr (inl none))) are_bytes nonces receives =
       absurd (failed_is_not_in_progress ReplyTooLarge (sym none.3 ∙ at))
   call_at InProgress taken sent side next bytes nonce first k at

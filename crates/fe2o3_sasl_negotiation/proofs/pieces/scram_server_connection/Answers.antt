@@ -1,4 +1,5 @@
 use Rattle.std.proofs.Common.{ap, ◌∙◌, map, subst, false}
+use Rattle.fe2o3_scram.specs.ClientFirst.{default_rules}
 use Rattle.fe2o3_scram.specs.Credentials.{serving}
 use Rattle.fe2o3_scram.specs.MockSettings.{mocking}
 use Rattle.fe2o3_scram.specs.ScramServer.{Initial, served_by, state_in}
@@ -20,7 +21,7 @@ returns-clause-connection g c =
     subst (λ (acceptor : Acceptor). ServerConnection acceptor_names acceptor_machine 512 acceptor
     (map piece_of c.args.pieces.now) (first_bytes (map piece_of c.args.pieces.now) served.pieces served.bytes)
     served.sent.items (server_side (λ server. ScramAcceptor (served_by m.meaning server) (state_in server)) served.side))
-    (λ i. ScramAcceptor (mocking (c.new.ensures.mock i) (serving (c.new.ensures.cbind_flag_y i) (made i)))
+    (λ i. ScramAcceptor (mocking (c.new.ensures.mock i) (serving (c.new.ensures.rules i) (made i)))
     (c.new.ensures.state i)) (holds are_bytes))
     c.server_connection.ensures.connection
 
@@ -28,7 +29,7 @@ pub returns-clause-headline : goal.returns-clause-headline
 returns-clause-headline g c =
     let m = g.C.ScramCredentialProvider in
     if_ok_map _ _ c.server_connection.result (λ served holds taken out negotiated.
-    scram_servers_serve (serving false (m.meaning c.args.credentials.now)) 512 (map piece_of c.args.pieces.now) taken out
+    scram_servers_serve (serving default_rules (m.meaning c.args.credentials.now)) 512 (map piece_of c.args.pieces.now) taken out
     (server_side (λ server. ScramAcceptor (served_by m.meaning server) (state_in server)) served.side) negotiated)
     c.server_connection.ensures.connection
 
@@ -36,7 +37,7 @@ pub returns-clause-logged_in : goal.returns-clause-logged_in
 returns-clause-logged_in g c =
     let m = g.C.ScramCredentialProvider in
     if_ok_map _ _ c.server_connection.result (λ served holds taken out negotiated.
-    servers_log_in acceptor_machine 512 (ScramAcceptor (serving false (m.meaning c.args.credentials.now)) Initial)
+    servers_log_in acceptor_machine 512 (ScramAcceptor (serving default_rules (m.meaning c.args.credentials.now)) Initial)
     (map piece_of c.args.pieces.now) taken out
     (server_side (λ server. ScramAcceptor (served_by m.meaning server) (state_in server)) served.side) negotiated)
     c.server_connection.ensures.connection

@@ -13,7 +13,7 @@ returns-in-Some-clause-ok g c =
     let mid = c.extend_reserved.new.self.items in
     let begins = rw (c.in_ok-reserve.ensures.items, c.from-sasl.ensures, c.sasl.ensures) at
     c.extend_reserved.ensures.items in
-    let sasl = c.is_sasl.ensures.0 c.if-not-is_sasl.false in
+    let sasl = c.is_sasl.ensures.is.0 c.if-not-is_sasl.false in
     opened names c.args.header.now c.args.out.now.items mid c.send.new.out.items c.send.result sasl begins
     (offered names c.in-Some.body.items mid c.send.new.out.items c.send.result
     (rw c.in-Some.is at c.in_ok-offer.ensures) (rw c.as_slice.ensures at c.send.ensures))
@@ -25,8 +25,8 @@ returns-in-None-clause-ok g c =
     let begins = rw (c.in_ok-reserve.ensures.items, c.from-sasl.ensures, c.sasl.ensures) at
     c.extend_reserved.ensures.items in
     let none : None ≡ offer_body names = rw c.in-None.is at c.in_ok-offer.ensures in
-    opened names c.args.header.now c.args.out.now.items mid mid c.closed-in-None.result
-    (c.is_sasl.ensures.0 c.if-not-is_sasl.false) begins
-    (closed_appends (Offers (offer_body names)) mid ReplyTooLarge Header c.closed-in-None.result
-    c.closed-in-None.ensures
+    opened names c.args.header.now c.args.out.now.items mid mid c.closed.result
+    (c.is_sasl.ensures.is.0 c.if-not-is_sasl.false) begins
+    (closed_appends (Offers (offer_body names)) mid ReplyTooLarge Header c.closed.result
+    c.closed.ensures
     (subst (λ (o : Option (List ℕ)). Offers o (closes ReplyTooLarge Header)) none refl))
