@@ -1,9 +1,12 @@
-# The library for callers in C, Rust and Python; the repository's Makefile includes this. `lib` needs `rt`, and what is built
-# of it ar, ld, objcopy, a C compiler and Python 3.
+# The library for callers in C, Rust and Python; the repository's Makefile includes this. `lib` needs `rt`, and what is
+# built of it ar, ld, nm, objcopy, a C compiler and Python 3.
 #
-#   make lib       proves crates/sasl_c, and builds build/libfe2o3_sasl.a, .so and the file for pkg-config
-#   make header    writes the C header, and the declarations of Rust and Python, from the sources
-#   make callers   compares these, and builds and runs the programs of bindings/c: plain, shared and sanitized
+#   make lib       proves crates/sasl_c, and builds build/libfe2o3_sasl.a, .so and the file for pkg-config. HEAP=plain links
+#                  the heap of the kit, which does not wipe what it frees
+#   make header    writes the C header, the wrappers, and the declarations of Rust and Python, from the sources
+#   make callers   compares these, and builds and runs the programs of bindings/c: plain, shared and sanitized, and under
+#                  valgrind (Debian's package valgrind)
+#   make depths    measures the stack of each export, and writes bindings/wiping/depths.h
 #   make rust      tests the crate of bindings/rust, which needs cargo and no other crate
 #   make python    tries the module of bindings/python over the shared library
 #   make install   PREFIX, LIBDIR, INCLUDEDIR, DOCDIR and DESTDIR as usual
@@ -24,28 +27,63 @@ HEADER = bindings/c/fe2o3_sasl.h
 PC_PREFIX = $(PREFIX)
 DIST = fe2o3_sasl-$(VERSION)-$(CPU)
 
+# (`wiping` is bindings/wiping/heap.c)
+HEAP ?= wiping
+HEAP_wiping = build/wiping/heap.o
+HEAP_plain = $(KIT)/c/liblibc_c.a
+$(if $(HEAP_$(HEAP)),,$(error HEAP is wiping or plain))
+
 WARNINGS = -Wall -Wextra -Wpedantic
 SANITIZERS = -g -O1 -fsanitize=address,undefined -fno-sanitize-recover=all
-PROGRAMS = fits scram steps threads random
+PROGRAMS = fits scram steps threads random $(SALTED)
+# salted.c salts with OpenSSL, and is left out where there is none to compile with.
+SALTED := $(shell printf '\043include <openssl/evp.h>\n' | $(CC) -E -x c - > /dev/null 2>&1 && echo salted)
 KINDS = plain shared sanitized
 
-.PHONY: lib header header-check callers rust python install dist build/fe2o3_sasl.pc
+.PHONY: lib header header-check callers depths rust python install dist build/fe2o3_sasl.pc
 
 lib:
 	cd crates/sasl_c && rt lib --cpu $(CPU)
+	@rm -f build/fe2o3_sasl.o
 	@$(MAKE) --no-print-directory $(LIBRARY)
 
 # (if there is none yet; `lib` always builds it)
 $(PROVED_ARCHIVE):
 	cd crates/sasl_c && rt lib --cpu $(CPU)
 
-# One object in which all but the exports is local, so that another library of the kit can be linked beside it.
-build/libfe2o3_sasl.a: $(PROVED_ARCHIVE)
+# The proved functions, named proved_fe2o3_.. in place of fe2o3_.., which are the names of their wrappers.
+build/proved.o: $(PROVED_ARCHIVE)
 	mkdir -p build
-	ld -r -o build/fe2o3_sasl.o --whole-archive $< $(KIT)/c/liblibc_c.a
-	objcopy --wildcard --keep-global-symbol='fe2o3_*' --strip-debug build/fe2o3_sasl.o
+	ld -r -o $@ --whole-archive $<
+	nm --defined-only $@ | sed -n 's/.* T \(fe2o3_.*\)/\1 proved_\1/p' > build/renamed
+	objcopy --redefine-syms=build/renamed $@
+
+# Without optimization over files, by which a compiler could move the wiping of a stack into another frame.
+WIPING = $(HEADER) bindings/wiping/wipe.h bindings/wiping/depths.h
+COMPILED = $(CC) -std=c99 $(WARNINGS) -O2 -fPIC -fno-lto -c -o $@ $<
+build/wiping/%.o: bindings/wiping/%.c $(WIPING)
+	@mkdir -p $(@D)
+	$(COMPILED)
+
+# One object in which all but the exports is local, so that another library of the kit can be linked beside it.
+define ONE_OBJECT
+ld -r -o $@ --whole-archive $^
+objcopy --wildcard --keep-global-symbol='fe2o3_*' --strip-debug $@
+endef
+build/fe2o3_sasl.o: build/proved.o build/wiping/exports.o build/wiping/wipe.o $(HEAP_$(HEAP))
+	$(ONE_OBJECT)
+
+# Only for tests: the library that wipes neither its heap nor its stack.
+build/unwiped/%.o: bindings/wiping/%.c $(WIPING)
+	@mkdir -p $(@D)
+	$(COMPILED) -DLEAVE_STACK
+
+build/unwiped/fe2o3_sasl.o: build/proved.o build/unwiped/exports.o build/unwiped/wipe.o $(HEAP_plain)
+	$(ONE_OBJECT)
+
+build/libfe2o3_sasl.a build/unwiped/libfe2o3_sasl.a: %/libfe2o3_sasl.a: %/fe2o3_sasl.o
 	rm -f $@
-	ar rcsD $@ build/fe2o3_sasl.o
+	ar rcsD $@ $<
 
 build/libfe2o3_sasl.so: build/libfe2o3_sasl.a
 	$(CC) -shared -Wl,-soname,$(SONAME) -Wl,-z,defs -Wl,-z,now -o $@ build/fe2o3_sasl.o $(LDLIBS)
@@ -72,20 +110,52 @@ build/callers/%_plain: bindings/c/%.c $(HEADER) build/libfe2o3_sasl.a
 
 build/callers/%_shared: bindings/c/%.c $(HEADER) build/libfe2o3_sasl.so
 	@mkdir -p $(@D)
-	$(CC) -std=c99 $(WARNINGS) -O2 -pthread -o $@ $< -Lbuild -lfe2o3_sasl
+	$(CC) -std=c99 $(WARNINGS) -O2 -pthread -o $@ $< -Lbuild -lfe2o3_sasl $(LDLIBS)
 
 build/callers/%_sanitized: bindings/c/%.c $(HEADER) build/libfe2o3_sasl.a
 	@mkdir -p $(@D)
 	$(CC) -std=c99 $(WARNINGS) $(SANITIZERS) -pthread -o $@ $< build/libfe2o3_sasl.a $(LDLIBS)
 
+build/callers/salted_plain build/callers/salted_shared build/callers/salted_sanitized: LDLIBS += -lcrypto
+
 # (the requests for memory of the library go to functions of the program)
 build/callers/memory_plain build/callers/memory_sanitized: LDLIBS += $(foreach name,malloc realloc free,-Wl,--wrap=$(name))
 
+# Programs about secrets in memory: what they find in the library, and in one that does not wipe.
+build/callers/secrets.h: bindings/c/secrets.py
+	@mkdir -p $(@D)
+	python3 $< > $@
+
+SECRETS = $(CC) -std=c99 $(WARNINGS) -O2 -Ibuild/callers -pthread -o $@ $<
+build/callers/secrets_plain: bindings/c/secrets.c bindings/c/every_call.h build/callers/secrets.h build/libfe2o3_sasl.a
+	$(SECRETS) build/libfe2o3_sasl.a $(LDLIBS)
+
+build/callers/secrets_shared: bindings/c/secrets.c bindings/c/every_call.h build/callers/secrets.h build/libfe2o3_sasl.so
+	$(SECRETS) -Lbuild -lfe2o3_sasl
+
+build/callers/secrets_unwiped: bindings/c/secrets.c bindings/c/every_call.h build/callers/secrets.h \
+    build/unwiped/libfe2o3_sasl.a
+	$(SECRETS) build/unwiped/libfe2o3_sasl.a $(LDLIBS)
+
+depths: build/callers/depths
+	LD_BIND_NOW=1 $< write > build/depths.h
+	mv build/depths.h bindings/wiping/depths.h
+
+build/callers/depths: bindings/c/depths.c bindings/c/every_call.h build/callers/secrets.h bindings/wiping/depths.h \
+    build/unwiped/libfe2o3_sasl.a
+	$(SECRETS) build/unwiped/libfe2o3_sasl.a $(LDLIBS)
+
+# (at fixed addresses, so that the places that valgrind reports are those of the symbols)
+build/callers/constant_time: bindings/c/constant_time.c $(HEADER) build/libfe2o3_sasl.a
+	@mkdir -p $(@D)
+	$(CC) -std=c99 $(WARNINGS) -O2 -no-pie -o $@ $< build/libfe2o3_sasl.a $(LDLIBS)
+
 # Checks the header by itself and that the library exports exactly what it declares, and runs the programs, those of
-# client.c and server.c against each other and against peers in Python.
+# client.c and server.c against each other and against peers in Python; then where the time depends on a secret.
 callers: header-check $(foreach kind,$(KINDS),$(PROGRAMS:%=build/callers/%_$(kind)) build/callers/client_$(kind) \
     build/callers/server_$(kind)) \
-    build/callers/memory_plain build/callers/memory_sanitized
+    build/callers/memory_plain build/callers/memory_sanitized \
+    $(foreach kind,plain shared unwiped,build/callers/secrets_$(kind)) build/callers/depths build/callers/constant_time
 	$(CC) -std=c99 $(WARNINGS) -fsyntax-only -x c $(HEADER)
 	$(CXX) $(WARNINGS) -fsyntax-only -x c++ $(HEADER)
 	sed -n 's/^[a-z0-9_]* \(fe2o3_[a-z0-9_]*\)(.*/\1/p' $(HEADER) | LC_ALL=C sort > build/callers/declared
@@ -95,17 +165,23 @@ callers: header-check $(foreach kind,$(KINDS),$(PROGRAMS:%=build/callers/%_$(kin
 	    LD_LIBRARY_PATH=build build/callers/$${program}_$$kind || exit 1; \
 	done; done
 	@for kind in plain sanitized; do echo "memory $$kind"; build/callers/memory_$$kind || exit 1; done
+	LD_BIND_NOW=1 build/callers/depths
+	build/callers/secrets_unwiped unwiped
+	build/callers/secrets_plain
+	LD_LIBRARY_PATH=build build/callers/secrets_shared
 	@for kind in $(KINDS); do \
 	    echo "client $$kind"; \
 	    LD_LIBRARY_PATH=build python3 bindings/c/tcp.py build/callers/client_$$kind build/callers/server_$$kind || exit 1; \
 	done
+	python3 -B bindings/c/constant_time.py build/callers/constant_time bindings/c/constant_time.txt
 
 rust: build/libfe2o3_sasl.a
 	cd bindings/rust && FE2O3_SASL_LIB=$(abspath build) CARGO_TARGET_DIR=$(abspath build/rust) cargo test --offline
 
 python: build/libfe2o3_sasl.so
-	FE2O3_SASL_LIB=$(abspath build/libfe2o3_sasl.so) python3 -B bindings/python/test_fe2o3_sasl.py
-	FE2O3_SASL_LIB=$(abspath build/libfe2o3_sasl.so) python3 -B bindings/python/test_examples.py
+	for tests in bindings/python/test_*.py; do \
+	    FE2O3_SASL_LIB=$(abspath build/libfe2o3_sasl.so) python3 -B $$tests || exit 1; \
+	done
 
 install: $(LIBRARY)
 	install -d $(DESTDIR)$(LIBDIR)/pkgconfig $(DESTDIR)$(INCLUDEDIR) $(DESTDIR)$(DOCDIR)
@@ -122,6 +198,6 @@ dist: $(LIBRARY)
 	$(MAKE) --no-print-directory install DESTDIR=build/dist/$(DIST) PREFIX= LIBDIR=/lib INCLUDEDIR=/include DOCDIR=/ \
 	    PC_PREFIX='$$$${pcfiledir}/../..'
 	install -m 644 $(KIT)/KIT-ID build/dist/$(DIST)/
-	tar --sort=name --mtime='1980-01-01 00:00Z' --owner=0 --group=0 --numeric-owner --format=ustar \
-	    -C build/dist -cf build/$(DIST).tar $(DIST)
+	tar --sort=name --mtime='1980-01-01 00:00Z' --owner=0 --group=0 --numeric-owner --mode=u=rwX,go=rX \
+	    --format=ustar -C build/dist -cf build/$(DIST).tar $(DIST)
 	gzip -9nf build/$(DIST).tar

@@ -77,11 +77,12 @@ static int random_bytes(uint8_t *bytes, size_t len)
 
 /* Reads and answers until the client is logged in or the connection is to be closed. Answers the number of a call that
  * is refused, and -1 where the connection ends. What is left of the last bytes would be AMQP's. */
-static int64_t negotiate(int channel, const struct fe2o3_sasl_login *login, struct fe2o3_sasl_client *client)
+static int64_t negotiate(
+    int channel, const struct fe2o3_sasl_login *login, struct fe2o3_sasl_client *client, uint8_t out[512])
 {
-    uint8_t came[4096], out[512], nonce[32];
+    uint8_t came[4096], nonce[32] = {0};
     size_t len = 0, at = 0, taken = 0, out_len = 0;
-    uint32_t status = fe2o3_sasl_client_open(out, sizeof out, &out_len);
+    uint32_t status = fe2o3_sasl_client_open(out, 512, &out_len);
     while (status == FE2O3_OK && sent(channel, out, out_len) && client->connection.progress == FE2O3_IN_PROGRESS) {
         if (at == len) {
             ssize_t some = recv(channel, came, sizeof came, 0);
@@ -90,10 +91,10 @@ static int64_t negotiate(int channel, const struct fe2o3_sasl_login *login, stru
             len = (size_t)some;
             at = 0;
         }
-        if (!random_bytes(nonce, sizeof nonce))
+        if (fe2o3_sasl_wants_nonce(&client->connection) && !random_bytes(nonce, sizeof nonce))
             return -1;
         status = fe2o3_sasl_client_receive(
-            login, client, came + at, len - at, nonce, &taken, out, sizeof out, &out_len);
+            login, client, came + at, len - at, nonce, &taken, out, 512, &out_len);
         at += taken;
     }
     return status == FE2O3_OK && client->connection.progress == FE2O3_IN_PROGRESS ? -1 : (int64_t)status;
@@ -110,6 +111,7 @@ static int told(const char *what, uint32_t status, int ends)
 int main(int count, char **words)
 {
     char password[1024];
+    uint8_t out[512];
     struct fe2o3_scram_keys no_keys = {0};
     struct fe2o3_sasl_client client = {0};
     struct fe2o3_sasl_login login = {0};
@@ -117,6 +119,8 @@ int main(int count, char **words)
     size_t which = count == 5 || by_challenge ? known(words[3]) : known("");
     int64_t answer;
     int channel;
+    /* (so that no buffer of stdio keeps the password) */
+    setvbuf(stdin, NULL, _IONBF, 0);
     if (which == known("") || fgets(password, sizeof password, stdin) == NULL) {
         fputs("client HOST PORT MECHANISM USER [challenge], with the password on standard input\n", stderr);
         return 2;
@@ -135,9 +139,13 @@ int main(int count, char **words)
     login.login.password_len = strlen(password);
     login.login.keys = &no_keys;
     channel = connected(words[1], words[2]);
-    answer = channel < 0 ? -1 : negotiate(channel, &login, &client);
+    answer = channel < 0 ? -1 : negotiate(channel, &login, &client, out);
     if (channel >= 0)
         close(channel);
+    /* (PLAIN sends the password, and after SCRAM the client holds the keys) */
+    fe2o3_wipe(password, sizeof password);
+    fe2o3_wipe(out, sizeof out);
+    fe2o3_wipe(&client.scram.keys, sizeof client.scram.keys);
     if (answer < 0) {
         puts("no connection");
         return 2;

@@ -17,7 +17,7 @@
  * - A struct that a call writes to is used by one call at a time. Any thread may call, but no signal handler.
  * - A struct is set to zeros before its first use, or to its FE2O3_.._INIT if it has pointers. All zeros is a client
  *   that has sent nothing, a server without an open challenge, a connection that has received nothing, or no keys.
- * - malloc, realloc and free are those of C, and there is enough stack.
+ * - malloc, realloc and free are those of C, and there is enough stack. A call uses and clears at most 96 KiB of it.
  *
  * Numbers, bytes, and lengths inside structs may have any value. So any bit pattern of a struct without pointers is
  * legal, even one that the library never wrote, or wrote for another login: every call defines its result, and none
@@ -31,8 +31,11 @@
  * - Each call returns, never aborts, and keeps no pointer. It allocates by malloc and frees all of it. If an allocation
  *   fails it returns FE2O3_OUT_OF_MEMORY.
  *
- * What they do not promise: secrets are not wiped, neither from freed memory nor from the stack. Records, keys, and the
- * structs of clients that have answered hold secrets; wiping them is up to you. Comparisons are not guaranteed to take
+ * What a wrapper in C around each call does, which is tested and not proved: it wipes the memory that the call has
+ * allocated, the stack that it has used, and the registers that it may have changed.
+ *
+ * What they do not promise: your own copies of secrets are not wiped. Records, keys, the structs of clients that have
+ * answered, passwords and messages of PLAIN are yours: wipe them by fe2o3_wipe. Comparisons are not guaranteed to take
  * constant time. The library has no random numbers: you pass 32 fresh random bytes for each nonce. */
 #ifndef FE2O3_SASL_H
 #define FE2O3_SASL_H
@@ -93,6 +96,31 @@ enum fe2o3_password_form {
     FE2O3_PREPARED = 1
 };
 
+/* What a client says of the channel under an exchange, such as TLS (RFC 5802, section 6). */
+enum fe2o3_channel_use {
+    /* The client does not support channel binding, or has no channel: its GS2 header is `n,,`. */
+    FE2O3_CHANNEL_ABSENT = 0,
+    /* The client has a channel, but was offered no mechanism with `-PLUS`: its GS2 header is `y,,`. A server that offered
+     * one rejects it, so that nobody on the way can remove the mechanism from the offer. */
+    FE2O3_CHANNEL_NOT_OFFERED = 1,
+    /* The client binds its channel, by a mechanism with `-PLUS`: its GS2 header is `p=` and the kind. */
+    FE2O3_CHANNEL_BOUND = 2
+};
+
+/* A kind of channel binding. Both sides have to use one kind: a client selects it, and cannot ask a server which kinds it
+ * has. */
+enum fe2o3_channel_kind {
+    /* `tls-unique` (RFC 5929, section 3): the first Finished message of the TLS handshake. Only for TLS 1.2 and older,
+     * and only with the extended master secret (RFC 7627). */
+    FE2O3_TLS_UNIQUE = 1,
+    /* `tls-server-end-point` (RFC 5929, section 4): the hash of the server's certificate. It does not protect against
+     * someone who has the server's private key. */
+    FE2O3_TLS_SERVER_END_POINT = 2,
+    /* `tls-exporter` (RFC 9266): 32 bytes of exported keying material. For TLS 1.3, and for TLS 1.2 with the extended
+     * master secret. */
+    FE2O3_TLS_EXPORTER = 3
+};
+
 /* Which password fe2o3_plain_verify tests for the one of a message. User names are compared as received. */
 enum fe2o3_plain_passwords {
     /* The password as typed, which has to be printable ASCII. Every other password is rejected. */
@@ -137,7 +165,10 @@ enum fe2o3_offer {
     FE2O3_INITIAL_RESPONSE_BY_CHALLENGE = 512,
     /* No mechanism: SCRAM sends the server's signature in a challenge, and the outcome OK follows the client's empty
      * response (RFC 4422, section 5). For clients that do not read the data of an outcome. */
-    FE2O3_SIGNATURE_BY_CHALLENGE = 1024
+    FE2O3_SIGNATURE_BY_CHALLENGE = 1024,
+    /* No mechanism: SCRAM is strict. It rejects an attribute that RFC 5802 defines in the place of an extension: after
+     * the nonce of the client-first message, or between the nonce and the proof of the client-final message. */
+    FE2O3_STRICT = 2048
 };
 
 /* How far a login on a connection is. */
@@ -183,7 +214,7 @@ enum fe2o3_scram_client_state {
 };
 
 /* How far the exchange of a SCRAM server is. Other values count as FE2O3_SCRAM_SERVER_INITIAL. A challenge is open in
- * two of these states. */
+ * five of these states. */
 enum fe2o3_scram_server_state {
     /* No challenge is open, and no user is authenticated. */
     FE2O3_SCRAM_SERVER_INITIAL = 0,
@@ -201,7 +232,13 @@ enum fe2o3_scram_server_state {
      * bodies. */
     FE2O3_SCRAM_SERVER_INITIAL_RESPONSE_ASKED = 5,
     /* Like FE2O3_SCRAM_SERVER_INITIAL_RESPONSE_ASKED, but the init had a hostname: `bare`. */
-    FE2O3_SCRAM_SERVER_INITIAL_RESPONSE_ASKED_WITH_HOSTNAME = 6
+    FE2O3_SCRAM_SERVER_INITIAL_RESPONSE_ASKED_WITH_HOSTNAME = 6,
+    /* A challenge is open, to a client that binds the channel by `tls-unique`. Only over messages. */
+    FE2O3_SCRAM_SERVER_CHALLENGE_OPEN_TLS_UNIQUE = 7,
+    /* A challenge is open, to a client that binds the channel by `tls-server-end-point`. Only over messages. */
+    FE2O3_SCRAM_SERVER_CHALLENGE_OPEN_TLS_SERVER_END_POINT = 8,
+    /* A challenge is open, to a client that binds the channel by `tls-exporter`. Only over messages. */
+    FE2O3_SCRAM_SERVER_CHALLENGE_OPEN_TLS_EXPORTER = 9
 };
 
 /* The error that a server sends in the place of a message (RFC 5802, section 7, `server-error-value`). */
@@ -272,7 +309,8 @@ enum fe2o3_size_of {
     FE2O3_SIZE_OF_SASL_CLIENT = 7,
     FE2O3_SIZE_OF_SASL_FRAME_VIEW = 8,
     FE2O3_SIZE_OF_SASL_SERVER_CONFIG = 9,
-    FE2O3_SIZE_OF_SASL_SERVER = 10
+    FE2O3_SIZE_OF_SASL_SERVER = 10,
+    FE2O3_SIZE_OF_SCRAM_RULES = 11
 };
 
 /* What a call returns. */
@@ -346,6 +384,9 @@ enum fe2o3_status {
     FE2O3_CLIENT_ILLEGAL_CLIENT_STATE = 35,
     /* The server-final message does not begin with `v=`, or has another signature. */
     FE2O3_CLIENT_SERVER_SIGNATURE_MISMATCH = 36,
+    /* A strict client received an attribute that RFC 5802 defines in the place of an extension: after the iteration count.
+     */
+    FE2O3_CLIENT_MISPLACED_ATTRIBUTE = 37,
     /* The message is not UTF-8. */
     FE2O3_SERVER_UTF8_ERROR = 40,
     /* The client-first message does not begin with `n,,`. */
@@ -376,6 +417,9 @@ enum fe2o3_status {
     FE2O3_SERVER_AUTHENTICATION_FAILED = 52,
     /* No challenge is open. */
     FE2O3_SERVER_ILLEGAL_AUTHENTICATOR_STATE = 53,
+    /* A strict server received an attribute that RFC 5802 defines in the place of an extension: after the nonce of the
+     * client-first message, or between the nonce and the proof of the client-final message. */
+    FE2O3_SERVER_MISPLACED_ATTRIBUTE = 54,
     /* The text does not have five fields: parts are missing or left over. */
     FE2O3_RECORD_PARTS_MISMATCH = 60,
     /* The first field is not the name of a known mechanism. */
@@ -433,7 +477,13 @@ enum fe2o3_status {
     FE2O3_UNASSIGNED_CODE_POINT = 88,
     /* The server sent an error in the place of its signature, such as `e=invalid-proof` for a wrong password.
      * fe2o3_scram_server_error says which. */
-    FE2O3_SERVER_ERROR = 89
+    FE2O3_SERVER_ERROR = 89,
+    /* The other side ended its stream before the login was complete. */
+    FE2O3_END_OF_INPUT = 90,
+    /* The data of a channel are empty or have more than 64 bytes (RFC 5802, section 7). */
+    FE2O3_CHANNEL_DATA_LENGTH = 91,
+    /* The use of a channel is none of enum fe2o3_channel_use, or its kind none of enum fe2o3_channel_kind. */
+    FE2O3_NO_SUCH_CHANNEL = 92
 };
 
 /* ---- The library ---- */
@@ -457,6 +507,14 @@ size_t fe2o3_size(uint32_t which);
 /* Writes the text of a status to `text`. It ends with a zero byte and stays valid for as long as the library is
  * loaded. */
 void fe2o3_status_text(uint32_t status, struct fe2o3_text *text);
+
+/* ---- Secrets ---- */
+
+/* Overwrites memory by zeros. Unlike a `memset` before the end of a block, it is never dropped by a compiler.
+ * Call it for each struct, password and message with a secret, once you no longer need it.
+ *
+ * This function is written in C, and not proved. */
+void fe2o3_wipe(void *memory, size_t len);
 
 /* ---- Passwords ---- */
 
@@ -557,6 +615,35 @@ uint32_t fe2o3_scram_record_verify(
     const uint8_t *password,
     size_t password_len);
 
+/* Computes the record of a salted password (RFC 5802, section 3), which you computed as `Hi(password, salt,
+ * iterations)`. The record is then that of fe2o3_scram_record_make. The call cannot test that the salted password is
+ * of this salt and count. `salt` is random bytes, fresh for each record, at most 128: 16 suffice.
+ *
+ * The errors are, in this order: FE2O3_NO_SUCH_VERSION; FE2O3_RECORD_KEY_LENGTH_MISMATCH if the salted password has
+ * another length than a digest of the hash; FE2O3_TOO_LONG for a salt of more than 128 bytes; and
+ * FE2O3_ZERO_ITERATIONS. */
+uint32_t fe2o3_scram_record_of_salted(
+    uint32_t version,
+    const uint8_t *salted,
+    size_t salted_len,
+    const uint8_t *salt,
+    size_t salt_len,
+    uint32_t iterations,
+    struct fe2o3_scram_record *kept);
+
+/* Compares a salted password (RFC 5802, section 3) with a record: FE2O3_OK if it is the record's, FE2O3_OTHER_PASSWORD
+ * if not, and for each one if the record's iteration count is 0. A server that receives a password, for instance by
+ * PLAIN, computes it as `Hi(password, salt, iterations)` with the salt and the count of the record. For a non-ASCII
+ * password prepare it first (fe2o3_saslprep).
+ *
+ * The errors are, in this order: FE2O3_NO_SUCH_VERSION, and FE2O3_TOO_LONG for a `salt_len` above 128, if the struct
+ * holds no record; and FE2O3_RECORD_KEY_LENGTH_MISMATCH if the salted password has another length than a digest of the
+ * hash. The keys are compared over their whole length, whatever the bytes are; no claim is made about time. */
+uint32_t fe2o3_scram_record_verify_salted(
+    const struct fe2o3_scram_record *kept,
+    const uint8_t *salted,
+    size_t salted_len);
+
 /* Finds the record of a user in a text that has a line for each record: the name with each comma as `=2C` and each
  * equals sign as `=3D`, a space, the text of the record, and a line feed. Of several lines for a name and version,
  * the first counts.
@@ -612,6 +699,23 @@ uint32_t fe2o3_scram_keys_make(
     uint32_t iterations,
     struct fe2o3_scram_keys *keys);
 
+/* Computes the keys of a salted password (RFC 5802, section 3), for a server that uses this salt and iteration count.
+ * You computed it as `Hi(password, salt, iterations)`, for example with OpenSSL's PKCS5_PBKDF2_HMAC, of which the
+ * output is as long as a digest. The keys are then those of fe2o3_scram_keys_make. The call cannot test that the
+ * salted password is of this salt and count.
+ *
+ * The errors are, in this order: FE2O3_NO_SUCH_VERSION; FE2O3_RECORD_KEY_LENGTH_MISMATCH if the salted password has
+ * another length than a digest of the hash; FE2O3_TOO_LONG for a salt of more than 128 bytes; and
+ * FE2O3_ZERO_ITERATIONS. */
+uint32_t fe2o3_scram_keys_of_salted(
+    uint32_t version,
+    const uint8_t *salted,
+    size_t salted_len,
+    const uint8_t *salt,
+    size_t salt_len,
+    uint32_t iterations,
+    struct fe2o3_scram_keys *keys);
+
 /* ---- A SCRAM client, over messages ---- */
 
 /* A user and a secret. You lend the struct to each call of an exchange, always with the same values. */
@@ -632,12 +736,26 @@ struct fe2o3_login {
     /* The password. */
     const uint8_t *password;
     size_t password_len;
-    /* The keys of an earlier login, or a struct of zeros. */
+    /* The keys of an earlier login, or a struct of zeros. You can replace them between the calls of an exchange: after
+     * FE2O3_CLIENT_STALE_KEYS repeat the call with keys of the salt and the count that the server names. */
     const struct fe2o3_scram_keys *keys;
     /* Whether the client accepts the server's signature in a challenge too, before an outcome without data (RFC 4422,
      * section 5). 0 means that the signature has to come in the outcome. Any other value accepts it in both. Only
      * `fe2o3_sasl_client_receive` and `fe2o3_sasl_client_step` use this field. */
     uint32_t signature_by_challenge;
+    /* Whether the client is strict: it rejects an attribute that RFC 5802 defines in the place of an extension, after the
+     * iteration count, by FE2O3_CLIENT_MISPLACED_ATTRIBUTE. 0 means that it skips it. Any other value is strict. A
+     * client that binds a channel is strict in any case. */
+    uint32_t strict;
+    /* What the client says of its channel (RFC 5802, section 6): one of enum fe2o3_channel_use. */
+    uint32_t channel_use;
+    /* The kind of the channel that is bound: one of enum fe2o3_channel_kind. Only for FE2O3_CHANNEL_BOUND. */
+    uint32_t channel_kind;
+    /* The number of bytes of `channel_data` in use, from 1 to 64. Only for FE2O3_CHANNEL_BOUND. */
+    uint32_t channel_data_len;
+    /* The data of the channel that is bound, which identify it. You have them from TLS. Only for FE2O3_CHANNEL_BOUND.
+     */
+    uint8_t channel_data[64];
 };
 
 /* The state of a SCRAM client between calls. All zeros is a client that has sent nothing.
@@ -658,7 +776,8 @@ struct fe2o3_scram_client {
 };
 
 /* Writes the client-first message. This starts a new exchange, whatever the state of the client is. `nonce` is 32
- * fresh random bytes. */
+ * fresh random bytes. With FE2O3_CHANNEL_BOUND name the mechanism with `-PLUS` to the server, such as
+ * SCRAM-SHA-256-PLUS (RFC 5802, section 6). */
 uint32_t fe2o3_scram_client_first(
     const struct fe2o3_login *login,
     struct fe2o3_scram_client *client,
@@ -668,7 +787,7 @@ uint32_t fe2o3_scram_client_first(
     size_t *out_len);
 
 /* Answers the server-first message with the client-final message. `out` needs 128 bytes more than the server-first
- * message has, which is tested before anything is hashed. */
+ * message has, or 256 more if the client binds a channel. This is tested before anything is hashed. */
 uint32_t fe2o3_scram_client_final(
     const struct fe2o3_login *login,
     struct fe2o3_scram_client *client,
@@ -723,6 +842,37 @@ struct fe2o3_scram_server {
     uint8_t first[1024];
 };
 
+/* What a SCRAM server accepts, where RFC 5802 leaves it a choice. You lend the struct to each call of an exchange,
+ * always with the same values. */
+struct fe2o3_scram_rules {
+    /* Whether the GS2 header may be `y,,` too: the client supports channel binding, and was offered no mechanism with
+     * `-PLUS` (RFC 5802, section 6). 0 is no, any other value yes. Only for a server that offers no such mechanism. It
+     * has no effect if the server binds channels. */
+    uint32_t accept_cbind_flag_y;
+    /* Whether an attribute that RFC 5802, section 5.1, defines is rejected in the place of an extension, by
+     * FE2O3_SERVER_MISPLACED_ATTRIBUTE. 0 is no, any other value yes. A server that binds channels is always strict. */
+    uint32_t strict;
+    /* Whether the server binds channels: it is of the mechanism with `-PLUS`, and accepts only clients that bind the
+     * channel, by a kind of which the struct has data (RFC 5802, section 6). 0 is no, and the data are then not used. Any
+     * other value is yes. Without data of any kind such a server accepts no client. */
+    uint32_t binds_channel;
+    /* The number of bytes of `tls_unique` in use, at most 64, or 0 if the server does not accept this kind. */
+    uint32_t tls_unique_len;
+    /* The data of `tls-unique` (RFC 5929, section 3): the first Finished message of the TLS handshake. Only for TLS 1.2
+     * and older, and only with the extended master secret (RFC 7627). */
+    uint8_t tls_unique[64];
+    /* The number of bytes of `tls_server_end_point` in use, at most 64, or 0 if the server does not accept this kind.
+     */
+    uint32_t tls_server_end_point_len;
+    /* The data of `tls-server-end-point` (RFC 5929, section 4): the hash of the server's certificate. */
+    uint8_t tls_server_end_point[64];
+    /* The number of bytes of `tls_exporter` in use, at most 64, or 0 if the server does not accept this kind. */
+    uint32_t tls_exporter_len;
+    /* The data of `tls-exporter` (RFC 9266): 32 bytes of exported keying material. For TLS 1.3, and for TLS 1.2 with
+     * the extended master secret. */
+    uint8_t tls_exporter[64];
+};
+
 /* Writes the user name that a client-first message claims, without escapes. Nobody is authenticated yet: use it only
  * to look up the record. */
 uint32_t fe2o3_scram_server_claimed_user(
@@ -766,6 +916,79 @@ uint32_t fe2o3_scram_server_first_with_cbind_flag_y(
  * `kept` is the record that `fe2o3_scram_server_first` was called with. `out` needs 90 bytes, which is tested before
  * anything is hashed. */
 uint32_t fe2o3_scram_server_final(
+    const struct fe2o3_scram_record *kept,
+    struct fe2o3_scram_server *server,
+    const uint8_t *client_final,
+    size_t client_final_len,
+    uint8_t *out,
+    size_t out_size,
+    size_t *out_len);
+
+/* Writes the user name that a client-first message claims, like `fe2o3_scram_server_claimed_user`, by these rules (RFC
+ * 5802, section 5.1). If the server binds channels, the GS2 header has to be one that
+ * `fe2o3_scram_server_first_with_rules` accepts. Otherwise `n,,` and `y,,` are both accepted here, whatever the rules
+ * say: with rules of zeros the call does what `fe2o3_scram_server_claimed_user` does.
+ *
+ * The errors are those of `fe2o3_scram_server_first_with_rules` from FE2O3_CHANNEL_DATA_LENGTH to
+ * FE2O3_SERVER_MISPLACED_ATTRIBUTE, in the same order. */
+uint32_t fe2o3_scram_server_claimed_user_with_rules(
+    const struct fe2o3_scram_rules *rules,
+    const uint8_t *client_first,
+    size_t client_first_len,
+    uint8_t *out,
+    size_t out_size,
+    size_t *out_len);
+
+/* Answers a client-first message like `fe2o3_scram_server_first`, by these rules (RFC 5802, section 5.1). Pass the
+ * same rules to `fe2o3_scram_server_final_with_rules`. With rules of zeros the call does what
+ * `fe2o3_scram_server_first` does.
+ *
+ * If the server binds channels, the GS2 header has to be `p=` with the name of a kind whose data the rules have
+ * (section 6). Otherwise it has to be `n,,`, or `y,,` if the rules accept that.
+ *
+ * The errors are, in this order:
+ *
+ * - FE2O3_CHANNEL_DATA_LENGTH if the rules bind channels, and data have more than 64 bytes,
+ * - FE2O3_SERVER_UTF8_ERROR,
+ * - FE2O3_SERVER_CANNOT_PARSE_GS2_HEADER if the rules do not accept the header,
+ * - FE2O3_SERVER_CANNOT_PARSE_USERNAME and FE2O3_SERVER_CANNOT_PARSE_CLIENT_NONCE,
+ * - FE2O3_SERVER_MISPLACED_ATTRIBUTE of a strict server,
+ * - FE2O3_NO_SUCH_VERSION and FE2O3_TOO_LONG if `kept` holds no record,
+ * - FE2O3_TOO_LONG if a text of the challenge does not fit into the struct,
+ * - FE2O3_ROOM_TOO_SMALL. */
+uint32_t fe2o3_scram_server_first_with_rules(
+    const struct fe2o3_scram_rules *rules,
+    const struct fe2o3_scram_record *kept,
+    struct fe2o3_scram_server *server,
+    const uint8_t nonce[32],
+    const uint8_t *client_first,
+    size_t client_first_len,
+    uint8_t *out,
+    size_t out_size,
+    size_t *out_len);
+
+/* Answers a client-final message like `fe2o3_scram_server_final`, by the rules that
+ * `fe2o3_scram_server_first_with_rules` was called with (RFC 5802, section 5.1). With rules of zeros the call does what
+ * `fe2o3_scram_server_final` does. If the server binds channels, the message has to have the GS2 header of the exchange
+ * and the server's data of its kind (section 6).
+ *
+ * The errors are, in this order:
+ *
+ * - FE2O3_CHANNEL_DATA_LENGTH if the rules bind channels, and data have more than 64 bytes,
+ * - FE2O3_ROOM_TOO_SMALL if `out` has fewer than 90 bytes,
+ * - FE2O3_SERVER_ILLEGAL_AUTHENTICATOR_STATE if no challenge is open for these rules: none is open, or it is to a
+ *   client that binds a channel by a kind of which the rules have no data, or the rules bind channels and its client
+ *   binds none,
+ * - FE2O3_NO_SUCH_VERSION and FE2O3_TOO_LONG if `kept` holds no record,
+ * - FE2O3_SERVER_UTF8_ERROR, FE2O3_SERVER_CANNOT_PARSE_CLIENT_FINAL_MESSAGE and FE2O3_SERVER_BASE64_DECODE_ERROR,
+ * - FE2O3_SERVER_INVALID_CHANNEL_BINDING if the message has another GS2 header than the exchange, or other data than
+ *   the rules,
+ * - FE2O3_SERVER_CANNOT_PARSE_CLIENT_FINAL_MESSAGE and FE2O3_SERVER_INCORRECT_CLIENT_FINAL_NONCE,
+ * - FE2O3_SERVER_PROOF_NOT_FOUND_IN_CLIENT_FINAL and FE2O3_SERVER_BASE64_DECODE_ERROR, of the proof,
+ * - FE2O3_SERVER_MISPLACED_ATTRIBUTE of a strict server,
+ * - FE2O3_SERVER_XOR_LENGTH_MISMATCH and FE2O3_SERVER_AUTHENTICATION_FAILED if the proof is wrong. */
+uint32_t fe2o3_scram_server_final_with_rules(
+    const struct fe2o3_scram_rules *rules,
     const struct fe2o3_scram_record *kept,
     struct fe2o3_scram_server *server,
     const uint8_t *client_final,
@@ -880,7 +1103,10 @@ struct fe2o3_connection {
     uint32_t expected;
     /* The number of bytes of `held` in use. */
     uint32_t held_len;
-    /* The part of the expected header or frame that has been received. */
+    /* The part of the expected header or frame that has been received. After a login that failed with
+     * FE2O3_PROTOCOL_HEADER_MISMATCH, the 8 bytes that were received in the place of the header of SASL:
+     * `AMQP 2 1 0 0` for a server that requires TLS first, `AMQP 0 1 0 0` for a client that begins AMQP without SASL.
+     */
     uint8_t held[512];
 };
 
@@ -909,7 +1135,8 @@ struct fe2o3_sasl_client {
 uint32_t fe2o3_sasl_client_open(uint8_t *out, size_t out_size, size_t *out_len);
 
 /* Takes received bytes, to the end of the expected header or frame, and writes the bytes to send, at most 512. `out`
- * needs 512 bytes, which is tested before anything is hashed. `nonce` is 32 fresh random bytes.
+ * needs 512 bytes, which is tested before anything is hashed. `nonce` is 32 fresh random bytes, or any bytes if
+ * `fe2o3_sasl_wants_nonce` returns 0.
  *
  * FE2O3_OK does not mean that the login succeeds: look at `progress` and `why` of the connection. `taken` is how many
  * bytes were used. While `progress` is FE2O3_IN_PROGRESS, pass the rest in the next call; after the login it belongs
@@ -934,7 +1161,8 @@ struct fe2o3_sasl_server_config {
      * or FE2O3_PLAIN_SASLPREP. By the latter it also rejects a password that SASLprep rejects or prepares to the empty
      * text. With FE2O3_SIGNATURE_BY_CHALLENGE SCRAM's outcome OK follows the client's empty response to a challenge.
      * With FE2O3_INITIAL_RESPONSE_BY_CHALLENGE an init for SCRAM or PLAIN without an initial response is answered by
-     * an empty challenge, and the response is the initial response. */
+     * an empty challenge, and the response is the initial response. With FE2O3_STRICT SCRAM rejects an attribute that
+     * RFC 5802 defines in the place of an extension. */
     uint32_t mechanisms;
     /* The iteration count with which PLAIN hashes the password of an unknown user. */
     uint32_t iterations;
@@ -975,7 +1203,8 @@ uint32_t fe2o3_sasl_server_claimed_user(
     size_t *out_len);
 
 /* Takes received bytes, to the end of the expected header or frame, and writes the bytes to send, at most 520. `out`
- * needs 520 bytes, which is tested before anything is hashed. `nonce` is 32 fresh random bytes.
+ * needs 520 bytes, which is tested before anything is hashed. `nonce` is 32 fresh random bytes, or any bytes if
+ * `fe2o3_sasl_wants_nonce` returns 0.
  *
  * Before the call, look up the record of the user that the bytes claim (`fe2o3_sasl_server_claimed_user`). FE2O3_OK
  * does not mean that the login succeeds: look at `progress` and `why` of the connection. `taken` is how many bytes
@@ -994,6 +1223,32 @@ uint32_t fe2o3_sasl_server_receive(
     uint8_t *out,
     size_t out_size,
     size_t *out_len);
+
+/* ---- Both sides of a connection, before a call, and at the end of the stream ---- */
+
+/* Returns 1 if the next call of `fe2o3_sasl_client_receive` or `fe2o3_sasl_server_receive` may use its nonce: a client
+ * that expects the list of mechanisms, or a server that expects an init. Otherwise returns 0. Then every nonce gives
+ * the same result, and you need no fresh random bytes. */
+uint32_t fe2o3_sasl_wants_nonce(const struct fe2o3_connection *connection);
+
+/* Writes the body of the frame that `bytes` complete with the part that `connection` holds, without the four bytes of
+ * the frame's size: at most 508 bytes. `out_len` is 0 if they complete no frame. Nothing is taken: pass the same bytes
+ * to `fe2o3_sasl_client_receive` or `fe2o3_sasl_server_receive` after that.
+ *
+ * `expected` of the connection is the frame that has to come next. Parse the body with `fe2o3_sasl_view_frame`: a server
+ * reads in it the mechanism and the hostname of an init, and a client the additional data of an outcome. Pass a list of
+ * mechanisms to `fe2o3_sasl_offers`. */
+uint32_t fe2o3_sasl_peek_frame(
+    const struct fe2o3_connection *connection,
+    const uint8_t *bytes,
+    size_t bytes_len,
+    uint8_t *out,
+    size_t out_size,
+    size_t *out_len);
+
+/* Ends a login after the other side has ended its stream (end of file). A login in progress fails with
+ * FE2O3_END_OF_INPUT. Otherwise nothing changes. */
+void fe2o3_sasl_end_of_input(struct fe2o3_connection *connection);
 
 /* ---- Both sides over frame bodies, for programs that read frames themselves ---- */
 

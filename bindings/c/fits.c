@@ -31,12 +31,13 @@ int main(void)
     const size_t sizes[] = {sizeof(struct fe2o3_login), sizeof(struct fe2o3_scram_client),
         sizeof(struct fe2o3_scram_keys), sizeof(struct fe2o3_scram_server), sizeof(struct fe2o3_scram_record),
         sizeof(struct fe2o3_connection), sizeof(struct fe2o3_sasl_login), sizeof(struct fe2o3_sasl_client),
-        sizeof(struct fe2o3_sasl_frame_view), sizeof(struct fe2o3_sasl_server_config), sizeof(struct fe2o3_sasl_server)};
+        sizeof(struct fe2o3_sasl_frame_view), sizeof(struct fe2o3_sasl_server_config), sizeof(struct fe2o3_sasl_server),
+        sizeof(struct fe2o3_scram_rules)};
     const uint32_t structs = sizeof sizes / sizeof sizes[0];
     const uint32_t statuses[] = {FE2O3_OK, FE2O3_OUT_OF_MEMORY, FE2O3_ROOM_TOO_SMALL, FE2O3_NO_KEYS,
         FE2O3_CLIENT_UTF8_ERROR, FE2O3_CLIENT_SERVER_SIGNATURE_MISMATCH, FE2O3_SERVER_UTF8_ERROR,
         FE2O3_SERVER_AUTHENTICATION_FAILED, FE2O3_RECORD_PARTS_MISMATCH, FE2O3_RECORD_KEY_LENGTH_MISMATCH,
-        FE2O3_SERVER_ERROR};
+        FE2O3_SERVER_ERROR, FE2O3_CHANNEL_DATA_LENGTH, FE2O3_NO_SUCH_CHANNEL};
     struct fe2o3_text unknown = FE2O3_TEXT_INIT, text = FE2O3_TEXT_INIT;
     uint32_t version = fe2o3_version();
     int differences = 0;

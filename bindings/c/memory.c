@@ -132,6 +132,15 @@ static uint32_t make_from_fields(void)
     return fe2o3_scram_record_from_fields(FE2O3_SHA_256, all.record.salt, all.record.salt_len, all.record.iterations,
         all.record.stored_key, 32, all.record.server_key, 32, &all.read);
 }
+static uint32_t make_keys_of_salted(void)
+{
+    return fe2o3_scram_keys_of_salted(FE2O3_SHA_256, secret, 32, salt, 16, 4096, &all.keys);
+}
+static uint32_t make_of_salted(void)
+{
+    return fe2o3_scram_record_of_salted(FE2O3_SHA_256, secret, 32, salt, 16, 4096, &all.read);
+}
+static uint32_t verify_salted(void) { return fe2o3_scram_record_verify_salted(&all.read, secret, 32); }
 static uint32_t plain(void) { return fe2o3_plain_message(TEXT("user"), TEXT("pencil"), ROOM(all.out)); }
 static uint32_t plain_user(void) { return fe2o3_plain_claimed_user(TEXT("\0user\0pencil"), ROOM(all.user)); }
 static uint32_t verify_plain(void)
@@ -154,6 +163,21 @@ static uint32_t challenge_with_cbind_flag_y(void)
     return fe2o3_scram_server_first_with_cbind_flag_y(
         &all.record, &all.server, nonce, GIVEN(all.client_first), ROOM(all.server_first));
 }
+static struct fe2o3_scram_rules rules;
+static uint32_t user_by_rules(void)
+{
+    return fe2o3_scram_server_claimed_user_with_rules(&rules, GIVEN(all.client_first), ROOM(all.user));
+}
+static uint32_t challenge_by_rules(void)
+{
+    return fe2o3_scram_server_first_with_rules(
+        &rules, &all.record, &all.server, nonce, GIVEN(all.client_first), ROOM(all.server_first));
+}
+static uint32_t conclude_by_rules(void)
+{
+    return fe2o3_scram_server_final_with_rules(
+        &rules, &all.record, &all.server, GIVEN(all.client_final), ROOM(all.server_final));
+}
 static uint32_t answer(void)
 {
     return fe2o3_scram_client_final(&login, &all.client, GIVEN(all.server_first), ROOM(all.client_final));
@@ -173,6 +197,10 @@ static uint32_t begin(void) { return fe2o3_sasl_client_open(ROOM(all.out)); }
 static uint32_t client_takes(void)
 {
     return fe2o3_sasl_client_receive(&sasl_login, &all.client_side, GIVEN(came), nonce, &all.taken, ROOM(all.out));
+}
+static uint32_t peek(void)
+{
+    return fe2o3_sasl_peek_frame(&all.server_side.connection, GIVEN(came), ROOM(all.out));
 }
 static uint32_t name(void) { return fe2o3_sasl_server_claimed_user(&all.server_side, GIVEN(came), ROOM(all.user)); }
 static uint32_t server_takes(void)
@@ -230,7 +258,11 @@ static void late_connection(const uint8_t *init, size_t init_len, const uint8_t 
     tried("server_receive", server_takes);
     memcpy(came.bytes, init, init_len);
     came.len = init_len;
+    tried("peek_frame", peek);
+    differences += all.out.len != init_len - 4 || memcmp(all.out.bytes, init + 4, init_len - 4) != 0;
+    differences += fe2o3_sasl_wants_nonce(&all.server_side.connection) != 1;
     tried("server_receive", server_takes);
+    differences += fe2o3_sasl_wants_nonce(&all.server_side.connection) != 0;
     memcpy(came.bytes, response, response_len);
     came.len = response_len;
     tried("server_user", name);
@@ -254,6 +286,9 @@ int main(void)
     tried("record_verify", verify_password);
     tried("record_mock", make_up);
     tried("record_from_fields", make_from_fields);
+    tried("keys_of_salted", make_keys_of_salted);
+    tried("record_of_salted", make_of_salted);
+    tried("record_verify_salted", verify_salted);
     tried("plain_message", plain);
     tried("plain_claimed_user", plain_user);
     tried("plain_verify", verify_plain);
@@ -281,6 +316,17 @@ int main(void)
     tried("client_final, prepared", answer);
     tried("server_final, prepared", conclude);
     tried("client_verify, prepared", verify);
+    rules.binds_channel = 1;
+    rules.tls_exporter_len = login.channel_data_len = 32;
+    login.channel_use = FE2O3_CHANNEL_BOUND;
+    login.channel_kind = FE2O3_TLS_EXPORTER;
+    tried("client_first, with a channel", first);
+    tried("server_user_with_rules", user_by_rules);
+    tried("server_first_with_rules", challenge_by_rules);
+    tried("client_final, with a channel", answer);
+    tried("server_final_with_rules", conclude_by_rules);
+    tried("client_verify, with a channel", verify);
+    login.channel_use = FE2O3_CHANNEL_ABSENT;
     puts("a connection, SCRAM-SHA-256");
     connection(FE2O3_SCRAM, "us,er");
     puts("a connection, PLAIN");

@@ -104,7 +104,7 @@ static void field(struct text *to, uint8_t kind, const void *bytes, size_t len)
 static struct seen {
     const char *name;
     long calls, of[STATUSES];
-} calls[24];
+} calls[32];
 
 static struct seen *seen(const char *name)
 {
@@ -307,15 +307,35 @@ static int has_asked(const struct fe2o3_scram_server *server)
         || server->state == FE2O3_SCRAM_SERVER_INITIAL_RESPONSE_ASKED_WITH_HOSTNAME;
 }
 
+/* Rules of random bytes, half of them with flags and lengths that a caller may set. */
+static void draw_rules(struct fe2o3_scram_rules *rules)
+{
+    fill(rules, sizeof *rules);
+    if (below(2))
+        return;
+    rules->accept_cbind_flag_y = below(2);
+    rules->strict = below(2);
+    rules->binds_channel = below(2);
+    rules->tls_unique_len = below(66);
+    rules->tls_server_end_point_len = below(66);
+    rules->tls_exporter_len = below(66);
+}
+
 static void with_a_server(void)
 {
+    struct fe2o3_scram_rules rules;
     struct text client_first, client_final;
+    draw_rules(&rules);
     initial_response(0, &client_first);
     unproved(&drawn.server, &client_final);
     client_first.bytes[0] = below(2) ? 'n' : 'y';
     answered("server_first", fe2o3_scram_server_first(&all.record, &all.server, nonce, GIVEN(client_first), ROOM));
     answered("server_first_with_cbind_flag_y",
         fe2o3_scram_server_first_with_cbind_flag_y(&all.record, &all.server, nonce, GIVEN(client_first), ROOM));
+    answered("server_first_with_rules",
+        fe2o3_scram_server_first_with_rules(&rules, &all.record, &all.server, nonce, GIVEN(client_first), ROOM));
+    answered("server_final_with_rules",
+        fe2o3_scram_server_final_with_rules(&rules, &all.record, &all.server, GIVEN(client_final), ROOM));
     answered("server_final", fe2o3_scram_server_final(&all.record, &all.server, GIVEN(client_final), ROOM));
     answered("server_logged_in", fe2o3_scram_server_authenticated_user(&all.server, ROOM));
 }
@@ -325,6 +345,7 @@ static void with_a_record(void)
     answered("record_text", fe2o3_scram_record_text(&all.record, ROOM));
     answered("line", fe2o3_scram_line(TEXT("user"), &all.record, ROOM));
     answered("record_verify", fe2o3_scram_record_verify(&all.record, below(3), TEXT("pencil")));
+    answered("record_verify_salted", fe2o3_scram_record_verify_salted(&all.record, nonce, ONE_OF(20, 31, 32)));
     answered("plain_verify", fe2o3_plain_verify(&all.record, below(2), below(4), below(9), TEXT("\0user\0pencil")));
 }
 
@@ -418,14 +439,16 @@ static void to_server(const struct fe2o3_sasl_server *side, struct text *came)
 
 static void with_a_side_of_a_server(void)
 {
-    const uint32_t by_challenge = ONE_OF(0, FE2O3_INITIAL_RESPONSE_BY_CHALLENGE, FE2O3_SIGNATURE_BY_CHALLENGE);
-    struct fe2o3_sasl_server_config config = {.mechanisms = below(129) | by_challenge, .iterations = below(9),
+    const uint32_t option =
+        ONE_OF(0, FE2O3_INITIAL_RESPONSE_BY_CHALLENGE, FE2O3_SIGNATURE_BY_CHALLENGE, FE2O3_STRICT);
+    struct fe2o3_sasl_server_config config = {.mechanisms = below(129) | option, .iterations = below(9),
         .username = TEXT("user"), .records = &all.record, .records_count = below(2), .external_authcid = TEXT("peer")};
     struct text came = {{0}, 0};
     uint32_t status;
     to_server(&drawn.server_side, &came);
     if (below(4) == 0)
         fill(came.bytes, came.len);
+    answered("sasl_peek_frame", fe2o3_sasl_peek_frame(&all.server_side.connection, GIVEN(came), ROOM));
     answered("sasl_server_user", fe2o3_sasl_server_claimed_user(&all.server_side, GIVEN(came), ROOM));
     status = fe2o3_sasl_server_receive(&config, &all.server_side, GIVEN(came), nonce, &all.taken, ROOM);
     never("sasl_server_receive", status == FE2O3_OK && all.server_side.connection.progress == FE2O3_AUTHENTICATED);
@@ -476,7 +499,9 @@ int main(void)
         one_round();
     never("client_verify", seen("client_verify")->of[FE2O3_OK] != 0);
     never("server_final", seen("server_final")->of[FE2O3_OK] != 0);
+    never("server_final_with_rules", seen("server_final_with_rules")->of[FE2O3_OK] != 0);
     never("record_verify", seen("record_verify")->of[FE2O3_OK] != 0);
+    never("record_verify_salted", seen("record_verify_salted")->of[FE2O3_OK] != 0);
     never("plain_verify", seen("plain_verify")->of[FE2O3_OK] != 0);
     reached("client_first", FE2O3_OK);
     reached("client_final", FE2O3_OK);
@@ -488,11 +513,19 @@ int main(void)
     reached("server_first", FE2O3_SERVER_CANNOT_PARSE_GS2_HEADER);
     reached("server_first_with_cbind_flag_y", FE2O3_OK);
     reached("server_final", FE2O3_SERVER_AUTHENTICATION_FAILED);
+    reached("server_first_with_rules", FE2O3_OK);
+    reached("server_first_with_rules", FE2O3_CHANNEL_DATA_LENGTH);
+    reached("server_first_with_rules", FE2O3_SERVER_CANNOT_PARSE_GS2_HEADER);
+    reached("server_final_with_rules", FE2O3_CHANNEL_DATA_LENGTH);
+    reached("server_final_with_rules", FE2O3_SERVER_AUTHENTICATION_FAILED);
+    reached("server_final_with_rules", FE2O3_SERVER_ILLEGAL_AUTHENTICATOR_STATE);
     reached("server_logged_in", FE2O3_OK);
     reached("record_text", FE2O3_OK);
     reached("line", FE2O3_OK);
     reached("record_verify", FE2O3_OTHER_PASSWORD);
     reached("record_verify", FE2O3_NO_SUCH_CHOICE);
+    reached("record_verify_salted", FE2O3_OTHER_PASSWORD);
+    reached("record_verify_salted", FE2O3_RECORD_KEY_LENGTH_MISMATCH);
     reached("plain_verify", FE2O3_SERVER_AUTHENTICATION_FAILED);
     reached("plain_verify", FE2O3_NO_SUCH_CHOICE);
     reached("saslprep", FE2O3_OK);

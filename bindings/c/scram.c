@@ -160,6 +160,16 @@ static void cases(uint32_t version)
         run(&next, &login, &record) == FE2O3_CLIENT_ITERATION_COUNT_TOO_LARGE);
     login.max_iterations = 4096;
     told(version, "a room that is too small, and then large enough", rooms(&login, &one));
+    /* (text has a record, and a client that has answered has its keys) */
+    fe2o3_wipe(&text, sizeof text);
+    fe2o3_wipe(&one, sizeof one);
+    fe2o3_wipe(&next, sizeof next);
+    fe2o3_wipe(&keys, sizeof keys);
+    fe2o3_wipe(&made, sizeof made);
+    fe2o3_wipe(&record, sizeof record);
+    fe2o3_wipe(&read, sizeof read);
+    fe2o3_wipe(&other, sizeof other);
+    fe2o3_wipe(&mock, sizeof mock);
 }
 
 /* A record of its fields, and PLAIN and EXTERNAL over messages. */
@@ -305,6 +315,131 @@ static void cbind_flag_y(void)
             && fe2o3_scram_server_authenticated_user(&server, ROOM(text)) == FE2O3_OK && spells(&text, "user"));
 }
 
+/* The data of a channel, and what a client and a server know of it. */
+static const uint8_t channel_data[64] = {7, 0, 9, 255};
+
+static void bind_channel(struct fe2o3_login *login, uint32_t kind, uint32_t len)
+{
+    login->channel_use = FE2O3_CHANNEL_BOUND;
+    login->channel_kind = kind;
+    login->channel_data_len = len;
+    memcpy(login->channel_data, channel_data, sizeof channel_data);
+}
+
+static struct fe2o3_scram_rules binding(uint32_t kind, uint32_t len)
+{
+    struct fe2o3_scram_rules rules = {.binds_channel = 1};
+    *(kind == FE2O3_TLS_UNIQUE ? &rules.tls_unique_len : kind == FE2O3_TLS_SERVER_END_POINT
+        ? &rules.tls_server_end_point_len : &rules.tls_exporter_len) = len;
+    memcpy(rules.tls_unique, channel_data, sizeof channel_data);
+    memcpy(rules.tls_server_end_point, channel_data, sizeof channel_data);
+    memcpy(rules.tls_exporter, channel_data, sizeof channel_data);
+    return rules;
+}
+
+/* Like `run`, with rules for each call of the server. */
+static uint32_t run_by(struct exchange *one, const struct fe2o3_login *login, const struct fe2o3_scram_record *record,
+    const struct fe2o3_scram_rules *first, const struct fe2o3_scram_rules *last)
+{
+    struct text user;
+    uint32_t number;
+    memset(one, 0, sizeof *one);
+    number = fe2o3_scram_client_first(login, &one->client, client_nonce, ROOM(one->client_first));
+    if (number == FE2O3_OK)
+        number = fe2o3_scram_server_claimed_user_with_rules(first, GIVEN(one->client_first), ROOM(user));
+    if (number == FE2O3_OK)
+        number = fe2o3_scram_server_first_with_rules(
+            first, record, &one->server, server_nonce, GIVEN(one->client_first), ROOM(one->server_first));
+    if (number == FE2O3_OK)
+        number = fe2o3_scram_client_final(login, &one->client, GIVEN(one->server_first), ROOM(one->client_final));
+    if (number == FE2O3_OK)
+        number = fe2o3_scram_server_final_with_rules(
+            last, record, &one->server, GIVEN(one->client_final), ROOM(one->server_final));
+    if (number == FE2O3_OK)
+        number = fe2o3_scram_client_verify(login, &one->client, GIVEN(one->server_final));
+    return number;
+}
+
+/* Channel binding (RFC 5802, section 6), by each kind. */
+static void channels(uint32_t version)
+{
+    static const char *headers[] = {"p=tls-unique,,n=user,r=", "p=tls-server-end-point,,n=user,r=",
+        "p=tls-exporter,,n=user,r="};
+    const uint32_t not_parsed = FE2O3_SERVER_CANNOT_PARSE_GS2_HEADER;
+    struct fe2o3_scram_keys no_keys = {0};
+    struct fe2o3_scram_record record = {0};
+    const struct fe2o3_login plain = {.version = version, .min_iterations = 4096, .max_iterations = 100000,
+        .username = TEXT("user"), .password = TEXT("pencil"), .keys = &no_keys};
+    const struct fe2o3_scram_rules no_rules = {0}, no_data = {.binds_channel = 1}, with_y = {.accept_cbind_flag_y = 1};
+    struct exchange one;
+    fe2o3_scram_record_make(version, FE2O3_TYPED, TEXT("pencil"), salt, sizeof salt, 4096, &record);
+    for (uint32_t kind = FE2O3_TLS_UNIQUE; kind <= FE2O3_TLS_EXPORTER; kind++) {
+        struct fe2o3_login login = plain, other = plain;
+        const struct fe2o3_scram_rules rules = binding(kind, 32), another = binding(kind % 3 + 1, 32);
+        bind_channel(&login, kind, 32);
+        bind_channel(&other, kind, 31);
+        told(version, "a login that binds its channel",
+            run_by(&one, &login, &record, &rules, &rules) == FE2O3_OK
+                && one.server.state == FE2O3_SCRAM_SERVER_AUTHENTICATED
+                && memcmp(one.client_first.bytes, headers[kind - 1], strlen(headers[kind - 1])) == 0);
+        told(version, "other data of the channel",
+            run_by(&one, &other, &record, &rules, &rules) == FE2O3_SERVER_INVALID_CHANNEL_BINDING
+                && one.server.state == FE2O3_SCRAM_SERVER_CHALLENGE_OPEN_TLS_UNIQUE + kind - 1);
+        told(version, "another kind, no data of any kind, and no channel",
+            run_by(&one, &login, &record, &another, &another) == not_parsed
+                && run_by(&one, &login, &record, &no_data, &no_data) == not_parsed
+                && run_by(&one, &login, &record, &no_rules, &no_rules) == not_parsed
+                && run_by(&one, &plain, &record, &rules, &rules) == not_parsed);
+        told(version, "other rules for the last message",
+            run_by(&one, &login, &record, &rules, &no_rules) == FE2O3_SERVER_ILLEGAL_AUTHENTICATOR_STATE
+                && run_by(&one, &login, &record, &rules, &another) == FE2O3_SERVER_ILLEGAL_AUTHENTICATOR_STATE
+                && run_by(&one, &plain, &record, &no_rules, &rules) == FE2O3_SERVER_ILLEGAL_AUTHENTICATOR_STATE);
+        login.channel_use = FE2O3_CHANNEL_NOT_OFFERED;
+        told(version, "a channel without an offer",
+            run_by(&one, &login, &record, &rules, &rules) == not_parsed
+                && run_by(&one, &login, &record, &no_rules, &no_rules) == not_parsed
+                && run_by(&one, &login, &record, &with_y, &with_y) == FE2O3_OK);
+    }
+    for (uint32_t len = 0; len <= 65; len += 65) {
+        struct fe2o3_login login = plain;
+        const struct fe2o3_scram_rules rules = binding(FE2O3_TLS_EXPORTER, len);
+        bind_channel(&login, FE2O3_TLS_EXPORTER, len);
+        told(version, "data of a channel of a wrong length",
+            run_by(&one, &login, &record, &no_rules, &no_rules) == FE2O3_CHANNEL_DATA_LENGTH
+                && run_by(&one, &plain, &record, &rules, &rules) == (len ? FE2O3_CHANNEL_DATA_LENGTH : not_parsed));
+        login.channel_kind = 4;
+        told(version, "a kind that is none",
+            run_by(&one, &login, &record, &no_rules, &no_rules) == FE2O3_NO_SUCH_CHANNEL);
+        login.channel_use = 3;
+        told(version, "a use that is none",
+            run_by(&one, &login, &record, &no_rules, &no_rules) == FE2O3_NO_SUCH_CHANNEL);
+    }
+}
+
+/* An attribute of RFC 5802 in the place of an extension, at a strict side of each kind (RFC 5802, section 5.1). */
+static void strict_sides(void)
+{
+    const struct fe2o3_scram_rules strict = {.strict = 1}, lax = {0};
+    struct fe2o3_scram_keys no_keys = {0};
+    struct fe2o3_login login = {.version = FE2O3_SHA_256, .min_iterations = 4096, .max_iterations = 4096,
+        .username = TEXT("user"), .password = TEXT("pencil"), .keys = &no_keys};
+    struct fe2o3_scram_record record = {0};
+    struct exchange one;
+    fe2o3_scram_record_make(FE2O3_SHA_256, FE2O3_TYPED, TEXT("pencil"), salt, sizeof salt, 4096, &record);
+    told(FE2O3_SHA_256, "a strict server",
+        fe2o3_scram_server_first_with_rules(&strict, &record, &one.server, server_nonce, TEXT("n,,n=user,r=abc,i=4096"),
+            ROOM(one.server_first)) == FE2O3_SERVER_MISPLACED_ATTRIBUTE
+            && fe2o3_scram_server_first_with_rules(&lax, &record, &one.server, server_nonce,
+                TEXT("n,,n=user,r=abc,i=4096"), ROOM(one.server_first)) == FE2O3_OK);
+    for (login.strict = 0; login.strict <= 1; login.strict++) {
+        memset(&one, 0, sizeof one);
+        fe2o3_scram_client_first(&login, &one.client, client_nonce, ROOM(one.client_first));
+        told(FE2O3_SHA_256, login.strict ? "a strict client" : "a client that is not strict",
+            fe2o3_scram_client_final(&login, &one.client, TEXT("r=" BOTH_NONCES ",s=BAQ=,i=4096,c=biws"),
+                ROOM(one.client_final)) == (login.strict ? FE2O3_CLIENT_MISPLACED_ATTRIBUTE : FE2O3_OK));
+    }
+}
+
 int main(void)
 {
     struct fe2o3_scram_record record = {0};
@@ -312,6 +447,10 @@ int main(void)
     fe2o3_scram_record_make(FE2O3_SHA_256, FE2O3_TYPED, TEXT("pencil"), known_salt, sizeof known_salt, 4096, &record);
     told(FE2O3_SHA_256, "the record of the standard's example",
         fe2o3_scram_record_text(&record, ROOM(text)) == FE2O3_OK && spells(&text, known_record));
+    channels(FE2O3_SHA_1);
+    channels(FE2O3_SHA_256);
+    channels(FE2O3_SHA_512);
+    strict_sides();
     cases(FE2O3_SHA_1);
     cases(FE2O3_SHA_256);
     cases(FE2O3_SHA_512);

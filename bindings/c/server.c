@@ -96,19 +96,26 @@ static void fetch(const uint8_t *name, size_t len, struct fe2o3_scram_record *re
             fe2o3_scram_record_mock(versions[i], secret, sizeof secret, name, len, 16, 4096, &records[count++]);
 }
 
+/* What a connection keeps that is secret: the messages of its client, of which that of PLAIN has the password, and the
+ * records of the user. */
+struct secrets {
+    uint8_t came[4096];
+    struct fe2o3_scram_record records[3];
+};
+
 /* Reads and answers until a client is logged in or the connection is to be closed. Answers the number of a call that is
  * refused, and -1 where the connection ends. */
-static int64_t serve(int channel, struct fe2o3_sasl_server *server)
+static int64_t serve(int channel, struct fe2o3_sasl_server *server, struct secrets *keep)
 {
-    uint8_t came[4096], out[520], nonce[32], name[256];
+    uint8_t *came = keep->came, out[520], nonce[32] = {0}, name[256];
     size_t len = 0, at = 0, taken = 0, out_len = 0, name_len = 0;
     while (server->connection.progress == FE2O3_IN_PROGRESS) {
-        struct fe2o3_scram_record records[3] = {{0}};
         struct fe2o3_sasl_server_config config = {
-            mechanisms, 4096, name, 0, records, 3, (const uint8_t *)peer, strlen(peer)};
+            mechanisms, 4096, name, 0, keep->records, 3, (const uint8_t *)peer, strlen(peer)};
         uint32_t status;
+        memset(keep->records, 0, sizeof keep->records);
         if (at == len) {
-            ssize_t some = recv(channel, came, sizeof came, 0);
+            ssize_t some = recv(channel, came, sizeof keep->came, 0);
             if (some <= 0)
                 return -1;
             len = (size_t)some;
@@ -116,10 +123,10 @@ static int64_t serve(int channel, struct fe2o3_sasl_server *server)
         }
         status = fe2o3_sasl_server_claimed_user(server, came + at, len - at, name, sizeof name, &name_len);
         if (status == FE2O3_OK) {
-            fetch(name, name_len, records);
+            fetch(name, name_len, keep->records);
             config.username_len = name_len;
         }
-        if (!random_bytes(nonce, sizeof nonce))
+        if (fe2o3_sasl_wants_nonce(&server->connection) && !random_bytes(nonce, sizeof nonce))
             return -1;
         status = fe2o3_sasl_server_receive(
             &config, server, came + at, len - at, nonce, &taken, out, sizeof out, &out_len);
@@ -183,6 +190,8 @@ int main(int count, char **words)
     /* (a client that resets the connection must not end the server) */
     signal(SIGPIPE, SIG_IGN);
     peer = count >= 5 ? words[4] : "";
+    /* (so that no buffer of stdio keeps a record) */
+    setvbuf(file, NULL, _IONBF, 0);
     users_len = fread(users, 1, sizeof users, file);
     fclose(file);
     memset(&address, 0, sizeof address);
@@ -196,13 +205,17 @@ int main(int count, char **words)
     fflush(stdout);
     while (logins-- > 0) {
         struct fe2o3_sasl_server server = {0};
+        struct secrets keep;
         int channel = accept(listener, NULL, NULL);
-        int64_t answer = channel < 0 ? -1 : serve(channel, &server);
+        int64_t answer = channel < 0 ? -1 : serve(channel, &server, &keep);
+        fe2o3_wipe(&keep, sizeof keep);
         told(answer, &server);
         fflush(stdout);
         if (channel >= 0)
             hang_up(channel);
     }
     close(listener);
+    fe2o3_wipe(users, sizeof users);
+    fe2o3_wipe(secret, sizeof secret);
     return 0;
 }

@@ -36,6 +36,11 @@ static const uint8_t salt[] = {0x5b, 0x6d, 0x99, 0x68, 0x9d, 0x12, 0x35, 0x8e,
     "c=eSws,r=" BOTH_NONCES ",p=SJ1/Pm0x+vAkhmfEkR72IPuVMVkUt0BF477aSDSc3vM="
 #define CBIND_FLAG_Y_OK "\2\1\0\0\0\x53\x44\xc0\x33\2\x50\0\xa0\x2ev=mZx4E2gu+jcdDC0u/pNy5NPrR0Zh6PMH8UcHTIgvIxU="
 
+/* The init of the first login with an attribute in the place of an extension: one of RFC 5802, and another. */
+#define ATTRIBUTE_INIT \
+    "\2\1\0\0\0\x53\x41\xc0\x57\3\xa3\15SCRAM-SHA-256\xa0\x3fn,,n=user,r=" NONCE ",i=4096\xa1\4host"
+#define EXTENSION_INIT "\2\1\0\0\0\x53\x41\xc0\x54\3\xa3\15SCRAM-SHA-256\xa0\x3cn,,n=user,r=" NONCE ",x=1\xa1\4host"
+
 /* The signature of the first login in a challenge, and the empty response to it. */
 #define SIGNED "\2\1\0\0\0\x53\x42\xc0\x31\1\xa0\x2ev=50uHbJV+ANf1NSOfnBbK910b8IC4PmQ5G06TO7VnXz8="
 #define EMPTY_RESPONSE "\2\1\0\0\0\x53\x43\xc0\3\1\xa0\0"
@@ -102,7 +107,8 @@ static int names_no_user(const struct fe2o3_scram_server *server)
 static struct fe2o3_sasl_login login_by(uint32_t mechanism, uint32_t version)
 {
     struct fe2o3_sasl_login login = {mechanism, TEXT("host"),
-        {version, FE2O3_BY_PASSWORD, FE2O3_TYPED, 4096, 100000, TEXT("user"), TEXT("pencil"), &no_keys, 0}};
+        {.version = version, .min_iterations = 4096, .max_iterations = 100000, .username = TEXT("user"),
+            .password = TEXT("pencil"), .keys = &no_keys}};
     return login;
 }
 
@@ -450,6 +456,31 @@ static void cbind_flag_y(void)
         fe2o3_sasl_server_offer(&config, ROOM(out)) == FE2O3_NO_SUCH_MECHANISM);
 }
 
+/* Attributes in the place of extensions, at a server that is not strict and at one that is. */
+static void strict(void)
+{
+    struct fe2o3_scram_record record = record_by(FE2O3_SHA_256);
+    struct fe2o3_sasl_server_config config = config_of(&record);
+    struct fe2o3_scram_server server = fresh_server;
+    struct body out;
+    uint32_t progress = 9;
+    config.mechanisms = FE2O3_OFFER_SCRAM_SHA_256;
+    told("SCRAM-SHA-256", "an attribute of RFC 5802 is ignored as an extension",
+        fe2o3_sasl_server_step(&config, &server, TEXT(ATTRIBUTE_INIT), server_nonce, &progress, ROOM(out)) == FE2O3_OK
+            && progress == FE2O3_IN_PROGRESS && spells(&out, TEXT(CHALLENGE)));
+    config.mechanisms |= FE2O3_STRICT;
+    server = fresh_server;
+    told("SCRAM-SHA-256", "a strict server rejects it",
+        fe2o3_sasl_server_step(&config, &server, TEXT(ATTRIBUTE_INIT), server_nonce, &progress, ROOM(out)) == FE2O3_OK
+            && progress == FE2O3_REFUSED_AUTH && spells(&out, TEXT(BARE_AUTH)) && names_no_user(&server));
+    told("SCRAM-SHA-256", "a strict server ignores an extension",
+        fe2o3_sasl_server_step(&config, &server, TEXT(EXTENSION_INIT), server_nonce, &progress, ROOM(out)) == FE2O3_OK
+            && progress == FE2O3_IN_PROGRESS && spells(&out, TEXT(CHALLENGE)));
+    config.mechanisms = FE2O3_STRICT;
+    told("nothing", "offered, but to be strict",
+        fe2o3_sasl_server_offer(&config, ROOM(out)) == FE2O3_NO_SUCH_MECHANISM);
+}
+
 /* A server that sends its signature in a challenge. */
 static void signature_by_challenge(void)
 {
@@ -592,6 +623,7 @@ int main(void)
     by_others();
     out_of_turn();
     cbind_flag_y();
+    strict();
     signature_by_challenge();
     initial_response_by_challenge();
     return differences != 0;

@@ -6,11 +6,18 @@ use Rattle.std.proofs.lemmas.Bool.Decides.{eqb_tells}
 use Rattle.fe2o3_scram.specs.Readings.{NoneHolds}
 use Rattle.std.specs.Prelude.{Option, Some, None, Result, Ok, Err, IfOk, IfErr, codes, slice_get, bit_xor}
 use Rattle.std.specs.List.{zip}
+use Rattle.base64.proofs.ReadLemmas.{take-shorter}
 use Rattle.std.proofs.lemmas.List.{length-append, length-map}
 use Rattle.std.proofs.lemmas.Slice.Zip.{length-zip}
+use Rattle.fe2o3_scram.specs.declared.scram_messages.client_channel.ClientChannel.{ClientChannel}
+use Rattle.fe2o3_scram.specs.declared.scram_messages.client_channel.ClientChannel.TheVariants.{Absent, NotOffered, Bound}
+use Rattle.fe2o3_scram.specs.declared.scram_messages.channel_binding_flag.ChannelBindingFlag.{ChannelBindingFlag}
+use Rattle.fe2o3_scram.specs.declared.scram_messages.channel_binding_flag.ChannelBindingFlag.TheVariants.{NotSupported, ClientSupports, Required}
+use Rattle.fe2o3_scram.specs.declared.channel_binding.ChannelKind.TheVariants.{TlsUnique, TlsServerEndPoint, TlsExporter}
+use Rattle.fe2o3_scram.specs.ChannelBinding.{cbind_input, data_bytes, header_text}
 use Rattle.fe2o3_scram.specs.declared.hmac.ScramVersion.{ScramVersion}
 use Rattle.fe2o3_scram.specs.declared.hmac.ScramVersion.TheVariants as versions
-use Rattle.fe2o3_scram.specs.ClientFinal.{Answer, client_final_of, keys_for, without_proof}
+use Rattle.fe2o3_scram.specs.ClientFinal.{Answer, client_final_of, keys_for, without_proof_with}
 use Rattle.fe2o3_scram.specs.ClientFirst.{client_first_bare}
 use Rattle.fe2o3_scram.specs.ClientKeys.{ClientKeys}
 use Rattle.fe2o3_scram.specs.ClientSecret.{Secret}
@@ -31,10 +38,12 @@ use Rattle.sasl_c.specs.declared.status.Status.{Status}
 use Rattle.sasl_c.specs.declared.status.Status.TheVariants as statuses
 use Rattle.sasl_c.specs.declared.login.Login.{Login}
 use Rattle.sasl_c.specs.declared.client.ScramClient.{ScramClient as Struct}
-use Rattle.sasl_c.specs.Client.{AnswersByMessage, AwaitsSignature, Verifies, HasSecret, Holds, IsAnswer, IsClientOf, IsTestedLogin, IsNoLogin, IsNoSecret, IsReached, IsSecretOf, IsSide, IsState, IsVerifyStatus, NotAnswered, Responds, WritesClient, complete_struct, name_tests, is_set}
+use Rattle.sasl_c.specs.Client.{AnswersByMessage, AwaitsSignature, Verifies, HasSecret, Holds, IsAnswer, IsChannelOf, IsClientOf, IsTestedLogin, IsNoLogin, IsNoSecret, IsReached, IsSecretOf, IsSide, IsState, IsVerifyStatus, NotAnswered, Responds, WritesClient, complete_struct, name_tests, is_set}
 use Rattle.sasl_c.specs.declared.keys.ScramKeys.{ScramKeys as KeysStruct}
 use Rattle.sasl_c.specs.Keys.{shown_keys}
 use Rattle.sasl_c.specs.Records.{IsVersion}
+use Rattle.sasl_c.specs.Channels.{answer_more}
+use Rattle.sasl_c.proofs.ChannelLemmas.{some_channel}
 use Rattle.sasl_c.proofs.LoginLemmas.{no_secrets}
 use Rattle.sasl_c.proofs.StatusLemmas.{carried}
 use Rattle.sasl_c.proofs.TextLemmas.{short, short_text, text_length}
@@ -66,49 +75,79 @@ part_short text part held = go held.0 held.1.whole held.2 where
     same : length part ≡ length first
     same = search rules
 
-binding : length (codes "c=" ++ base64_text (codes "n,,")) ≡ 6
-binding =
-    let three : length (codes "n,,") ≡ 3 = refl in
-    let two : length (codes "c=") ≡ 2 = refl in
-    omega (arith, three, two, text_length (codes "n,,"), length-append (codes "c=") (base64_text (codes "n,,")))
+-- a GS2 header has at most 24 bytes, and that of a client that binds no channel has 3
+short_header : (flag : ChannelBindingFlag) → length (header_text flag) ≤ 24
+short_header NotSupported = omega arith
+short_header ClientSupports = omega arith
+short_header (Required TlsUnique) = omega arith
+short_header (Required TlsServerEndPoint) = omega arith
+short_header (Required TlsExporter) = omega arith
 
--- the client-final message has at most 98 bytes more than the server-first message
-short_answer : (version : ScramVersion) (key auth nonce text : List ℕ) → length nonce + 2 ≤ length text
-    → length (client_final_of (without_proof nonce) (client_proof version key auth)) ≤ length text + 98
-short_answer version key auth nonce text fits =
+-- the first part of a client-final message, where no channel is bound, and where one is
+no_data_binding : (channel : ClientChannel) → length (cbind_input channel) ≤ 3
+    → length (codes "c=" ++ base64_text (cbind_input channel)) ≤ 6
+no_data_binding channel fits =
+    let two : length (codes "c=") ≡ 2 = refl in
+    omega (
+      arith,
+      fits,
+      two,
+      text_length (cbind_input channel),
+      length-append (codes "c=") (base64_text (cbind_input channel)),
+    )
+
+data_binding : (channel : ClientChannel) → length (cbind_input channel) ≤ 88
+    → length (codes "c=" ++ base64_text (cbind_input channel)) ≤ 122
+data_binding channel fits =
+    let two : length (codes "c=") ≡ 2 = refl in
+    omega (
+      arith,
+      fits,
+      two,
+      text_length (cbind_input channel),
+      length-append (codes "c=") (base64_text (cbind_input channel)),
+    )
+
+-- the client-final message has at most 92 bytes more than the server-first message and its first part
+short_answer : (version : ScramVersion) (channel : ClientChannel) (key auth nonce text : List ℕ)
+    → length nonce + 2 ≤ length text
+    → length (client_final_of (without_proof_with channel nonce) (client_proof version key auth))
+    ≤ length text + length (codes "c=" ++ base64_text (cbind_input channel)) + 92
+short_answer version channel key auth nonce text fits =
     let proof = client_proof version key auth in
     omega (
       arith,
       fits,
-      binding,
-      length-append (codes "c=" ++ base64_text (codes "n,,")) (44 ∷ (codes "r=" ++ nonce)),
-      length-append (without_proof nonce) (44 ∷ (codes "p=" ++ base64_text proof)),
+      length-append (codes "c=" ++ base64_text (cbind_input channel)) (44 ∷ (codes "r=" ++ nonce)),
+      length-append (without_proof_with channel nonce) (44 ∷ (codes "p=" ++ base64_text proof)),
       short_text proof (short_proof version key auth),
     )
 
 named : (client : Client) (text : List ℕ) (first : ServerFirst)
-    → ReadsServerFirst client.nonce client.secret client.limits text (Ok first)
+    → ReadsServerFirst client text (Ok first)
     → NamesServerFirst text first
 unfolding ReadsServerFirst
 named client text first held = held.1
 
--- what a client answers: a message that has room, and a signature that a struct can hold
+-- what a client answers: a message of this length, and a signature that a struct can hold
 pub answer_fits : (state : ClientState) (side next : ClientSide) (text message : List ℕ)
     → AnswersIn state side text (Ok message) next
-    → (length message ≤ length text + 98) × ((signature : List ℕ) × (keys : Option ClientKeys)
+    → (length message ≤ length text + length (codes "c=" ++ base64_text (cbind_input side.channel)) + 92)
+    × ((signature : List ℕ) × (keys : Option ClientKeys)
     × (next.state ≡ ClientFinalSent signature keys) × (length signature ≤ 64))
 answer_fits (ClientFirstSent nonce bare) side next text message held =
     let first = held.1.0 in
     let names = named _ text first held.1.1 in
     let keys = keys_for side.version side.secret first in
-    let auth = auth_message bare text (without_proof first.nonce) in
+    let without = without_proof_with side.channel first.nonce in
+    let auth = auth_message bare text without in
     let fits = part_short text (codes "r=" ++ first.nonce) names.nonce in
-    let said : message ≡ client_final_of (without_proof first.nonce) (client_proof keys.version keys.client_key auth) =
+    let said : message ≡ client_final_of without (client_proof keys.version keys.client_key auth) =
     held.2 ∙ ap (λ (answer : Answer). answer.message) held.1.2 in
     let kept : next.state ≡ ClientFinalSent (server_signature keys.version keys.server_key auth) (Some keys) =
     ap (λ (moved : ClientSide). moved.state) held.3
     ∙ ap (λ (answer : Answer). ClientFinalSent answer.signature (Some answer.keys)) held.1.2 in (
-      rw said (short_answer keys.version keys.client_key auth first.nonce text (omega (arith, fits))),
+      rw said (short_answer keys.version side.channel keys.client_key auth first.nonce text (omega (arith, fits))),
       (
         server_signature keys.version keys.server_key auth,
         Some keys,
@@ -121,6 +160,22 @@ answer_fits (ClientFinalSent signature keys) side next text message held = absur
 answer_fits (SignatureVerified keys) side next text message held = absurd held
 answer_fits (Complete keys) side next text message held = absurd held
 
+-- the first part of the answer of a client of a login
+binding_fits : (login : Login) (channel : ClientChannel) → IsChannelOf login channel
+    → length (codes "c=" ++ base64_text (cbind_input channel)) + 92 ≤ answer_more login.channel_use
+binding_fits login Absent is = rw is (omega (arith, no_data_binding Absent (omega arith)))
+binding_fits login NotOffered is = rw is (omega (arith, no_data_binding NotOffered (omega arith)))
+binding_fits login (Bound binding) is =
+    let few : length (data_bytes binding.cbind_data) ≤ 64 = omega (
+      arith,
+      ap length is.2,
+      is.4,
+      take-shorter login.channel_data_len login.channel_data,
+    ) in
+    let whole = length-append (header_text (Required binding.kind)) (data_bytes binding.cbind_data) in
+    let fits = data_binding (Bound binding) (omega (arith, few, whole, short_header (Required binding.kind))) in
+    rw is.0 (omega (arith, fits))
+
 -- the client is of the same login in another state
 pub moved_login : (login : Login) (side : ClientSide) (state : ClientState) → IsClientOf login side
     → IsClientOf login (with_state side state)
@@ -130,6 +185,8 @@ moved_login login side state is = record {
   secret = is.secret;
   least = is.least;
   most = is.most;
+  channel = is.channel;
+  strict = is.strict;
   signed = is.signed;
 }
 
@@ -147,82 +204,93 @@ answering_login login (Complete keys) side next text message held is = absurd he
 abbrev limits_of : Login → IterationLimits
 limits_of login = record { min_iterations = login.min_iterations; max_iterations = login.max_iterations }
 
-abbrev first_side : Login → Struct → ScramVersion → Secret → ClientSide
-first_side login before version secret = record {
+abbrev first_side : Login → Struct → ScramVersion → Secret → ClientChannel → ClientSide
+first_side login before version secret channel = record {
   user = login.username.now;
   secret = secret;
   version = version;
   limits = limits_of login;
+  channel = channel;
+  strict = is_set login.strict;
   signature_by_challenge = is_set login.signature_by_challenge;
   state =
       ClientFirstSent (base64_text before.nonce) (client_first_bare login.username.now (base64_text before.nonce));
 }
 
-is_first_side : (login : Login) (before : Struct) (version : ScramVersion) (secret : Secret)
-    → IsVersion login.version version → IsSecretOf login secret → before.state ≡ 1
-    → IsSide login before (first_side login before version secret)
-is_first_side login before version secret known has sent = (
+is_first_side : (login : Login) (before : Struct) (version : ScramVersion) (secret : Secret) (channel : ClientChannel)
+    → IsVersion login.version version → IsSecretOf login secret → IsChannelOf login channel → before.state ≡ 1
+    → IsSide login before (first_side login before version secret channel)
+is_first_side login before version secret channel known has binds sent = (
   record {
     version = known;
     user = refl;
     secret = has;
     least = refl;
     most = refl;
+    channel = binds;
+    strict = refl;
     signed = refl;
   },
   (sent, refl, refl),
 )
 
+-- what such a client knows
+abbrev client_by : Login → Secret → ClientChannel → List ℕ → Client
+client_by login secret channel nonce = client_of nonce secret (limits_of login) channel (is_set login.strict)
+
 -- what is held against a text is what that client holds
-as_sent : (login : Login) (before : Struct) (version : ScramVersion) (secret : Secret) (nonce bare text : List ℕ)
+as_sent : (login : Login) (before : Struct) (version : ScramVersion) (secret : Secret) (channel : ClientChannel)
+    (nonce bare text : List ℕ)
     (answer : Result Answer ScramErrorKind) → nonce ≡ base64_text before.nonce
     → bare ≡ client_first_bare login.username.now nonce
-    → AnswersServerFirst version (client_of nonce secret (limits_of login)) bare text answer
-    → AnswersServerFirst version (client_of (base64_text before.nonce) secret (limits_of login))
+    → AnswersServerFirst version (client_by login secret channel nonce) bare text answer
+    → AnswersServerFirst version (client_by login secret channel (base64_text before.nonce))
     (client_first_bare login.username.now (base64_text before.nonce)) text answer
-as_sent login before version secret nonce bare text answer spelled first held =
+as_sent login before version secret channel nonce bare text answer spelled first held =
     let user = login.username.now in
     let whole = first ∙ ap (client_first_bare user) spelled in
-    carried (λ given. AnswersServerFirst version (client_of (base64_text before.nonce) secret (limits_of login)) given
-    text
+    carried (λ given. AnswersServerFirst version (client_by login secret channel (base64_text before.nonce)) given text
     answer) bare (client_first_bare user (base64_text before.nonce)) whole
-    (carried (λ given. AnswersServerFirst version (client_of given secret (limits_of login)) bare text answer) nonce
+    (carried (λ given. AnswersServerFirst version (client_by login secret channel given) bare text answer) nonce
     (base64_text before.nonce) spelled held)
 
 -- what it answers by a secret, and what it rejects
-pub answered_by : (login : Login) (before : Struct) (version : ScramVersion) (secret : Secret)
+pub answered_by : (login : Login) (before : Struct) (version : ScramVersion) (secret : Secret) (channel : ClientChannel)
     (nonce bare text : List ℕ)
-    (answer : Answer) → IsVersion login.version version → IsSecretOf login secret → before.state ≡ 1
+    (answer : Answer) → IsVersion login.version version → IsSecretOf login secret → IsChannelOf login channel
+    → before.state ≡ 1
     → nonce ≡ base64_text before.nonce → bare ≡ client_first_bare login.username.now nonce
     → AnswersServerFirst version
-    (client_of nonce secret (record { min_iterations = login.min_iterations; max_iterations = login.max_iterations })) bare text
-    (Ok answer)
+    (client_of nonce secret (record { min_iterations = login.min_iterations; max_iterations = login.max_iterations })
+    channel (is_set login.strict)) bare text (Ok answer)
     → IsAnswer login before text answer
 unfolding AnswersByMessage
-answered_by login before version secret nonce bare text answer known has sent spelled first held =
-    let side = first_side login before version secret in (
+answered_by login before version secret channel nonce bare text answer known has binds sent spelled first held =
+    let side = first_side login before version secret channel in (
       with_state side (ClientFinalSent answer.signature (Some answer.keys)),
       (
         side,
-        is_first_side login before version secret known has sent,
-        (answer, as_sent login before version secret nonce bare text (Ok answer) spelled first held, refl, refl),
+        is_first_side login before version secret channel known has binds sent,
+        (answer, as_sent login before version secret channel nonce bare text (Ok answer) spelled first held, refl, refl),
       ),
       refl,
     )
 
-pub refused_by : (login : Login) (before : Struct) (version : ScramVersion) (secret : Secret) (nonce bare text : List ℕ)
+pub refused_by : (login : Login) (before : Struct) (version : ScramVersion) (secret : Secret) (channel : ClientChannel)
+    (nonce bare text : List ℕ)
     (why : ScramErrorKind) (status : Status) → IsVersion login.version version → IsSecretOf login secret
+    → IsChannelOf login channel
     → before.state ≡ 1 → nonce ≡ base64_text before.nonce → bare ≡ client_first_bare login.username.now nonce
     → (why ≢ NoMemory → AnswersServerFirst version
-    (client_of nonce secret (record { min_iterations = login.min_iterations; max_iterations = login.max_iterations })) bare text
-    (Err why)) → status ≡ client_status why → status ≢ statuses.OutOfMemory
+    (client_of nonce secret (record { min_iterations = login.min_iterations; max_iterations = login.max_iterations })
+    channel (is_set login.strict)) bare text (Err why)) → status ≡ client_status why → status ≢ statuses.OutOfMemory
     → NotAnswered login before text status
 unfolding NotAnswered
-refused_by login before version secret nonce bare text why status known has sent spelled first held gives other =
+refused_by login before version secret channel nonce bare text why status known has binds sent spelled first held gives other =
     let told : why ≢ NoMemory = λ same. other (gives ∙ ap client_status same) in
-    let refuses = as_sent login before version secret nonce bare text (Err why) spelled first (held told) in
-    let side = first_side login before version secret in
-    inr (why, gives, (side, is_first_side login before version secret known has sent, (refuses, refl)))
+    let refuses = as_sent login before version secret channel nonce bare text (Err why) spelled first (held told) in
+    let side = first_side login before version secret channel in
+    inr (why, gives, (side, is_first_side login before version secret channel known has binds sent, (refuses, refl)))
 
 -- a client that has sent another message last
 not_due_in : (user : List ℕ) (before : Struct) (state : ClientState) (side : ClientSide) (text : List ℕ)
@@ -283,26 +351,30 @@ state_by user before other = state_of user before other (equal_or before.state 2
     (cases_lt 64 before.signature_len)
 
 -- a client of the login in this state
-abbrev side_with : Login → ScramVersion → Secret → ClientState → ClientSide
-side_with login version secret state = record {
+abbrev side_with : Login → ScramVersion → Secret → ClientChannel → ClientState → ClientSide
+side_with login version secret channel state = record {
   user = login.username.now;
   secret = secret;
   version = version;
   limits = limits_of login;
+  channel = channel;
+  strict = is_set login.strict;
   signature_by_challenge = is_set login.signature_by_challenge;
   state = state;
 }
 
-is_side_with : (login : Login) (before : Struct) (version : ScramVersion) (secret : Secret) (state : ClientState)
-    → IsVersion login.version version → IsSecretOf login secret → IsState login.username.now before state
-    → IsSide login before (side_with login version secret state)
-is_side_with login before version secret state known has is = (
+is_side_with : (login : Login) (before : Struct) (version : ScramVersion) (secret : Secret) (channel : ClientChannel)
+    (state : ClientState) → IsVersion login.version version → IsSecretOf login secret → IsChannelOf login channel
+    → IsState login.username.now before state → IsSide login before (side_with login version secret channel state)
+is_side_with login before version secret channel state known has binds is = (
   record {
     version = known;
     user = refl;
     secret = has;
     least = refl;
     most = refl;
+    channel = binds;
+    strict = refl;
     signed = refl;
   },
   is,
@@ -312,6 +384,10 @@ secret_of_login : (login : Login) → HasSecret login → (secret : Secret) × I
 unfolding HasSecret
 secret_of_login login held = held.0
 
+-- a tested login says something of its channel
+channel_of : (login : Login) → NoneHolds (name_tests login) → (channel : ClientChannel) × IsChannelOf login channel
+channel_of login none = some_channel login.channel_use login.channel_kind login.channel_data_len login.channel_data none.1.1
+
 pub not_due : (login : Login) (before : Struct) (text : List ℕ) (version : ScramVersion)
     → IsVersion login.version version → IsTestedLogin login → before.state ≢ 1
     → NotAnswered login before text (statuses.Client IllegalClientState)
@@ -319,13 +395,14 @@ unfolding NotAnswered
 not_due login before text version known is other =
     let secret = secret_of_login login is.1 in
     let state = state_by login.username.now before other in
-    let side = side_with login version secret.0 state.0 in
+    let channel = channel_of login is.0 in
+    let side = side_with login version secret.0 channel.0 state.0 in
     inr (
       IllegalClientState,
       refl,
       (
         side,
-        is_side_with login before version secret.0 state.0 known secret.1 state.1,
+        is_side_with login before version secret.0 channel.0 state.0 known secret.1 channel.1 state.1,
         not_due_in login.username.now before state.0 side text state.1 other,
       ),
     )
@@ -334,11 +411,15 @@ not_due login before text version known is other =
 pub answer_has_room : (login : Login) (before : Struct) (text message signature : List ℕ) (keys : ClientKeys)
     → (next : ClientSide) × AnswersByMessage login before text message next
     × (next.state ≡ ClientFinalSent signature (Some keys))
-    → length message ≤ length text + 128
+    → length message ≤ length text + answer_more login.channel_use
 unfolding AnswersByMessage
 answer_has_room login before text message signature keys held =
     let given = held.1.0 in
-    omega (arith, (answer_fits given.state given held.0 text message held.1.2).0)
+    omega (
+      arith,
+      (answer_fits given.state given held.0 text message held.1.2).0,
+      binding_fits login given.channel held.1.1.0.channel,
+    )
 
 -- the struct of a client that waits is that of the client after the answer
 pub responds : (login : Login) (before after : Struct) (text message signature : List ℕ) (keys : ClientKeys)
@@ -454,9 +535,10 @@ pub server_verified : (login : Login) (before after : Struct) (text signature : 
 server_verified login before after text signature version verified known is waits same reads written =
     let secret = secret_of_login login is.1 in
     let keys = holds before.keys in
-    let side = side_with login version secret.0 (ClientFinalSent signature keys.0) in
+    let channel = channel_of login is.0 in
+    let side = side_with login version secret.0 channel.0 (ClientFinalSent signature keys.0) in
     verifies login before after side (with_state side (Complete keys.0)) text verified
-    (is_side_with login before version secret.0 (ClientFinalSent signature keys.0) known secret.1
+    (is_side_with login before version secret.0 channel.0 (ClientFinalSent signature keys.0) known secret.1 channel.1
     (waits.0, waits.1, same, keys.1))
     (reads, refl)
     written
@@ -479,13 +561,14 @@ unverified login before text signature version why status known is waits same he
       let told : why ≢ NoMemory = verify_memory text why status gives other in
       let secret = secret_of_login login is.1 in
       let keys = holds before.keys in
-      let side = side_with login version secret.0 (ClientFinalSent signature keys.0) in
+      let channel = channel_of login is.0 in
+      let side = side_with login version secret.0 channel.0 (ClientFinalSent signature keys.0) in
       inr (
         why,
         gives,
         (
           side,
-          is_side_with login before version secret.0 (ClientFinalSent signature keys.0) known secret.1
+          is_side_with login before version secret.0 channel.0 (ClientFinalSent signature keys.0) known secret.1 channel.1
               (waits.0, waits.1, same, keys.1),
           (held told, refl),
         ),
@@ -529,13 +612,14 @@ not_waiting login before text version known is other = (
   λ memory.
       let secret = secret_of_login login is.1 in
       let state = any_state login.username.now before (equal_or before.state 1) in
-      let side = side_with login version secret.0 state.0 in
+      let channel = channel_of login is.0 in
+      let side = side_with login version secret.0 channel.0 state.0 in
       inr (
         IllegalClientState,
         refl,
         (
           side,
-          is_side_with login before version secret.0 state.0 known secret.1 state.1,
+          is_side_with login before version secret.0 channel.0 state.0 known secret.1 channel.1 state.1,
           not_waiting_in login.username.now before state.0 side text state.1 other,
         ),
       ),

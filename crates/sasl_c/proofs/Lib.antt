@@ -4,7 +4,11 @@ pub mod TextLemmas
 pub mod RecordLemmas
 pub mod ClientLemmas
 pub mod ServerLemmas
+pub mod OpenLemmas
+pub mod RulesLemmas
 pub mod StateLemmas
+pub mod ClientReachLemmas
+pub mod ClientReplyLemmas
 pub mod SaslClientLemmas
 pub mod LineLemmas
 pub mod ExchangeLemmas
@@ -12,10 +16,13 @@ pub mod SaslServerLemmas
 pub mod ServerReplyLemmas
 pub mod ServerCallLemmas
 pub mod ServerUserLemmas
+pub mod PeekLemmas
 pub mod LoginLemmas
+pub mod ChannelLemmas
 pub mod SaslprepLemmas
 pub mod StepLemmas
 pub mod StatusTextLemmas
 pub mod FieldLemmas
+pub mod SaltedLemmas
 pub mod PlainLemmas
 pub mod ExternalLemmas

@@ -10,14 +10,25 @@ use Rattle.fe2o3_scram.specs.Passwords.{PasswordText}
 use Rattle.fe2o3_scram.specs.Readings.{IsFirst, NoneHolds}
 use Rattle.sasl_c.specs.declared.keys.ScramKeys.{ScramKeys as KeysStruct}
 use Rattle.sasl_c.specs.Client.{HasSecret, HoldsNone, IsNoLogin, IsNoSecret, keys_tests, name_tests}
+use Rattle.sasl_c.specs.Channels.{HasNoChannelData, NamesNoChannel, channel_tests}
 use Rattle.sasl_c.specs.Keys.{ShowsSomeKeys, shown_keys}
 use Rattle.sasl_c.specs.Passwords.{IsPassword, password_tests}
 use Rattle.sasl_c.specs.Records.{IsVersion}
 
--- its version and its user are some, and its secret is none
-pub no_secret : (login : Login) (known : ScramVersion) (status : Status) → IsVersion login.version known
-    → IsUtf8 login.username.now → IsNoSecret login status → IsNoLogin login status
-no_secret login known status is utf8 wrong = inr (((λ none. none known is), ((λ other. other utf8), tt)), wrong)
+-- ---- its version, its user and its channel
+
+abbrev pub channel_tests_of : Login → List (Status × Type 0)
+channel_tests_of login = channel_tests login.channel_use login.channel_kind login.channel_data_len
+
+pub has_names : (login : Login) (known : ScramVersion) → IsVersion login.version known → IsUtf8 login.username.now
+    → NoneHolds (channel_tests_of login) → NoneHolds (name_tests login)
+has_names login known is utf8 none = ((λ wrong. wrong known is), ((λ other. other utf8), none))
+
+pub no_channel : (login : Login) (known : ScramVersion) (status : Status) → IsVersion login.version known
+    → IsUtf8 login.username.now → IsFirst (channel_tests_of login) status → IsFirst (name_tests login) status
+no_channel login known status is utf8 first = inr ((λ wrong. wrong known is), inr ((λ other. other utf8), first))
+
+pub ruleset names = (has_names, no_channel)
 
 -- why its secret is none
 pub no_password : (login : Login) (status : Status) → login.secret ≡ 0
@@ -144,6 +155,8 @@ pub name_not_memory : (login : Login) (status : Status) → IsFirst (name_tests 
     → status ≢ statuses.OutOfMemory
 name_not_memory login status (inl (none, same)) = λ other. absurd (cc)
 name_not_memory login status (inr (some, inl (wrong, same))) = λ other. absurd (cc)
-name_not_memory login status (inr (some, inr (right, none))) = absurd none
+name_not_memory login status (inr (some, inr (right, inl (none, same)))) = λ other. absurd (cc)
+name_not_memory login status (inr (some, inr (right, inr (known, inl (long, same))))) = λ other. absurd (cc)
+name_not_memory login status (inr (some, inr (right, inr (known, inr (few, none))))) = absurd none
 
 pub ruleset login_tests = (no_name, has_no_secret, name_not_memory)

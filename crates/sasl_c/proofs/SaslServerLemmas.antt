@@ -5,7 +5,7 @@ use Rattle.std.specs.Str.{IsUtf8}
 use Rattle.std.proofs.lemmas.List.{append-nil, append_assoc}
 use Rattle.fe2o3_scram.specs.declared.hmac.ScramVersion.{ScramVersion}
 use Rattle.fe2o3_scram.specs.declared.hmac.ScramVersion.TheVariants as versions
-use Rattle.fe2o3_scram.specs.Credentials.{Record, VersionedRecord}
+use Rattle.fe2o3_scram.specs.Credentials.{VersionedRecord}
 use Rattle.fe2o3_scram.specs.Mixed.{MultiRecords}
 use Rattle.fe2o3_scram.specs.ClientFinal.{ClientFinal, ReadsClientFinal, Server}
 use Rattle.fe2o3_scram.specs.Hmac.{digest_len}
@@ -65,39 +65,49 @@ sum_small choice = omega (
   form_within choice.passwords,
 )
 
--- so no choice has a sum above 2047, or one whose rest below 512 is above 383
-pub too_large : (sum : ℕ) → 2047 < sum → (choice : Choice) → sum_of choice ≢ sum
+-- so no choice has a sum above 4095, or one whose rest below 512 is above 383
+pub too_large : (sum : ℕ) → 4095 < sum → (choice : Choice) → sum_of choice ≢ sum
 too_large sum large choice same = absurd (omega (
   arith,
   large,
   same,
   sum_small choice,
+  within choice.strict 2048,
   within choice.signature_by_challenge 1024,
   within choice.initial_response_by_challenge 512,
 ))
 
--- the numbers of the two challenges are a multiple of 512
-abbrev challenges : Bool → Bool → ℕ
-challenges signed asked = 512 * (one_where signed 2 + one_where asked 1)
+-- the numbers of the strict option and of the two challenges are multiples of 512
+multiple_4 : (is : Bool) → one_where is 2048 ≡ 512 * one_where is 4
+multiple_4 true = refl
+multiple_4 false = refl
 
-multiple : (signed asked : Bool) → one_where signed 1024 + one_where asked 512 ≡ challenges signed asked
-multiple true true = refl
-multiple true false = refl
-multiple false true = refl
-multiple false false = refl
+multiple_2 : (is : Bool) → one_where is 1024 ≡ 512 * one_where is 2
+multiple_2 true = refl
+multiple_2 false = refl
 
-pub between : (sum middle rest : ℕ) (signed asked : Bool) → sum ≡ one_where signed 1024 + middle
-    → middle ≡ one_where asked 512 + rest → 383 < rest → rest < 512 → (choice : Choice) → sum_of choice ≢ sum
-between sum middle rest signed asked split then large small choice same = absurd (omega (
+multiple_1 : (is : Bool) → one_where is 512 ≡ 512 * one_where is 1
+multiple_1 true = refl
+multiple_1 false = refl
+
+pub between : (sum signs asks rest : ℕ) (strict signed asked : Bool) → sum ≡ one_where strict 2048 + signs
+    → signs ≡ one_where signed 1024 + asks → asks ≡ one_where asked 512 + rest → 383 < rest → rest < 512
+    → (choice : Choice) → sum_of choice ≢ sum
+between sum signs asks rest strict signed asked split then last large small choice same = absurd (omega (
   arith,
   split,
   then,
+  last,
   large,
   small,
   same,
   sum_small choice,
-  multiple signed asked,
-  multiple choice.signature_by_challenge choice.initial_response_by_challenge,
+  multiple_4 strict,
+  multiple_2 signed,
+  multiple_1 asked,
+  multiple_4 choice.strict,
+  multiple_2 choice.signature_by_challenge,
+  multiple_1 choice.initial_response_by_challenge,
 ))
 
 -- ---- the record of a configuration's user
@@ -141,6 +151,9 @@ shows_none kept statuses.RefusedSysPerm shown wrong is = absurd wrong
 shows_none kept statuses.RefusedSysTemp shown wrong is = absurd wrong
 shows_none kept statuses.UnassignedCodePoint shown wrong is = absurd wrong
 shows_none kept statuses.ServerError shown wrong is = absurd wrong
+shows_none kept statuses.EndOfInput shown wrong is = absurd wrong
+shows_none kept statuses.ChannelDataLength shown wrong is = absurd wrong
+shows_none kept statuses.NoSuchChannel shown wrong is = absurd wrong
 shows_none kept statuses.MixedDirections shown wrong is = absurd wrong
 shows_none kept statuses.ProhibitedCharacter shown wrong is = absurd wrong
 shows_none kept statuses.NoSuchChoice shown wrong is = absurd wrong
@@ -219,8 +232,8 @@ never_read server text final none (read, sized, meets) =
 
 pub never_met : NoRecordIsUnmet
 unfolding NoRecordIsUnmet
-never_met challenge version text message next ((final, read, sent), then) =
-    never_read (server_against version challenge record_without_keys) text final refl read
+never_met challenge version rules text message next ((final, read, sent), then) =
+    never_read (server_against version rules challenge record_without_keys) text final refl read
 
 -- ---- the server of a configuration
 

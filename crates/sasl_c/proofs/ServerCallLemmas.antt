@@ -34,7 +34,8 @@ use Rattle.sasl_c.specs.declared.status.Status.{Status}
 use Rattle.sasl_c.specs.declared.status.Status.TheVariants as statuses
 use Rattle.sasl_c.specs.Connection.{Keeps, KeepsNoPart, side_tests, KeepsNoPartOf}
 use Rattle.sasl_c.specs.SaslServer.{HasNone, IsNoConfig, IsNoServer, IsServer, NotReceived, Received, ServerIsReached, ShowsBy, ShowsSide, ShowsState, State, server_machine, server_names, side_in, side_struct, state_of, struct_by}
-use Rattle.sasl_c.proofs.SaslClientLemmas.{one_due, part_short, tests_without_memory}
+use Rattle.sasl_c.proofs.ClientReplyLemmas.{part_short}
+use Rattle.sasl_c.proofs.SaslClientLemmas.{one_due, tests_without_memory}
 use Rattle.sasl_c.proofs.SaslServerLemmas.{Served, Shown, is_server, no_server, shows_nothing, shows_side, writes_side, written_for}
 use Rattle.sasl_c.proofs.ServerReplyLemmas.{Closes, Goes, comes_goes}
 use Rattle.sasl_c.proofs.StatusLemmas.{carried}
@@ -157,7 +158,7 @@ answers_fine : (config : Config) (expected : Expected) (server next : State) (no
     → ServerIsReached config InProgress server → ServerSideAnswers server_names server_machine expected server nonce unit answer next
     → Fine config answer next
 answers_fine config Header server next nonce unit answer comes (inl (other, same), kept) =
-    header_fine config answer (closes ProtocolHeaderMismatch Header) next same tt (omega arith)
+    header_fine config answer (closes (ProtocolHeaderMismatch _) Header) next same tt (omega arith)
 answers_fine config Header server next nonce unit answer comes (inr (is, (first, offers, same)), kept) =
     let both = first_fine config first server (offer_body (server_names server)) comes offers in
     header_fine config answer first next same
@@ -286,10 +287,11 @@ none_holds connection kept keeps wants =
 pub ruleset without_memory = (none_holds, tests_without_memory)
 
 pub keeps_no_part : (connection : Connection) (kept : Snapshot) → Keeps connection kept.progress kept.expected kept.held.now
-    → kept.limit ≡ 512 → ¬ IsKept kept → KeepsNoPart connection
-keeps_no_part connection kept keeps limit wrong = λ expected held other part.
+    → kept.progress ≡ InProgress → kept.limit ≡ 512 → ¬ IsKept kept → KeepsNoPart connection
+keeps_no_part connection kept keeps wants limit wrong = λ expected held other part.
+    let stands = carried (λ s. Keeps connection s kept.expected kept.held.now) kept.progress InProgress wants keeps in
     let one = one_due expected kept.expected (other.expected ∙ sym keeps.expected) in
-    let same : held ≡ kept.held.now = other.held ∙ sym keeps.held in
+    let same : held ≡ kept.held.now = other.held ∙ sym stands.held in
     let less : IsPart kept.expected 512 held = carried (λ d. IsPart d 512 held) expected kept.expected one part in
     let come : IsPart kept.expected 512 kept.held.now = carried (λ h. IsPart kept.expected 512 h) held kept.held.now same less in
     wrong (
@@ -303,7 +305,7 @@ pub keeps_no_server : (connection : Connection) (kept : Snapshot)
     → shown kept.user ≡ None → ¬ IsServerKept kept → KeepsNoPartOf server_due connection
 keeps_no_server connection kept keeps wants limit mock wrong = λ expected held other unit part.
     let one = one_due expected kept.expected (other.expected ∙ sym keeps.expected) in
-    keeps_no_part connection kept keeps limit
+    keeps_no_part connection kept keeps wants limit
     (λ holds. wrong (
       holds,
       carried (λ (s : Progress). IsTrue (server_fits s kept.expected)) InProgress kept.progress (sym wants)

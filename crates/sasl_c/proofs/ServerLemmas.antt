@@ -1,5 +1,5 @@
 -- What a server answers to a client-first message, by the struct of its user's record.
-use Rattle.std.proofs.Common.{Bool, arith, refl, sym, ap, inl, inr, ◌∙◌, ◌-◌, ◌≡◌, ◌≢◌, ◌≤◌, ℕ, List, length, replicate, take}
+use Rattle.std.proofs.Common.{arith, refl, sym, ap, inl, inr, ◌∙◌, ◌-◌, ◌≡◌, ◌≢◌, ◌≤◌, ℕ, List, length, replicate, take}
 use Rattle.std.specs.Prelude.{Option, Result, Some, None, Ok, Err, codes}
 use Rattle.std.proofs.lemmas.List.{length-append, length-take}
 use Rattle.std.proofs.Math.Seq.{take-append_seam}
@@ -7,17 +7,20 @@ use Rattle.fe2o3_scram.specs.declared.scram_messages.error.ServerScramErrorKind.
 use Rattle.fe2o3_scram.specs.declared.scram_messages.error.ServerScramErrorKind.TheVariants.{IllegalAuthenticatorState, OutOfMemory as NoMemory}
 use Rattle.std.proofs.lemmas.Slice.Eq.{bytes_eq-Decides}
 use Rattle.std.specs.Cmp.Lexicographic.{pointwise}
-use Rattle.std.specs.Prelude.{cond, nat_eq, true}
+use Rattle.std.specs.Prelude.{Bool, cond, nat_eq, true}
 use Rattle.fe2o3_scram.proofs.lemmas.messages.OneValueLemmas.{one_client_first_value}
+use Rattle.fe2o3_scram.specs.declared.scram_messages.client_channel.ClientChannel.{ClientChannel}
+use Rattle.fe2o3_scram.specs.ChannelBinding.{expected_channel, is_strict}
 use Rattle.fe2o3_scram.specs.ClientFinal.{ReachesBase64, Server, server_of}
 use Rattle.fe2o3_scram.specs.ClientFirst.{ClientFirst, ReadsClientFirst}
+use Rattle.fe2o3_scram.specs.declared.scram_messages.server_rules.ServerRules.{ServerRules}
 use Rattle.fe2o3_scram.specs.Keys.{auth_message, server_signature}
 use Rattle.fe2o3_scram.specs.ServerFinal.{AnswersClientFinal, FinalCosts}
 use Rattle.fe2o3_scram.proofs.lemmas.hashes.DigestLemmas.{length-hmac_of}
 use Rattle.sasl_c.proofs.TextLemmas.{short, short_text}
 use Rattle.fe2o3_scram.specs.Credentials.{Record, Store, VersionedRecord, serving}
 use Rattle.fe2o3_scram.specs.MockSettings.{MockSettings, mocking}
-use Rattle.fe2o3_scram.specs.ScramServer.{ChallengesFrom, ServerState, ServerFirstSent, open_challenge}
+use Rattle.fe2o3_scram.specs.ScramServer.{ChallengesFrom, ServerState, ServerFirstSent, open_challenge, server_against}
 use Rattle.fe2o3_scram.specs.ServerFirst.{AnswersClientFirst, ServerChallenge}
 use Rattle.fe2o3_scram.specs.Texts.{base64_text}
 use Rattle.sasl_c.specs.declared.records.ScramRecord.{ScramRecord as Kept}
@@ -25,31 +28,31 @@ use Rattle.sasl_c.specs.declared.status.Status.{Status}
 use Rattle.sasl_c.specs.declared.status.Status.TheVariants as statuses
 use Rattle.sasl_c.specs.Records.{ShowsRecord, SpellsStruct}
 use Rattle.sasl_c.specs.declared.server.ScramServer.{ScramServer as Struct}
-use Rattle.sasl_c.specs.Server.{MakesChallenge, Challenges, ConcludesLogin, Concludes, FinalAsks, IsAuthenticated, MemoryCosts, ChallengeHasRoom, IsOpen, NotChallenged, OpensExchange, WritesChallenge, authenticated_struct, one_user, open_struct}
+use Rattle.sasl_c.specs.Server.{MakesChallenge, Challenges, ConcludesLogin, Concludes, FinalAsks, IsAuthenticated, MemoryCosts, ChallengeHasRoom, IsOpen, IsOpenFor, NotChallenged, OpensExchange, WritesChallenge, authenticated_struct, one_user, open_struct}
 use Rattle.sasl_c.proofs.StatusLemmas.{carried, server_is_memory}
 use Rattle.sasl_c.specs.declared.status.WriteError.{WriteError}
 use Rattle.sasl_c.specs.declared.status.WriteError.TheVariants.{RoomTooSmall, Other}
 use Rattle.sasl_c.specs.Status.{AsksText, Fills, Room, server_status}
 
 -- a message that is rejected
-pub unread : (cbind_flag_y : Bool) (kept : Kept) (nonce text : List ℕ) (why : ServerScramErrorKind) (status : Status)
-    → (why ≢ NoMemory → ReadsClientFirst cbind_flag_y text (Err why)) → status ≡ server_status why
-    → status ≢ statuses.OutOfMemory → NotChallenged cbind_flag_y kept nonce text status
+pub unread : (rules : ServerRules) (kept : Kept) (nonce text : List ℕ) (why : ServerScramErrorKind) (status : Status)
+    → (why ≢ NoMemory → ReadsClientFirst rules text (Err why)) → status ≡ server_status why
+    → status ≢ statuses.OutOfMemory → NotChallenged rules kept nonce text status
 unfolding NotChallenged
-unread cbind_flag_y kept nonce text why status held gives other =
+unread rules kept nonce text why status held gives other =
     inl (why, gives, held (λ same. other (gives ∙ ap server_status same)))
 
-pub not_shown : (cbind_flag_y : Bool) (kept : Kept) (nonce text : List ℕ) (first : ClientFirst) (status : Status)
-    → ReadsClientFirst cbind_flag_y text (Ok first) → SpellsStruct kept (Err status)
-    → NotChallenged cbind_flag_y kept nonce text status
+pub not_shown : (rules : ServerRules) (kept : Kept) (nonce text : List ℕ) (first : ClientFirst) (status : Status)
+    → ReadsClientFirst rules text (Ok first) → SpellsStruct kept (Err status)
+    → NotChallenged rules kept nonce text status
 unfolding NotChallenged
-not_shown cbind_flag_y kept nonce text first status reads wrong = inr (inl (first, reads, wrong))
+not_shown rules kept nonce text first status reads wrong = inr (inl (first, reads, wrong))
 
-pub no_room : (cbind_flag_y : Bool) (kept : Kept) (nonce text : List ℕ) (challenge : ServerChallenge)
-    → MakesChallenge cbind_flag_y kept nonce text challenge
-    → ¬ ChallengeHasRoom challenge → NotChallenged cbind_flag_y kept nonce text statuses.TooLong
+pub no_room : (rules : ServerRules) (kept : Kept) (nonce text : List ℕ) (challenge : ServerChallenge)
+    → MakesChallenge rules kept nonce text challenge
+    → ¬ ChallengeHasRoom challenge → NotChallenged rules kept nonce text statuses.TooLong
 unfolding NotChallenged
-no_room cbind_flag_y kept nonce text challenge held wide = inr (inr (refl, (challenge, held, wide)))
+no_room rules kept nonce text challenge held wide = inr (inr (refl, (challenge, held, wide)))
 
 -- the challenge that is open is the one that was made
 pub one_challenge : (state : ServerState) (challenge shown : ServerChallenge) (stored : Record)
@@ -58,32 +61,32 @@ one_challenge state challenge shown stored stands opened =
     let same : Some shown ≡ Some challenge = opened ∙ ap open_challenge stands in cc
 
 -- what is written of it
-pub opens_text : (cbind_flag_y : Bool) (kept : Kept) (nonce text : List ℕ) (challenge shown : ServerChallenge)
+pub opens_text : (rules : ServerRules) (kept : Kept) (nonce text : List ℕ) (challenge shown : ServerChallenge)
     (number : ℕ) (before after : Struct) (room filled : Room) (answer : Result (Unit {0}) WriteError)
-    → MakesChallenge cbind_flag_y kept nonce text challenge → shown ≡ challenge
+    → MakesChallenge rules kept nonce text challenge → shown ≡ challenge
     → WritesChallenge number shown before after room filled answer
-    → Fills (Challenges cbind_flag_y kept nonce text) room filled answer
-opens_text cbind_flag_y kept nonce text challenge shown number before after room filled (Ok done) held same is =
+    → Fills (Challenges rules kept nonce text) room filled answer
+opens_text rules kept nonce text challenge shown number before after room filled (Ok done) held same is =
     (shown.first, (challenge, held, ap (λ (c : ServerChallenge). c.first) same), is.2, is.3, is.4)
-opens_text cbind_flag_y kept nonce text challenge shown number before after room filled (Err RoomTooSmall) held same is =
+opens_text rules kept nonce text challenge shown number before after room filled (Err RoomTooSmall) held same is =
     (is.1, (shown.first, (challenge, held, ap (λ (c : ServerChallenge). c.first) same), is.2))
-opens_text cbind_flag_y kept nonce text challenge shown number before after room filled (Err (Other status)) held same is = (
+opens_text rules kept nonce text challenge shown number before after room filled (Err (Other status)) held same is = (
   is.1,
   is.2,
-  λ _. carried (λ s. NotChallenged cbind_flag_y kept nonce text s) statuses.TooLong status (sym is.3)
-      (no_room cbind_flag_y kept nonce text challenge held
+  λ _. carried (λ s. NotChallenged rules kept nonce text s) statuses.TooLong status (sym is.3)
+      (no_room rules kept nonce text challenge held
       (carried (λ c. ¬ ChallengeHasRoom c) shown challenge same is.4)),
 )
 
-pub opens_exchange : (cbind_flag_y : Bool) (kept : Kept) (nonce text : List ℕ) (challenge shown : ServerChallenge)
+pub opens_exchange : (rules : ServerRules) (kept : Kept) (nonce text : List ℕ) (challenge shown : ServerChallenge)
     (before after : Struct) (room filled : Room) (answer : Result (Unit {0}) WriteError)
-    → MakesChallenge cbind_flag_y kept nonce text challenge → shown ≡ challenge
+    → MakesChallenge rules kept nonce text challenge → shown ≡ challenge
     → WritesChallenge kept.version shown before after room filled answer
-    → OpensExchange cbind_flag_y kept nonce text before after answer
-opens_exchange cbind_flag_y kept nonce text challenge shown before after room filled (Ok done) held same is =
+    → OpensExchange rules kept nonce text before after answer
+opens_exchange rules kept nonce text challenge shown before after room filled (Ok done) held same is =
     (challenge, held, carried (λ c. IsOpen after c) shown challenge same is.0, is.1 ∙ ap (open_struct kept.version) same)
-opens_exchange cbind_flag_y kept nonce text challenge shown before after room filled (Err RoomTooSmall) held same is = is.0
-opens_exchange cbind_flag_y kept nonce text challenge shown before after room filled (Err (Other status)) held same is =
+opens_exchange rules kept nonce text challenge shown before after room filled (Err RoomTooSmall) held same is = is.0
+opens_exchange rules kept nonce text challenge shown before after room filled (Err (Other status)) held same is =
     is.0
 
 pub opens_asks : (Asks : Type 0) (number : ℕ) (challenge : ServerChallenge) (before after : Struct) (room filled : Room)
@@ -95,51 +98,51 @@ opens_asks Asks number challenge before after room filled (Err (Other status)) i
     λ same. let other : Other statuses.TooLong ≡ Other statuses.OutOfMemory = ap Other (sym is.3) ∙ same in absurd (cc)
 
 -- a server without mock authentication that takes whom another takes answers what that one answers
-pub challenges_so : (state next : ServerState) (store : Store) (mock : Option MockSettings) (own cbind_flag_y : Bool)
-    (nonce text : List ℕ) (answer : Result (Option (List ℕ)) ServerScramErrorKind) → mock ≡ None → own ≡ cbind_flag_y
+pub challenges_so : (state next : ServerState) (store : Store) (mock : Option MockSettings) (own rules : ServerRules)
+    (nonce text : List ℕ) (answer : Result (Option (List ℕ)) ServerScramErrorKind) → mock ≡ None → own ≡ rules
     → ChallengesFrom state (mocking mock (serving own store)) nonce text answer next
-    → ChallengesFrom state (serving cbind_flag_y store) nonce text answer next
-challenges_so state next store mock own cbind_flag_y nonce text answer none same held =
-    carried (λ (option : Bool). ChallengesFrom state (serving option store) nonce text answer next) own cbind_flag_y same
+    → ChallengesFrom state (serving rules store) nonce text answer next
+challenges_so state next store mock own rules nonce text answer none same held =
+    carried (λ (option : ServerRules). ChallengesFrom state (serving option store) nonce text answer next) own rules same
     (carried (λ (settings : Option MockSettings). ChallengesFrom state (mocking settings (serving own store)) nonce text
     answer next) mock None none held)
 
 -- the machine's answers
-pub challenged : (cbind_flag_y : Bool) (kept : Kept) (nonce text user message : List ℕ) (shown : VersionedRecord)
+pub challenged : (rules : ServerRules) (kept : Kept) (nonce text user message : List ℕ) (shown : VersionedRecord)
     (store : Store) (state next : ServerState) → ShowsRecord kept shown → store ≡ one_user user shown
-    → ChallengesFrom state (serving cbind_flag_y store) nonce text (Ok (Some message)) next
+    → ChallengesFrom state (serving rules store) nonce text (Ok (Some message)) next
     → (challenge : ServerChallenge) × (stored : Record) × (next ≡ ServerFirstSent challenge stored)
-    × MakesChallenge cbind_flag_y kept nonce text challenge
+    × MakesChallenge rules kept nonce text challenge
 unfolding MakesChallenge
-challenged cbind_flag_y kept nonce text user message shown store state next is same
+challenged rules kept nonce text user message shown store state next is same
     (challenge, answers, sent, (stored, found, then)) =
-    let given = carried (λ s. AnswersClientFirst (serving cbind_flag_y s) (base64_text nonce) text (Ok (Some challenge))) store
+    let given = carried (λ s. AnswersClientFirst (serving rules s) (base64_text nonce) text (Ok (Some challenge))) store
     (one_user user shown) same answers in
     (challenge, stored, then, (shown, user, is, given))
 
 -- the record is stored under the name that the message has, so its user is never unknown
-pub never_unknown : (cbind_flag_y : Bool) (kept : Kept) (nonce text user : List ℕ) (shown : VersionedRecord) (store : Store)
-    (state next : ServerState) (first : ClientFirst) (status : Status) → ReadsClientFirst cbind_flag_y text (Ok first)
+pub never_unknown : (rules : ServerRules) (kept : Kept) (nonce text user : List ℕ) (shown : VersionedRecord) (store : Store)
+    (state next : ServerState) (first : ClientFirst) (status : Status) → ReadsClientFirst rules text (Ok first)
     → user ≡ first.user → store ≡ one_user user shown
-    → ChallengesFrom state (serving cbind_flag_y store) nonce text (Ok None) next
-    → NotChallenged cbind_flag_y kept nonce text status
-never_unknown cbind_flag_y kept nonce text user shown store state next first status reads named same held =
-    let given = carried (λ s. AnswersClientFirst (serving cbind_flag_y s) (base64_text nonce) text (Ok None)) store
+    → ChallengesFrom state (serving rules store) nonce text (Ok None) next
+    → NotChallenged rules kept nonce text status
+never_unknown rules kept nonce text user shown store state next first status reads named same held =
+    let given = carried (λ s. AnswersClientFirst (serving rules s) (base64_text nonce) text (Ok None)) store
     (one_user user shown) same held.0 in
-    let one : first ≡ given.0 = one_client_first_value cbind_flag_y text first given.0 reads given.1 in
+    let one : first ≡ given.0 = one_client_first_value rules text first given.0 reads given.1 in
     let here : pointwise nat_eq user given.0.user ≡ true =
     (bytes_eq-Decides user given.0.user).1 (named ∙ ap (λ (client : ClientFirst). client.user) one) in
     let none : Some shown.stored ≡ None = carried (λ test. cond test (Some shown.stored) None ≡ None)
     (pointwise nat_eq user given.0.user) true here given.2 in
     absurd (cc)
 
-pub failed : (cbind_flag_y : Bool) (kept : Kept) (nonce text : List ℕ) (store : Store) (state next : ServerState)
+pub failed : (rules : ServerRules) (kept : Kept) (nonce text : List ℕ) (store : Store) (state next : ServerState)
     (why : ServerScramErrorKind) (status : Status)
-    → (why ≢ NoMemory → ChallengesFrom state (serving cbind_flag_y store) nonce text (Err why) next)
+    → (why ≢ NoMemory → ChallengesFrom state (serving rules store) nonce text (Err why) next)
     → status ≡ server_status why
-    → status ≢ statuses.OutOfMemory → NotChallenged cbind_flag_y kept nonce text status
-failed cbind_flag_y kept nonce text store state next why status held gives other =
-    unread cbind_flag_y kept nonce text why status (λ told. (held told).0) gives other
+    → status ≢ statuses.OutOfMemory → NotChallenged rules kept nonce text status
+failed rules kept nonce text store state next why status held gives other =
+    unread rules kept nonce text why status (λ told. (held told).0) gives other
 
 -- ---- the end of an exchange
 
@@ -157,77 +160,83 @@ short_final server text message held =
       short_text signature long,
     )
 
-pub concluded : (kept : Kept) (before : Struct) (text message : List ℕ) (challenge : ServerChallenge)
-    (shown : VersionedRecord) → IsOpen before challenge → ShowsRecord kept shown
-    → AnswersClientFinal (server_of shown.version challenge.header challenge.bare challenge.first challenge.nonce
-    shown.stored) text
-    (Ok message)
-    → ConcludesLogin kept before text message challenge.user × (length message ≤ 90)
+pub concluded : (rules : ServerRules) (kept : Kept) (before : Struct) (text message : List ℕ)
+    (challenge : ServerChallenge) (shown : VersionedRecord) → IsOpenFor rules before challenge → ShowsRecord kept shown
+    → AnswersClientFinal (server_against shown.version rules challenge shown.stored) text (Ok message)
+    → ConcludesLogin rules kept before text message challenge.user × (length message ≤ 90)
 unfolding ConcludesLogin
-concluded kept before text message challenge shown is shows held = (
+concluded rules kept before text message challenge shown is shows held = (
   (challenge, shown, is, shows, refl, (held, refl)),
   short_final _ text message held,
 )
 
-pub refuses : (kept : Kept) (before : Struct) (text : List ℕ) (challenge : ServerChallenge) (shown : VersionedRecord)
-    (why : ServerScramErrorKind) (status : Status) → IsOpen before challenge → ShowsRecord kept shown
-    → (why ≢ NoMemory → AnswersClientFinal
-    (server_of shown.version challenge.header challenge.bare challenge.first challenge.nonce shown.stored) text
-    (Err why))
-    → status ≡ server_status why → status ≢ statuses.OutOfMemory → Concludes kept text before before (Err status)
+pub refuses : (rules : ServerRules) (kept : Kept) (before : Struct) (text : List ℕ) (challenge : ServerChallenge)
+    (shown : VersionedRecord) (why : ServerScramErrorKind) (status : Status) → IsOpenFor rules before challenge → ShowsRecord kept shown
+    → (why ≢ NoMemory → AnswersClientFinal (server_against shown.version rules challenge shown.stored) text (Err why))
+    → status ≡ server_status why → status ≢ statuses.OutOfMemory → Concludes rules kept text before before (Err status)
 unfolding Concludes
-refuses kept before text challenge shown why status is shows held gives other =
+refuses rules kept before text challenge shown why status is shows held gives other =
     let told = held (λ memory. other (gives ∙ ap server_status memory)) in
     inr (inr (why, gives, (challenge, shown, is, shows, (told, refl))))
 
-pub not_open : (kept : Kept) (before : Struct) (text : List ℕ)
-    → ((challenge : ServerChallenge) → ¬ IsOpen before challenge)
-    → Concludes kept text before before (Err (statuses.Server IllegalAuthenticatorState))
+pub not_open : (rules : ServerRules) (kept : Kept) (before : Struct) (text : List ℕ)
+    → ((challenge : ServerChallenge) → ¬ IsOpenFor rules before challenge)
+    → Concludes rules kept text before before (Err (statuses.Server IllegalAuthenticatorState))
 unfolding Concludes
-not_open kept before text none = inl (refl, none)
+not_open rules kept before text none = inl (refl, none)
 
-pub keeps_none : (kept : Kept) (before : Struct) (text : List ℕ) (challenge : ServerChallenge) (status : Status)
-    → IsOpen before challenge → SpellsStruct kept (Err status) → Concludes kept text before before (Err status)
+pub keeps_none : (rules : ServerRules) (kept : Kept) (before : Struct) (text : List ℕ) (challenge : ServerChallenge)
+    (status : Status) → IsOpenFor rules before challenge → SpellsStruct kept (Err status)
+    → Concludes rules kept text before before (Err status)
 unfolding Concludes
-keeps_none kept before text challenge status is wrong = inr (inl (challenge, is, wrong))
+keeps_none rules kept before text challenge status is wrong = inr (inl (challenge, is, wrong))
 
 -- memory is requested where the message reaches a base64 text
-pub final_asks : (kept : Kept) (before : Struct) (text : List ℕ) (challenge : ServerChallenge) (shown : VersionedRecord)
-    (why : ServerScramErrorKind) (status : Status) → IsOpen before challenge → ShowsRecord kept shown
-    → (why ≡ NoMemory → ReachesBase64 challenge.header challenge.nonce text) → status ≡ server_status why
-    → status ≡ statuses.OutOfMemory → FinalAsks kept text before
-final_asks kept before text challenge shown why status is shows comes gives memory =
+pub final_asks : (rules : ServerRules) (kept : Kept) (before : Struct) (text : List ℕ) (challenge : ServerChallenge)
+    (shown : VersionedRecord) (why : ServerScramErrorKind) (status : Status) → IsOpenFor rules before challenge → ShowsRecord kept shown
+    → (why ≡ NoMemory → ReachesBase64 (expected_channel rules.channels challenge.header) challenge.nonce text)
+    → status ≡ server_status why → status ≡ statuses.OutOfMemory → FinalAsks rules kept text before
+final_asks rules kept before text challenge shown why status is shows comes gives memory =
     ((challenge, is, comes (server_is_memory why status gives memory)), (shown, shows))
 
 -- and costs no HMAC value for a message that is rejected
-pub memory_costs : (A : Type 0) (kept : Kept) (before : Struct) (text : List ℕ) (challenge : ServerChallenge)
-    (shown : VersionedRecord) (why : ServerScramErrorKind) (status : Status) (counted after : ℕ)
-    → IsOpen before challenge → ShowsRecord kept shown → FinalCosts {A = A}
-    (server_of shown.version challenge.header challenge.bare challenge.first challenge.nonce shown.stored) text
+pub memory_costs : (A : Type 0) (rules : ServerRules) (kept : Kept) (before : Struct) (text : List ℕ)
+    (challenge : ServerChallenge) (channel : ClientChannel) (strict : Bool) (shown : VersionedRecord)
+    (why : ServerScramErrorKind) (status : Status) (counted after : ℕ) → IsOpenFor rules before challenge
+    → ShowsRecord kept shown → channel ≡ expected_channel rules.channels challenge.header → strict ≡ is_strict rules
+    → FinalCosts {A = A}
+    (server_of shown.version channel strict challenge.bare challenge.first challenge.nonce shown.stored) text
     (Err why) counted after → status ≡ server_status why → status ≡ statuses.OutOfMemory
-    → MemoryCosts kept text before counted after
-memory_costs A kept before text challenge shown why status counted after is shows costs gives memory = (
-  challenge,
-  shown,
-  is,
-  shows,
-  carried (λ fault. FinalCosts {A = A}
-      (server_of shown.version challenge.header challenge.bare challenge.first challenge.nonce shown.stored) text
-      (Err fault) counted after) why NoMemory (server_is_memory why status gives memory) costs,
-)
+    → MemoryCosts rules kept text before counted after
+memory_costs A rules kept before text challenge channel strict shown why status counted after is shows same too costs
+    gives memory =
+    let server : ClientChannel → Bool → Server =
+    λ known s. server_of shown.version known s challenge.bare challenge.first challenge.nonce shown.stored in
+    let asked = expected_channel rules.channels challenge.header in
+    let expected = carried (λ known. FinalCosts {A = A} (server known strict) text (Err why) counted after) channel
+    asked same costs in
+    let tested = carried (λ s. FinalCosts {A = A} (server asked s) text (Err why) counted after) strict
+    (is_strict rules) too expected in (
+      challenge,
+      shown,
+      is,
+      shows,
+      carried (λ fault. FinalCosts {A = A} (server asked (is_strict rules)) text (Err fault) counted after) why NoMemory
+          (server_is_memory why status gives memory) tested,
+    )
 
 -- the struct of a server that has logged its user in
 logged_in : (user : List ℕ) → length user ≤ 256 → IsAuthenticated (authenticated_struct user) user
 logged_in user few = (refl, few, sym (take-append_seam user (replicate (256 - length user) 0)))
 
-pub concludes : (kept : Kept) (before after : Struct) (text message user : List ℕ)
-    → ConcludesLogin kept before text message user → after ≡ authenticated_struct (take before.user_len before.user)
-    → Concludes kept text before after (Ok message)
+pub concludes : (rules : ServerRules) (kept : Kept) (before after : Struct) (text message user : List ℕ)
+    → ConcludesLogin rules kept before text message user → after ≡ authenticated_struct (take before.user_len before.user)
+    → Concludes rules kept text before after (Ok message)
 unfolding Concludes ConcludesLogin
-concludes kept before after text message user held written =
+concludes rules kept before after text message user held written =
     let named : user ≡ take before.user_len before.user =
-    held.4 ∙ ap (λ (challenge : ServerChallenge). challenge.user) held.2.2 in
+    held.4 ∙ ap (λ (challenge : ServerChallenge). challenge.user) held.2.0.2 in
     let few : length user ≤ 256 =
-    omega (arith, ap length named, length-take before.user_len before.user, held.2.1.0) in
+    omega (arith, ap length named, length-take before.user_len before.user, held.2.0.1.0) in
     let same : after ≡ authenticated_struct user = written ∙ ap authenticated_struct (sym named) in
     (user, held, carried (λ s. IsAuthenticated s user) (authenticated_struct user) after (sym same) (logged_in user few), same)

@@ -134,7 +134,7 @@ module _ (config : Config) (choice : Choice) (records : MultiRecords) where
 
   concluded : (version hash : ScramVersion) (state after : ServerState) (text : List ℕ)
       (answer : Result (Option (List ℕ)) ServerScramErrorKind) (reply : SaslFrame) (next : Acceptor)
-      → ConcludesFrom state hash text answer after
+      → ConcludesFrom state hash settings.rules text answer after
       → reply ≡ server_frame (λ message. frames.Outcome outcomes.Ok (Some message)) answer
       → next ≡ ScramAcceptor (provider version) after → Ends reply ⊎ ReachesBy version reply next
   concluded version hash (ServerFirstSent challenge stored) after text (Ok (Some message)) reply next held same is =

@@ -1,27 +1,20 @@
 -- The user name that a frame claims to a server (RFC 5802, section 7; RFC 4616, section 2).
-use Rattle.std.proofs.Common.{true, arith, refl, sym, ap, inl, inr, ◌∙◌, ◌≡◌, ◌≢◌, ℕ, List, length}
-use Rattle.std.specs.Prelude.{IfOk, MatchOption, Option, Some, None, Result, Ok, Err, codes}
+use Rattle.std.proofs.Common.{arith, refl, sym, inl, inr, ◌∙◌, ◌≡◌, ◌≢◌, ℕ, List}
+use Rattle.std.specs.Prelude.{IfOk, MatchOption, Option, Some, None, Result, Ok, Err}
 use Rattle.fe2o3_sasl_wire.specs.declared.sasl_frames.error.Error.{Error}
 use Rattle.fe2o3_sasl_wire.specs.SaslFrames as frames
 use Rattle.fe2o3_sasl_wire.specs.SaslFrames.{SaslFrame, ReadsBody}
-use Rattle.fe2o3_scram.specs.declared.hmac.ScramVersion.{ScramVersion}
-use Rattle.fe2o3_scram.specs.declared.hmac.ScramVersion.TheVariants as versions
-use Rattle.fe2o3_scram.specs.declared.scram_messages.error.ServerScramErrorKind.{ServerScramErrorKind}
 use Rattle.fe2o3_scram.specs.declared.scram_messages.channel_binding_flag.ChannelBindingFlag.{ChannelBindingFlag}
-use Rattle.fe2o3_scram.specs.declared.scram_messages.channel_binding_flag.ChannelBindingFlag.TheVariants.{NotSupported, ClientSupports}
-use Rattle.fe2o3_scram.specs.ClientFirst.{ClientFirst, ReadsClientFirst}
+use Rattle.fe2o3_scram.specs.declared.scram_messages.channel_binding_flag.ChannelBindingFlag.TheVariants.{NotSupported, ClientSupports, Required}
 use Rattle.fe2o3_scram.specs.ServerFirst.{ServerChallenge}
-use Rattle.fe2o3_scram.specs.Hmac.{mechanism_name}
 use Rattle.fe2o3_scram.specs.Readings.{IsFirst}
-use Rattle.fe2o3_scram.proofs.lemmas.messages.ClientFirstLemmas.{one_client_first}
-use Rattle.fe2o3_sasl_core.specs.PlainServer.{IsTaken, PlainParts, SpellsPlain}
+use Rattle.fe2o3_sasl_core.specs.LoginAttempts.{ClaimAllocates, ClaimIn, ClaimsUser}
 use Rattle.fe2o3_sasl_negotiation.specs.declared.snapshot.Snapshot.{Snapshot}
 use Rattle.fe2o3_sasl_negotiation.specs.declared.progress.Expected.{Expected}
-use Rattle.fe2o3_sasl_negotiation.specs.declared.progress.Expected.TheVariants.{Frame, Header}
+use Rattle.fe2o3_sasl_negotiation.specs.declared.progress.Expected.TheVariants.{Frame}
 use Rattle.fe2o3_sasl_negotiation.specs.declared.progress.Progress.TheVariants.{InProgress}
 use Rattle.fe2o3_sasl_negotiation.specs.declared.progress.FrameKind.{FrameKind}
 use Rattle.fe2o3_sasl_negotiation.specs.declared.progress.FrameKind.TheVariants as turns
-use Rattle.fe2o3_sasl_negotiation.specs.Framing.{IsPart}
 use Rattle.fe2o3_sasl_negotiation.specs.Negotiations.{Completes}
 use Rattle.fe2o3_sasl_negotiation.specs.Snapshot.{IsKept, side_kept}
 use Rattle.sasl_c.specs.declared.sasl_server.SaslServer.{SaslServer as Struct}
@@ -29,81 +22,47 @@ use Rattle.sasl_c.specs.declared.server.ScramServer.{ScramServer as ScramStruct}
 use Rattle.sasl_c.specs.declared.status.Status.{Status}
 use Rattle.sasl_c.specs.declared.status.Status.TheVariants as statuses
 use Rattle.sasl_c.specs.Connection.{Keeps, side_tests}
-use Rattle.sasl_c.specs.SaslServer.{AnswerNeedsMemory, AnswerNames, AwaitsFrame, BodyAsks, BodyNames, BodyNamesNoUser, FrameAsks, FrameNames, InitAsks, InitNames, Named, NotNamed}
-use Rattle.sasl_c.specs.Server.{AsksHostname, HasAsked, IsOpen, PendingInit, ReadsFirst, open_number}
+use Rattle.sasl_c.specs.SaslServer.{AnswerNeedsMemory, AnswerNames, BodyAsks, BodyNames, BodyNamesNoUser, FrameAsks, FrameNames, Named, NotNamed, ResponseAsks}
+use Rattle.sasl_c.specs.Peeks.{AwaitsFrame}
+use Rattle.sasl_c.specs.Server.{AsksHostname, HasAsked, IsOpenUnbound, IsUnbound, PendingInit, open_number}
+use Rattle.sasl_c.proofs.PeekLemmas.{awaits}
 use Rattle.sasl_c.proofs.ServerCallLemmas.{keeps_no_part, none_holds}
 use Rattle.sasl_c.proofs.StatusLemmas.{carried}
 
--- a message that is rejected claims no user name
-pub refused : (text : List ℕ) (why : ServerScramErrorKind) (first : ClientFirst) → ReadsClientFirst true text (Err why)
-    → ReadsClientFirst true text (Ok first) → ⊥
-refused text why first wrong reads = let same = one_client_first true text (Err why) (Ok first) wrong reads in absurd
-    (cc)
+-- ---- an initial response
 
-pub ruleset scram_user = (refused)
+-- the initial response of an init claims what its message claims
+pub response_claims : (mechanism text name : List ℕ) (response : Option (List ℕ)) → response ≡ Some text
+    → ClaimsUser mechanism text name → ClaimIn mechanism response (Some name)
+response_claims mechanism text name response is claims =
+    carried (λ r. ClaimIn mechanism r (Some name)) (Some text) response (sym is) claims
 
--- no name of SCRAM is PLAIN
-not_plain : (version : ScramVersion) → mechanism_name version ≢ codes "PLAIN"
-not_plain versions.Sha1 same = let long : ◌≡◌ {A = ℕ} 11 5 = ap length same in absurd (omega (arith, long))
-not_plain versions.Sha256 same = let long : ◌≡◌ {A = ℕ} 13 5 = ap length same in absurd (omega (arith, long))
-not_plain versions.Sha512 same = let long : ◌≡◌ {A = ℕ} 13 5 = ap length same in absurd (omega (arith, long))
+pub response_claims_none : (mechanism text : List ℕ) (response : Option (List ℕ)) → response ≡ Some text
+    → ((name : List ℕ) → ¬ ClaimsUser mechanism text name) → (name : List ℕ) → ¬ ClaimIn mechanism response (Some name)
+response_claims_none mechanism text response is none name claims =
+    none name (carried (λ r. ClaimIn mechanism r (Some name)) response (Some text) is claims)
 
--- an init of SCRAM
-pub scram_names : (mechanism text name : List ℕ) (version : ScramVersion) (first : ClientFirst)
-    → mechanism_name version ≡ mechanism → ReadsClientFirst true text (Ok first) → name ≡ first.user
-    → InitNames mechanism text name
-scram_names mechanism text name version first is reads same = inl (version, first, sym is, reads, same)
+pub response_asks : (mechanism text : List ℕ) (response : Option (List ℕ)) → response ≡ Some text
+    → ClaimAllocates mechanism text → ResponseAsks mechanism response
+response_asks mechanism text response is asks =
+    carried (λ r. ResponseAsks mechanism r) (Some text) response (sym is) asks
 
-pub scram_names_no_user : (mechanism text : List ℕ) (version : ScramVersion) → mechanism_name version ≡ mechanism
-    → ((first : ClientFirst) → ¬ ReadsClientFirst true text (Ok first)) → (name : List ℕ)
-    → ¬ InitNames mechanism text name
-scram_names_no_user mechanism text version is none name (inl (other, first, same, reads, user)) = none first reads
-scram_names_no_user mechanism text version is none name (inr (plain, rest)) = not_plain version (is ∙ plain)
-
--- one of PLAIN
-pub plain_names : (mechanism text name : List ℕ) (parts : PlainParts) → mechanism ≡ codes "PLAIN"
-    → SpellsPlain parts text → IsTaken parts → name ≡ parts.user → InitNames mechanism text name
-plain_names mechanism text name parts is spells taken same = inr (is, (parts, spells, taken, same))
-
-pub plain_names_no_user : (mechanism text : List ℕ) → ((version : ScramVersion) → mechanism_name version ≢ mechanism)
-    → ((parts : PlainParts) → SpellsPlain parts text → ¬ IsTaken parts) → (name : List ℕ)
-    → ¬ InitNames mechanism text name
-plain_names_no_user mechanism text other none name (inl (version, first, same, reads, user)) =
-    other version (sym same)
-plain_names_no_user mechanism text other none name (inr (plain, (parts, spells, taken, user))) =
-    none parts spells taken
-
--- one of another mechanism
-pub other_names_no_user : (mechanism text : List ℕ) → ((version : ScramVersion) → mechanism_name version ≢ mechanism)
-    → mechanism ≢ codes "PLAIN" → (name : List ℕ) → ¬ InitNames mechanism text name
-other_names_no_user mechanism text other none name (inl (version, first, same, reads, user)) =
-    other version (sym same)
-other_names_no_user mechanism text other none name (inr (plain, rest)) = none plain
-
--- ---- where memory is asked for to find the name
-
-pub scram_asks : (mechanism text : List ℕ) (version : ScramVersion) → mechanism_name version ≡ mechanism
-    → ReadsFirst true text → InitAsks mechanism text
-scram_asks mechanism text version is (inl escapes) = inl (version, sym is, escapes)
-scram_asks mechanism text version is (inr (first, reads)) = inr (first.user, inl (version, first, sym is, reads, refl))
-
-pub plain_asks : (mechanism text : List ℕ) (parts : PlainParts) → mechanism ≡ codes "PLAIN"
-    → SpellsPlain parts text → IsTaken parts → InitAsks mechanism text
-plain_asks mechanism text parts is spells taken = inr (parts.user, inr (is, (parts, spells, taken, refl)))
+pub ruleset response_user = (response_claims, response_claims_none, response_asks)
 
 -- ---- a response
 
 -- a struct in which a challenge is open shows no init that was asked
-other_states : (scram : ScramStruct) (challenge : ServerChallenge) (init : PendingInit) → IsOpen scram challenge
+other_states : (scram : ScramStruct) (challenge : ServerChallenge) (init : PendingInit) → IsOpenUnbound scram challenge
     → HasAsked scram init → ⊥
-other_states scram challenge init shows asked = differ challenge.header init.hostname shows.0 asked.0
+other_states scram challenge init shows asked = differ challenge.header init.hostname shows.1 shows.0.0 asked.0
   where
-    differ : (header : ChannelBindingFlag) (hostname : Option (List ℕ)) → scram.state ≡ open_number header
-        → AsksHostname scram hostname → ⊥
-    differ NotSupported None is asks = absurd (omega (arith, is, asks))
-    differ ClientSupports None is asks = absurd (omega (arith, is, asks))
-    differ NotSupported (Some name) is asks = absurd (omega (arith, is, asks.0))
-    differ ClientSupports (Some name) is asks = absurd (omega (arith, is, asks.0))
+    differ : (header : ChannelBindingFlag) (hostname : Option (List ℕ)) → IsUnbound header
+        → scram.state ≡ open_number header → AsksHostname scram hostname → ⊥
+    differ NotSupported None unbound is asks = absurd (omega (arith, is, asks))
+    differ ClientSupports None unbound is asks = absurd (omega (arith, is, asks))
+    differ NotSupported (Some name) unbound is asks = absurd (omega (arith, is, asks.0))
+    differ ClientSupports (Some name) unbound is asks = absurd (omega (arith, is, asks.0))
+    differ (Required kind) hostname unbound is asks = unbound
 
 -- a struct shows one init
 one_init : (scram : ScramStruct) (init other : PendingInit) → HasAsked scram init → HasAsked scram other
@@ -112,32 +71,32 @@ one_init scram init other asked too = asked.4 ∙ sym too.4
 
 -- the response is the initial response of an init that was asked
 pub answer_completes : (scram : ScramStruct) (init : PendingInit) (text name : List ℕ) → HasAsked scram init
-    → InitNames init.mechanism text name → AnswerNames scram text name
+    → ClaimsUser init.mechanism text name → AnswerNames scram text name
 answer_completes scram init text name asked names = inr (init, asked, names)
 
 pub completes_no_user : (scram : ScramStruct) (init : PendingInit) (text : List ℕ) → HasAsked scram init
-    → ((name : List ℕ) → ¬ InitNames init.mechanism text name) → (name : List ℕ) → ¬ AnswerNames scram text name
+    → ((name : List ℕ) → ¬ ClaimsUser init.mechanism text name) → (name : List ℕ) → ¬ AnswerNames scram text name
 completes_no_user scram init text asked none name (inl (challenge, shows, same)) =
     other_states scram challenge init shows asked
 completes_no_user scram init text asked none name (inr (other, too, names)) =
-    none name (carried (λ mechanism. InitNames mechanism text name) other.mechanism init.mechanism
+    none name (carried (λ mechanism. ClaimsUser mechanism text name) other.mechanism init.mechanism
     (one_init scram other init too asked) names)
 
 pub completing_asks : (scram : ScramStruct) (init : PendingInit) (text : List ℕ) → HasAsked scram init
-    → InitAsks init.mechanism text → AnswerNeedsMemory scram text
+    → ClaimAllocates init.mechanism text → AnswerNeedsMemory scram text
 completing_asks scram init text asked asks = inr (init, asked, asks)
 
 -- or it answers the open challenge
-pub answer_opens : (scram : ScramStruct) (challenge : ServerChallenge) (text name : List ℕ) → IsOpen scram challenge
+pub answer_opens : (scram : ScramStruct) (challenge : ServerChallenge) (text name : List ℕ) → IsOpenUnbound scram challenge
     → name ≡ challenge.user → AnswerNames scram text name
 answer_opens scram challenge text name shows same = inl (challenge, shows, same)
 
 pub opens_no_user : (scram : ScramStruct) (text : List ℕ) → ((init : PendingInit) → ¬ HasAsked scram init)
-    → ((challenge : ServerChallenge) → ¬ IsOpen scram challenge) → (name : List ℕ) → ¬ AnswerNames scram text name
+    → ((challenge : ServerChallenge) → ¬ IsOpenUnbound scram challenge) → (name : List ℕ) → ¬ AnswerNames scram text name
 opens_no_user scram text none closed name (inl (challenge, shows, same)) = closed challenge shows
 opens_no_user scram text none closed name (inr (init, asked, names)) = none init asked
 
-pub opening_asks : (scram : ScramStruct) (text : List ℕ) → ((challenge : ServerChallenge) × IsOpen scram challenge)
+pub opening_asks : (scram : ScramStruct) (text : List ℕ) → ((challenge : ServerChallenge) × IsOpenUnbound scram challenge)
     → AnswerNeedsMemory scram text
 opening_asks scram text shows = inl shows
 
@@ -161,8 +120,6 @@ pub ruleset answer_user =
 pub body_asks : (scram : ScramStruct) (turn : FrameKind) (body : List ℕ) (frame : SaslFrame) (taken : ℕ)
     → ReadsBody body (Ok (frame, taken)) → FrameAsks scram turn frame → BodyAsks scram turn body
 body_asks scram turn body frame taken reads asks = (frame, (taken, reads), asks)
-
-pub ruleset init_user = (scram_asks, plain_asks, scram_names, scram_names_no_user, plain_names, plain_names_no_user, other_names_no_user)
 
 -- a body
 pub body_names : (scram : ScramStruct) (turn : FrameKind) (body name : List ℕ) (frame : SaslFrame) (taken : ℕ)
@@ -210,7 +167,7 @@ pub not_kept : (server : Struct) (kept : Snapshot) (bytes : List ℕ)
 unfolding NotNamed
 not_kept server kept bytes keeps wants limit wrong = inr (
   none_holds server.connection kept keeps wants,
-  inl (refl, keeps_no_part server.connection kept keeps limit wrong),
+  inl (refl, keeps_no_part server.connection kept keeps wants limit wrong),
 )
 
 pub completes_none : (server : Struct) (kept : Snapshot) (bytes : List ℕ)
@@ -253,21 +210,11 @@ pub never_header : (server : Struct) (kept : Snapshot) (bytes body : List ℕ) (
     → NotNamed server bytes status
 never_header server kept bytes body turn status header done = absurd (header turn done.1)
 
--- memory is asked for where a frame is expected
-pub awaits : (server : Struct) (kept : Snapshot) → Keeps server.connection kept.progress kept.expected kept.held.now
-    → kept.progress ≡ InProgress → kept.limit ≡ 512 → IsKept kept → kept.expected ≢ Header → AwaitsFrame server.connection
-awaits server kept keeps wants limit is frame = (
-  kept.expected,
-  kept.held.now,
-  carried (λ s. Keeps server.connection s kept.expected kept.held.now) kept.progress InProgress wants keeps,
-  carried (λ n. IsPart kept.expected n kept.held.now) kept.limit 512 limit is.1,
-  frame,
-)
-
+-- memory is requested where a frame is expected
 pub awaits_body : (server : Struct) (kept : Snapshot) (bytes body : List ℕ) (turn other : FrameKind)
     → Keeps server.connection kept.progress kept.expected kept.held.now → kept.progress ≡ InProgress → kept.limit ≡ 512
     → IsKept kept → kept.expected ≡ Frame turn → AwaitsFrame server.connection
 awaits_body server kept bytes body turn other keeps wants limit is expected =
-    awaits server kept keeps wants limit is (λ header. absurd (cc))
+    awaits server.connection kept keeps wants limit is (λ header. absurd (cc))
 
 pub ruleset named = (awaits, awaits_body, bytes_name, no_connection, not_kept, completes_none, names_no_user, never_header)

@@ -37,6 +37,7 @@ client_is_memory client.HmacErrorInvalidLength status gives memory = absurd (cc)
 client_is_memory client.XorLengthMismatch status gives memory = absurd (cc)
 client_is_memory client.IllegalClientState status gives memory = absurd (cc)
 client_is_memory client.ServerSignatureMismatch status gives memory = absurd (cc)
+client_is_memory client.MisplacedAttribute status gives memory = absurd (cc)
 client_is_memory client.OutOfMemory status gives memory = refl
 
 pub server_is_memory : (why : ServerScramErrorKind) (status : Status) → status ≡ server_status why
@@ -55,6 +56,7 @@ server_is_memory server.IncorrectClientFinalNonce status gives memory = absurd (
 server_is_memory server.ProofNotFoundInClientFinal status gives memory = absurd (cc)
 server_is_memory server.AuthenticationFailed status gives memory = absurd (cc)
 server_is_memory server.IllegalAuthenticatorState status gives memory = absurd (cc)
+server_is_memory server.MisplacedAttribute status gives memory = absurd (cc)
 server_is_memory server.OutOfMemory status gives memory = refl
 
 -- what holds of an answer's value, and of its error, where it says more

@@ -20,7 +20,7 @@ use Rattle.sasl_c.specs.Connection.{profile_status}
 use Rattle.sasl_c.specs.SaslClient.{ProfileIsReached as LoginComes, HasNoHostname, IsHostname, IsNoProfile, IsProfile}
 use Rattle.sasl_c.specs.SaslServer.{ServerIsReached, IsNoConfig, State, server_machine, state_of}
 use Rattle.sasl_c.specs.Steps.{ClientHides, ClientNotStepped, ClientStepped, ClientTells, IsStepped, NotStepped, ProfileNotStepped, ProfileStepped, ServerNotStepped, ServerStepped, ServerTells, ConfigServes, behind_code, progress_number}
-use Rattle.sasl_c.proofs.SaslClientLemmas.{gives_comes as profile_gives, profile_comes}
+use Rattle.sasl_c.proofs.ClientReachLemmas.{gives_comes as profile_gives, profile_comes}
 use Rattle.sasl_c.proofs.SaslServerLemmas.{Shown, written_for}
 use Rattle.sasl_c.proofs.ServerCallLemmas.{gives_comes as acceptor_gives}
 use Rattle.sasl_c.proofs.StatusLemmas.{carried}

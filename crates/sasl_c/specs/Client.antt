@@ -1,11 +1,13 @@
 -- A SCRAM client that is kept in structs of C between its calls (RFC 5802, sections 3 and 5).
 use Rattle.std.specs.Prelude.{◌≡◌, ◌≢◌, ◌<◌, ◌≤◌, ◌⊎◌, ℕ, Bool, true, false, nat_eq, if◌then◌else◌, List, [], ◌∷◌, length, replicate, take, Option, Some, None, Result, Ok, Err}
 use Rattle.std.specs.Str.{IsUtf8}
+use Rattle.fe2o3_scram.specs.declared.scram_messages.client_channel.ClientChannel.{ClientChannel}
+use Rattle.fe2o3_scram.specs.ChannelBinding.{flag_of}
 use Rattle.fe2o3_scram.specs.declared.hmac.ScramVersion.{ScramVersion}
 use Rattle.fe2o3_scram.specs.declared.scram_messages.error.ScramErrorKind.{ScramErrorKind}
 use Rattle.fe2o3_scram.specs.declared.scram_messages.error.ScramErrorKind.TheVariants.{IllegalClientState, ServerSignatureMismatch, Utf8Error}
 use Rattle.fe2o3_scram.specs.ClientFinal.{Answer}
-use Rattle.fe2o3_scram.specs.ClientFirst.{client_first, client_first_bare}
+use Rattle.fe2o3_scram.specs.ClientFirst.{client_first_bare, client_first_with}
 use Rattle.fe2o3_scram.specs.ClientKeys.{ClientKeys}
 use Rattle.fe2o3_scram.specs.ClientSecret.{Secret, Password, Keys, Both}
 use Rattle.fe2o3_scram.specs.ScramClient.{AnswersIn, VerifiesIn, ClientSide, ClientState, ClientInitial, ClientFirstSent, ClientFinalSent, SignatureVerified, Complete, started}
@@ -21,6 +23,7 @@ use Rattle.sasl_c.specs.declared.keys.ScramKeys.{ScramKeys as KeysStruct}
 use Rattle.sasl_c.specs.declared.status.Status.{Status}
 use Rattle.sasl_c.specs.declared.status.Status.TheVariants as statuses
 use Rattle.sasl_c.specs.declared.status.WriteError.{WriteError}
+use Rattle.sasl_c.specs.Channels.{IsChannel, channel_tests}
 use Rattle.sasl_c.specs.Keys.{KeysHaveRoom, ShowsKeys, WritesKeys, no_keys_struct}
 use Rattle.sasl_c.specs.Passwords.{IsPassword, password_tests}
 use Rattle.sasl_c.specs.Records.{IsVersion}
@@ -37,6 +40,10 @@ IsSecretOf login (Both password keys) = (login.secret ≡ 2) × IsPassword login
 abbrev pub is_set : ℕ → Bool
 is_set flag = if nat_eq flag 0 then false else true
 
+-- what a login says of its channel
+abbrev pub IsChannelOf : Login → ClientChannel → Type 0
+IsChannelOf login channel = IsChannel login.channel_use login.channel_kind login.channel_data_len login.channel_data channel
+
 -- a client of this login
 pub record IsClientOf (login : Login) (side : ClientSide) : Type 0 where
   pub version : IsVersion login.version side.version
@@ -44,6 +51,8 @@ pub record IsClientOf (login : Login) (side : ClientSide) : Type 0 where
   pub secret : IsSecretOf login side.secret
   pub least : side.limits.min_iterations ≡ login.min_iterations
   pub most : side.limits.max_iterations ≡ login.max_iterations
+  pub channel : IsChannelOf login side.channel
+  pub strict : side.strict ≡ is_set login.strict
   pub signed : side.signature_by_challenge ≡ is_set login.signature_by_challenge
 
 -- the tests of the keys of a login, in their order
@@ -59,10 +68,11 @@ IsNoSecret login status = ((login.secret ≡ 0) × IsFirst (password_tests login
     ⊎ (NoneHolds (password_tests login.form login.password.now) × IsFirst (keys_tests login) status)))
     ⊎ ((2 < login.secret) × (status ≡ statuses.NoSuchSecret))
 
--- the tests of its version and its user, in their order
+-- the tests of its version, its user and its channel, in their order
 abbrev pub name_tests : Login → List (Status × Type 0)
 name_tests login = (statuses.NoSuchVersion, (known : ScramVersion) → ¬ IsVersion login.version known)
-    ∷ (statuses.NotUtf8, ¬ IsUtf8 login.username.now) ∷ []
+    ∷ (statuses.NotUtf8, ¬ IsUtf8 login.username.now)
+    ∷ channel_tests login.channel_use login.channel_kind login.channel_data_len
 
 -- why a login is none: the first test that holds, and the secret's are the last
 abbrev pub IsNoLogin : Login → Status → Type 0
@@ -181,7 +191,7 @@ WritesClient written (Complete keys) = (kept : KeysStruct) × WritesKeys kept ke
 -- the client-first message
 abbrev pub Starts : Login → List ℕ → Result (List ℕ) Status → Type 0
 Starts login nonce (Ok message) = (side : ClientSide) × IsClientOf login side
-    × (message ≡ client_first side.user (base64_text nonce))
+    × (message ≡ client_first_with (flag_of side.channel) side.user (base64_text nonce))
 Starts login nonce (Err status) = IsNoLogin login status
 
 -- the struct after it

@@ -1,5 +1,5 @@
 -- A side of a connection that is kept in a struct of C between its calls (AMQP 1.0, part 5, section 5.3.2).
-use Rattle.std.specs.Prelude.{◌≡◌, ◌≢◌, ◌≤◌, ℕ, List, [], ◌∷◌, length, take, Bool, IsTrue}
+use Rattle.std.specs.Prelude.{◌≡◌, ◌≢◌, ◌≤◌, ℕ, List, [], ◌∷◌, length, take, replicate, nat_eq, Bool, IsTrue, if◌then◌else◌}
 use Rattle.fe2o3_sasl_wire.specs.declared.amqp_types.SaslCode.{SaslCode}
 use Rattle.fe2o3_sasl_wire.specs.declared.amqp_types.SaslCode.TheVariants as outcomes
 use Rattle.fe2o3_sasl_wire.specs.declared.sasl_frames.error.Error.{Error}
@@ -57,13 +57,14 @@ profile_status profile.OutOfMemory = statuses.OutOfMemory
 
 -- why a connection is to be closed
 abbrev pub closed_status : CloseReason → Status
-closed_status closed.ProtocolHeaderMismatch = statuses.ProtocolHeaderMismatch
+closed_status (closed.ProtocolHeaderMismatch received) = statuses.ProtocolHeaderMismatch
 closed_status closed.FrameSize = statuses.FrameSize
 closed_status (closed.MalformedFrame fault) = frame_status fault
 closed_status closed.UnexpectedFrame = statuses.UnexpectedFrame
 closed_status closed.ReplyTooLarge = statuses.ReplyTooLarge
 closed_status (closed.Refused code) = code_status code
 closed_status (closed.Mechanism fault) = profile_status fault
+closed_status closed.EndOfInput = statuses.EndOfInput
 
 -- the number of a progress, and the status of why it is closed
 abbrev pub progress_code : Progress → ℕ
@@ -76,14 +77,22 @@ why_code InProgress = 0
 why_code Authenticated = 0
 why_code (Failed why) = status_number (closed_status why)
 
+-- the bytes that the struct of a side holds: the eight bytes that were received in the place of the header of SASL,
+-- after the side has failed for them (part 5, section 5.3.2), and otherwise what has arrived of the expected unit
+abbrev pub kept_bytes : Progress → List ℕ → List ℕ
+kept_bytes InProgress held = held
+kept_bytes Authenticated held = held
+kept_bytes (Failed (closed.ProtocolHeaderMismatch received)) held = received
+kept_bytes (Failed why) held = held
+
 -- the struct that a call writes for a side: zeros after the bytes that are held
 abbrev pub connection_struct : Progress → Expected → List ℕ → Struct
 connection_struct progress expected held = record {
   progress = progress_code progress;
   why = why_code progress;
   expected = expected_number expected;
-  held_len = length held;
-  held = zero_filled 512 held;
+  held_len = length (kept_bytes progress held);
+  held = zero_filled 512 (kept_bytes progress held);
 }
 
 -- the struct has this progress of a side
@@ -97,7 +106,16 @@ pub record Keeps (kept : Struct) (stands : Progress) (unit : Expected) (come : L
   pub progress : SaysProgress kept stands
   pub expected : expected_number unit ≡ kept.expected
   pub len : kept.held_len ≤ 512
-  pub held : come ≡ take kept.held_len kept.held
+  pub held : kept_bytes stands come ≡ take kept.held_len kept.held
+
+-- the struct after the other side has ended its stream: a login in progress has failed, and its struct holds no bytes
+abbrev pub with_end_of_input : Struct → Struct
+with_end_of_input kept = if nat_eq kept.progress 0 then record kept {
+  progress = 2;
+  why = status_number statuses.EndOfInput;
+  held_len = 0;
+  held = replicate 512 0;
+} else kept
 
 -- the struct is that of this side, whose frames have 512 bytes at most (part 5, section 5.3.1)
 abbrev pub IsSideOf : {S : Type 0} → Struct → Side S → Type 0

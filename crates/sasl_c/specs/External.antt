@@ -8,7 +8,7 @@ use Rattle.sasl_c.specs.declared.status.Status.{Status}
 use Rattle.sasl_c.specs.declared.status.Status.TheVariants as statuses
 
 -- the tests of a message, in their order: the name that the transport authenticated is a text; and there is such a name,
--- for which the message asks (appendix A.1)
+-- that the message requests (appendix A.1)
 abbrev pub external_tests : List ℕ → List ℕ → List (Status × Type 0)
 external_tests authcid message = (statuses.NotUtf8, ¬ IsUtf8 authcid)
     ∷ (statuses.Server AuthenticationFailed, (authcid ≡ []) ⊎ ¬ AsksFor authcid (Some message)) ∷ []

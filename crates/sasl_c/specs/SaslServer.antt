@@ -5,18 +5,17 @@ use Rattle.fe2o3_sasl_wire.specs.declared.sasl_frames.error.Error.{Error}
 use Rattle.fe2o3_sasl_wire.specs.SaslFrames.{SaslFrame}
 use Rattle.fe2o3_sasl_wire.specs.SaslFrames as frames
 use Rattle.fe2o3_scram.specs.declared.hmac.ScramVersion.{ScramVersion}
-use Rattle.fe2o3_scram.specs.ClientFirst.{ClientFirst, HasEscapes, ReadsClientFirst}
 use Rattle.fe2o3_scram.specs.Credentials.{Record, VersionedRecord, record_at}
 use Rattle.fe2o3_scram.specs.declared.hmac.ScramVersion.TheVariants.{Sha1, Sha256, Sha512}
 use Rattle.fe2o3_sasl_core.specs.declared.any_mechanism.Selected.{Selected}
 use Rattle.fe2o3_sasl_core.specs.declared.any_mechanism.Selected.TheVariants.{First, Second}
+use Rattle.fe2o3_scram.specs.declared.scram_messages.server_rules.ServerRules.{ServerRules}
 use Rattle.fe2o3_scram.specs.Mixed.{MultiRecords, provider_for}
-use Rattle.fe2o3_scram.specs.Hmac.{mechanism_name}
 use Rattle.fe2o3_scram.specs.Readings.{IsFirst, NoneHolds}
 use Rattle.fe2o3_scram.specs.ScramServer.{ConcludesFrom, ServerState, Initial, ServerFinalSent, ServerFirstSent}
 use Rattle.fe2o3_scram.specs.ServerFirst.{ServerChallenge}
 use Rattle.fe2o3_sasl_core.specs.Bodies.{SpellsBody}
-use Rattle.fe2o3_sasl_core.specs.PlainServer.{IsTaken, PlainParts, SpellsPlain}
+use Rattle.fe2o3_sasl_core.specs.LoginAttempts.{ClaimAllocates, ClaimIn, ClaimsUser}
 use Rattle.fe2o3_sasl_core.specs.ExtraChallenges.{Extended, extended_machine, extended_of, extended_user}
 use Rattle.fe2o3_sasl_core.specs.declared.extra_challenges.ExtraChallenges.{ExtraChallenges}
 use Rattle.fe2o3_sasl_core.specs.declared.extra_challenges.WithExtraChallenges.{WithExtraChallenges}
@@ -24,18 +23,14 @@ use Rattle.fe2o3_sasl_core.specs.PasswordServer.{PasswordSettings, PasswordState
 use Rattle.fe2o3_sasl_core.specs.declared.password_server.PasswordServer.{PasswordServer}
 use Rattle.fe2o3_sasl_core.specs.declared.plain_server.passwords.PlainPasswords.{PlainPasswords}
 use Rattle.fe2o3_sasl_core.specs.declared.plain_server.passwords.PlainPasswords.TheVariants as forms
-use Rattle.fe2o3_sasl_negotiation.specs.declared.progress.Expected.{Expected}
-use Rattle.fe2o3_sasl_negotiation.specs.declared.progress.Expected.TheVariants.{Header}
 use Rattle.fe2o3_sasl_negotiation.specs.declared.progress.Progress.{Progress}
 use Rattle.fe2o3_sasl_negotiation.specs.declared.progress.Progress.TheVariants.{InProgress, Authenticated, Failed}
 use Rattle.fe2o3_sasl_negotiation.specs.declared.progress.FrameKind.{FrameKind}
 use Rattle.fe2o3_sasl_negotiation.specs.declared.progress.FrameKind.TheVariants as turns
-use Rattle.fe2o3_sasl_negotiation.specs.Framing.{IsPart}
 use Rattle.fe2o3_sasl_negotiation.specs.Negotiations.{Completes, Side}
 use Rattle.fe2o3_sasl_negotiation.specs.ServerNegotiation.{ServerReceives}
 use Rattle.fe2o3_sasl_negotiation.specs.Snapshot.{server_due}
 use Rattle.fe2o3_sasl_negotiation.specs.Sides.{ServerConnectionSide, acceptor_in, server_side}
-use Rattle.sasl_c.specs.declared.connection.Connection.{Connection}
 use Rattle.sasl_c.specs.declared.sasl_server.Choice.{Choice}
 use Rattle.sasl_c.specs.declared.sasl_server.SaslServerConfig.{SaslServerConfig as Config}
 use Rattle.sasl_c.specs.declared.sasl_server.SaslServer.{SaslServer as Struct}
@@ -43,9 +38,10 @@ use Rattle.sasl_c.specs.declared.server.ScramServer.{ScramServer as ScramStruct}
 use Rattle.sasl_c.specs.declared.status.Status.{Status}
 use Rattle.sasl_c.specs.declared.status.Status.TheVariants as statuses
 use Rattle.sasl_c.specs.Connection.{IsSideOf, Keeps, KeepsNoPart, side_tests, connection_struct, KeepsNoPartOf}
+use Rattle.sasl_c.specs.Peeks.{AnySide}
 use Rattle.sasl_c.specs.Records.{ShowsRecord}
 use Rattle.sasl_c.specs.declared.records.ScramRecord.{ScramRecord as Kept}
-use Rattle.sasl_c.specs.Server.{KeptExchange, NothingKept, ChallengeOpen, SignatureSent, InitialResponseAsked, PendingInit, HasAsked, IsAuthenticated, IsOpen, IsPhaseOf, ShowsExchange, authenticated_struct, exchange_in, exchange_struct, fresh_server_struct}
+use Rattle.sasl_c.specs.Server.{KeptExchange, NothingKept, ChallengeOpen, SignatureSent, InitialResponseAsked, PendingInit, HasAsked, IsAuthenticated, IsOpenUnbound, IsPhaseOf, ShowsExchange, authenticated_struct, exchange_in, exchange_struct, fresh_server_struct}
 
 -- ---- the server of a configuration
 
@@ -61,7 +57,7 @@ server_names = λ server. password_names server.inner
 abbrev pub server_machine : State → List ℕ → SaslFrame → SaslFrame → State → Type 0
 server_machine = extended_machine password_names password_machine
 
--- the user whom it names
+-- the user that it names
 abbrev pub server_user : State → Option (List ℕ)
 server_user server = extended_user server.phase (password_user server.inner)
 
@@ -69,7 +65,7 @@ server_user server = extended_user server.phase (password_user server.inner)
 abbrev pub kept_exchange : State → KeptExchange
 kept_exchange server = exchange_in server.phase (password_open server.inner) (password_user server.inner)
 
--- a number where it is so, and else 0
+-- a number where it is so, and otherwise 0
 abbrev pub one_where : Bool → ℕ → ℕ
 one_where true n = n
 one_where false n = 0
@@ -87,11 +83,12 @@ mechanisms_sum choice = one_where choice.sha_512 1 + one_where choice.sha_256 2 
     + one_where choice.plain 8 + one_where choice.anonymous 16 + one_where choice.external 32
     + one_where choice.cbind_flag_y 64 + passwords_number choice.passwords
 
--- and 512 if an init without an initial response is answered by a challenge, and 1024 if the signature is sent in one (RFC
--- 4422, section 5)
+-- and 512 if an init without an initial response is answered by a challenge, 1024 if the signature is sent in one (RFC
+-- 4422, section 5), and 2048 if SCRAM is strict: it rejects an attribute that RFC 5802 defines in the place of an extension
+-- (RFC 5802, section 7)
 abbrev pub sum_of : Choice → ℕ
-sum_of choice = one_where choice.signature_by_challenge 1024 + one_where choice.initial_response_by_challenge 512
-    + mechanisms_sum choice
+sum_of choice = one_where choice.strict 2048 + one_where choice.signature_by_challenge 1024
+    + one_where choice.initial_response_by_challenge 512 + mechanisms_sum choice
 
 -- the challenges that are sent beyond those of the mechanisms
 abbrev pub extra_for : Choice → ExtraChallenges
@@ -108,7 +105,7 @@ ShowRecords user (kept ∷ more) records =
     × (records ≡ (user, shown) ∷ rest))
     ⊎ (((shown : VersionedRecord) → ¬ ShowsRecord kept shown) × ShowRecords user more records)
 
--- the records with that of one more struct behind them, if it shows one
+-- the records with that of one more struct after them, if it shows one
 abbrev pub AddsRecord : List ℕ → Kept → MultiRecords → MultiRecords → Type 0
 AddsRecord user kept before after =
     ((shown : VersionedRecord) × ShowsRecord kept shown × (after ≡ before ++ ((user, shown) ∷ [])))
@@ -129,7 +126,7 @@ settings_for config choice records restored = record {
   records = records;
   mock = None;
   hashes = record { sha_512 = choice.sha_512; sha_256 = choice.sha_256; sha_1 = choice.sha_1 };
-  cbind_flag_y = choice.cbind_flag_y;
+  rules = record { accept_cbind_flag_y = choice.cbind_flag_y; strict = choice.strict; channels = None };
   plain = choice.plain;
   plain_version = version_of_first records;
   plain_count = Some config.iterations;
@@ -143,10 +140,11 @@ settings_for config choice records restored = record {
 abbrev pub no_record : Record
 no_record = record { salt = []; count = 0; stored_key = []; server_key = [] }
 
--- no client-final message concludes a login by it
+-- no client-final message concludes a login by it, whatever the rules
 unfoldable pub NoRecordIsUnmet : Type 0
-NoRecordIsUnmet = (challenge : ServerChallenge) (version : ScramVersion) (text message : List ℕ) (next : ServerState)
-    → ¬ ConcludesFrom (ServerFirstSent challenge no_record) version text (Ok (Some message)) next
+NoRecordIsUnmet = (challenge : ServerChallenge) (version : ScramVersion) (rules : ServerRules) (text message : List ℕ)
+    (next : ServerState)
+    → ¬ ConcludesFrom (ServerFirstSent challenge no_record) version rules text (Ok (Some message)) next
 
 -- a record, and in place of none one without keys
 abbrev pub or_no_record : Option Record → Record
@@ -198,7 +196,7 @@ ServerIsReached config InProgress server = (exchange : KeptExchange) × IsOf con
 ServerIsReached config Authenticated server = Unit {0}
 ServerIsReached config (Failed why) server = Unit {0}
 
--- the struct shows that this user has logged in, or nothing of whom no name is known
+-- the struct shows that this user has logged in, or nothing if the login has no user name
 abbrev pub ShowsUser : ScramStruct → Option (List ℕ) → Type 0
 ShowsUser scram None = scram.state ≡ 0
 ShowsUser scram (Some user) = IsAuthenticated scram user
@@ -259,11 +257,11 @@ side_struct side = record {
 unfoldable pub HasNoStruct : Side State → Type 0
 HasNoStruct side = (512 < length side.held) ⊎ ((scram : ScramStruct) → ¬ ShowsState scram side.progress side.state)
 
--- the structs are those of this side, whose frames have 512 bytes at most (part 5, section 5.3.1)
+-- the structs are those of this side, whose frames have at most 512 bytes (part 5, section 5.3.1)
 unfoldable pub IsServer : Config → Struct → Side State → Type 0
 IsServer config server side = ShowsSide server side × (side.limit ≡ 512) × ServerIsReached config side.progress side.state
 
--- the words of a configuration are not UTF-8: the user's name, or else the peer's
+-- the words of a configuration are not UTF-8: the user's name, or otherwise the peer's
 abbrev pub HasNoServerWords : Config → Status → Type 0
 HasNoServerWords config status = (status ≡ statuses.NotUtf8)
     × (¬ IsUtf8 config.username.now ⊎ (IsUtf8 config.username.now × ¬ IsUtf8 config.external_authcid.now))
@@ -280,7 +278,7 @@ IsNoConfig config status = IsFirst (config_tests config) status
     ⊎ (NoneHolds (config_tests config) × (status ≡ statuses.NoSuchMechanism)
     × ((exchange : KeptExchange) × (server : State) × IsOf config exchange server × (server_names server ≡ [])))
 
--- why the structs are those of no side that wants more bytes: the tests of the connection, those of the configuration, and last
+-- why the structs are those of no side that expects more bytes: the tests of the connection, those of the configuration, and last
 -- that what was kept is a part of what is expected
 unfoldable pub IsNoServer : Config → Struct → Status → Type 0
 IsNoServer config server status = IsFirst (side_tests server.connection) status
@@ -294,7 +292,7 @@ Received config bytes nonce before after taken sent = (side next : Side State) �
     × (side.progress ≡ InProgress) × ServerReceives server_names server_machine side bytes nonce taken sent next
     × IsServer config after next × (after ≡ side_struct next)
 
--- or it does not, because the structs are those of no side, or no struct is that of the side behind the call
+-- or it does not, because the structs are those of no side, or no struct is that of the side after the call
 unfoldable pub NotReceived : Config → List ℕ → List ℕ → Struct → Status → Type 0
 NotReceived config bytes nonce before status = IsNoServer config before status
     ⊎ ((status ≡ statuses.TooLong) × ((side next : Side State) × (taken : ℕ) × (sent : List ℕ)
@@ -307,32 +305,17 @@ abbrev pub ReceivesAsServer : Config → List ℕ → List ℕ → Struct → St
 ReceivesAsServer config bytes nonce before after taken (Ok sent) = Received config bytes nonce before after taken sent
 ReceivesAsServer config bytes nonce before after taken (Err status) = NotReceived config bytes nonce before status
 
--- ---- whom a frame names
-
--- an init names this user: in a client-first message behind either GS2 header
--- (RFC 5802, section 7), or in a message of PLAIN that is taken (RFC
--- 4616, section 2)
-abbrev pub InitNames : List ℕ → List ℕ → List ℕ → Type 0
-InitNames mechanism text name =
-    ((version : ScramVersion) × (first : ClientFirst) × (mechanism ≡ mechanism_name version)
-    × ReadsClientFirst true text (Ok first) × (name ≡ first.user))
-    ⊎ ((mechanism ≡ codes "PLAIN") × ((parts : PlainParts) × SpellsPlain parts text × IsTaken parts
-    × (name ≡ parts.user)))
-
--- the initial response of an init names this user; without one it names no user
-abbrev pub ResponseNames : List ℕ → Option (List ℕ) → List ℕ → Type 0
-ResponseNames mechanism (Some text) name = InitNames mechanism text name
-ResponseNames mechanism None name = ⊥
+-- ---- the user name that a frame claims
 
 -- a response names this user: that of the challenge that is open, or, where an init was asked for its initial response,
 -- the user that the initial response names
 abbrev pub AnswerNames : ScramStruct → List ℕ → List ℕ → Type 0
-AnswerNames scram text name = ((challenge : ServerChallenge) × IsOpen scram challenge × (name ≡ challenge.user))
-    ⊎ ((init : PendingInit) × HasAsked scram init × InitNames init.mechanism text name)
+AnswerNames scram text name = ((challenge : ServerChallenge) × IsOpenUnbound scram challenge × (name ≡ challenge.user))
+    ⊎ ((init : PendingInit) × HasAsked scram init × ClaimsUser init.mechanism text name)
 
 -- a frame in turn names this user: an init, or a response
 abbrev pub FrameNames : ScramStruct → FrameKind → SaslFrame → List ℕ → Type 0
-FrameNames scram turns.Init (frames.Init mechanism response hostname) name = ResponseNames mechanism response name
+FrameNames scram turns.Init (frames.Init mechanism response hostname) name = ClaimIn mechanism response (Some name)
 FrameNames scram turns.Response (frames.Response text) name = AnswerNames scram text name
 FrameNames scram turn frame name = ⊥
 
@@ -340,26 +323,20 @@ FrameNames scram turn frame name = ⊥
 abbrev pub BodyNames : ScramStruct → FrameKind → List ℕ → List ℕ → Type 0
 BodyNames scram turn body name = (frame : SaslFrame) × SpellsBody body (Ok frame) × FrameNames scram turn frame name
 
--- or nobody: it is not read, or what it spells names nobody
+-- or none: it cannot be parsed, or its frame claims no user name
 abbrev pub BodyNamesNoUser : ScramStruct → FrameKind → List ℕ → Type 0
 BodyNamesNoUser scram turn body = ((fault : Error) × SpellsBody body (Err fault))
     ⊎ ((frame : SaslFrame) × SpellsBody body (Ok frame) × ((name : List ℕ) → ¬ FrameNames scram turn frame name))
 
--- memory is asked for to look for the user of an init: it names one, or its client-first message has a name with
--- escapes
-abbrev pub InitAsks : List ℕ → List ℕ → Type 0
-InitAsks mechanism text = ((version : ScramVersion) × (mechanism ≡ mechanism_name version) × HasEscapes true text)
-    ⊎ ((name : List ℕ) × InitNames mechanism text name)
-
--- memory is asked for to look for the user of an initial response, if there is one
+-- where memory is requested to find the user that an initial response claims, if there is one
 abbrev pub ResponseAsks : List ℕ → Option (List ℕ) → Type 0
-ResponseAsks mechanism (Some text) = InitAsks mechanism text
+ResponseAsks mechanism (Some text) = ClaimAllocates mechanism text
 ResponseAsks mechanism None = ⊥
 
 -- and for a response: where a challenge is open, or for an initial response
 abbrev pub AnswerNeedsMemory : ScramStruct → List ℕ → Type 0
-AnswerNeedsMemory scram text = ((challenge : ServerChallenge) × IsOpen scram challenge)
-    ⊎ ((init : PendingInit) × HasAsked scram init × InitAsks init.mechanism text)
+AnswerNeedsMemory scram text = ((challenge : ServerChallenge) × IsOpenUnbound scram challenge)
+    ⊎ ((init : PendingInit) × HasAsked scram init × ClaimAllocates init.mechanism text)
 
 -- and for a frame in turn: an init, or a response
 abbrev pub FrameAsks : ScramStruct → FrameKind → SaslFrame → Type 0
@@ -371,22 +348,13 @@ FrameAsks scram turn frame = ⊥
 abbrev pub BodyAsks : ScramStruct → FrameKind → List ℕ → Type 0
 BodyAsks scram turn body = (frame : SaslFrame) × SpellsBody body (Ok frame) × FrameAsks scram turn frame
 
--- memory is asked for to look for the user of a connection's bytes: a frame is expected to a side, and the struct keeps a
--- part of it
-abbrev pub AwaitsFrame : Connection → Type 0
-AwaitsFrame kept = (expected : Expected) × (held : List ℕ) × Keeps kept InProgress expected held × IsPart expected 512 held × (expected ≢ Header)
-
--- a side with no machine
-abbrev pub AnySide : Type 0
-AnySide = Side (Unit {0})
-
--- the user whom the frame names that these bytes complete
+-- the user that the frame claims which these bytes complete
 unfoldable pub Named : Struct → List ℕ → List ℕ → Type 0
 Named server bytes name = (side : AnySide) × (turn : FrameKind) × (body : List ℕ) × IsSideOf server.connection side
     × Completes side bytes turn body × BodyNames server.scram turn body name
 
--- or why there is none: the structs are of no side that wants more bytes, or these complete no frame, or one that names
--- nobody
+-- or why there is none: the structs are of no side that expects more bytes, or these complete no frame, or one that
+-- claims no user name
 unfoldable pub NotNamed : Struct → List ℕ → Status → Type 0
 NotNamed server bytes status = IsFirst (side_tests server.connection) status
     ⊎ (NoneHolds (side_tests server.connection) × (((status ≡ statuses.InvalidSnapshot) × KeepsNoPart server.connection)

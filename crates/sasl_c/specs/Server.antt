@@ -1,17 +1,20 @@
 -- A SCRAM server that is kept in a struct of C between its calls (RFC 5802, sections 3 and 5).
-use Rattle.std.specs.Prelude.{Bool, true, ◌≡◌, ◌≤◌, ◌⊎◌, ℕ, List, [], ◌∷◌, length, replicate, take, Option, Some, None, Result, Ok, Err}
+use Rattle.std.specs.Prelude.{true, ◌≡◌, ◌≤◌, ◌⊎◌, ℕ, List, [], ◌∷◌, length, replicate, take, Option, Some, None, Result, Ok, Err}
 use Rattle.std.specs.Str.{IsAscii, IsUtf8}
 use Rattle.fe2o3_sasl_wire.specs.FrameView.{shown}
 use Rattle.fe2o3_scram.specs.declared.hmac.ScramVersion.{ScramVersion}
 use Rattle.fe2o3_scram.specs.declared.scram_messages.error.ServerScramErrorKind.{ServerScramErrorKind}
 use Rattle.fe2o3_scram.specs.declared.scram_messages.error.ServerScramErrorKind.TheVariants.{IllegalAuthenticatorState, OutOfMemory}
-use Rattle.fe2o3_scram.specs.ClientFinal.{ReachesBase64, server_of}
+use Rattle.fe2o3_scram.specs.ChannelBinding.{TakesFlag, expected_channel}
+use Rattle.fe2o3_scram.specs.ClientFinal.{ReachesBase64}
+use Rattle.fe2o3_scram.specs.declared.channel_binding.ChannelKind.TheVariants.{TlsUnique, TlsServerEndPoint, TlsExporter}
 use Rattle.fe2o3_scram.specs.ClientFirst.{ClientFirst, HasEscapes, ReadsClientFirst}
+use Rattle.fe2o3_scram.specs.declared.scram_messages.server_rules.ServerRules.{ServerRules}
 use Rattle.fe2o3_scram.specs.declared.scram_messages.channel_binding_flag.ChannelBindingFlag.{ChannelBindingFlag}
-use Rattle.fe2o3_scram.specs.declared.scram_messages.channel_binding_flag.ChannelBindingFlag.TheVariants.{NotSupported, ClientSupports}
+use Rattle.fe2o3_scram.specs.declared.scram_messages.channel_binding_flag.ChannelBindingFlag.TheVariants.{NotSupported, ClientSupports, Required}
 use Rattle.fe2o3_scram.specs.Credentials.{Store, VersionedRecord, serving}
 use Rattle.fe2o3_scram.specs.Hmac.{zero_filled}
-use Rattle.fe2o3_scram.specs.ScramServer.{ConcludesFrom, ServerFirstSent, ServerFinalSent, challenge_kept}
+use Rattle.fe2o3_scram.specs.ScramServer.{ConcludesFrom, ServerFirstSent, ServerFinalSent, challenge_kept, server_against}
 use Rattle.fe2o3_scram.specs.ServerFinal.{FinalCosts}
 use Rattle.fe2o3_scram.specs.ServerFirst.{AnswersClientFirst, ServerChallenge}
 use Rattle.fe2o3_scram.specs.Texts.{base64_text}
@@ -32,10 +35,20 @@ use Rattle.sasl_c.specs.Status.{Lacks, Room, server_status, version_number, with
 abbrev pub one_user : List ℕ → VersionedRecord → Store
 one_user user shown = record { version = shown.version; records = (user, shown.stored) ∷ [] }
 
--- a challenge whose texts have room in a struct
+-- a client with this GS2 header binds no channel (RFC 5802, section 6)
+abbrev pub IsUnbound : ChannelBindingFlag → Type 0
+IsUnbound NotSupported = Unit {0}
+IsUnbound ClientSupports = Unit {0}
+IsUnbound (Required kind) = ⊥
+
+-- a challenge that has room in a struct
 abbrev pub ChallengeHasRoom : ServerChallenge → Type 0
 ChallengeHasRoom challenge = (length challenge.user ≤ 256) × (length challenge.bare ≤ 1024) × (length challenge.nonce ≤ 512)
     × (length challenge.first ≤ 1024)
+
+-- one that has room in a struct of a connection, whose server binds no channel
+abbrev pub HasRoomUnbound : ServerChallenge → Type 0
+HasRoomUnbound challenge = ChallengeHasRoom challenge × IsUnbound challenge.header
 
 -- no length above that of its array
 abbrev pub AreLengths : Struct → Type 0
@@ -46,6 +59,9 @@ AreLengths server = (server.user_len ≤ 256) × (server.bare_len ≤ 1024) × (
 abbrev pub open_number : ChannelBindingFlag → ℕ
 open_number NotSupported = 1
 open_number ClientSupports = 3
+open_number (Required TlsUnique) = 7
+open_number (Required TlsServerEndPoint) = 8
+open_number (Required TlsExporter) = 9
 
 -- the challenge that a struct shows, to a client with this header
 abbrev pub struct_challenge : ChannelBindingFlag → Struct → ServerChallenge
@@ -62,9 +78,19 @@ abbrev pub IsOpen : Struct → ServerChallenge → Type 0
 IsOpen server challenge = (server.state ≡ open_number challenge.header) × AreLengths server
     × (challenge ≡ struct_challenge challenge.header server) × IsUtf8 challenge.user
 
+-- the struct's open challenge is one for a server with these rules: a server that binds channels has the data of the
+-- client's kind, and one that binds none has a client that binds none; which of `n,,` and `y,,` the server accepts plays
+-- no part once the challenge is open
+abbrev pub IsOpenFor : ServerRules → Struct → ServerChallenge → Type 0
+IsOpenFor rules server challenge = IsOpen server challenge × TakesFlag rules.channels true challenge.header
+
+-- the struct's open challenge is one of a connection, whose server binds no channel
+abbrev pub IsOpenUnbound : Struct → ServerChallenge → Type 0
+IsOpenUnbound server challenge = IsOpen server challenge × IsUnbound challenge.header
+
 -- with this hash
 abbrev pub IsOpenBy : Struct → ScramVersion → ServerChallenge → Type 0
-IsOpenBy server version challenge = IsVersion server.version version × IsOpen server challenge
+IsOpenBy server version challenge = IsVersion server.version version × IsOpenUnbound server challenge
 
 -- the struct is that of a server that has authenticated this user
 abbrev pub IsAuthenticated : Struct → List ℕ → Type 0
@@ -99,7 +125,7 @@ HasAsked server init = AsksHostname server init.hostname × (server.nonce_len �
     × (server.first_len ≤ 1024) × (init.mechanism ≡ take server.first_len server.first) × IsAscii init.mechanism
 
 -- what a server keeps of a login that is not complete: nothing, an open challenge of SCRAM with its hash, the user to
--- whom it has sent its signature in a challenge, or the init that it has asked for its initial response
+-- which it has sent its signature in a challenge, or the init that it has asked for its initial response
 pub data KeptExchange : Type 0 where
   NothingKept : KeptExchange
   ChallengeOpen : (version : ScramVersion) → (challenge : ServerChallenge) → KeptExchange
@@ -245,37 +271,37 @@ exchange_struct (InitialResponseAsked init) = asked_struct init
 
 -- ---- what the calls return (RFC 5802, section 5), and the struct after them
 
--- a client-first message is answered by this challenge, where the record is that of the user that it claims; the GS2
--- channel-binding flag `y` is accepted where the argument says so
-unfoldable pub MakesChallenge : Bool → Kept → List ℕ → List ℕ → ServerChallenge → Type 0
-MakesChallenge cbind_flag_y kept nonce text challenge = (shown : VersionedRecord) × (user : List ℕ) × ShowsRecord kept shown
-    × AnswersClientFirst (serving cbind_flag_y (one_user user shown)) (base64_text nonce) text (Ok (Some challenge))
+-- a client-first message is answered by this challenge, by a server with these rules, where the record is that of the user
+-- that it claims
+unfoldable pub MakesChallenge : ServerRules → Kept → List ℕ → List ℕ → ServerChallenge → Type 0
+MakesChallenge rules kept nonce text challenge = (shown : VersionedRecord) × (user : List ℕ) × ShowsRecord kept shown
+    × AnswersClientFirst (serving rules (one_user user shown)) (base64_text nonce) text (Ok (Some challenge))
 
 -- why a client-first message is not answered: it is rejected; or it is read, and the struct of the record shows none; or
 -- there is a challenge, and a text of it has no room in the struct
-unfoldable pub NotChallenged : Bool → Kept → List ℕ → List ℕ → Status → Type 0
-NotChallenged cbind_flag_y kept nonce text status =
-    ((why : ServerScramErrorKind) × (status ≡ server_status why) × ReadsClientFirst cbind_flag_y text (Err why))
-    ⊎ ((first : ClientFirst) × ReadsClientFirst cbind_flag_y text (Ok first) × SpellsStruct kept (Err status))
-    ⊎ ((status ≡ statuses.TooLong) × ((challenge : ServerChallenge) × MakesChallenge cbind_flag_y kept nonce text challenge
+unfoldable pub NotChallenged : ServerRules → Kept → List ℕ → List ℕ → Status → Type 0
+NotChallenged rules kept nonce text status =
+    ((why : ServerScramErrorKind) × (status ≡ server_status why) × ReadsClientFirst rules text (Err why))
+    ⊎ ((first : ClientFirst) × ReadsClientFirst rules text (Ok first) × SpellsStruct kept (Err status))
+    ⊎ ((status ≡ statuses.TooLong) × ((challenge : ServerChallenge) × MakesChallenge rules kept nonce text challenge
     × ¬ ChallengeHasRoom challenge))
 
 -- memory is requested for a client-first message: its user name has escapes, or it is read
-abbrev pub ReadsFirst : Bool → List ℕ → Type 0
-ReadsFirst cbind_flag_y text = HasEscapes cbind_flag_y text ⊎ ((first : ClientFirst) × ReadsClientFirst cbind_flag_y text (Ok first))
+abbrev pub ReadsFirst : ServerRules → List ℕ → Type 0
+ReadsFirst rules text = HasEscapes rules text ⊎ ((first : ClientFirst) × ReadsClientFirst rules text (Ok first))
 
 -- the server-first message
-abbrev pub Challenges : Bool → Kept → List ℕ → List ℕ → Result (List ℕ) Status → Type 0
-Challenges cbind_flag_y kept nonce text (Ok message) = (challenge : ServerChallenge)
-    × MakesChallenge cbind_flag_y kept nonce text challenge × (message ≡ challenge.first)
-Challenges cbind_flag_y kept nonce text (Err status) = NotChallenged cbind_flag_y kept nonce text status
+abbrev pub Challenges : ServerRules → Kept → List ℕ → List ℕ → Result (List ℕ) Status → Type 0
+Challenges rules kept nonce text (Ok message) = (challenge : ServerChallenge)
+    × MakesChallenge rules kept nonce text challenge × (message ≡ challenge.first)
+Challenges rules kept nonce text (Err status) = NotChallenged rules kept nonce text status
 
 -- the struct after it
-abbrev pub OpensExchange : Bool → Kept → List ℕ → List ℕ → Struct → Struct → Result (Unit {0}) WriteError → Type 0
-OpensExchange cbind_flag_y kept nonce text before after (Ok done) = (challenge : ServerChallenge)
-    × MakesChallenge cbind_flag_y kept nonce text challenge × IsOpen after challenge
+abbrev pub OpensExchange : ServerRules → Kept → List ℕ → List ℕ → Struct → Struct → Result (Unit {0}) WriteError → Type 0
+OpensExchange rules kept nonce text before after (Ok done) = (challenge : ServerChallenge)
+    × MakesChallenge rules kept nonce text challenge × IsOpen after challenge
     × (after ≡ open_struct kept.version challenge)
-OpensExchange cbind_flag_y kept nonce text before after (Err why) = after ≡ before
+OpensExchange rules kept nonce text before after (Err why) = after ≡ before
 
 -- the message of a challenge is written, and the struct that shows the challenge; or nothing changes, since the challenge
 -- has no room in the struct, or its message none where it is to be written
@@ -289,45 +315,46 @@ WritesChallenge version challenge before after room filled (Err RoomTooSmall) = 
 WritesChallenge version challenge before after room filled (Err (Other status)) = (after ≡ before)
     × (filled.bytes ≡ room.bytes) × (filled.len ≡ room.len) × (status ≡ statuses.TooLong) × ¬ ChallengeHasRoom challenge
 
--- the user name that a client-first message claims, after either GS2 header
-abbrev pub ClaimedUser : List ℕ → Result (List ℕ) Status → Type 0
-ClaimedUser text (Ok name) = (first : ClientFirst) × ReadsClientFirst true text (Ok first) × (name ≡ first.user)
-ClaimedUser text (Err status) = (why : ServerScramErrorKind) × (status ≡ server_status why)
-    × ReadsClientFirst true text (Err why)
+-- the user name that a client-first message claims, read by these rules
+abbrev pub ClaimedUser : ServerRules → List ℕ → Result (List ℕ) Status → Type 0
+ClaimedUser rules text (Ok name) = (first : ClientFirst) × ReadsClientFirst rules text (Ok first) × (name ≡ first.user)
+ClaimedUser rules text (Err status) = (why : ServerScramErrorKind) × (status ≡ server_status why)
+    × ReadsClientFirst rules text (Err why)
 
--- the struct's open challenge is answered by this message, where the record is that of its user; which GS2 header a server
--- accepts plays no part once the challenge is open
-unfoldable pub ConcludesLogin : Kept → Struct → List ℕ → List ℕ → List ℕ → Type 0
-ConcludesLogin kept before text message user = (challenge : ServerChallenge) × (shown : VersionedRecord) × IsOpen before challenge
-    × ShowsRecord kept shown × (user ≡ challenge.user)
-    × ConcludesFrom (ServerFirstSent challenge shown.stored) shown.version text (Ok (Some message))
+-- the struct's open challenge is answered by this message of a server with these rules, where the record is that of its
+-- user
+unfoldable pub ConcludesLogin : ServerRules → Kept → Struct → List ℕ → List ℕ → List ℕ → Type 0
+ConcludesLogin rules kept before text message user = (challenge : ServerChallenge) × (shown : VersionedRecord)
+    × IsOpenFor rules before challenge × ShowsRecord kept shown × (user ≡ challenge.user)
+    × ConcludesFrom (ServerFirstSent challenge shown.stored) shown.version rules text (Ok (Some message))
     (ServerFinalSent user)
 
 -- memory is requested to answer a client-final message: a challenge is open, the struct of the record shows one, and
 -- the message is read as far as its first base64 text
-abbrev pub FinalAsks : Kept → List ℕ → Struct → Type 0
-FinalAsks kept text before = ((challenge : ServerChallenge) × IsOpen before challenge
-    × ReachesBase64 challenge.header challenge.nonce text) × ShowsSomeRecord kept
+abbrev pub FinalAsks : ServerRules → Kept → List ℕ → Struct → Type 0
+FinalAsks rules kept text before = ((challenge : ServerChallenge) × IsOpenFor rules before challenge
+    × ReachesBase64 (expected_channel rules.channels challenge.header) challenge.nonce text) × ShowsSomeRecord kept
 
 -- the HMAC values of an answer that is out of memory, as a meter shows them before and after: none for a message that
 -- is rejected, and at most two
-abbrev pub MemoryCosts : Kept → List ℕ → Struct → ℕ → ℕ → Type 0
-MemoryCosts kept text before counted after = (challenge : ServerChallenge) × (shown : VersionedRecord)
-    × IsOpen before challenge × ShowsRecord kept shown × FinalCosts {A = Unit {0}}
-    (server_of shown.version challenge.header challenge.bare challenge.first challenge.nonce shown.stored) text
-    (Err OutOfMemory) counted after
+abbrev pub MemoryCosts : ServerRules → Kept → List ℕ → Struct → ℕ → ℕ → Type 0
+MemoryCosts rules kept text before counted after = (challenge : ServerChallenge) × (shown : VersionedRecord)
+    × IsOpenFor rules before challenge × ShowsRecord kept shown
+    × FinalCosts {A = Unit {0}} (server_against shown.version rules challenge shown.stored) text (Err OutOfMemory) counted
+    after
 
--- the server-final message, and the struct after it; or that no challenge is open, or one is and the struct of the
--- record shows none, or it shows one and the message is rejected
-unfoldable pub Concludes : Kept → List ℕ → Struct → Struct → Result (List ℕ) Status → Type 0
-Concludes kept text before after (Ok message) = (user : List ℕ) × ConcludesLogin kept before text message user
+-- the server-final message of a server with these rules, and the struct after it; or that no challenge is open for these
+-- rules, or one is and the struct of the record shows none, or it shows one and the message is rejected
+unfoldable pub Concludes : ServerRules → Kept → List ℕ → Struct → Struct → Result (List ℕ) Status → Type 0
+Concludes rules kept text before after (Ok message) = (user : List ℕ) × ConcludesLogin rules kept before text message user
     × IsAuthenticated after user × (after ≡ authenticated_struct user)
-Concludes kept text before after (Err status) =
-    ((status ≡ server_status IllegalAuthenticatorState) × ((challenge : ServerChallenge) → ¬ IsOpen before challenge))
-    ⊎ ((challenge : ServerChallenge) × IsOpen before challenge × SpellsStruct kept (Err status))
+Concludes rules kept text before after (Err status) =
+    ((status ≡ server_status IllegalAuthenticatorState)
+    × ((challenge : ServerChallenge) → ¬ IsOpenFor rules before challenge))
+    ⊎ ((challenge : ServerChallenge) × IsOpenFor rules before challenge × SpellsStruct kept (Err status))
     ⊎ ((why : ServerScramErrorKind) × (status ≡ server_status why)
-    × ((challenge : ServerChallenge) × (shown : VersionedRecord) × IsOpen before challenge × ShowsRecord kept shown
-    × ConcludesFrom (ServerFirstSent challenge shown.stored) shown.version text (Err why)
+    × ((challenge : ServerChallenge) × (shown : VersionedRecord) × IsOpenFor rules before challenge × ShowsRecord kept shown
+    × ConcludesFrom (ServerFirstSent challenge shown.stored) shown.version rules text (Err why)
     (ServerFirstSent challenge shown.stored)))
 
 -- the authenticated user

@@ -50,6 +50,7 @@ client_number client.HmacErrorInvalidLength = 33
 client_number client.XorLengthMismatch = 34
 client_number client.IllegalClientState = 35
 client_number client.ServerSignatureMismatch = 36
+client_number client.MisplacedAttribute = 37
 client_number client.OutOfMemory = 1
 
 -- the number of an error of a server
@@ -68,6 +69,7 @@ server_number server.IncorrectClientFinalNonce = 50
 server_number server.ProofNotFoundInClientFinal = 51
 server_number server.AuthenticationFailed = 52
 server_number server.IllegalAuthenticatorState = 53
+server_number server.MisplacedAttribute = 54
 server_number server.OutOfMemory = 1
 
 -- the number of a status
@@ -111,6 +113,9 @@ status_number statuses.ProhibitedCharacter = 86
 status_number statuses.MixedDirections = 87
 status_number statuses.UnassignedCodePoint = 88
 status_number statuses.ServerError = 89
+status_number statuses.EndOfInput = 90
+status_number statuses.ChannelDataLength = 91
+status_number statuses.NoSuchChannel = 92
 
 -- the status of an error of a client
 abbrev pub client_status : ScramErrorKind → Status

@@ -36,6 +36,7 @@ status_texts = (0, codes "Done")
     ∷ (34, codes "Client: LHS and RHS of XOR have different length")
     ∷ (35, codes "Client: Illegal SCRAM client state")
     ∷ (36, codes "Client: Server signature mismatch")
+    ∷ (37, codes "Client: Attribute in the place of an extension")
     ∷ (40, codes "Server: Invalid UTF-8")
     ∷ (41, codes "Server: Cannot parse GS2-header")
     ∷ (42, codes "Server: Error parsing username field")
@@ -50,6 +51,7 @@ status_texts = (0, codes "Done")
     ∷ (51, codes "Server: Client final message doesn't have a proof")
     ∷ (52, codes "Server: Authentication failed")
     ∷ (53, codes "Server: Illegal SCRAM client state")
+    ∷ (54, codes "Server: Attribute in the place of an extension")
     ∷ (60, codes "Record: The record does not have five fields")
     ∷ (61, codes "Record: Unknown SCRAM mechanism")
     ∷ (62, codes "Record: Cannot parse iteration count")
@@ -76,7 +78,10 @@ status_texts = (0, codes "Done")
     ∷ (86, codes "The text holds a prohibited character")
     ∷ (87, codes "The text mixes directions")
     ∷ (88, codes "The text holds an unassigned code point")
-    ∷ (89, codes "Client: The server sent an error") ∷ []
+    ∷ (89, codes "Client: The server sent an error")
+    ∷ (90, codes "Connection: The other side ended the stream before the negotiation was complete")
+    ∷ (91, codes "Channel binding data of a wrong length")
+    ∷ (92, codes "No such channel") ∷ []
 
 -- the text of a number in a table, and of every other number that of an unknown status
 abbrev pub text_in : List (ℕ × List ℕ) → ℕ → List ℕ
@@ -112,7 +117,7 @@ abbrev pub connection_size : ℕ
 connection_size = 4 * word + 512
 
 abbrev pub login_size : ℕ
-login_size = (5 * word + 4) + slice + slice + 8 + (word + 4)
+login_size = (5 * word + 4) + slice + slice + 8 + (5 * word + 64 + 4)
 
 abbrev pub sasl_login_size : ℕ
 sasl_login_size = (word + 4) + slice + login_size
@@ -123,11 +128,14 @@ view_size = 4 * word + 8 + 8 + slice + slice + slice
 abbrev pub config_size : ℕ
 config_size = 2 * word + slice + slice + slice
 
+abbrev pub rules_size : ℕ
+rules_size = 6 * word + 3 * 64
+
 -- the sizes by the numbers of `fe2o3_size`, and 0 of every other number
 abbrev pub struct_sizes : List (ℕ × ℕ)
 struct_sizes = (0, login_size) ∷ (1, client_size) ∷ (2, keys_size) ∷ (3, server_size) ∷ (4, record_size)
     ∷ (5, connection_size) ∷ (6, sasl_login_size) ∷ (7, connection_size + client_size) ∷ (8, view_size)
-    ∷ (9, config_size) ∷ (10, connection_size + server_size) ∷ []
+    ∷ (9, config_size) ∷ (10, connection_size + server_size) ∷ (11, rules_size) ∷ []
 
 abbrev pub size_in : List (ℕ × ℕ) → ℕ → ℕ
 size_in [] number = 0

@@ -236,7 +236,7 @@ impl ScramClient {
         let Some(signature) = head(&self.signature, self.signature_len) else {
             return login.client(alloc);
         };
-        // The login is tested before memory is asked for.
+        // The login is tested before memory is requested.
         if let Err(status) = login.tested() {
             return Err(status);
         }
@@ -254,7 +254,7 @@ impl ScramClient {
         ensures err { IfErr result (λ status. status ≢ StatusOutOfMemory → IsNoLogin login.now status) }
         ensures memory { AsksWhere (IsTestedLogin login.now) result }
     {
-        // The login is tested before memory is asked for.
+        // The login is tested before memory is requested.
         if let Err(status) = login.tested() {
             return Err(status);
         }

@@ -80,7 +80,8 @@ fn first(
 }
 
 /// Writes the client-first message. This starts a new exchange, whatever the state of the client is. `nonce` is 32
-/// fresh random bytes.
+/// fresh random bytes. With FE2O3_CHANNEL_BOUND name the mechanism with `-PLUS` to the server, such as
+/// SCRAM-SHA-256-PLUS (RFC 5802, section 6).
 #[unsafe(no_mangle)]
 pub extern "C" fn fe2o3_scram_client_first(
     alloc: Global,

@@ -6,7 +6,8 @@ ghost use Rattle.sasl_c.specs.Records.{IsVersion};
 ghost use Rattle.fe2o3_scram.specs.ClientFinal.{answer_values};
 ghost use Rattle.fe2o3_scram.specs.ClientSecret.{secret_of};
 ghost use Rattle.fe2o3_scram.specs.Texts.{base64_text};
-ghost use Rattle.sasl_c.specs.Client.{AnswerAsks, Responds, IsAnswer, IsTestedLogin, IsSecretOf, NotAnswered, name_tests};
+ghost use Rattle.sasl_c.specs.Client.{AnswerAsks, Responds, IsAnswer, IsChannelOf, IsTestedLogin, IsSecretOf, NotAnswered, name_tests};
+ghost use Rattle.sasl_c.specs.Channels.{answer_more};
 ghost use Rattle.std.specs.Str.{IsUtf8};
 ghost use Rattle.sasl_c.specs.Status.{Answers, AnswersText, AsksText, AsksWhere, FillsWithin};
 ghost use Rattle.sasl_c.specs.declared.status.Status.TheVariants.{OutOfMemory as StatusOutOfMemory};
@@ -14,15 +15,24 @@ ghost use Rattle.sasl_c.specs.declared.status.WriteError.TheVariants.{RoomTooSma
 
 use crate::arrays::put;
 use crate::client::ScramClient;
+use crate::flags::is_set;
 use crate::login::Login;
 use crate::passwords::password_in;
 use crate::status::{Status, WriteError, text_number};
 use base64::engine::general_purpose::STANDARD;
-use fe2o3_scram::{ClientAnswer, ClientSecret, Meter, ScramErrorKind, ScramVersion};
+use fe2o3_scram::{ClientAnswer, ClientChannel, ClientSecret, Meter, ScramErrorKind, ScramVersion};
 use std::alloc::Global;
 
-/// The maximum number of bytes that an answer has more than its server-first message.
-const ANSWER_MORE: usize = 128;
+/// Returns the maximum number of bytes that an answer has more than its server-first message, by the use of the channel.
+fn answer_more(channel_use: u32) -> usize
+    ensures more { result ≡ answer_more channel_use }
+    ensures few { result ≤ 256 }
+{
+    match channel_use {
+        2 => 256,
+        _ => 128,
+    }
+}
 
 /// Returns the text of a nonce: its 44 symbols of base64.
 fn nonce_text<'a>(nonce: &[u8; 32], room: &'a mut [u8; 44]) -> &'a str
@@ -43,16 +53,17 @@ fn answered_by(
     login: &Login<'_>,
     version: ScramVersion,
     secret: ClientSecret<'_>,
+    channel: &ClientChannel,
     client: &ScramClient,
     server_first: &str,
     meter: &mut Meter,
 ) -> Result<ClientAnswer, Status>
     requires { meter.old ≤ 2 ^ 63 }
     ensures ok { IfOk result (λ answer. IsVersion login.now.version version → IsSecretOf login.now
-        (secret_of secret.entry)
+        (secret_of secret.entry) → IsChannelOf login.now channel.now
         → client.now.state ≡ 1 → IsAnswer login.now client.now server_first.now (answer_values answer)) }
     ensures err { IfErr result (λ status. status ≢ StatusOutOfMemory → IsVersion login.now.version version
-        → IsSecretOf login.now (secret_of secret.entry) → client.now.state ≡ 1
+        → IsSecretOf login.now (secret_of secret.entry) → IsChannelOf login.now channel.now → client.now.state ≡ 1
         → NotAnswered login.now client.now server_first.now status) }
 {
     let mut room = [0; 44];
@@ -65,6 +76,8 @@ fn answered_by(
         server_first,
         bare.as_slice(),
         login.limits(),
+        channel,
+        is_set(login.strict),
         meter,
     ) {
         Ok(answer) => Ok(answer),
@@ -78,15 +91,16 @@ fn answered_of(
     alloc: Global,
     login: &Login<'_>,
     version: ScramVersion,
+    channel: &ClientChannel,
     client: &ScramClient,
     server_first: &str,
     meter: &mut Meter,
 ) -> Result<ClientAnswer, Status>
     requires { meter.old ≤ 2 ^ 63 }
-    ensures ok { IfOk result (λ answer. IsVersion login.now.version version → client.now.state ≡ 1
-        → IsAnswer login.now client.now server_first.now (answer_values answer)) }
+    ensures ok { IfOk result (λ answer. IsVersion login.now.version version → IsChannelOf login.now channel.now
+        → client.now.state ≡ 1 → IsAnswer login.now client.now server_first.now (answer_values answer)) }
     ensures err { IfErr result (λ status. status ≢ StatusOutOfMemory → NoneHolds (name_tests login.now)
-        → IsVersion login.now.version version → client.now.state ≡ 1
+        → IsVersion login.now.version version → IsChannelOf login.now channel.now → client.now.state ≡ 1
         → NotAnswered login.now client.now server_first.now status) }
 {
     match login.secret {
@@ -96,7 +110,16 @@ fn answered_of(
                 Err(status) => return Err(status),
             };
             let secret = ClientSecret::Password(password);
-            answered_by(alloc, login, version, secret, client, server_first, meter)
+            answered_by(
+                alloc,
+                login,
+                version,
+                secret,
+                channel,
+                client,
+                server_first,
+                meter,
+            )
         }
         1 => {
             let keys = match login.keys(alloc) {
@@ -104,7 +127,16 @@ fn answered_of(
                 Err(status) => return Err(status),
             };
             let secret = ClientSecret::Keys(&keys);
-            answered_by(alloc, login, version, secret, client, server_first, meter)
+            answered_by(
+                alloc,
+                login,
+                version,
+                secret,
+                channel,
+                client,
+                server_first,
+                meter,
+            )
         }
         2 => {
             let password = match password_in(login.form, login.password) {
@@ -119,7 +151,16 @@ fn answered_of(
                 password,
                 keys: &keys,
             };
-            answered_by(alloc, login, version, secret, client, server_first, meter)
+            answered_by(
+                alloc,
+                login,
+                version,
+                secret,
+                channel,
+                client,
+                server_first,
+                meter,
+            )
         }
         _ => Err(Status::NoSuchSecret),
     }
@@ -160,7 +201,11 @@ fn answered(
         Ok(version) => version,
         Err(status) => return Err(status),
     };
-    answered_of(alloc, login, version, client, server_first, meter)
+    let channel = match login.channel() {
+        Ok(channel) => channel,
+        Err(status) => return Err(status),
+    };
+    answered_of(alloc, login, version, &channel, client, server_first, meter)
 }
 
 /// Writes the client-final message.
@@ -175,14 +220,14 @@ fn answer(
     out_len: &mut usize,
 ) -> Result<(), WriteError>
     requires { meter.old ≤ 2 ^ 63 }
-    ensures text { FillsWithin (length server_first.now + 128)
+    ensures text { FillsWithin (length server_first.now + answer_more login.now.channel_use)
         (Responds login.now server_first.now client.old client.new) (record { bytes = out.old; len = out_len.old })
         (record { bytes = out.new; len = out_len.new }) result }
     ensures stays { OnErr result (client.new ≡ client.old) }
     ensures first { IfErr result (λ status. status ≡ RoomTooSmall → meter.new ≡ meter.old) }
     ensures memory { AsksText (AnswerAsks login.now server_first.now client.old) result }
 {
-    let suffices = server_first.len() + ANSWER_MORE;
+    let suffices = server_first.len() + answer_more(login.channel_use);
     if out.len() < suffices {
         *out_len = suffices;
         return Err(WriteError::RoomTooSmall);
@@ -200,7 +245,7 @@ fn answer(
 }
 
 /// Answers the server-first message with the client-final message. `out` needs 128 bytes more than the server-first
-/// message has, which is tested before anything is hashed.
+/// message has, or 256 more if the client binds a channel. This is tested before anything is hashed.
 #[unsafe(no_mangle)]
 pub extern "C" fn fe2o3_scram_client_final(
     alloc: Global,
@@ -210,7 +255,7 @@ pub extern "C" fn fe2o3_scram_client_final(
     out: &mut [u8],
     out_len: &mut usize,
 ) -> u32
-    ensures { AnswersText result (λ answer. FillsWithin (length server_first.now + 128)
+    ensures { AnswersText result (λ answer. FillsWithin (length server_first.now + answer_more login.now.channel_use)
         (Responds login.now server_first.now client.old client.new) (record { bytes = out.old; len = out_len.old })
         (record { bytes = out.new; len = out_len.new }) answer × OnErr answer (client.new ≡ client.old)
         × AsksText (AnswerAsks login.now server_first.now client.old) answer) }

@@ -4,8 +4,9 @@ ghost use Rattle.std.specs.Prelude.{◌≡◌, ◌≢◌, ◌<◌, length, IfOk,
 ghost use Rattle.fe2o3_sasl_wire.specs.FrameView.{shown};
 ghost use Rattle.fe2o3_sasl_negotiation.specs.declared.progress.Expected.{Expected as ExpectedUnit};
 ghost use Rattle.fe2o3_sasl_negotiation.specs.declared.progress.Progress.TheVariants.{InProgress};
+ghost use Rattle.fe2o3_sasl_negotiation.specs.Negotiations.{Side, after_end_of_input};
 ghost use Rattle.fe2o3_scram.specs.Readings.{IsFirst};
-ghost use Rattle.sasl_c.specs.Connection.{Keeps, closed_status, code_status, expected_number, frame_status, profile_status, side_tests, connection_struct};
+ghost use Rattle.sasl_c.specs.Connection.{Keeps, kept_bytes, with_end_of_input, closed_status, code_status, expected_number, frame_status, profile_status, side_tests, connection_struct};
 
 use crate::arrays::{head, padded};
 use crate::status::Status;
@@ -37,7 +38,9 @@ pub struct Connection {
     /// The number of bytes of `held` in use.
     pub held_len: u32,
 
-    /// The part of the expected header or frame that has been received.
+    /// The part of the expected header or frame that has been received. After a login that failed with
+    /// FE2O3_PROTOCOL_HEADER_MISMATCH, the 8 bytes that were received in the place of the header of SASL:
+    /// `AMQP 2 1 0 0` for a server that requires TLS first, `AMQP 0 1 0 0` for a client that begins AMQP without SASL.
     pub held: [u8; 512],
 }
 
@@ -114,13 +117,51 @@ pub fn of_closed(why: CloseReason) -> Status
     ensures { result ≡ closed_status why }
 {
     match why {
-        CloseReason::ProtocolHeaderMismatch => Status::ProtocolHeaderMismatch,
+        CloseReason::ProtocolHeaderMismatch(_) => Status::ProtocolHeaderMismatch,
         CloseReason::FrameSize => Status::FrameSize,
         CloseReason::MalformedFrame(fault) => of_frame(fault),
         CloseReason::UnexpectedFrame => Status::UnexpectedFrame,
         CloseReason::ReplyTooLarge => Status::ReplyTooLarge,
         CloseReason::Refused(code) => of_code(code),
         CloseReason::Mechanism(fault) => of_profile(fault),
+        CloseReason::EndOfInput => Status::EndOfInput,
+    }
+}
+
+/// Returns the bytes of a header.
+fn header_bytes(header: &[u8; 8]) -> &[u8]
+    ensures bytes { result.now ≡ header.now }
+    ensures len { length result.now ≡ 8 }
+{
+    header.as_slice()
+}
+
+/// Returns the bytes that the struct of a side holds: those of another header than that of SASL, after the side has
+/// failed for it, and otherwise what the side holds.
+fn kept_bytes<'a>(progress: &'a Progress, held: &'a [u8]) -> &'a [u8]
+    ensures bytes { result.now ≡ kept_bytes progress.now held.now }
+    ensures len { 512 < length result.now → 512 < length held.now }
+{
+    match progress {
+        Progress::Failed(CloseReason::ProtocolHeaderMismatch(received)) => header_bytes(received),
+        _ => held,
+    }
+}
+
+/// Ends a login after the other side has ended its stream (end of file). A login in progress fails with
+/// FE2O3_END_OF_INPUT. Otherwise nothing changes.
+#[unsafe(no_mangle)]
+pub extern "C" fn fe2o3_sasl_end_of_input(connection: &mut Connection)
+    ensures ends { connection.new ≡ with_end_of_input connection.old }
+    ensures side { (side : Side (Unit {0})) → connection.old ≡ connection_struct side.progress side.expected side.held
+        → let next = after_end_of_input side in
+        connection.new ≡ connection_struct next.progress next.expected next.held }
+{
+    if connection.progress == 0 {
+        connection.progress = 2;
+        connection.why = Status::EndOfInput.number();
+        connection.held_len = 0;
+        connection.held = [0; 512];
     }
 }
 
@@ -137,12 +178,13 @@ impl Connection {
             Progress::Authenticated => (1, 0),
             Progress::Failed(why) => (2, of_closed(why).number()),
         };
+        let held = kept_bytes(&kept.progress, kept.held);
         Some(Connection {
             progress,
             why,
             expected: number_of(kept.expected),
-            held: padded(kept.held)?,
-            held_len: kept.held.len() as u32,
+            held: padded(held)?,
+            held_len: held.len() as u32,
         })
     }
 

@@ -11,14 +11,14 @@ use fe2o3_scram::ServerScramErrorKind;
 /// The status of a message that logs no one in.
 const REJECTED: Status = Status::Server(ServerScramErrorKind::AuthenticationFailed);
 
-/// Returns whether a message asks for this name: it is empty, or the name itself.
+/// Returns whether a message requests this name: it is empty, or the name itself.
 fn asks_for(authcid: &[u8], message: &[u8]) -> bool
     ensures { IsTrue result ↔ AsksFor authcid.now (Some message.now) }
 {
     message.is_empty() || message == authcid
 }
 
-/// Tests whether a message logs in as the user whom the transport authenticated, whose name is `authcid`.
+/// Tests whether a message logs in as the user that the transport authenticated, whose name is `authcid`.
 #[tactic(auto, using(crate::proofs::ExternalLemmas::verifies))]
 fn verify(authcid: &[u8], message: &[u8]) -> Result<(), Status>
     ensures { VerifiesExternal authcid.now message.now result }

@@ -14,6 +14,7 @@
 #![tactic(auto)]
 
 mod arrays;
+mod channels;
 mod client;
 mod client_calls;
 mod client_final;
@@ -21,19 +22,24 @@ mod client_steps;
 mod connection;
 mod exchange;
 mod external;
+mod flags;
 mod frames;
 mod keys;
 mod lines;
 mod login;
 mod passwords;
+mod peeks;
 mod plain;
 mod plain_verify;
 mod preparation;
 mod record_fields;
 mod records;
+mod rules;
+mod salted;
 mod sasl_client;
 mod sasl_server;
 mod server;
+mod server_calls;
 mod server_errors;
 mod server_steps;
 mod server_user;

@@ -1,22 +1,25 @@
 //! What a client logs in with, as a struct, and the client of it that has sent nothing.
 
-ghost use Rattle.std.specs.Prelude.{◌≡◌, ◌≢◌, IfOk, IfErr, OnErr, MatchOption, MatchResult};
+ghost use Rattle.std.specs.Prelude.{false, ◌≡◌, ◌≢◌, IfOk, IfErr, OnErr, MatchOption, MatchResult};
 ghost use Rattle.std.specs.Str.{IsUtf8};
 ghost use Rattle.std.specs.String.{string_bytes};
 ghost use Rattle.fe2o3_scram.specs.ClientSecret.{IsOfVersion, secret_of};
 ghost use Rattle.fe2o3_scram.specs.ScramClient.{ClientInitial};
 ghost use Rattle.fe2o3_scram.specs.Readings.{IsFirst, NoneHolds, Reads};
 ghost use Rattle.sasl_c.specs.Records.{IsVersion};
-ghost use Rattle.sasl_c.specs.Client.{HasSecret, HoldsNone, IsClientOf, IsTestedLogin, IsNoLogin, IsNoSecret, IsSecretOf, is_set, keys_tests, name_tests};
+ghost use Rattle.sasl_c.specs.Client.{HasSecret, HoldsNone, IsChannelOf, IsClientOf, IsTestedLogin, IsNoLogin, IsNoSecret, IsSecretOf, keys_tests, name_tests};
+ghost use Rattle.sasl_c.specs.Channels.{channel_tests};
 ghost use Rattle.sasl_c.specs.Keys.{ShowsKeys, ShowsSomeKeys};
 ghost use Rattle.sasl_c.specs.Status.{AsksWhere};
 ghost use Rattle.sasl_c.specs.declared.status.Status.TheVariants.{OutOfMemory as StatusOutOfMemory, NotUtf8 as StatusNotUtf8};
 
+use crate::channels::channel_in;
+use crate::flags::is_set;
 use crate::keys::ScramKeys;
 use crate::passwords::password_in;
 use crate::status::{Status, text, version_of};
 use fe2o3_scram::{
-    CachedKeys, ClientSecret, IterationLimits, ScramClient as Machine, ScramVersion,
+    CachedKeys, ClientChannel, ClientSecret, IterationLimits, ScramClient as Machine, ScramVersion,
 };
 use std::alloc::Global;
 
@@ -45,13 +48,31 @@ pub struct Login<'a> {
     /// The password.
     pub password: &'a [u8],
 
-    /// The keys of an earlier login, or a struct of zeros.
+    /// The keys of an earlier login, or a struct of zeros. You can replace them between the calls of an exchange: after
+    /// FE2O3_CLIENT_STALE_KEYS repeat the call with keys of the salt and the count that the server names.
     pub keys: &'a ScramKeys,
 
     /// Whether the client accepts the server's signature in a challenge too, before an outcome without data (RFC 4422,
     /// section 5). 0 means that the signature has to come in the outcome. Any other value accepts it in both. Only
     /// `fe2o3_sasl_client_receive` and `fe2o3_sasl_client_step` use this field.
     pub signature_by_challenge: u32,
+
+    /// Whether the client is strict: it rejects an attribute that RFC 5802 defines in the place of an extension, after the
+    /// iteration count, by FE2O3_CLIENT_MISPLACED_ATTRIBUTE. 0 means that it skips it. Any other value is strict. A
+    /// client that binds a channel is strict in any case.
+    pub strict: u32,
+
+    /// What the client says of its channel (RFC 5802, section 6): one of enum fe2o3_channel_use.
+    pub channel_use: u32,
+
+    /// The kind of the channel that is bound: one of enum fe2o3_channel_kind. Only for FE2O3_CHANNEL_BOUND.
+    pub channel_kind: u32,
+
+    /// The number of bytes of `channel_data` in use, from 1 to 64. Only for FE2O3_CHANNEL_BOUND.
+    pub channel_data_len: u32,
+
+    /// The data of the channel that is bound, which identify it. You have them from TLS. Only for FE2O3_CHANNEL_BOUND.
+    pub channel_data: [u8; 64],
 }
 
 /// Returns the keys that a struct holds, if it holds some. `OutOfMemory` is the only error.
@@ -110,23 +131,33 @@ impl Login<'_> {
         }
     }
 
-    /// Returns whether the client accepts the server's signature in a challenge too.
-    fn accepts_signature(&self) -> bool
-        ensures { result ≡ is_set self.now.signature_by_challenge }
+    /// Returns what the client says of its channel. `NoSuchChannel` and `ChannelDataLength`.
+    pub fn channel(&self) -> Result<ClientChannel, Status>
+        ensures tested { MatchResult result (λ channel. IsChannelOf self.now channel
+            × NoneHolds (channel_tests self.now.channel_use self.now.channel_kind self.now.channel_data_len))
+            (λ status. IsFirst (channel_tests self.now.channel_use self.now.channel_kind self.now.channel_data_len)
+            status) }
+        ensures memory { IfErr result (λ status. status ≢ StatusOutOfMemory) }
     {
-        match self.signature_by_challenge {
-            0 => false,
-            _ => true,
-        }
+        channel_in(
+            self.channel_use,
+            self.channel_kind,
+            &self.channel_data,
+            self.channel_data_len,
+        )
     }
 
-    /// Returns the version, after a test of the version and of the user's name.
+    /// Returns the version, after a test of the version, of the user's name and of the channel.
+    #[tactic(auto, using(crate::proofs::LoginLemmas::names))]
     pub fn named_version(&self) -> Result<ScramVersion, Status>
         ensures { Reads (name_tests self.now) (λ version. IsVersion self.now.version version) result }
     {
         let version = version_of(self.version).ok_or(Status::NoSuchVersion)?;
         text(self.username)?;
-        Ok(version)
+        match self.channel() {
+            Ok(_) => Ok(version),
+            Err(status) => Err(status),
+        }
     }
 
     /// Tests the keys, without memory.
@@ -173,7 +204,8 @@ impl Login<'_> {
         }
     }
 
-    /// Tests the version, the user's name and the secret, in this order, without memory. Returns the version.
+    /// Tests the version, the user's name, the channel and the secret, in this order, without memory. Returns the
+    /// version.
     #[tactic(auto, using(crate::proofs::LoginLemmas::login_tests))]
     pub fn tested(&self) -> Result<ScramVersion, Status>
         ensures ok { IfOk result (λ version. IsVersion self.now.version version × IsTestedLogin self.now) }
@@ -249,9 +281,13 @@ impl Login<'_> {
         ensures err { IfErr result (λ status. status ≢ StatusOutOfMemory → IsNoLogin self.now status) }
         ensures memory { AsksWhere (IsTestedLogin self.now) result }
     {
-        // The login is tested before memory is asked for.
+        // The login is tested before memory is requested.
         let version = match self.tested() {
             Ok(version) => version,
+            Err(status) => return Err(status),
+        };
+        let channel = match self.channel() {
+            Ok(channel) => channel,
             Err(status) => return Err(status),
         };
         let username = text(self.username)?.to_string(alloc)?;
@@ -260,7 +296,9 @@ impl Login<'_> {
                 client
                     .with_min_iterations(self.min_iterations)
                     .with_iteration_limit(self.max_iterations)
-                    .signature_by_challenge(self.accepts_signature()),
+                    .with_channel(channel)
+                    .strict(is_set(self.strict))
+                    .signature_by_challenge(is_set(self.signature_by_challenge)),
             ),
             Err(status) => Err(status),
         }

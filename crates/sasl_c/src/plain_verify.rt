@@ -104,7 +104,7 @@ fn is_ok(reply: SaslServerFrame) -> bool
 {
     match reply {
         SaslServerFrame::Outcome(outcome) => matches!(outcome.code, SaslCode::Ok),
-        SaslServerFrame::Challenge(_) => false,
+        SaslServerFrame::Challenge(_) | SaslServerFrame::Rejected(_) => false,
     }
 }
 

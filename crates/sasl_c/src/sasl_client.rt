@@ -310,7 +310,8 @@ fn receive(
 }
 
 /// Takes received bytes, to the end of the expected header or frame, and writes the bytes to send, at most 512. `out`
-/// needs 512 bytes, which is tested before anything is hashed. `nonce` is 32 fresh random bytes.
+/// needs 512 bytes, which is tested before anything is hashed. `nonce` is 32 fresh random bytes, or any bytes if
+/// `fe2o3_sasl_wants_nonce` returns 0.
 ///
 /// FE2O3_OK does not mean that the login succeeds: look at `progress` and `why` of the connection. `taken` is how many
 /// bytes were used. While `progress` is FE2O3_IN_PROGRESS, pass the rest in the next call; after the login it belongs

@@ -45,7 +45,8 @@ pub struct SaslServerConfig<'a> {
     /// or FE2O3_PLAIN_SASLPREP. By the latter it also rejects a password that SASLprep rejects or prepares to the empty
     /// text. With FE2O3_SIGNATURE_BY_CHALLENGE SCRAM's outcome OK follows the client's empty response to a challenge.
     /// With FE2O3_INITIAL_RESPONSE_BY_CHALLENGE an init for SCRAM or PLAIN without an initial response is answered by
-    /// an empty challenge, and the response is the initial response.
+    /// an empty challenge, and the response is the initial response. With FE2O3_STRICT SCRAM rejects an attribute that
+    /// RFC 5802 defines in the place of an extension.
     pub mechanisms: u32,
 
     /// The iteration count with which PLAIN hashes the password of an unknown user.
@@ -88,6 +89,9 @@ struct Choice {
 
     /// Whether SCRAM accepts the GS2 flag `y`.
     cbind_flag_y: bool,
+
+    /// Whether SCRAM rejects an attribute that RFC 5802 defines in the place of an extension.
+    strict: bool,
 
     /// Whether an init without an initial response is answered by an empty challenge.
     initial_response_by_challenge: bool,
@@ -132,10 +136,11 @@ impl Choice {
     fn of(sum: u32) -> Option<Choice>
         ensures { MatchOption result ((choice : Choices) → sum_of choice ≢ sum) (λ choice. sum_of choice ≡ sum) }
     {
-        if sum > 2047 {
+        if sum > 4095 {
             return None;
         }
-        let (signature_by_challenge, rest) = split(sum, 1024);
+        let (strict, rest) = split(sum, 2048);
+        let (signature_by_challenge, rest) = split(rest, 1024);
         let (initial_response_by_challenge, rest) = split(rest, 512);
         if rest > 383 {
             return None;
@@ -156,6 +161,7 @@ impl Choice {
             anonymous,
             external,
             cbind_flag_y,
+            strict,
             initial_response_by_challenge,
             signature_by_challenge,
             passwords,
@@ -283,6 +289,7 @@ impl SaslServerConfig<'_> {
         let builder = PasswordServerBuilder::new(store)
             .hashes(choice.hashes())
             .accept_cbind_flag_y(choice.cbind_flag_y)
+            .strict(choice.strict)
             .plain_under_tls(choice.plain)
             .plain_records(version, self.iterations)
             .plain_passwords(choice.passwords)
@@ -485,7 +492,7 @@ fn received(
     }
 }
 
-/// The most bytes that a server sends at once: its header, and behind it a frame.
+/// The maximum number of bytes that a server sends at once: its header, and after it a frame.
 const SENT_MOST: usize = 520;
 
 /// Takes bytes, and writes what is to be sent.
@@ -522,7 +529,8 @@ fn receive(
 }
 
 /// Takes received bytes, to the end of the expected header or frame, and writes the bytes to send, at most 520. `out`
-/// needs 520 bytes, which is tested before anything is hashed. `nonce` is 32 fresh random bytes.
+/// needs 520 bytes, which is tested before anything is hashed. `nonce` is 32 fresh random bytes, or any bytes if
+/// `fe2o3_sasl_wants_nonce` returns 0.
 ///
 /// Before the call, look up the record of the user that the bytes claim (`fe2o3_sasl_server_claimed_user`). FE2O3_OK
 /// does not mean that the login succeeds: look at `progress` and `why` of the connection. `taken` is how many bytes

@@ -135,6 +135,7 @@ fn kind_of(status: u32) -> Option<ServerScramErrorKind>
         51 => Some(ServerScramErrorKind::ProofNotFoundInClientFinal),
         52 => Some(ServerScramErrorKind::AuthenticationFailed),
         53 => Some(ServerScramErrorKind::IllegalAuthenticatorState),
+        54 => Some(ServerScramErrorKind::MisplacedAttribute),
         _ => None,
     }
 }

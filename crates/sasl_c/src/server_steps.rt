@@ -1,6 +1,6 @@
 //! A server's steps over frame bodies, for programs that read and write the frames themselves.
 
-ghost use Rattle.std.specs.Prelude.{◌≡◌, ◌≢◌, ◌≤◌, ◌^◌, ◌⊎◌, Some, None, length, Ok, Err, IfOk, IfErr, OnErr, MatchResult};
+ghost use Rattle.std.specs.Prelude.{◌≡◌, ◌≢◌, ◌≤◌, ◌^◌, ◌⊎◌, Some, None, length, Ok, Err, IfOk, IfErr, OnErr, MatchResult, string_bytes};
 ghost use Rattle.fe2o3_sasl_core.specs.Events.{ServerSays};
 ghost use Rattle.fe2o3_sasl_core.specs.Runs.{AcceptorSteps, server_reply};
 ghost use Rattle.fe2o3_sasl_negotiation.specs.ServerNegotiation.{offer_body};
@@ -228,8 +228,8 @@ pub extern "C" fn fe2o3_sasl_server_step(
 }
 
 /// Returns the user name that a frame body claims.
-fn compute_claimed_user(alloc: Global, server: &ScramServer, body: &[u8]) -> Result<Vec<u8>, Status>
-    ensures names { MatchResult result (λ name. StepNames server.now body.now (Ok name.items))
+fn compute_claimed_user(alloc: Global, server: &ScramServer, body: &[u8]) -> Result<String, Status>
+    ensures names { MatchResult result (λ name. StepNames server.now body.now (Ok (string_bytes name)))
         (λ status. status ≢ StatusOutOfMemory → StepNames server.now body.now (Err status)) }
     ensures memory { AsksWhere (BodyAsks server.now Init body.now ⊎ BodyAsks server.now Response body.now) result }
 {

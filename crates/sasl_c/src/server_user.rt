@@ -1,11 +1,12 @@
 //! The user name that the bytes of a connection, or a frame body, claim before a server takes them.
 
-ghost use Rattle.std.specs.Prelude.{true, ◌≡◌, ◌≢◌, ℕ, List, Ok, IfOk, IfErr, OnErr, MatchOption};
-ghost use Rattle.sasl_c.specs.SaslServer.{AnswerNeedsMemory, AnswerNames, AwaitsFrame, BodyAsks, BodyNames, BodyNamesNoUser, FrameAsks, FrameNames, InitAsks, InitNames, Named, Names, NotNamed, ResponseAsks, ResponseNames};
+ghost use Rattle.std.specs.Prelude.{◌≡◌, ◌≢◌, ℕ, List, Some, string_bytes, IfOk, IfErr, OnErr, MatchOption};
+ghost use Rattle.sasl_c.specs.SaslServer.{AnswerNeedsMemory, AnswerNames, BodyAsks, BodyNames, BodyNamesNoUser, FrameAsks, FrameNames, Named, Names, NotNamed, ResponseAsks};
 ghost use Rattle.fe2o3_sasl_wire.specs.FrameView.{shown, viewed_frame};
-ghost use Rattle.fe2o3_scram.specs.ClientFirst.{ClientFirst as FirstValues, ReadsClientFirst};
+ghost use Rattle.fe2o3_sasl_core.specs.LoginAttempts.{ClaimIn};
 ghost use Rattle.fe2o3_scram.specs.ServerFirst.{ServerChallenge};
-ghost use Rattle.sasl_c.specs.Server.{IsOpen, ReadsFirst};
+ghost use Rattle.sasl_c.specs.Peeks.{AwaitsFrame};
+ghost use Rattle.sasl_c.specs.Server.{IsOpenUnbound};
 ghost use Rattle.sasl_c.specs.Status.{AnswersText, AsksText, AsksWhere, Fills};
 ghost use Rattle.sasl_c.specs.declared.status.Status.TheVariants.{OutOfMemory as StatusOutOfMemory};
 
@@ -13,77 +14,43 @@ use crate::arrays::write;
 use crate::sasl_server::SaslServer;
 use crate::server::ScramServer;
 use crate::status::{Status, WriteError, text_number};
-use fe2o3_sasl_core::plain_server::plain_user;
+use fe2o3_sasl_core::claimed_user;
 use fe2o3_sasl_negotiation::{Expected, FrameKind, RestoreError};
 use fe2o3_sasl_wire::{FrameView, view_frame};
-use fe2o3_scram::{ClientFirst, ScramVersion, ServerScramErrorKind};
 use std::alloc::Global;
 
-/// Returns the user name that a client-first message claims, after either GS2 header, or `None` if it cannot be parsed.
-/// `OutOfMemory` is the only error.
-#[tactic(auto, using(crate::proofs::ServerUserLemmas::scram_user))]
-fn scram_user(alloc: Global, text: &[u8]) -> Result<Option<Vec<u8>>, Status>
-    ensures ok { IfOk result (λ user. MatchOption user
-        ((first : FirstValues) → ¬ ReadsClientFirst true text.now (Ok first))
-        (λ user. (first : FirstValues) × ReadsClientFirst true text.now (Ok first) × (user.items ≡ first.user))) }
-    ensures err { IfErr result (λ status. status ≡ StatusOutOfMemory) }
-    ensures memory { OnErr result (ReadsFirst true text.now) }
-{
-    match ClientFirst::parse_with_cbind_flag_y(alloc, text, true) {
-        Ok(first) => Ok(Some(first.username.as_bytes().to_vec(alloc)?)),
-        Err(ServerScramErrorKind::OutOfMemory) => Err(Status::OutOfMemory),
-        Err(_) => Ok(None),
-    }
-}
-
-/// Returns the user name that an init claims, or `None` if it claims none. `OutOfMemory` is the only error.
-#[tactic(auto, using(crate::proofs::ServerUserLemmas::init_user))]
-fn init_user(alloc: Global, mechanism: &str, text: &[u8]) -> Result<Option<Vec<u8>>, Status>
-    ensures ok { IfOk result (λ user. MatchOption user
-        ((name : List ℕ) → ¬ InitNames mechanism.now text.now name)
-        (λ user. InitNames mechanism.now text.now user.items)) }
-    ensures err { IfErr result (λ status. status ≡ StatusOutOfMemory) }
-    ensures memory { OnErr result (InitAsks mechanism.now text.now) }
-{
-    if let Some(_) = ScramVersion::from_mechanism(mechanism) {
-        return scram_user(alloc, text);
-    }
-    if mechanism != "PLAIN" {
-        return Ok(None);
-    }
-    match plain_user(text) {
-        Some(user) => Ok(Some(user.as_bytes().to_vec(alloc)?)),
-        None => Ok(None),
-    }
-}
-
 /// Returns the user name that the initial response of an init claims, if it has one that does.
+#[tactic(auto, using(crate::proofs::ServerUserLemmas::response_user))]
 fn response_user(
     alloc: Global,
     mechanism: &str,
     response: Option<&[u8]>,
-) -> Result<Option<Vec<u8>>, Status>
+) -> Result<Option<String>, Status>
     ensures ok { IfOk result (λ user. MatchOption user
-        ((name : List ℕ) → ¬ ResponseNames mechanism.now (shown response.entry) name)
-        (λ user. ResponseNames mechanism.now (shown response.entry) user.items)) }
+        ((name : List ℕ) → ¬ ClaimIn mechanism.now (shown response.entry) (Some name))
+        (λ user. ClaimIn mechanism.now (shown response.entry) (Some (string_bytes user)))) }
     ensures err { IfErr result (λ status. status ≡ StatusOutOfMemory) }
     ensures memory { OnErr result (ResponseAsks mechanism.now (shown response.entry)) }
 {
     match response {
-        Some(text) => init_user(alloc, mechanism, text),
+        Some(text) => match claimed_user(alloc, mechanism, text) {
+            Ok(Some(name)) => Ok(Some(name)),
+            Ok(None) => Ok(None),
+            Err(_) => Err(Status::OutOfMemory),
+        },
         None => Ok(None),
     }
 }
 
-/// Returns the user name of the open challenge, or `None` if none is open. `OutOfMemory` is the only error.
-fn open_user(alloc: Global, scram: &ScramServer) -> Result<Option<Vec<u8>>, Status>
-    ensures ok { IfOk result (λ user. MatchOption user ((challenge : ServerChallenge) → ¬ IsOpen scram.now challenge)
-        (λ user. (challenge : ServerChallenge) × IsOpen scram.now challenge × (user.items ≡ challenge.user))) }
+/// Returns the user name of the open challenge, or `None` if none is open to a client that binds no channel. `OutOfMemory` is the only error.
+fn open_user(alloc: Global, scram: &ScramServer) -> Result<Option<String>, Status>
+    ensures ok { IfOk result (λ user. MatchOption user ((challenge : ServerChallenge) → ¬ IsOpenUnbound scram.now challenge)
+        (λ user. (challenge : ServerChallenge) × IsOpenUnbound scram.now challenge × (string_bytes user ≡ challenge.user))) }
     ensures err { IfErr result (λ status. status ≡ StatusOutOfMemory) }
-    ensures memory { OnErr result ((challenge : ServerChallenge) × IsOpen scram.now challenge) }
+    ensures memory { OnErr result ((challenge : ServerChallenge) × IsOpenUnbound scram.now challenge) }
 {
-    match scram.challenge() {
-        Some(challenge) => Ok(Some(challenge.username.as_bytes().to_vec(alloc)?)),
+    match scram.unbound_challenge() {
+        Some(challenge) => Ok(Some(challenge.username.to_string(alloc)?)),
         None => Ok(None),
     }
 }
@@ -91,10 +58,10 @@ fn open_user(alloc: Global, scram: &ScramServer) -> Result<Option<Vec<u8>>, Stat
 /// Returns the user name that a response claims: that of the initial response that it is, or of the open challenge; or
 /// `None` if it claims none. `OutOfMemory` is the only error.
 #[tactic(auto, using(crate::proofs::ServerUserLemmas::answer_user))]
-fn answer_user(alloc: Global, scram: &ScramServer, text: &[u8]) -> Result<Option<Vec<u8>>, Status>
+fn answer_user(alloc: Global, scram: &ScramServer, text: &[u8]) -> Result<Option<String>, Status>
     ensures ok { IfOk result (λ user. MatchOption user
         ((name : List ℕ) → ¬ AnswerNames scram.now text.now name)
-        (λ user. AnswerNames scram.now text.now user.items)) }
+        (λ user. AnswerNames scram.now text.now (string_bytes user))) }
     ensures err { IfErr result (λ status. status ≡ StatusOutOfMemory) }
     ensures memory { OnErr result (AnswerNeedsMemory scram.now text.now) }
 {
@@ -105,10 +72,10 @@ fn answer_user(alloc: Global, scram: &ScramServer, text: &[u8]) -> Result<Option
             Err(status) => Err(status),
         };
     };
-    match init_user(alloc, init.mechanism, text) {
+    match claimed_user(alloc, init.mechanism, text) {
         Ok(Some(name)) => Ok(Some(name)),
         Ok(None) => Ok(None),
-        Err(status) => Err(status),
+        Err(_) => Err(Status::OutOfMemory),
     }
 }
 
@@ -118,10 +85,10 @@ fn frame_user(
     scram: &ScramServer,
     turn: FrameKind,
     frame: &FrameView<'_>,
-) -> Result<Option<Vec<u8>>, Status>
+) -> Result<Option<String>, Status>
     ensures ok { IfOk result (λ user. MatchOption user
         ((name : List ℕ) → ¬ FrameNames scram.now turn (viewed_frame frame.now) name)
-        (λ user. FrameNames scram.now turn (viewed_frame frame.now) user.items)) }
+        (λ user. FrameNames scram.now turn (viewed_frame frame.now) (string_bytes user))) }
     ensures err { IfErr result (λ status. status ≡ StatusOutOfMemory) }
     ensures memory { OnErr result (FrameAsks scram.now turn (viewed_frame frame.now)) }
 {
@@ -147,9 +114,9 @@ pub fn body_user(
     scram: &ScramServer,
     turn: FrameKind,
     body: &[u8],
-) -> Result<Option<Vec<u8>>, Status>
+) -> Result<Option<String>, Status>
     ensures ok { IfOk result (λ user. MatchOption user (BodyNamesNoUser scram.now turn body.now)
-        (λ user. BodyNames scram.now turn body.now user.items)) }
+        (λ user. BodyNames scram.now turn body.now (string_bytes user))) }
     ensures err { IfErr result (λ status. status ≡ StatusOutOfMemory) }
     ensures memory { OnErr result (BodyAsks scram.now turn body.now) }
 {
@@ -161,8 +128,8 @@ pub fn body_user(
 
 /// Returns the user name that the frame claims which these bytes complete.
 #[tactic(auto, using(crate::proofs::ServerUserLemmas::named))]
-fn compute_claimed_user(alloc: Global, server: &SaslServer, bytes: &[u8]) -> Result<Vec<u8>, Status>
-    ensures ok { IfOk result (λ name. Named server.now bytes.now name.items) }
+fn compute_claimed_user(alloc: Global, server: &SaslServer, bytes: &[u8]) -> Result<String, Status>
+    ensures ok { IfOk result (λ name. Named server.now bytes.now (string_bytes name)) }
     ensures err { IfErr result (λ status. status ≢ StatusOutOfMemory → NotNamed server.now bytes.now status) }
     ensures memory { AsksWhere (AwaitsFrame server.now.connection) result }
 {

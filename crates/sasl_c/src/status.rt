@@ -136,6 +136,15 @@ pub enum Status {
     /// The server sent an error in the place of its signature, such as `e=invalid-proof` for a wrong password.
     /// fe2o3_scram_server_error says which.
     ServerError,
+
+    /// The other side ended its stream before the login was complete.
+    EndOfInput,
+
+    /// The data of a channel are empty or have more than 64 bytes (RFC 5802, section 7).
+    ChannelDataLength,
+
+    /// The use of a channel is none of enum fe2o3_channel_use, or its kind none of enum fe2o3_channel_kind.
+    NoSuchChannel,
 }
 
 /// Why a call that writes a text fails.
@@ -231,6 +240,9 @@ impl Status {
             Status::MixedDirections => 87,
             Status::UnassignedCodePoint => 88,
             Status::ServerError => 89,
+            Status::EndOfInput => 90,
+            Status::ChannelDataLength => 91,
+            Status::NoSuchChannel => 92,
         }
     }
 }
@@ -257,6 +269,7 @@ fn client_number(why: ScramErrorKind) -> u32
         ScramErrorKind::XorLengthMismatch => 34,
         ScramErrorKind::IllegalClientState => 35,
         ScramErrorKind::ServerSignatureMismatch => 36,
+        ScramErrorKind::MisplacedAttribute => 37,
         ScramErrorKind::OutOfMemory => 1,
     }
 }
@@ -280,6 +293,7 @@ fn server_number(why: ServerScramErrorKind) -> u32
         ServerScramErrorKind::ProofNotFoundInClientFinal => 51,
         ServerScramErrorKind::AuthenticationFailed => 52,
         ServerScramErrorKind::IllegalAuthenticatorState => 53,
+        ServerScramErrorKind::MisplacedAttribute => 54,
         ServerScramErrorKind::OutOfMemory => 1,
     }
 }

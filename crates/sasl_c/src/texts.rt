@@ -9,6 +9,7 @@ use crate::frames::SaslFrameView;
 use crate::keys::ScramKeys;
 use crate::login::Login;
 use crate::records::ScramRecord;
+use crate::rules::ScramRules;
 use crate::sasl_client::{SaslClient, SaslLogin};
 use crate::sasl_server::{SaslServer, SaslServerConfig};
 use crate::server::ScramServer;
@@ -60,6 +61,7 @@ fn text_of(status: u32) -> &'static [u8]
         34 => b"Client: LHS and RHS of XOR have different length\0",
         35 => b"Client: Illegal SCRAM client state\0",
         36 => b"Client: Server signature mismatch\0",
+        37 => b"Client: Attribute in the place of an extension\0",
         40 => b"Server: Invalid UTF-8\0",
         41 => b"Server: Cannot parse GS2-header\0",
         42 => b"Server: Error parsing username field\0",
@@ -74,6 +76,7 @@ fn text_of(status: u32) -> &'static [u8]
         51 => b"Server: Client final message doesn't have a proof\0",
         52 => b"Server: Authentication failed\0",
         53 => b"Server: Illegal SCRAM client state\0",
+        54 => b"Server: Attribute in the place of an extension\0",
         60 => b"Record: The record does not have five fields\0",
         61 => b"Record: Unknown SCRAM mechanism\0",
         62 => b"Record: Cannot parse iteration count\0",
@@ -101,6 +104,9 @@ fn text_of(status: u32) -> &'static [u8]
         87 => b"The text mixes directions\0",
         88 => b"The text holds an unassigned code point\0",
         89 => b"Client: The server sent an error\0",
+        90 => b"Connection: The other side ended the stream before the negotiation was complete\0",
+        91 => b"Channel binding data of a wrong length\0",
+        92 => b"No such channel\0",
         _ => b"Unknown status\0",
     }
 }
@@ -130,6 +136,7 @@ fn size(which: u32) -> usize
         8 => size_of::<SaslFrameView<'static>>(),
         9 => size_of::<SaslServerConfig<'static>>(),
         10 => size_of::<SaslServer>(),
+        11 => size_of::<ScramRules>(),
         _ => 0,
     }
 }

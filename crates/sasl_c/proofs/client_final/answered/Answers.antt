@@ -4,7 +4,8 @@ use Rattle.sasl_c.proofs.client_final.answered.Goals as goal
 
 pub returns-clause-err : goal.returns-clause-err
 returns-clause-err c = mapped_err _ _ c.answered_of.result c.answered_of.ensures.err
-    (λ status held other. held other c.in-Ok.ensures.ok.1.0 c.in-Ok.ensures.ok.0 (search rules))
+    (λ status held other. held other c.in-Ok.ensures.ok.1.0 c.in-Ok.ensures.ok.0 c.in-Ok-channel.ensures.tested.0
+    (search rules))
 
 pub returns-in-Err-clause-err : goal.returns-in-Err-clause-err
 returns-in-Err-clause-err c = λ other.

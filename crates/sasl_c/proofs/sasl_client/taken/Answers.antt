@@ -1,5 +1,5 @@
 use Rattle.fe2o3_sasl_negotiation.specs.Sides.{client_side, hostname_in}
-use Rattle.sasl_c.proofs.SaslClientLemmas.{behind_all}
+use Rattle.sasl_c.proofs.ClientReplyLemmas.{behind_all}
 use Rattle.sasl_c.proofs.sasl_client.taken.Goals as goal
 
 pub returns-in_default-clause-err : goal.returns-in_default-clause-err

@@ -1,3 +1,4 @@
+use Rattle.std.specs.Prelude.{string_bytes}
 use Rattle.sasl_c.proofs.ServerUserLemmas.{bytes_name, names_no_user}
 use Rattle.sasl_c.proofs.server_user.compute_claimed_user.Goals as goal
 
@@ -7,7 +8,7 @@ returns-in-Ok-Some-body_user-clause-ok c =
     let names = rw c.deref.ensures.value at (rw c.in-Ok-Some-body_user.field-0-is at c.in-Ok-Some-body_user.ensures.ok)
     in
     bytes_name c.args.server.now c.in_ok-kept.kept c.args.bytes.now c.in-Ok-Some.body.items
-    c.in-Ok-Some-body_user.name.items c.in-Frame.turn done.0 c.in_ok-kept.ensures.kept
+    (string_bytes c.in-Ok-Some-body_user.name) c.in-Frame.turn done.0 c.in_ok-kept.ensures.kept
     c.in_ok-kept.ensures.wanting.1 c.in-Frame.is done.1 names
 
 pub returns-in-Ok-None-body_user-clause-err : goal.returns-in-Ok-None-body_user-clause-err

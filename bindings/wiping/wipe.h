@@ -1,0 +1,36 @@
+/* What the wrappers of the exports use. */
+#ifndef FE2O3_SASL_WIPE_H
+#define FE2O3_SASL_WIPE_H
+
+#include <stddef.h>
+
+/* How many bytes of the stack are cleared after each export: an enumerator `depth_NAME`. */
+#define DEPTH(name, bytes) depth_##name = (bytes),
+enum depth {
+#include "depths.h"
+};
+#undef DEPTH
+
+/* Zeroes that many bytes of the stack below the caller, and the registers that a call may change. */
+void clear_stack(size_t depth);
+
+#if defined(__x86_64__) && defined(__GNUC__)
+#include <cpuid.h>
+
+/* Whether the processor and the system have the vector registers 16 to 31 of AVX-512. Asked once, since it is slow. */
+static inline int has_upper_vectors(void)
+{
+    static int known;
+    int has = __atomic_load_n(&known, __ATOMIC_RELAXED);
+    if (has == 0) {
+        unsigned eax, ebx, ecx, edx, enabled = 0;
+        if (__get_cpuid(1, &eax, &ebx, &ecx, &edx) && (ecx >> 27 & 1) != 0)
+            __asm__ volatile("xgetbv" : "=a"(enabled), "=d"(edx) : "c"(0));
+        has = (enabled & 0xe6) == 0xe6 && __get_cpuid_count(7, 0, &eax, &ebx, &ecx, &edx) && ebx >> 31 != 0 ? 2 : 1;
+        __atomic_store_n(&known, has, __ATOMIC_RELAXED);
+    }
+    return has == 2;
+}
+#endif
+
+#endif

@@ -1,0 +1,558 @@
+//! The calls of a SCRAM server whose state is a struct between them.
+
+ghost use Rattle.std.specs.Prelude.{◌≡◌, ◌≢◌, ◌≤◌, ◌^◌, List, ℕ, None, length, Ok, Err, IfOk, IfErr, OnErr};
+ghost use Rattle.fe2o3_scram.specs.ClientFirst.{HasEscapes, default_rules, either_header};
+ghost use Rattle.fe2o3_scram.specs.Credentials.{Record};
+ghost use Rattle.fe2o3_scram.specs.ServerFirst.{ServerChallenge};
+ghost use Rattle.fe2o3_scram.specs.ScramServer.{Initial, ServerFirstSent, challenge_kept, provider_in, state_in, rules_in, mock_in};
+ghost use Rattle.sasl_c.specs.Rules.{ByRules, with_cbind_flag_y};
+ghost use Rattle.sasl_c.specs.Server.{MakesChallenge, Challenges, ClaimedUser, ConcludesLogin, Concludes, FinalAsks, MemoryCosts, NotChallenged, OpensExchange, ReadsFirst, TellsUser, WritesChallenge};
+ghost use Rattle.sasl_c.specs.Status.{AnswersText, AsksText, AsksWhere, Fills, FillsWithin};
+ghost use Rattle.sasl_c.specs.declared.status.Status.TheVariants.{OutOfMemory as StatusOutOfMemory};
+ghost use Rattle.sasl_c.specs.declared.status.WriteError.TheVariants.{RoomTooSmall};
+
+use crate::arrays::{head, put, write};
+use crate::records::ScramRecord;
+use crate::rules::{ScramRules, with_cbind_flag_y};
+use crate::server::{ScramServer, fits};
+use crate::status::{Status, WriteError, text_number};
+use fe2o3_scram::{
+    ClientFirst, Meter, OpenChallenge, ScramAuthenticator, ScramCredentialProvider, ServerRules,
+    ServerScramErrorKind, UserRecord,
+};
+use std::alloc::Global;
+
+/// A server of one user.
+type Machine = ScramAuthenticator<UserRecord>;
+
+/// The rules of a server that accepts both GS2 headers of clients that bind no channel.
+const EITHER_HEADER: ServerRules = ServerRules {
+    accept_cbind_flag_y: true,
+    strict: false,
+    channels: None,
+};
+
+/// Returns a server over these credentials, with these rules for the messages of a client.
+pub fn server_over<C: ScramCredentialProvider>(
+    credentials: C,
+    rules: ServerRules,
+) -> ScramAuthenticator<C>
+    ensures provider { provider_in result ≡ credentials }
+    ensures rules { rules_in result ≡ rules }
+    ensures mock { mock_in result ≡ None }
+    ensures state { state_in result ≡ Initial }
+{
+    ScramAuthenticator::new(credentials).with_rules(rules)
+}
+
+/// Returns a server with an open challenge to a client-first message.
+fn challenged(
+    alloc: Global,
+    rules: ServerRules,
+    kept: &ScramRecord,
+    nonce: &[u8; 32],
+    client_first: &[u8],
+) -> Result<Machine, Status>
+    ensures ok { IfOk result (λ machine. (challenge : ServerChallenge) × (stored : Record)
+        × (state_in machine ≡ ServerFirstSent challenge stored)
+        × MakesChallenge rules kept.now nonce.now client_first.now challenge) }
+    ensures err { IfErr result (λ status. status ≢ StatusOutOfMemory
+        → NotChallenged rules kept.now nonce.now client_first.now status) }
+    ensures memory { AsksWhere (ReadsFirst rules client_first.now) result }
+{
+    let first = match ClientFirst::parse_with_rules(alloc, client_first, rules) {
+        Ok(first) => first,
+        Err(why) => return Err(Status::from(why)),
+    };
+    let username = first.username.into_owned(alloc)?;
+    let kept = match kept.read(alloc) {
+        Ok(kept) => kept,
+        Err(status) => return Err(status),
+    };
+    let credential = UserRecord::new(username, kept);
+    let mut machine = server_over(credential, rules);
+    match machine.compute_server_first_message(alloc, client_first, nonce) {
+        Ok(Some(_)) => Ok(machine),
+        Ok(None) => Err(Status::Server(ServerScramErrorKind::AuthenticationFailed)),
+        Err(why) => Err(Status::from(why)),
+    }
+}
+
+/// Writes the message of a challenge, and the struct that holds the challenge.
+fn open_into(
+    version: u32,
+    challenge: &OpenChallenge<'_>,
+    server: &mut ScramServer,
+    out: &mut [u8],
+    out_len: &mut usize,
+) -> Result<(), WriteError>
+    ensures { WritesChallenge version (challenge_kept challenge.now) server.old server.new
+        (record { bytes = out.old; len = out_len.old }) (record { bytes = out.new; len = out_len.new }) result }
+{
+    if !fits(challenge) {
+        return Err(WriteError::Other(Status::TooLong));
+    }
+    put(challenge.server_first_message, out, out_len)?;
+    server.open(version, challenge);
+    Ok(())
+}
+
+/// Writes the server-first message, and the struct of the server with its open challenge.
+fn first_into(
+    alloc: Global,
+    rules: ServerRules,
+    kept: &ScramRecord,
+    server: &mut ScramServer,
+    nonce: &[u8; 32],
+    client_first: &[u8],
+    out: &mut [u8],
+    out_len: &mut usize,
+) -> Result<(), WriteError>
+    ensures text { Fills (Challenges rules kept.now nonce.now client_first.now)
+        (record { bytes = out.old; len = out_len.old }) (record { bytes = out.new; len = out_len.new }) result }
+    ensures moved { OpensExchange rules kept.now nonce.now client_first.now server.old server.new result }
+    ensures memory { AsksText (ReadsFirst rules client_first.now) result }
+{
+    let machine = match challenged(alloc, rules, kept, nonce, client_first) {
+        Ok(machine) => machine,
+        Err(status) => return Err(WriteError::Other(status)),
+    };
+    let Some(challenge) = machine.open_challenge() else {
+        drop(machine);
+        return Err(WriteError::Other(Status::TooLong));
+    };
+    let written = open_into(kept.version, &challenge, server, out, out_len);
+    drop(machine);
+    written
+}
+
+/// Answers a client-first message with the server-first message. This starts a new exchange, whatever the state of the
+/// server is. The GS2 header of the message has to be `n,,`.
+///
+/// `kept` is the record of the claimed user (`fe2o3_scram_server_claimed_user`), or a mock record
+/// (`fe2o3_scram_record_mock`) for an unknown one. `nonce` is 32 fresh random bytes.
+#[unsafe(no_mangle)]
+pub extern "C" fn fe2o3_scram_server_first(
+    alloc: Global,
+    kept: &ScramRecord,
+    server: &mut ScramServer,
+    nonce: &[u8; 32],
+    client_first: &[u8],
+    out: &mut [u8],
+    out_len: &mut usize,
+) -> u32
+    ensures { AnswersText result (λ answer. Fills (Challenges default_rules kept.now nonce.now client_first.now)
+        (record { bytes = out.old; len = out_len.old }) (record { bytes = out.new; len = out_len.new }) answer
+        × OpensExchange default_rules kept.now nonce.now client_first.now server.old server.new answer
+        × AsksText (ReadsFirst default_rules client_first.now) answer) }
+{
+    text_number(first_into(
+        alloc,
+        ServerRules::new(),
+        kept,
+        server,
+        nonce,
+        client_first,
+        out,
+        out_len,
+    ))
+}
+
+/// Answers a client-first message like `fe2o3_scram_server_first`, but also accepts the GS2 header `y,,`: the client
+/// supports channel binding, and was offered no mechanism with `-PLUS` (RFC 5802, section 6). Only for a server that
+/// offers none.
+#[unsafe(no_mangle)]
+pub extern "C" fn fe2o3_scram_server_first_with_cbind_flag_y(
+    alloc: Global,
+    kept: &ScramRecord,
+    server: &mut ScramServer,
+    nonce: &[u8; 32],
+    client_first: &[u8],
+    out: &mut [u8],
+    out_len: &mut usize,
+) -> u32
+    ensures { AnswersText result (λ answer. Fills (Challenges either_header kept.now nonce.now client_first.now)
+        (record { bytes = out.old; len = out_len.old }) (record { bytes = out.new; len = out_len.new }) answer
+        × OpensExchange either_header kept.now nonce.now client_first.now server.old server.new answer
+        × AsksText (ReadsFirst either_header client_first.now) answer) }
+{
+    text_number(first_into(
+        alloc,
+        EITHER_HEADER,
+        kept,
+        server,
+        nonce,
+        client_first,
+        out,
+        out_len,
+    ))
+}
+
+/// Answers a client-first message like `fe2o3_scram_server_first`, by these rules (RFC 5802, section 5.1). Pass the
+/// same rules to `fe2o3_scram_server_final_with_rules`. With rules of zeros the call does what
+/// `fe2o3_scram_server_first` does.
+///
+/// If the server binds channels, the GS2 header has to be `p=` with the name of a kind whose data the rules have
+/// (section 6). Otherwise it has to be `n,,`, or `y,,` if the rules accept that.
+///
+/// The errors are, in this order:
+///
+/// - FE2O3_CHANNEL_DATA_LENGTH if the rules bind channels, and data have more than 64 bytes,
+/// - FE2O3_SERVER_UTF8_ERROR,
+/// - FE2O3_SERVER_CANNOT_PARSE_GS2_HEADER if the rules do not accept the header,
+/// - FE2O3_SERVER_CANNOT_PARSE_USERNAME and FE2O3_SERVER_CANNOT_PARSE_CLIENT_NONCE,
+/// - FE2O3_SERVER_MISPLACED_ATTRIBUTE of a strict server,
+/// - FE2O3_NO_SUCH_VERSION and FE2O3_TOO_LONG if `kept` holds no record,
+/// - FE2O3_TOO_LONG if a text of the challenge does not fit into the struct,
+/// - FE2O3_ROOM_TOO_SMALL.
+#[unsafe(no_mangle)]
+pub extern "C" fn fe2o3_scram_server_first_with_rules(
+    alloc: Global,
+    rules: &ScramRules,
+    kept: &ScramRecord,
+    server: &mut ScramServer,
+    nonce: &[u8; 32],
+    client_first: &[u8],
+    out: &mut [u8],
+    out_len: &mut usize,
+) -> u32
+    ensures { AnswersText result (λ answer. ByRules rules.now
+        ((server.new ≡ server.old) × (out.new ≡ out.old) × (out_len.new ≡ out_len.old))
+        (λ shown answer. Fills (Challenges shown kept.now nonce.now client_first.now)
+        (record { bytes = out.old; len = out_len.old }) (record { bytes = out.new; len = out_len.new }) answer
+        × OpensExchange shown kept.now nonce.now client_first.now server.old server.new answer
+        × AsksText (ReadsFirst shown client_first.now) answer) answer) }
+{
+    text_number(first_by_rules(
+        alloc,
+        rules,
+        kept,
+        server,
+        nonce,
+        client_first,
+        out,
+        out_len,
+    ))
+}
+
+/// Writes the server-first message by the rules of a struct, and the struct of the server with its open challenge.
+fn first_by_rules(
+    alloc: Global,
+    rules: &ScramRules,
+    kept: &ScramRecord,
+    server: &mut ScramServer,
+    nonce: &[u8; 32],
+    client_first: &[u8],
+    out: &mut [u8],
+    out_len: &mut usize,
+) -> Result<(), WriteError>
+    ensures { ByRules rules.now
+        ((server.new ≡ server.old) × (out.new ≡ out.old) × (out_len.new ≡ out_len.old))
+        (λ shown answer. Fills (Challenges shown kept.now nonce.now client_first.now)
+        (record { bytes = out.old; len = out_len.old }) (record { bytes = out.new; len = out_len.new }) answer
+        × OpensExchange shown kept.now nonce.now client_first.now server.old server.new answer
+        × AsksText (ReadsFirst shown client_first.now) answer) result }
+{
+    match rules.shown() {
+        Ok(rules) => first_into(
+            alloc,
+            rules,
+            kept,
+            server,
+            nonce,
+            client_first,
+            out,
+            out_len,
+        ),
+        Err(status) => Err(WriteError::Other(status)),
+    }
+}
+
+/// Writes the user name that a client-first message claims, without escapes. Nobody is authenticated yet: use it only
+/// to look up the record.
+#[unsafe(no_mangle)]
+pub extern "C" fn fe2o3_scram_server_claimed_user(
+    alloc: Global,
+    client_first: &[u8],
+    out: &mut [u8],
+    out_len: &mut usize,
+) -> u32
+    ensures { AnswersText result (λ answer. Fills (ClaimedUser either_header client_first.now)
+        (record { bytes = out.old; len = out_len.old }) (record { bytes = out.new; len = out_len.new }) answer × AsksText (HasEscapes either_header client_first.now) answer) }
+{
+    text_number(claimed_into(alloc, EITHER_HEADER, client_first, out, out_len))
+}
+
+/// Writes the user name that a client-first message claims, like `fe2o3_scram_server_claimed_user`, by these rules (RFC
+/// 5802, section 5.1). If the server binds channels, the GS2 header has to be one that
+/// `fe2o3_scram_server_first_with_rules` accepts. Otherwise `n,,` and `y,,` are both accepted here, whatever the rules
+/// say: with rules of zeros the call does what `fe2o3_scram_server_claimed_user` does.
+///
+/// The errors are those of `fe2o3_scram_server_first_with_rules` from FE2O3_CHANNEL_DATA_LENGTH to
+/// FE2O3_SERVER_MISPLACED_ATTRIBUTE, in the same order.
+#[unsafe(no_mangle)]
+pub extern "C" fn fe2o3_scram_server_claimed_user_with_rules(
+    alloc: Global,
+    rules: &ScramRules,
+    client_first: &[u8],
+    out: &mut [u8],
+    out_len: &mut usize,
+) -> u32
+    ensures { AnswersText result (λ answer. ByRules rules.now ((out.new ≡ out.old) × (out_len.new ≡ out_len.old))
+        (λ shown answer. Fills (ClaimedUser (with_cbind_flag_y shown) client_first.now)
+        (record { bytes = out.old; len = out_len.old }) (record { bytes = out.new; len = out_len.new }) answer
+        × AsksText (HasEscapes (with_cbind_flag_y shown) client_first.now) answer) answer) }
+{
+    text_number(claimed_by_rules(alloc, rules, client_first, out, out_len))
+}
+
+/// Writes the user name that a client-first message claims, by the rules of a struct.
+fn claimed_by_rules(
+    alloc: Global,
+    rules: &ScramRules,
+    client_first: &[u8],
+    out: &mut [u8],
+    out_len: &mut usize,
+) -> Result<(), WriteError>
+    ensures { ByRules rules.now ((out.new ≡ out.old) × (out_len.new ≡ out_len.old))
+        (λ shown answer. Fills (ClaimedUser (with_cbind_flag_y shown) client_first.now)
+        (record { bytes = out.old; len = out_len.old }) (record { bytes = out.new; len = out_len.new }) answer
+        × AsksText (HasEscapes (with_cbind_flag_y shown) client_first.now) answer) result }
+{
+    match rules.shown() {
+        Ok(rules) => {
+            let rules = with_cbind_flag_y(rules);
+            claimed_into(alloc, rules, client_first, out, out_len)
+        }
+        Err(status) => Err(WriteError::Other(status)),
+    }
+}
+
+/// Writes the user name that a client-first message claims.
+fn claimed_into(
+    alloc: Global,
+    rules: ServerRules,
+    client_first: &[u8],
+    out: &mut [u8],
+    out_len: &mut usize,
+) -> Result<(), WriteError>
+    ensures filled { Fills (ClaimedUser rules client_first.now) (record { bytes = out.old; len = out_len.old })
+        (record { bytes = out.new; len = out_len.new }) result }
+    ensures memory { AsksText (HasEscapes rules client_first.now) result }
+{
+    match ClientFirst::parse_with_rules(alloc, client_first, rules) {
+        Ok(first) => put(first.username.as_bytes(), out, out_len),
+        Err(why) => Err(WriteError::Other(Status::from(why))),
+    }
+}
+
+/// Returns the server-final message.
+fn concluded(
+    alloc: Global,
+    rules: ServerRules,
+    kept: &ScramRecord,
+    server: &ScramServer,
+    client_final: &[u8],
+    meter: &mut Meter,
+) -> Result<Vec<u8>, Status>
+    requires { meter.old ≤ 2 ^ 63 }
+    ensures ok { IfOk result (λ message. (user : List ℕ)
+        × ConcludesLogin rules kept.now server.now client_final.now message.items user) }
+    ensures fits { IfOk result (λ message. length message.items ≤ 90) }
+    ensures named { IfOk result (λ _. server.now.user_len ≤ 256) }
+    ensures err { IfErr result (λ status. status ≢ StatusOutOfMemory
+        → Concludes rules kept.now client_final.now server.now server.now (Err status)) }
+    ensures memory { AsksWhere (FinalAsks rules kept.now client_final.now server.now) result }
+    ensures cost { AsksWhere (MemoryCosts rules kept.now client_final.now server.now meter.old meter.new) result }
+{
+    let Some(challenge) = server.challenge_for(&rules) else {
+        return Err(Status::Server(ServerScramErrorKind::IllegalAuthenticatorState));
+    };
+    let (version, stored) = match kept.lent() {
+        Ok(shown) => shown,
+        Err(status) => return Err(status),
+    };
+    let channel = rules.expected_channel(challenge.header);
+    let strict = rules.is_strict();
+    match version.compute_server_final_message_with_channel(
+        alloc,
+        &channel,
+        strict,
+        client_final,
+        challenge.client_server_nonce,
+        challenge.client_first_message_bare,
+        challenge.server_first_message,
+        &stored,
+        meter,
+    ) {
+        Ok(message) => Ok(message),
+        Err(why) => Err(Status::from(why)),
+    }
+}
+
+/// The maximum number of bytes of a server-final message.
+const FINAL_MOST: usize = 90;
+
+/// Writes the server-final message.
+#[tactic(auto, using(crate::proofs::ServerLemmas::concludes))]
+fn conclude(
+    alloc: Global,
+    rules: ServerRules,
+    kept: &ScramRecord,
+    server: &mut ScramServer,
+    client_final: &[u8],
+    meter: &mut Meter,
+    out: &mut [u8],
+    out_len: &mut usize,
+) -> Result<(), WriteError>
+    requires { meter.old ≤ 2 ^ 63 }
+    ensures text { FillsWithin 90 (Concludes rules kept.now client_final.now server.old server.new)
+        (record { bytes = out.old; len = out_len.old }) (record { bytes = out.new; len = out_len.new }) result }
+    ensures stays { OnErr result (server.new ≡ server.old) }
+    ensures first { IfErr result (λ status. status ≡ RoomTooSmall → meter.new ≡ meter.old) }
+    ensures memory { AsksText (FinalAsks rules kept.now client_final.now server.old) result }
+    ensures cost { AsksText (MemoryCosts rules kept.now client_final.now server.old meter.old meter.new) result }
+{
+    if out.len() < FINAL_MOST {
+        *out_len = FINAL_MOST;
+        return Err(WriteError::RoomTooSmall);
+    }
+    let message = concluded(alloc, rules, kept, server, client_final, meter)?;
+    put(&message, out, out_len)?;
+    server.log_in();
+    Ok(())
+}
+
+/// Answers a client-final message with the server-final message, if its proof is right. Only FE2O3_OK means that the
+/// user is authenticated.
+///
+/// `kept` is the record that `fe2o3_scram_server_first` was called with. `out` needs 90 bytes, which is tested before
+/// anything is hashed.
+#[unsafe(no_mangle)]
+pub extern "C" fn fe2o3_scram_server_final(
+    alloc: Global,
+    kept: &ScramRecord,
+    server: &mut ScramServer,
+    client_final: &[u8],
+    out: &mut [u8],
+    out_len: &mut usize,
+) -> u32
+    ensures { AnswersText result (λ answer. FillsWithin 90 (Concludes default_rules kept.now client_final.now server.old server.new)
+        (record { bytes = out.old; len = out_len.old }) (record { bytes = out.new; len = out_len.new }) answer
+        × OnErr answer (server.new ≡ server.old) × AsksText (FinalAsks default_rules kept.now client_final.now server.old) answer) }
+{
+    let mut meter = Meter::new();
+    text_number(conclude(
+        alloc,
+        ServerRules::new(),
+        kept,
+        server,
+        client_final,
+        &mut meter,
+        out,
+        out_len,
+    ))
+}
+
+/// Answers a client-final message like `fe2o3_scram_server_final`, by the rules that
+/// `fe2o3_scram_server_first_with_rules` was called with (RFC 5802, section 5.1). With rules of zeros the call does what
+/// `fe2o3_scram_server_final` does. If the server binds channels, the message has to have the GS2 header of the exchange
+/// and the server's data of its kind (section 6).
+///
+/// The errors are, in this order:
+///
+/// - FE2O3_CHANNEL_DATA_LENGTH if the rules bind channels, and data have more than 64 bytes,
+/// - FE2O3_ROOM_TOO_SMALL if `out` has fewer than 90 bytes,
+/// - FE2O3_SERVER_ILLEGAL_AUTHENTICATOR_STATE if no challenge is open for these rules: none is open, or it is to a
+///   client that binds a channel by a kind of which the rules have no data, or the rules bind channels and its client
+///   binds none,
+/// - FE2O3_NO_SUCH_VERSION and FE2O3_TOO_LONG if `kept` holds no record,
+/// - FE2O3_SERVER_UTF8_ERROR, FE2O3_SERVER_CANNOT_PARSE_CLIENT_FINAL_MESSAGE and FE2O3_SERVER_BASE64_DECODE_ERROR,
+/// - FE2O3_SERVER_INVALID_CHANNEL_BINDING if the message has another GS2 header than the exchange, or other data than
+///   the rules,
+/// - FE2O3_SERVER_CANNOT_PARSE_CLIENT_FINAL_MESSAGE and FE2O3_SERVER_INCORRECT_CLIENT_FINAL_NONCE,
+/// - FE2O3_SERVER_PROOF_NOT_FOUND_IN_CLIENT_FINAL and FE2O3_SERVER_BASE64_DECODE_ERROR, of the proof,
+/// - FE2O3_SERVER_MISPLACED_ATTRIBUTE of a strict server,
+/// - FE2O3_SERVER_XOR_LENGTH_MISMATCH and FE2O3_SERVER_AUTHENTICATION_FAILED if the proof is wrong.
+#[unsafe(no_mangle)]
+pub extern "C" fn fe2o3_scram_server_final_with_rules(
+    alloc: Global,
+    rules: &ScramRules,
+    kept: &ScramRecord,
+    server: &mut ScramServer,
+    client_final: &[u8],
+    out: &mut [u8],
+    out_len: &mut usize,
+) -> u32
+    ensures { AnswersText result (λ answer. ByRules rules.now
+        ((server.new ≡ server.old) × (out.new ≡ out.old) × (out_len.new ≡ out_len.old))
+        (λ shown answer. FillsWithin 90 (Concludes shown kept.now client_final.now server.old server.new)
+        (record { bytes = out.old; len = out_len.old }) (record { bytes = out.new; len = out_len.new }) answer
+        × OnErr answer (server.new ≡ server.old) × AsksText (FinalAsks shown kept.now client_final.now server.old) answer)
+        answer) }
+{
+    text_number(conclude_by_rules(alloc, rules, kept, server, client_final, out, out_len))
+}
+
+/// Writes the server-final message by the rules of a struct.
+fn conclude_by_rules(
+    alloc: Global,
+    rules: &ScramRules,
+    kept: &ScramRecord,
+    server: &mut ScramServer,
+    client_final: &[u8],
+    out: &mut [u8],
+    out_len: &mut usize,
+) -> Result<(), WriteError>
+    ensures { ByRules rules.now
+        ((server.new ≡ server.old) × (out.new ≡ out.old) × (out_len.new ≡ out_len.old))
+        (λ shown answer. FillsWithin 90 (Concludes shown kept.now client_final.now server.old server.new)
+        (record { bytes = out.old; len = out_len.old }) (record { bytes = out.new; len = out_len.new }) answer
+        × OnErr answer (server.new ≡ server.old) × AsksText (FinalAsks shown kept.now client_final.now server.old) answer)
+        result }
+{
+    match rules.shown() {
+        Ok(rules) => {
+            let mut meter = Meter::new();
+            conclude(
+                alloc,
+                rules,
+                kept,
+                server,
+                client_final,
+                &mut meter,
+                out,
+                out_len,
+            )
+        }
+        Err(status) => Err(WriteError::Other(status)),
+    }
+}
+
+/// Returns the name of the authenticated user.
+fn authenticated_user(server: &ScramServer) -> Result<&[u8], Status>
+    ensures ok { IfOk result (λ user. TellsUser server.now (Ok user.now)) }
+    ensures err { IfErr result (λ status. status ≢ StatusOutOfMemory → TellsUser server.now (Err status)) }
+    ensures memory { AsksWhere ⊥ result }
+{
+    let illegal = Status::Server(ServerScramErrorKind::IllegalAuthenticatorState);
+    if server.state != 2 {
+        return Err(illegal);
+    }
+    head(&server.user, server.user_len).ok_or(illegal)
+}
+
+/// Writes the name of the authenticated user, without escapes. Returns FE2O3_SERVER_ILLEGAL_AUTHENTICATOR_STATE if no
+/// user is authenticated.
+#[unsafe(no_mangle)]
+#[tactic(auto, using(crate::proofs::StatusLemmas::written))]
+pub extern "C" fn fe2o3_scram_server_authenticated_user(
+    server: &ScramServer,
+    out: &mut [u8],
+    out_len: &mut usize,
+) -> u32
+    ensures { AnswersText result (λ answer. Fills (TellsUser server.now) (record { bytes = out.old; len = out_len.old })
+        (record { bytes = out.new; len = out_len.new }) answer × AsksText ⊥ answer) }
+{
+    text_number(write(authenticated_user(server), out, out_len))
+}
