@@ -21,6 +21,15 @@ A server:
 
 `record_of` returns `Record.mock(..)` for a name that it does not know.
 
+Both sides bind their TLS channel (RFC 5802, section 6), so that a man in the middle cannot pass the login on:
+
+    channel = Channel.tls_server_end_point(tls_socket.getpeercert(binary_form=True))     # the client
+    client = Client(SHA_256, "user", "pencil", channel=channel, plus_offered="SCRAM-SHA-256-PLUS" in offered)
+    select(client.mechanism())          # SCRAM-SHA-256-PLUS if it is offered, otherwise SCRAM-SHA-256
+
+    server = Server(channels=[Channel.tls_server_end_point(own_certificate)])            # the server, of -PLUS
+    send(server.first(record_of(server.claimed_user(message)), message))
+
 PLAIN and EXTERNAL over messages, for protocols other than AMQP. `ANONYMOUS` needs no call: its message is trace
 information, and a server accepts any (RFC 4505, section 2).
 
@@ -46,10 +55,15 @@ The client's side of a connection of AMQP 1.0, before its first frame of AMQP:
     while side.progress == Progress.IN_PROGRESS:
         data = socket.recv(4096)
         if not data:
-            raise ConnectionError("the server closed the connection")
+            side.end_of_input()
+            break
         answer, rest = side.receive(data)
         socket.sendall(answer)
     # complete if side.progress is Progress.AUTHENTICATED; then `rest` belongs to AMQP. Otherwise side.why says why not.
+
+A client that selects the first of its allowed mechanisms that the server offers, here SCRAM with SHA-512 or SHA-256:
+
+    side = ClientConnection.select("user", "pencil", ("SCRAM-SHA-512", "SCRAM-SHA-256"), hostname="broker.example")
 
 A login over frame bodies, each from the data offset on, for programs that read and write frames themselves:
 
@@ -61,41 +75,97 @@ A login over frame bodies, each from the data offset on, for programs that read 
         send_body(answer)
     # complete if side.progress is Progress.AUTHENTICATED; otherwise side.why says why not
 
-A call that fails raises `Refused`, or its subclass `ServerError`, and leaves the object as it was. An argument of a wrong
-type, or a number that does not fit its C type, raises TypeError or ValueError before the library is called. Any thread
-may call. Calls on one object wait for each other, and the interpreter is not locked meanwhile.
+A program with asyncio logs in by the module `fe2o3_sasl_asyncio`.
 
-No `repr` and no exception of this module contains a secret. Secrets are not wiped from memory.
+A call that fails raises `Refused` or a subclass, and leaves the object as it was. Catch the subclass that you can
+handle:
+
+    try:
+        client.verify(receive())
+    except ServerError as why:          # the server sent an error, such as `invalid-proof` for a wrong password
+        log(why.error)
+    except ServerNotAuthenticated:      # the server does not know the password
+        close()
+
+`help(Refused)` lists the classes, and the help of each its statuses. `why` of a connection is of these classes too. An
+argument of a wrong type, or a number that does not fit its C type, raises TypeError or ValueError before the library is
+called. Any thread may call. Calls on one object wait for each other, and the interpreter is not locked meanwhile.
+
+Wipe the objects that hold secrets once you no longer need them:
+
+    with Client(SHA_256, "user", password) as client:
+        ...
+    # the client's copies of the password and the keys are overwritten by zeros, and its calls raise `Wiped`
+
+`Client`, `Server`, `Keys`, `Record`, and the sides of connections have `wipe` and work in a `with` statement. Each has
+its own copies, so that you can wipe one and go on with another. The copies that last for one call are wiped in any
+case, also by the library.
+
+Not wiped are the values of Python: the `str` and `bytes` that you pass, the messages that a call takes and returns, of
+which those of PLAIN have the password, and what properties such as `Keys.client_key` return. Pass a password as a
+`bytearray` if you want to overwrite your own copy. No `repr` and no exception of this module contains a secret.
 """
 
 from __future__ import annotations
 
+import contextlib
 import ctypes
 import enum
+import functools
+import hashlib
 import operator
 import os
 import secrets
 import threading
-from typing import Any, Callable, Iterable, NamedTuple, Optional, TypeVar, Union
+import types
+from typing import TYPE_CHECKING, Any, Callable, Iterable, Iterator, NamedTuple, Optional, TypeVar, Union
+
+if TYPE_CHECKING:
+    import ssl
 
 __all__ = [
     "SHA_1",
     "SHA_256",
     "SHA_512",
+    "AuthenticationFailed",
+    "Bytes",
+    "Channel",
+    "ChannelBindingError",
+    "ChannelKind",
     "Client",
     "ClientConnection",
     "ClientSteps",
+    "CredentialsRejected",
+    "EndOfInput",
     "Frame",
+    "InvalidArgument",
+    "InvalidState",
+    "IterationCountError",
     "Keys",
+    "LoginAttempt",
+    "LoginRejected",
+    "MechanismUnavailable",
     "Offer",
+    "OutOfMemory",
     "PlainPasswords",
+    "PreparationError",
+    "Progress",
+    "ProtocolError",
     "Record",
+    "RecordError",
     "Refused",
     "Server",
     "ServerConnection",
+    "ServerError",
+    "ServerNotAuthenticated",
     "ServerSteps",
-    "Progress",
+    "StaleKeys",
     "Status",
+    "TemporarilyRejected",
+    "Text",
+    "TooLong",
+    "UnknownUser",
+    "Wiped",
     "external_verify",
     "library_version",
     "offers",
@@ -103,6 +173,8 @@ __all__ = [
     "plain_message",
     "plain_verify",
     "saslprep",
+    "server_error",
+    "server_error_message",
     "view_frame",
 ]
 
@@ -149,6 +221,7 @@ class Status(enum.IntEnum):
     CLIENT_XOR_LENGTH_MISMATCH = 34
     CLIENT_ILLEGAL_CLIENT_STATE = 35
     CLIENT_SERVER_SIGNATURE_MISMATCH = 36
+    CLIENT_MISPLACED_ATTRIBUTE = 37
     SERVER_UTF8_ERROR = 40
     SERVER_CANNOT_PARSE_GS2_HEADER = 41
     SERVER_CANNOT_PARSE_USERNAME = 42
@@ -163,6 +236,7 @@ class Status(enum.IntEnum):
     SERVER_PROOF_NOT_FOUND_IN_CLIENT_FINAL = 51
     SERVER_AUTHENTICATION_FAILED = 52
     SERVER_ILLEGAL_AUTHENTICATOR_STATE = 53
+    SERVER_MISPLACED_ATTRIBUTE = 54
     RECORD_PARTS_MISMATCH = 60
     RECORD_UNKNOWN_MECHANISM = 61
     RECORD_ITERATION_COUNT_PARSE_ERROR = 62
@@ -190,6 +264,9 @@ class Status(enum.IntEnum):
     MIXED_DIRECTIONS = 87
     UNASSIGNED_CODE_POINT = 88
     SERVER_ERROR = 89
+    END_OF_INPUT = 90
+    CHANNEL_DATA_LENGTH = 91
+    NO_SUCH_CHANNEL = 92
 
 
 class Progress(enum.IntEnum):
@@ -207,7 +284,8 @@ class Offer(enum.IntFlag):
     or as the server prepares it by SASLprep. Without them it rejects non-ASCII passwords.
     SIGNATURE_BY_CHALLENGE: SCRAM sends the server's signature in a challenge, and the outcome follows the client's empty
     response. INITIAL_RESPONSE_BY_CHALLENGE: SCRAM and PLAIN answer an init without an initial response by an
-    empty challenge, and the client's response is then the initial response."""
+    empty challenge, and the client's response is then the initial response. STRICT: SCRAM rejects an attribute
+    that RFC 5802 defines in the place of an extension."""
 
     SCRAM_SHA_512 = 1
     SCRAM_SHA_256 = 2
@@ -220,6 +298,7 @@ class Offer(enum.IntFlag):
     PLAIN_SASLPREP = 256
     INITIAL_RESPONSE_BY_CHALLENGE = 512
     SIGNATURE_BY_CHALLENGE = 1024
+    STRICT = 2048
 
 
 class PlainPasswords(enum.IntEnum):
@@ -230,6 +309,16 @@ class PlainPasswords(enum.IntEnum):
     TYPED = 0
     PREPARED = 1
     SASLPREP = 2
+
+
+class ChannelKind(enum.IntEnum):
+    """A kind of channel binding. Both sides have to use one kind. TLS_UNIQUE (RFC 5929, section 3) is for TLS 1.2 and
+    older, TLS_SERVER_END_POINT (RFC 5929, section 4) for every version. TLS_EXPORTER (RFC 9266) is for TLS 1.3 and,
+    with the extended master secret, for TLS 1.2."""
+
+    TLS_UNIQUE = 1
+    TLS_SERVER_END_POINT = 2
+    TLS_EXPORTER = 3
 
 
 class _Mechanism(enum.IntEnum):
@@ -258,6 +347,14 @@ class _Form(enum.IntEnum):
     PREPARED = 1
 
 
+class _ChannelUse(enum.IntEnum):
+    """What a client says of the channel under an exchange, such as TLS (RFC 5802, section 6)."""
+
+    ABSENT = 0
+    NOT_OFFERED = 1
+    BOUND = 2
+
+
 class _Unassigned(enum.IntEnum):
     """What fe2o3_saslprep does with code points that Unicode 3.2 does not assign."""
 
@@ -275,6 +372,9 @@ class _ServerState(enum.IntEnum):
     SIGNATURE_SENT = 4
     INITIAL_RESPONSE_ASKED = 5
     INITIAL_RESPONSE_ASKED_WITH_HOSTNAME = 6
+    CHALLENGE_OPEN_TLS_UNIQUE = 7
+    CHALLENGE_OPEN_TLS_SERVER_END_POINT = 8
+    CHALLENGE_OPEN_TLS_EXPORTER = 9
 
 
 class _TextStruct(ctypes.Structure):
@@ -319,6 +419,11 @@ class _LoginStruct(ctypes.Structure):
         ("password_len", ctypes.c_size_t),
         ("keys", ctypes.POINTER(_ScramKeysStruct)),
         ("signature_by_challenge", ctypes.c_uint32),
+        ("strict", ctypes.c_uint32),
+        ("channel_use", ctypes.c_uint32),
+        ("channel_kind", ctypes.c_uint32),
+        ("channel_data_len", ctypes.c_uint32),
+        ("channel_data", ctypes.c_uint8 * 64),
     ]
 
 
@@ -344,6 +449,20 @@ class _ScramServerStruct(ctypes.Structure):
         ("bare", ctypes.c_uint8 * 1024),
         ("nonce", ctypes.c_uint8 * 512),
         ("first", ctypes.c_uint8 * 1024),
+    ]
+
+
+class _ScramRulesStruct(ctypes.Structure):
+    _fields_ = [
+        ("accept_cbind_flag_y", ctypes.c_uint32),
+        ("strict", ctypes.c_uint32),
+        ("binds_channel", ctypes.c_uint32),
+        ("tls_unique_len", ctypes.c_uint32),
+        ("tls_unique", ctypes.c_uint8 * 64),
+        ("tls_server_end_point_len", ctypes.c_uint32),
+        ("tls_server_end_point", ctypes.c_uint8 * 64),
+        ("tls_exporter_len", ctypes.c_uint32),
+        ("tls_exporter", ctypes.c_uint8 * 64),
     ]
 
 
@@ -423,6 +542,7 @@ _SIZED = (
     _SaslFrameViewStruct,
     _SaslServerConfigStruct,
     _SaslServerStruct,
+    _ScramRulesStruct,
 )
 
 # What each export returns and takes.
@@ -430,6 +550,7 @@ _EXPORTS: dict[str, tuple[Any, list[Any]]] = {
     "fe2o3_version": (ctypes.c_uint32, []),
     "fe2o3_size": (ctypes.c_size_t, [ctypes.c_uint32]),
     "fe2o3_status_text": (None, [ctypes.c_uint32, ctypes.POINTER(_TextStruct)]),
+    "fe2o3_wipe": (None, [ctypes.c_void_p, ctypes.c_size_t]),
     "fe2o3_saslprep": (
         ctypes.c_uint32,
         [
@@ -507,6 +628,26 @@ _EXPORTS: dict[str, tuple[Any, list[Any]]] = {
             ctypes.c_size_t,
         ],
     ),
+    "fe2o3_scram_record_of_salted": (
+        ctypes.c_uint32,
+        [
+            ctypes.c_uint32,
+            ctypes.c_char_p,
+            ctypes.c_size_t,
+            ctypes.c_char_p,
+            ctypes.c_size_t,
+            ctypes.c_uint32,
+            ctypes.POINTER(_ScramRecordStruct),
+        ],
+    ),
+    "fe2o3_scram_record_verify_salted": (
+        ctypes.c_uint32,
+        [
+            ctypes.POINTER(_ScramRecordStruct),
+            ctypes.c_char_p,
+            ctypes.c_size_t,
+        ],
+    ),
     "fe2o3_scram_lines_find": (
         ctypes.c_uint32,
         [
@@ -534,6 +675,18 @@ _EXPORTS: dict[str, tuple[Any, list[Any]]] = {
         ctypes.c_uint32,
         [
             ctypes.c_uint32,
+            ctypes.c_uint32,
+            ctypes.c_char_p,
+            ctypes.c_size_t,
+            ctypes.c_char_p,
+            ctypes.c_size_t,
+            ctypes.c_uint32,
+            ctypes.POINTER(_ScramKeysStruct),
+        ],
+    ),
+    "fe2o3_scram_keys_of_salted": (
+        ctypes.c_uint32,
+        [
             ctypes.c_uint32,
             ctypes.c_char_p,
             ctypes.c_size_t,
@@ -621,6 +774,44 @@ _EXPORTS: dict[str, tuple[Any, list[Any]]] = {
     "fe2o3_scram_server_final": (
         ctypes.c_uint32,
         [
+            ctypes.POINTER(_ScramRecordStruct),
+            ctypes.POINTER(_ScramServerStruct),
+            ctypes.c_char_p,
+            ctypes.c_size_t,
+            ctypes.c_void_p,
+            ctypes.c_size_t,
+            ctypes.POINTER(ctypes.c_size_t),
+        ],
+    ),
+    "fe2o3_scram_server_claimed_user_with_rules": (
+        ctypes.c_uint32,
+        [
+            ctypes.POINTER(_ScramRulesStruct),
+            ctypes.c_char_p,
+            ctypes.c_size_t,
+            ctypes.c_void_p,
+            ctypes.c_size_t,
+            ctypes.POINTER(ctypes.c_size_t),
+        ],
+    ),
+    "fe2o3_scram_server_first_with_rules": (
+        ctypes.c_uint32,
+        [
+            ctypes.POINTER(_ScramRulesStruct),
+            ctypes.POINTER(_ScramRecordStruct),
+            ctypes.POINTER(_ScramServerStruct),
+            ctypes.c_char_p,
+            ctypes.c_char_p,
+            ctypes.c_size_t,
+            ctypes.c_void_p,
+            ctypes.c_size_t,
+            ctypes.POINTER(ctypes.c_size_t),
+        ],
+    ),
+    "fe2o3_scram_server_final_with_rules": (
+        ctypes.c_uint32,
+        [
+            ctypes.POINTER(_ScramRulesStruct),
             ctypes.POINTER(_ScramRecordStruct),
             ctypes.POINTER(_ScramServerStruct),
             ctypes.c_char_p,
@@ -724,6 +915,19 @@ _EXPORTS: dict[str, tuple[Any, list[Any]]] = {
             ctypes.POINTER(ctypes.c_size_t),
         ],
     ),
+    "fe2o3_sasl_wants_nonce": (ctypes.c_uint32, [ctypes.POINTER(_ConnectionStruct)]),
+    "fe2o3_sasl_peek_frame": (
+        ctypes.c_uint32,
+        [
+            ctypes.POINTER(_ConnectionStruct),
+            ctypes.c_char_p,
+            ctypes.c_size_t,
+            ctypes.c_void_p,
+            ctypes.c_size_t,
+            ctypes.POINTER(ctypes.c_size_t),
+        ],
+    ),
+    "fe2o3_sasl_end_of_input": (None, [ctypes.POINTER(_ConnectionStruct)]),
     "fe2o3_sasl_client_step": (
         ctypes.c_uint32,
         [
@@ -790,13 +994,37 @@ _DIGEST_LENGTHS = {SHA_1: 20, SHA_256: 32, SHA_512: 64}
 
 #: A text as its characters or as the bytes of its UTF-8.
 Text = Union[str, bytes, bytearray, memoryview]
+#: Bytes, such as a message or a salt.
 Bytes = Union[bytes, bytearray, memoryview]
 
 
 class Refused(Exception):
     """A call of the library failed. Nothing has changed.
 
-    `status` is one of `Status`, or a number of a later library. `text` is its text.
+    `status` is one of `Status`, or a number of a later library. `text` is its text. Each status has one class, this one
+    or one below:
+
+        Refused
+            AuthenticationFailed            the client's password, keys or proof are wrong
+                CredentialsRejected         and a server said so (also a LoginRejected)
+            LoginRejected                   the server rejected the login
+                CredentialsRejected
+                TemporarilyRejected         the client can try again later
+                ServerError                 the server sent an error in the place of its signature
+            ServerNotAuthenticated          the server does not know the password: do not trust it
+            ProtocolError                   the other side sent what the protocol does not allow
+            EndOfInput                      the other side ended its stream (also an EOFError)
+            ChannelBindingError             the sides do not bind the same channel
+            MechanismUnavailable            the server offers no mechanism that the client allows
+            IterationCountError             the server's iteration count is outside the client's limits
+            StaleKeys                       the keys are for another salt or iteration count: log in by password
+            OutOfMemory                     an allocation failed (also a MemoryError)
+            InvalidArgument                 an argument of the call is wrong (also a ValueError)
+                PreparationError            a password or a name contains a character that is not allowed
+                TooLong                     a text is too long (also a ProtocolError)
+            RecordError                     a record or a line of a file is malformed (also a ValueError)
+            UnknownUser                     no line has this user (also a LookupError)
+            InvalidState                    the call is out of order (also a RuntimeError)
     """
 
     def __init__(self, status: int, text: str) -> None:
@@ -808,20 +1036,208 @@ class Refused(Exception):
         return f"{self.text} ({self.status})"
 
 
-class ServerError(Refused):
+class AuthenticationFailed(Refused):
+    """The password, the keys or the proof of the client are wrong. `Server.final` raises it, also for a mock record."""
+
+
+class LoginRejected(Refused):
+    """The server rejected the login: on a connection by its outcome, whichever side you are, and over messages by an
+    error (`ServerError`). This class itself is for an outcome by a system error that is not temporary."""
+
+
+class CredentialsRejected(LoginRejected, AuthenticationFailed):
+    """The server rejected the login by the outcome Auth: the credentials are wrong, as far as it says. Server sides
+    raise it too, for the client that they rejected."""
+
+
+class TemporarilyRejected(LoginRejected):
+    """The server rejected the login because of a temporary system error. The client can try again later."""
+
+
+class ServerError(LoginRejected):
     """The server sent an error in the place of its signature (RFC 5802, section 7). Nothing has changed.
 
     `error` is its name, such as `invalid-proof` for a wrong password. It is not authenticated: anyone who can alter the
     connection can write it.
     """
 
-    def __init__(self, status: int, text: str, error: str) -> None:
+    def __init__(self, status: int, text: str, error: str = "other-error") -> None:
         super().__init__(status, text)
         self.args = status, text, error
         self.error = error
 
     def __str__(self) -> str:
         return f"{self.text}: {self.error} ({self.status})"
+
+
+class ServerNotAuthenticated(Refused):
+    """The signature of the server is wrong: the server does not know the keys of the password, or someone altered the
+    messages. Close the connection, and send nothing more over it."""
+
+
+class ProtocolError(Refused):
+    """The other side sent a message or a frame that cannot be parsed, that is not expected, or that RFC 5802 does not
+    allow. Also raised for a message of PLAIN without a user name, and for a reply that does not fit into a frame."""
+
+
+class EndOfInput(Refused, EOFError):
+    """The other side ended its stream before the login was complete."""
+
+
+class ChannelBindingError(Refused):
+    """The client bound another channel than the server's, or the data of a channel do not have 1 to 64 bytes. A client
+    that binds no channel, at a server that requires one, is a `ProtocolError`: its GS2 header is not accepted."""
+
+
+class MechanismUnavailable(Refused):
+    """The server does not offer the client's mechanism, or none that the client allows, or sends a challenge that the
+    mechanism does not have."""
+
+
+class IterationCountError(Refused):
+    """The server's iteration count is below the client's minimum or above its maximum."""
+
+
+class StaleKeys(Refused):
+    """The client has only keys, and the server names another salt or iteration count than theirs. Log in by password. A
+    man in the middle can cause this: it is no reason to forget the keys."""
+
+
+class OutOfMemory(Refused, MemoryError):
+    """An allocation failed. You can repeat the call."""
+
+
+class InvalidArgument(Refused, ValueError):
+    """An argument of the call, or of the object that it is called on, is wrong."""
+
+
+class PreparationError(InvalidArgument):
+    """A password or another text contains a character that is not allowed: a typed password is not printable ASCII, a
+    text for PLAIN has a zero byte, or SASLprep rejects the text (RFC 4013)."""
+
+
+class TooLong(InvalidArgument, ProtocolError):
+    """A text is longer than the library's array for it. The text is that of an argument, or of the other side's
+    message."""
+
+
+class RecordError(Refused, ValueError):
+    """A record, or a line of a file of records, cannot be parsed or written, or its keys have a wrong length."""
+
+
+class UnknownUser(Refused, LookupError):
+    """No line has a record of this user and version (`Record.find`)."""
+
+
+class InvalidState(Refused, RuntimeError):
+    """The call is not allowed in the state of the object: it is out of order, or the login has ended."""
+
+
+#: The statuses of each class. Each status but OK is in one row. Those of `Refused` reach no caller.
+_STATUSES: dict[type[Refused], tuple[Status, ...]] = {
+    Refused: (
+        Status.ROOM_TOO_SMALL,
+        Status.CLIENT_HMAC_ERROR_INVALID_LENGTH,
+        Status.CLIENT_XOR_LENGTH_MISMATCH,
+        Status.SERVER_HMAC_ERROR_INVALID_LENGTH,
+    ),
+    AuthenticationFailed: (
+        Status.OTHER_PASSWORD,
+        Status.SERVER_XOR_LENGTH_MISMATCH,
+        Status.SERVER_AUTHENTICATION_FAILED,
+    ),
+    LoginRejected: (Status.REFUSED_SYS, Status.REFUSED_SYS_PERM),
+    CredentialsRejected: (Status.REFUSED_AUTH,),
+    TemporarilyRejected: (Status.REFUSED_SYS_TEMP,),
+    ServerError: (Status.SERVER_ERROR,),
+    ServerNotAuthenticated: (Status.CLIENT_SERVER_SIGNATURE_MISMATCH,),
+    ProtocolError: (
+        Status.NAMES_NO_USER,
+        Status.CLIENT_UTF8_ERROR,
+        Status.CLIENT_INSUFFICIENT_PARTS,
+        Status.CLIENT_EXTENSION_NOT_SUPPORTED,
+        Status.CLIENT_NONCE_NOT_FOUND,
+        Status.CLIENT_CLIENT_NONCE_MISMATCH,
+        Status.CLIENT_SALT_NOT_FOUND,
+        Status.CLIENT_BASE64_DECODE_ERROR,
+        Status.CLIENT_ITERATION_COUNT_NOT_FOUND,
+        Status.CLIENT_ITERATION_COUNT_PARSE_ERROR,
+        Status.CLIENT_MISPLACED_ATTRIBUTE,
+        Status.SERVER_UTF8_ERROR,
+        Status.SERVER_CANNOT_PARSE_GS2_HEADER,
+        Status.SERVER_CANNOT_PARSE_USERNAME,
+        Status.SERVER_CANNOT_PARSE_CLIENT_NONCE,
+        Status.SERVER_CANNOT_PARSE_CLIENT_FINAL_MESSAGE,
+        Status.SERVER_BASE64_DECODE_ERROR,
+        Status.SERVER_INCORRECT_CLIENT_FINAL_NONCE,
+        Status.SERVER_PROOF_NOT_FOUND_IN_CLIENT_FINAL,
+        Status.SERVER_MISPLACED_ATTRIBUTE,
+        Status.PROTOCOL_HEADER_MISMATCH,
+        Status.FRAME_SIZE,
+        Status.UNEXPECTED_FRAME,
+        Status.REPLY_TOO_LARGE,
+        Status.MALFORMED_FRAME,
+        Status.NO_SASL_FRAME,
+        Status.FRAME_TOO_LARGE,
+    ),
+    EndOfInput: (Status.END_OF_INPUT,),
+    ChannelBindingError: (
+        Status.SERVER_INVALID_CHANNEL_BINDING,
+        Status.CHANNEL_DATA_LENGTH,
+        Status.NO_SUCH_CHANNEL,
+    ),
+    MechanismUnavailable: (Status.NOT_IMPLEMENTED,),
+    IterationCountError: (Status.CLIENT_ITERATION_COUNT_TOO_SMALL, Status.CLIENT_ITERATION_COUNT_TOO_LARGE),
+    StaleKeys: (Status.CLIENT_STALE_KEYS,),
+    OutOfMemory: (Status.OUT_OF_MEMORY,),
+    InvalidArgument: (
+        Status.NOT_UTF8,
+        Status.NO_SUCH_VERSION,
+        Status.ZERO_ITERATIONS,
+        Status.NO_SUCH_SECRET,
+        Status.NO_KEYS,
+        Status.OTHER_VERSION,
+        Status.NO_SUCH_MECHANISM,
+        Status.NO_SUCH_CHOICE,
+    ),
+    PreparationError: (
+        Status.NOT_PRINTABLE,
+        Status.CLIENT_NORMALIZE_ERROR,
+        Status.SERVER_NORMALIZE_ERROR,
+        Status.PROHIBITED_CHARACTER,
+        Status.MIXED_DIRECTIONS,
+        Status.UNASSIGNED_CODE_POINT,
+    ),
+    TooLong: (Status.TOO_LONG,),
+    RecordError: (
+        Status.RECORD_PARTS_MISMATCH,
+        Status.RECORD_UNKNOWN_MECHANISM,
+        Status.RECORD_ITERATION_COUNT_PARSE_ERROR,
+        Status.RECORD_BASE64_DECODE_ERROR,
+        Status.RECORD_KEY_LENGTH_MISMATCH,
+        Status.LINE_FEED_MISSING,
+        Status.SPACE_MISSING,
+        Status.INVALID_NAME,
+        Status.NOT_WRITABLE,
+    ),
+    UnknownUser: (Status.NO_SUCH_USER,),
+    InvalidState: (
+        Status.ENDED,
+        Status.INVALID_SNAPSHOT,
+        Status.CLIENT_ILLEGAL_CLIENT_STATE,
+        Status.SERVER_ILLEGAL_AUTHENTICATOR_STATE,
+    ),
+}
+_CLASSES: dict[int, type[Refused]] = {status: kind for kind, row in _STATUSES.items() for status in row}
+
+for _kind, _row in _STATUSES.items():
+    if _kind is not Refused and _kind.__doc__ is not None:  # (without documentation under `python -OO`)
+        _kind.__doc__ += "\n\nIts statuses: " + ", ".join(_status.name for _status in _row) + "."
+
+
+class Wiped(RuntimeError):
+    """The object of the call was wiped before, by `wipe` or at the end of a `with` statement. No `Refused`: the library
+    was not called."""
 
 
 def _load(name: str) -> ctypes.CDLL:
@@ -845,7 +1261,7 @@ _library = _load(os.environ.get("FE2O3_SASL_LIB") or "libfe2o3_sasl.so.2")
 
 
 def library_version() -> tuple[int, int, int]:
-    """The version of the library."""
+    """Returns the version of the library: the major, the minor and the patch number."""
     number = int(_library.fe2o3_version())
     return number // 10000, number // 100 % 100, number % 100
 
@@ -863,9 +1279,14 @@ def _status_text(status: int) -> str:
     return _lent(_library.fe2o3_status_text, status)
 
 
+def _refusal(status: int, text: Optional[str] = None) -> Refused:
+    """Returns the exception of a status."""
+    return _CLASSES.get(status, Refused)(status, _status_text(status) if text is None else text)
+
+
 def _done(status: int) -> None:
     if status != Status.OK:
-        raise Refused(status, _status_text(status))
+        raise _refusal(status)
 
 
 def _written(room: int, call: Callable[..., int]) -> bytes:
@@ -879,7 +1300,15 @@ def _written(room: int, call: Callable[..., int]) -> bytes:
         if status != Status.ROOM_TOO_SMALL:
             break
     _done(status)
-    return out.raw[: length.value]
+    text = ctypes.string_at(out, min(length.value, len(out)))
+    _wipe(out)  # (the message of PLAIN has the password)
+    return text
+
+
+def _wipe(*held: Any) -> None:
+    """Overwrites structs and buffers by zeros."""
+    for one in held:
+        _library.fe2o3_wipe(ctypes.byref(one), ctypes.sizeof(one))
 
 
 def _bytes(value: Bytes) -> bytes:
@@ -892,6 +1321,44 @@ def _text(value: Text) -> bytes:
     return str.encode(value, "utf-8", "surrogatepass") if isinstance(value, str) else _bytes(value)
 
 
+def _hidden_bytes(value: Bytes) -> ctypes.Array[ctypes.c_char]:
+    """Returns a copy of a secret for `_wipe`, with a zero byte after it."""
+    view = memoryview(value)
+    buffer = (ctypes.c_char * (view.nbytes + 1))()
+    buffer.raw = view if view.c_contiguous else view.tobytes()
+    return buffer
+
+
+def _hidden(value: Text) -> ctypes.Array[ctypes.c_char]:
+    """Returns a copy of a secret text for `_wipe`, in UTF-8, with a zero byte after it."""
+    if not isinstance(value, str):
+        return _hidden_bytes(value)
+    buffer = (ctypes.c_char * (1 + sum(map(len, _pieces(value)))))()
+    view, at = memoryview(buffer).cast("B"), 0
+    for piece in _pieces(value):
+        view[at : at + len(piece)] = piece
+        at += len(piece)
+    return buffer
+
+
+def _pieces(value: str) -> Iterator[bytes]:
+    """Returns the bytes that `_text` returns, in at most 256 pieces: the `bytes` of the whole could not be wiped. Up to
+    255 characters, each is a piece."""
+    length = str.__len__(value)
+    step = 1 + length // 256
+    for at in range(0, length, step):
+        yield str.encode(str.__getitem__(value, slice(at, at + step)), "utf-8", "surrogatepass")
+
+
+@contextlib.contextmanager
+def _passing(secret: ctypes.Array[ctypes.c_char]) -> Iterator[tuple[ctypes.Array[ctypes.c_char], int]]:
+    """Passes a secret and its length to calls, and wipes it."""
+    try:
+        yield secret, len(secret) - 1
+    finally:
+        _wipe(secret)
+
+
 def _number(value: int, most: int = 0xFFFFFFFF) -> int:
     # (ctypes would truncate)
     number = operator.index(value)
@@ -902,6 +1369,15 @@ def _number(value: int, most: int = 0xFFFFFFFF) -> int:
 
 def _salt(given: Optional[Bytes], length: int) -> bytes:
     return secrets.token_bytes(_number(length, 128)) if given is None else _bytes(given)
+
+
+def _make_of_salted(
+    call: Callable[..., int], struct: ctypes.Structure, version: int, salted: Bytes, salt: Bytes, iterations: int
+) -> None:
+    """Computes the struct of a salted password."""
+    salt, count = _bytes(salt), _number(iterations)
+    with _passing(_hidden_bytes(salted)) as given:
+        _done(call(_number(version), *given, salt, len(salt), count, ctypes.byref(struct)))
 
 
 def _form(prepared: bool) -> int:
@@ -918,19 +1394,18 @@ def _make(
     iterations: int,
 ) -> None:
     """Computes the struct of a password."""
-    secret, salt, count = _text(password), _bytes(salt), _number(iterations)
-    given = secret, len(secret), salt, len(salt), count
-    _done(call(_number(version), _form(prepared), *given, ctypes.byref(struct)))
+    salt, count = _bytes(salt), _number(iterations)
+    with _passing(_hidden(password)) as given:
+        _done(call(_number(version), _form(prepared), *given, salt, len(salt), count, ctypes.byref(struct)))
 
 
 def saslprep(text: Text, *, unassigned: bool = False) -> str:
     """Returns the text that SASLprep (RFC 4013) prepares `text` to. Printable ASCII is prepared to itself; other
     ASCII is rejected. Code points that Unicode 3.2 does not assign are rejected, as a stored text requires;
     `unassigned` allows them, for a text that is only compared with stored ones (RFC 3454, section 7)."""
-    typed, choice = _text(text), _Unassigned.ALLOWED if unassigned else _Unassigned.REFUSED
-    prepared = _written(
-        len(typed), lambda *room: _library.fe2o3_saslprep(typed, len(typed), choice, *room)
-    )
+    choice = _Unassigned.ALLOWED if unassigned else _Unassigned.REFUSED
+    with _passing(_hidden(text)) as typed:
+        prepared = _written(typed[1], lambda *room: _library.fe2o3_saslprep(*typed, choice, *room))
     return prepared.decode("utf-8")
 
 
@@ -950,25 +1425,173 @@ def server_error_message(status: int) -> bytes:
     return _written(64, lambda *room: _library.fe2o3_scram_server_error_message(number, *room))
 
 
-class Keys:
-    """The keys that a client can cache in place of its password. They are secret: they suffice to log in. Immutable."""
+_Own = TypeVar("_Own", bound="_Wipeable")
+
+
+class _Wipeable:
+    """An object with secrets, which the end of a `with` statement wipes."""
+
+    __slots__ = ()
+
+    def _is_wiped(self) -> bool:
+        raise NotImplementedError
+
+    def _alive(self) -> None:
+        if self._is_wiped():
+            raise Wiped(f"the {type(self).__name__} is wiped")
+
+    def wipe(self) -> None:
+        """Overwrites the secrets of the object by zeros, and its whole state with them. After that each method and
+        property raises `Wiped`. Calling `wipe` again does nothing. The end of a `with` statement calls it."""
+        raise NotImplementedError
+
+    def __enter__(self: _Own) -> _Own:
+        self._alive()
+        return self
+
+    def __exit__(self, *why: object) -> None:
+        self.wipe()
+
+    def _shown(self) -> str:
+        return ""
+
+    def __repr__(self) -> str:
+        try:
+            return f"{type(self).__name__}({'wiped' if self._is_wiped() else self._shown()})"
+        except Wiped:  # (by another thread meanwhile)
+            return f"{type(self).__name__}(wiped)"
+
+
+class _Stored(_Wipeable):
+    """A struct with secrets that does not change until it is wiped."""
 
     __slots__ = ("_struct",)
+    _struct: Any
+
+    def _is_wiped(self) -> bool:
+        return self._struct is None
+
+    def _copied(self) -> Any:
+        """Returns a copy of the struct, which the caller wipes. Only copies are used: another thread can wipe the struct
+        meanwhile."""
+        struct = self._struct
+        self._alive()
+        copy = type(struct).from_buffer_copy(struct)
+        if self._is_wiped():  # (then a part of the copy can be zeros)
+            _wipe(copy)
+        self._alive()
+        return copy
+
+    @contextlib.contextmanager
+    def _lending(self) -> Iterator[Any]:
+        """Lends a copy of the struct to calls, and wipes it."""
+        copy = self._copied()
+        try:
+            yield copy
+        finally:
+            _wipe(copy)
+
+    def wipe(self) -> None:
+        """Overwrites the keys by zeros, and the other values with them. After that each method and property raises
+        `Wiped`. Clients, servers and calls that were passed the object have their own copies. Calling `wipe` again does
+        nothing. The end of a `with` statement calls it."""
+        struct, self._struct = self._struct, None
+        if struct is not None:
+            _wipe(struct)
+
+    @property
+    def version(self) -> int:
+        """The hash: SHA_1, SHA_256 or SHA_512."""
+        with self._lending() as struct:
+            return int(struct.version)
+
+    @property
+    def iterations(self) -> int:
+        """The iteration count."""
+        with self._lending() as struct:
+            return int(struct.iterations)
+
+    @property
+    def salt(self) -> bytes:
+        """The salt."""
+        with self._lending() as struct:
+            return bytes(struct.salt)[: struct.salt_len]
+
+    def _digest(self, name: str) -> bytes:
+        """Returns a field that holds a digest."""
+        with self._lending() as struct:
+            return ctypes.string_at(getattr(struct, name), _DIGEST_LENGTHS[struct.version])
+
+    def _shown(self) -> str:
+        return f"version={self.version}, iterations={self.iterations}"
+
+
+class _Guard:
+    """The lock of an object with secrets. To enter it raises `Wiped` once they are wiped."""
+
+    __slots__ = ("_lock", "_owner", "is_closed")
+
+    def __init__(self, owner: _Guarded) -> None:
+        self._lock, self._owner, self.is_closed = threading.RLock(), type(owner).__name__, False
+
+    def __enter__(self) -> None:
+        self._lock.acquire()
+        if self.is_closed:
+            self._lock.release()
+            raise Wiped(f"the {self._owner} is wiped")
+
+    def __exit__(self, *why: object) -> None:
+        self._lock.release()
+
+    def close(self, secrets: Callable[[], Iterable[Any]]) -> None:
+        """Waits for the calls in other threads, and wipes."""
+        with self._lock:
+            if not self.is_closed:
+                self.is_closed = True
+                _wipe(*secrets())
+
+
+class _Guarded(_Wipeable):
+    """An object whose calls change it, one after the other."""
+
+    __slots__ = ("_lock",)
+    _lock: _Guard
+
+    def _is_wiped(self) -> bool:
+        return self._lock.is_closed
+
+    def _secrets(self) -> Iterable[Any]:
+        """Returns the structs and buffers with secrets."""
+        raise NotImplementedError
+
+    def wipe(self) -> None:
+        """Overwrites the object's copies of passwords and keys by zeros, and its whole state with them. Waits for its
+        calls in other threads. After that each method and property raises `Wiped`. Calling `wipe` again does nothing.
+        The end of a `with` statement calls it."""
+        self._lock.close(self._secrets)
+
+
+class Keys(_Stored):
+    """The keys that a client can cache in place of its password. They are secret: they suffice to log in. Immutable
+    until `wipe`, or the end of a `with` statement."""
+
+    __slots__ = ()
 
     def __init__(self, version: int, iterations: int, salt: Bytes, client_key: Bytes, server_key: Bytes) -> None:
         """Keys from the values that an earlier login returned."""
         if version not in _DIGEST_LENGTHS:
             raise ValueError("the version is none of SHA_1, SHA_256 and SHA_512")
         digest_length = _DIGEST_LENGTHS[version]
-        salt, client_key, server_key = _bytes(salt), _bytes(client_key), _bytes(server_key)
+        salt = _bytes(salt)
         if len(salt) > 128:
             raise ValueError("the salt has more than 128 bytes")
-        if len(client_key) != digest_length or len(server_key) != digest_length:
-            raise ValueError("a key is not as long as a digest of the version")
         struct = _ScramKeysStruct(version=version, iterations=_number(iterations), salt_len=len(salt))
-        ctypes.memmove(struct.salt, salt, len(salt))
-        ctypes.memmove(struct.client_key, client_key, digest_length)
-        ctypes.memmove(struct.server_key, server_key, digest_length)
+        with _passing(_hidden_bytes(client_key)) as client, _passing(_hidden_bytes(server_key)) as server:
+            if client[1] != digest_length or server[1] != digest_length:
+                raise ValueError("a key is not as long as a digest of the version")
+            ctypes.memmove(struct.salt, salt, len(salt))
+            ctypes.memmove(struct.client_key, *client)
+            ctypes.memmove(struct.server_key, *server)
         self._struct = struct
 
     @classmethod
@@ -985,50 +1608,41 @@ class Keys:
         _make(_library.fe2o3_scram_keys_make, struct, version, password, prepared, salt, iterations)
         return cls._of(struct)
 
-    @property
-    def version(self) -> int:
-        """The hash: SHA_1, SHA_256 or SHA_512."""
-        return int(self._struct.version)
-
-    @property
-    def iterations(self) -> int:
-        """The iteration count for which the keys were derived."""
-        return int(self._struct.iterations)
-
-    @property
-    def salt(self) -> bytes:
-        """The salt for which the keys were derived."""
-        return bytes(self._struct.salt)[: self._struct.salt_len]
+    @classmethod
+    def of_salted(cls, version: int, salted: Bytes, salt: Bytes, iterations: int) -> Keys:
+        """Computes the keys of a salted password (RFC 5802, section 3), which you computed with this salt and iteration
+        count, for example by `hashlib.pbkdf2_hmac("sha256", password, salt, iterations)`. The call cannot test that.
+        Raises `Refused`, in this order: with NO_SUCH_VERSION; with RECORD_KEY_LENGTH_MISMATCH if the salted password is
+        not as long as a digest of the hash; with TOO_LONG for a salt of more than 128 bytes; and with
+        ZERO_ITERATIONS."""
+        struct = _ScramKeysStruct()
+        _make_of_salted(_library.fe2o3_scram_keys_of_salted, struct, version, salted, salt, iterations)
+        return cls._of(struct)
 
     @property
     def client_key(self) -> bytes:
         """The ClientKey. It is secret."""
-        return bytes(self._struct.client_key)[: _DIGEST_LENGTHS[self.version]]
+        return self._digest("client_key")
 
     @property
     def server_key(self) -> bytes:
         """The ServerKey. It is secret."""
-        return bytes(self._struct.server_key)[: _DIGEST_LENGTHS[self.version]]
-
-    def __repr__(self) -> str:
-        return f"Keys(version={self.version}, iterations={self.iterations})"
+        return self._digest("server_key")
 
 
-class Record:
-    """What a server stores of a password. Immutable."""
+class Record(_Stored):
+    """What a server stores of a password. Immutable until `wipe`, or the end of a `with` statement."""
 
-    __slots__ = ("_struct",)
+    __slots__ = ()
 
     def __init__(self) -> None:
-        raise TypeError("a record is made by Record.make, Record.from_fields, Record.parse or Record.mock")
+        raise TypeError("a record is made by Record.make, of_salted, from_fields, parse or mock")
 
     @classmethod
     def _of(cls, struct: _ScramRecordStruct) -> Record:
         record = cls.__new__(cls)
         record._struct = struct
         return record
-
-    _struct: _ScramRecordStruct
 
     @classmethod
     def make(
@@ -1049,6 +1663,15 @@ class Record:
         return cls._of(struct)
 
     @classmethod
+    def of_salted(cls, version: int, salted: Bytes, salt: Bytes, iterations: int) -> Record:
+        """Computes the record of a salted password (RFC 5802, section 3), which you computed with this salt and
+        iteration count, for example by `hashlib.pbkdf2_hmac("sha256", password, salt, iterations)`. The call cannot test that.
+        Raises `Refused` like `Keys.of_salted`."""
+        struct = _ScramRecordStruct()
+        _make_of_salted(_library.fe2o3_scram_record_of_salted, struct, version, salted, salt, iterations)
+        return cls._of(struct)
+
+    @classmethod
     def from_fields(
         cls, version: int, salt: Bytes, iterations: int, stored_key: Bytes, server_key: Bytes
     ) -> Record:
@@ -1056,18 +1679,15 @@ class Record:
         base64. Raises `Refused`, in this order: with NO_SUCH_VERSION; with TOO_LONG for a salt of more than 128 bytes;
         with ZERO_ITERATIONS; and with RECORD_KEY_LENGTH_MISMATCH if a key is not as long as a digest of the hash."""
         struct, salt, count = _ScramRecordStruct(), _bytes(salt), _number(iterations)
-        stored_key, server_key = _bytes(stored_key), _bytes(server_key)
-        keys = stored_key, len(stored_key), server_key, len(server_key)
-        _done(
-            _library.fe2o3_scram_record_from_fields(
-                _number(version), salt, len(salt), count, *keys, ctypes.byref(struct)
-            )
-        )
+        call, of_salt = _library.fe2o3_scram_record_from_fields, (salt, len(salt), count)
+        with _passing(_hidden_bytes(stored_key)) as stored, _passing(_hidden_bytes(server_key)) as server:
+            _done(call(_number(version), *of_salt, *stored, *server, ctypes.byref(struct)))
         return cls._of(struct)
 
     @classmethod
     def parse(cls, text: Text) -> Record:
-        """Parses the text of a record, as PostgreSQL writes it (RFC 5803, section 2)."""
+        """Parses the text of a record, as PostgreSQL writes it (RFC 5803, section 2). Raises `RecordError` if it is no
+        record."""
         struct, spelled = _ScramRecordStruct(), _text(text)
         _done(_library.fe2o3_scram_record_parse(spelled, len(spelled), ctypes.byref(struct)))
         return cls._of(struct)
@@ -1079,33 +1699,24 @@ class Record:
         """Computes a mock record for a name that the server does not know, so that it answers unknown users like known
         ones. The login then fails at its proof. The secret is 32 or more random bytes, one value for all names, kept as
         long as the records. The salt length, at most 64, and the iteration count are those of the other records."""
-        struct, secret, name = _ScramRecordStruct(), _bytes(secret), _text(username)
-        if len(secret) < 32:
-            raise ValueError("the secret has fewer than 32 bytes")
-        _done(
-            _library.fe2o3_scram_record_mock(
-                _number(version),
-                secret,
-                len(secret),
-                name,
-                len(name),
-                _number(salt_length),
-                _number(iterations),
-                ctypes.byref(struct),
-            )
-        )
+        struct, name, call = _ScramRecordStruct(), _text(username), _library.fe2o3_scram_record_mock
+        form = _number(salt_length), _number(iterations)
+        with _passing(_hidden_bytes(secret)) as given:
+            if given[1] < 32:
+                raise ValueError("the secret has fewer than 32 bytes")
+            _done(call(_number(version), *given, name, len(name), *form, ctypes.byref(struct)))
         return cls._of(struct)
 
     @classmethod
     def find(cls, lines: Text, username: Text, version: int) -> Record:
-        """Finds the record of a user and a version in a text of lines as `line` writes them. Raises `Refused` with
-        NO_SUCH_USER if there is none, or with the reason why the first bad line cannot be parsed."""
+        """Finds the record of a user and a version in a text of lines as `line` writes them. Raises `UnknownUser` if
+        there is none, and `RecordError`, whose text has the number of the line, if any line cannot be parsed."""
         struct, text, name, at = _ScramRecordStruct(), _text(lines), _text(username), ctypes.c_size_t()
         status = _library.fe2o3_scram_lines_find(
             text, len(text), name, len(name), _number(version), ctypes.byref(at), ctypes.byref(struct)
         )
         if status != Status.OK and at.value:
-            raise Refused(status, f"Line {at.value}: {_status_text(status)}")
+            raise _refusal(status, f"Line {at.value}: {_status_text(status)}")
         _done(status)
         return cls._of(struct)
 
@@ -1113,64 +1724,154 @@ class Record:
         """Returns the line of a user with this record: the name with its commas and equals signs escaped, a space, the
         text of the record, and a line feed."""
         name = _text(username)
-        line = _written(
-            3 * len(name) + 384, lambda *room: _library.fe2o3_scram_line(name, len(name), self._struct, *room)
-        )
+        with self._lending() as struct:
+            line = _written(
+                3 * len(name) + 384, lambda *room: _library.fe2o3_scram_line(name, len(name), struct, *room)
+            )
         return line.decode("utf-8")
 
     def text(self) -> str:
         """Returns the text of the record, as PostgreSQL reads it (RFC 5803, section 2). Anyone who has it can try
         passwords."""
-        return _written(384, lambda *room: _library.fe2o3_scram_record_text(self._struct, *room)).decode("ascii")
+        with self._lending() as struct:
+            return _written(384, lambda *room: _library.fe2o3_scram_record_text(struct, *room)).decode("ascii")
 
     def verify(self, password: Text, *, prepared: bool = False) -> bool:
         """Returns whether a password, for instance one received by PLAIN, is the record's. The password is a typed one;
         `prepared` takes any text, without change (`saslprep`). Raises `Refused` if it is not UTF-8."""
-        text = _text(password)
-        status = _library.fe2o3_scram_record_verify(self._struct, _form(prepared), text, len(text))
+        with self._lending() as struct, _passing(_hidden(password)) as given:
+            status = _library.fe2o3_scram_record_verify(struct, _form(prepared), *given)
+        if status == Status.OTHER_PASSWORD:
+            return False
+        _done(status)
+        return True
+
+    def verify_salted(self, salted: Bytes) -> bool:
+        """Returns whether a salted password (RFC 5802, section 3) is the record's. A server that receives a password, for
+        instance by PLAIN, computes it with the salt and the iteration count of the record. Raises `Refused` with
+        RECORD_KEY_LENGTH_MISMATCH if it is not as long as a digest of the hash."""
+        with self._lending() as struct, _passing(_hidden_bytes(salted)) as given:
+            status = _library.fe2o3_scram_record_verify_salted(struct, *given)
         if status == Status.OTHER_PASSWORD:
             return False
         _done(status)
         return True
 
     @property
-    def version(self) -> int:
-        """The hash: SHA_1, SHA_256 or SHA_512."""
-        return int(self._struct.version)
-
-    @property
-    def iterations(self) -> int:
-        """The iteration count."""
-        return int(self._struct.iterations)
-
-    @property
-    def salt(self) -> bytes:
-        """The salt."""
-        return bytes(self._struct.salt)[: self._struct.salt_len]
-
-    @property
     def stored_key(self) -> bytes:
         """The StoredKey. Anyone who has it can try passwords."""
-        return bytes(self._struct.stored_key)[: _DIGEST_LENGTHS[self.version]]
+        return self._digest("stored_key")
 
     @property
     def server_key(self) -> bytes:
         """The ServerKey. Anyone who has it can impersonate the server."""
-        return bytes(self._struct.server_key)[: _DIGEST_LENGTHS[self.version]]
+        return self._digest("server_key")
+
+
+#: The versions of TLS of which the first Finished message identifies a connection (RFC 5929, section 3; RFC 9266).
+_TLS_UNIQUE_VERSIONS = ("TLSv1", "TLSv1.1", "TLSv1.2")
+
+
+class Channel:
+    """A channel under an exchange, such as TLS, to which the exchange is bound (RFC 5802, section 6). Pass it to
+    `Client` and to `Server`. Both sides need the same kind, one of `ChannelKind`, and the same data, which they have
+    from TLS.
+
+    The module `ssl` has no data of TLS_EXPORTER. A TLS library that has exports 32 bytes with the label
+    `EXPORTER-Channel-Binding` and an empty context (RFC 9266, section 2)."""
+
+    __slots__ = ("_data", "_kind")
+
+    def __init__(self, kind: int, data: Bytes) -> None:
+        """A channel of this kind, with 1 to 64 bytes that identify it."""
+        self._kind, self._data = ChannelKind(_number(kind)), _bytes(data)
+        if not 1 <= len(self._data) <= 64:
+            raise ValueError("the data of a channel have 1 to 64 bytes")
+
+    @classmethod
+    def tls_unique(cls, sock: Union[ssl.SSLSocket, ssl.SSLObject]) -> Channel:
+        """The channel of a TLS connection after its handshake, by its first Finished message (RFC 5929, section 3).
+        With `asyncio`, `sock` is the `ssl_object` of the transport. Raises ValueError before the handshake and above
+        TLS 1.2.
+
+        Use it only if TLS has the extended master secret (RFC 7627): otherwise a man in the middle can make two
+        connections with one Finished message. OpenSSL 1.1.0 and later has it if the other side does, but `ssl` does not
+        say so."""
+        try:
+            data = sock.get_channel_binding("tls-unique") if sock.version() in _TLS_UNIQUE_VERSIONS else None
+        except AttributeError:
+            raise TypeError("not a TLS socket") from None
+        if not data:
+            raise ValueError("there is no tls-unique before the handshake, nor above TLS 1.2")
+        return cls(ChannelKind.TLS_UNIQUE, data)
+
+    @classmethod
+    def tls_server_end_point(cls, certificate: Bytes, hash: str = "sha256") -> Channel:
+        """The channel to the server with this certificate, in DER, by the certificate's hash (RFC 5929, section 4). A
+        client has it from `getpeercert(binary_form=True)`, a server from `ssl.PEM_cert_to_DER_cert`. This kind does not
+        protect against anyone who has the server's private key.
+
+        `hash` is that of the certificate's signature, as `hashlib` names it. MD5 and SHA-1 are replaced by SHA-256.
+        Raises ValueError for an unknown hash, and for a certificate that is not DER."""
+        given, name = _bytes(certificate), str.lower(hash)
+        if not given.startswith(b"\x30"):
+            raise ValueError("the certificate is not DER")
+        digest = hashlib.new("sha256" if name in ("md5", "sha1") else name, given)
+        return cls(ChannelKind.TLS_SERVER_END_POINT, digest.digest())
+
+    @property
+    def kind(self) -> ChannelKind:
+        """The kind."""
+        return self._kind
+
+    @property
+    def data(self) -> bytes:
+        """The data that identify the channel."""
+        return self._data
+
+    def _array(self) -> Any:
+        """Returns the data as a struct holds them: with zeros after them."""
+        return (ctypes.c_uint8 * 64)(*self._data)
 
     def __repr__(self) -> str:
-        return f"Record(version={self.version}, iterations={self.iterations})"
+        return f"Channel(kind={self._kind.name})"
 
 
-class Client:
+class _OwnLogin(_LoginStruct):
+    """A login with its own copies of the password and the keys, which `wipe` reaches."""
+
+    _kept: tuple[bytes, ctypes.Array[ctypes.c_char], _ScramKeysStruct]
+
+    def keep(self, username: bytes, password: ctypes.Array[ctypes.c_char], keys: _ScramKeysStruct) -> _OwnLogin:
+        """Points to the texts and the keys, and keeps them alive."""
+        self._kept = username, password, keys
+        self.username, self.username_len = username, len(username)
+        self.password, self.password_len = ctypes.addressof(password), len(password) - 1
+        self.keys = ctypes.pointer(keys)
+        return self
+
+    def copied(self) -> _OwnLogin:
+        """Returns a copy that shares no secret with this login."""
+        username, password, keys = self._kept
+        copies = type(password).from_buffer_copy(password), _ScramKeysStruct.from_buffer_copy(keys)
+        return _OwnLogin.from_buffer_copy(self).keep(username, *copies)
+
+    def secrets(self) -> tuple[Any, ...]:
+        return self, self._kept[1], self._kept[2]
+
+
+class Client(_Guarded):
     """A SCRAM client. It logs in with a password, with the keys of an earlier login, or with both: then it uses the
     keys if they are of the server's salt and iteration count, otherwise the password. The password is a typed one,
     of printable ASCII; `prepared` takes any text, without change (`saslprep`).
 
     Call `first`, `final` and `verify` in this order. `first` starts a new exchange at any time. The login is
-    complete only if `verify` does not raise."""
+    complete only if `verify` does not raise.
 
-    __slots__ = ("_lock", "_login", "_struct")
+    `wipe`, or the end of a `with` statement, overwrites the password and the keys that the client holds, which are
+    copies of yours."""
+
+    __slots__ = ("_login", "_struct")
 
     def __init__(
         self,
@@ -1183,35 +1884,59 @@ class Client:
         min_iterations: int = 4096,
         max_iterations: int = 1_000_000,
         signature_by_challenge: bool = False,
+        channel: Optional[Channel] = None,
+        plus_offered: bool = True,
+        strict: bool = False,
     ) -> None:
         """A client that has sent nothing. It rejects an iteration count below the minimum, with which a server could
         guess the password sooner (RFC 7677 requires at least 4096), and one above the maximum, which costs time.
 
         With `signature_by_challenge`, `ClientConnection` and `ClientSteps` also accept the server's signature in a
-        challenge, before an outcome without data (RFC 4422, section 5)."""
+        challenge, before an outcome without data (RFC 4422, section 5).
+
+        The client binds `channel`, by the mechanism with `-PLUS` (`mechanism`). If the server did not offer that one,
+        set `plus_offered` to False: the client then binds nothing, and its GS2 header is `y,,`. A server that offered
+        it rejects this header, so that nobody on the way can remove the mechanism from the offer (RFC 5802, section 6).
+        Without a channel the GS2 header is `n,,`.
+
+        With `strict`, the client rejects an attribute that RFC 5802 defines in the place of an extension, after the
+        iteration count. A client that binds a channel is strict in any case."""
         if password is None and keys is None:
             raise ValueError("a login takes a password, keys, or both")
-        name, text = _text(username), b"" if password is None else _text(password)
+        name = _text(username)
         if password is None:
             secret = _Secret.BY_KEYS
         else:
             secret = _Secret.BY_PASSWORD if keys is None else _Secret.BY_PASSWORD_AND_KEYS
-        held = _ScramKeysStruct() if keys is None else keys._struct
-        self._login = _LoginStruct(
+        use = _ChannelUse.ABSENT
+        if channel is not None:
+            use = _ChannelUse.BOUND if plus_offered else _ChannelUse.NOT_OFFERED
+        bound = channel if use == _ChannelUse.BOUND else None
+        self._login = _OwnLogin(
             version=_number(version),
             secret=secret,
             form=_form(prepared),
             min_iterations=_number(min_iterations),
             max_iterations=_number(max_iterations),
-            username=name,
-            username_len=len(name),
-            password=text,
-            password_len=len(text),
-            keys=ctypes.pointer(held),
             signature_by_challenge=int(signature_by_challenge),
+            strict=bool(strict),
+            channel_use=use,
         )
+        if bound is not None:
+            self._login.channel_kind, self._login.channel_data_len = bound.kind, len(bound.data)
+            self._login.channel_data = bound._array()
+        text = _hidden("" if password is None else password)
+        self._login.keep(name, text, _ScramKeysStruct() if keys is None else keys._copied())
         self._struct = _ScramClientStruct()
-        self._lock = threading.RLock()
+        self._lock = _Guard(self)
+
+    def _secrets(self) -> Iterable[Any]:
+        return *self._login.secrets(), self._struct
+
+    def mechanism(self) -> str:
+        """Returns the name of the mechanism, with `-PLUS` if the client binds a channel."""
+        with self._lock:
+            return _scram_name(self._login)
 
     def first(self) -> bytes:
         """Returns the client-first message, with a fresh nonce."""
@@ -1223,11 +1948,14 @@ class Client:
             )
 
     def final(self, server_first: Bytes) -> bytes:
-        """Answers the server-first message with the client-final message."""
+        """Answers the server-first message with the client-final message. Raises `IterationCountError` for a count
+        outside the limits, `StaleKeys` if the client has only keys for another salt or count, `PreparationError` for a
+        password that is not printable ASCII, and `ProtocolError`."""
         message = _bytes(server_first)
         with self._lock:
+            more = 256 if self._login.channel_use == _ChannelUse.BOUND else 128
             return _written(
-                len(message) + 128,
+                len(message) + more,
                 lambda *room: _library.fe2o3_scram_client_final(
                     self._login, self._struct, message, len(message), *room
                 ),
@@ -1235,7 +1963,8 @@ class Client:
 
     def verify(self, server_final: Bytes) -> None:
         """Verifies the server-final message. The login is complete, and the server authenticated, only if this does not
-        raise. Raises `ServerError` if the message is an error of the server."""
+        raise. Raises `ServerError` if the message is an error of the server, and `ServerNotAuthenticated` if it has
+        another signature or none."""
         message = _bytes(server_final)
         with self._lock:
             status = _library.fe2o3_scram_client_verify(self._login, self._struct, message, len(message))
@@ -1251,27 +1980,29 @@ class Client:
             _done(_library.fe2o3_scram_client_get_keys(self._struct, ctypes.byref(struct)))
         return Keys._of(struct)
 
-    def __repr__(self) -> str:
-        return f"Client(version={int(self._login.version)})"
+    def _shown(self) -> str:
+        return f"version={int(self._login.version)}"
 
 
 class Frame(NamedTuple):
-    """What the body of a frame says (AMQP 1.0, part 5, section 5.3.3)."""
+    """What the body of a frame says (AMQP 1.0, part 5, section 5.3.3).
 
-    #: Which frame it is, by its descriptor: 0x40 the mechanisms, 0x41 an init, 0x42 a challenge, 0x43 a response, 0x44
-    #: an outcome.
+    - `kind`: which frame it is, by its descriptor: 0x40 the mechanisms, 0x41 an init, 0x42 a challenge, 0x43 a
+      response, 0x44 an outcome
+    - `code`: the code of an outcome, otherwise 0
+    - `count`: how many mechanisms there are
+    - `taken`: how many bytes of the body the frame takes
+    - `mechanism`: the mechanism of an init
+    - `message`: the initial response, the challenge, the response, or the additional data of an outcome
+    - `hostname`: the hostname of an init
+    """
+
     kind: int
-    #: The code of an outcome, and else 0.
     code: int
-    #: How many mechanisms there are.
-    count: int
-    #: How many bytes of the body the frame takes.
+    count: int  # type: ignore[assignment]  # (`tuple` has a method of this name)
     taken: int
-    #: The mechanism of an init.
     mechanism: str
-    #: The initial response, the challenge, the response, or what the mechanism says at its end.
     message: Optional[bytes]
-    #: The hostname of an init.
     hostname: Optional[str]
 
     def __repr__(self) -> str:
@@ -1284,7 +2015,8 @@ class Frame(NamedTuple):
 
 
 def view_frame(body: Bytes) -> Frame:
-    """What the body of a frame says, which begins with its data offset, behind the four bytes of its size."""
+    """Returns what the body of a frame says. The body begins with the data offset, after the four bytes of the size.
+    Raises `ProtocolError` if it cannot be parsed."""
     given, view = _bytes(body), _SaslFrameViewStruct()
     _done(_library.fe2o3_sasl_view_frame(given, len(given), ctypes.byref(view)))
     mechanism, message, hostname = (
@@ -1307,8 +2039,8 @@ def view_frame(body: Bytes) -> Frame:
 
 
 def offers(body: Bytes, mechanism: Text) -> bool:
-    """Whether the body of a frame, which is a server's list of mechanisms, has this one. Raises `Refused` where it is
-    not such a body."""
+    """Returns whether the body of a frame, which is a server's list of mechanisms, has this one. Raises `ProtocolError`
+    if it is no such body."""
     given, name = _bytes(body), _text(mechanism)
     status = _library.fe2o3_sasl_offers(given, len(given), name, len(name))
     if status == Status.NOT_IMPLEMENTED:
@@ -1317,7 +2049,24 @@ def offers(body: Bytes, mechanism: Text) -> bool:
     return True
 
 
-class _Login:
+class LoginAttempt(NamedTuple):
+    """What the last init of a client claims, also after a rejection. Nobody is authenticated by it.
+
+    - `mechanism`: the mechanism that the init names, also one that the server does not offer
+    - `claimed_user`: the user name that the initial response of SCRAM or PLAIN claims, without escapes
+    - `hostname`: the hostname that the init names
+    """
+
+    mechanism: str
+    claimed_user: Optional[str]
+    hostname: Optional[str]
+
+
+#: The kind of an init.
+_INIT = 0x41
+
+
+class _Login(_Guarded):
     """The progress of a login, on either side."""
 
     __slots__ = ()
@@ -1330,16 +2079,22 @@ class _Login:
     @property
     def progress(self) -> int:
         """How far the login is: one of `Progress`."""
-        return self._ends()[0]
+        return self._ended()[0]
 
     @property
     def why(self) -> Optional[Refused]:
-        """Why the connection is to be closed, and None where it is not."""
-        progress, why = self._ends()
-        return Refused(why, _status_text(why)) if progress == Progress.FAILED else None
+        """Why the login failed, by the class of its status (`Refused`). Close the connection then. None if it has not
+        failed."""
+        progress, why = self._ended()
+        return _refusal(why) if progress == Progress.FAILED else None
 
-    def __repr__(self) -> str:
-        return f"{type(self).__name__}(progress={self.progress})"
+    def _ended(self) -> tuple[int, int]:
+        ends = self._ends()
+        self._alive()  # (after the reading: another thread can wipe meanwhile)
+        return ends
+
+    def _shown(self) -> str:
+        return f"progress={self._ends()[0]}"
 
 
 class _Connection(_Login):
@@ -1350,6 +2105,45 @@ class _Connection(_Login):
     def _ends(self) -> tuple[int, int]:
         connection = self._struct.connection
         return int(connection.progress), int(connection.why)
+
+    def end_of_input(self) -> None:
+        """Ends the login, because the other side ended its stream. A login in progress fails: `why` is an `EndOfInput`.
+        Otherwise nothing changes."""
+        with self._lock:
+            _library.fe2o3_sasl_end_of_input(ctypes.byref(self._struct.connection))
+
+    def foreign_header(self) -> Optional[bytes]:
+        """Returns the eight bytes that the other side sent in the place of the SASL protocol header, if the login
+        failed with PROTOCOL_HEADER_MISMATCH, and otherwise None. They say which protocol it speaks (AMQP 1.0, part 2,
+        section 2.2)."""
+        with self._lock:
+            connection = self._struct.connection
+            if self._ends() != (Progress.FAILED, Status.PROTOCOL_HEADER_MISMATCH) or connection.held_len != 8:
+                return None
+            return bytes(connection.held[:8])
+
+    def wants_nonce(self) -> bool:
+        """Returns whether the next step of the login may use a nonce. Only then `receive` reads random bytes."""
+        with self._lock:
+            return bool(_library.fe2o3_sasl_wants_nonce(ctypes.byref(self._struct.connection)))
+
+    def peek_frame(self, data: Bytes) -> Optional[Frame]:
+        """Returns the frame that received bytes complete, or None if they complete none. Nothing is taken: pass the
+        same bytes to `receive` after that. Raises `ProtocolError` if the frame cannot be parsed, and `InvalidState` if
+        the login has ended.
+        """
+        with self._lock:
+            body = self._peeked(_bytes(data))
+        return view_frame(body) if body else None
+
+    def _peeked(self, data: bytes) -> bytes:
+        """Returns the body of the frame that received bytes complete, which is empty if they complete none."""
+        connection = ctypes.byref(self._struct.connection)
+        return _written(508, lambda *room: _library.fe2o3_sasl_peek_frame(connection, data, len(data), *room))
+
+    def _nonce(self) -> bytes:
+        """Returns random bytes if the next call may use its nonce, and otherwise zeros."""
+        return secrets.token_bytes(32) if self.wants_nonce() else bytes(32)
 
 
 class _Steps(_Login):
@@ -1365,34 +2159,64 @@ class _Steps(_Login):
         if self.progress != Progress.IN_PROGRESS:
             _done(Status.ENDED)
 
-    def _stepped(self, call: Callable[..., int]) -> bytes:
-        """Returns the body that a step writes. `call` receives where the number goes, and what `_written` passes."""
+    @staticmethod
+    def _stepped(call: Callable[..., int]) -> tuple[bytes, int]:
+        """Returns the body that a step writes, and its number. `call` receives where the number goes, and what
+        `_written` passes."""
         number = ctypes.c_uint32()
-        # 508 bytes are those of a frame of 512 behind its size (AMQP 1.0, part 5, section 5.3.1).
+        # 508 bytes are those of a frame of 512 without its size (AMQP 1.0, part 5, section 5.3.1).
         answer = _written(508, lambda *room: call(ctypes.byref(number), *room))
-        self._progress = number.value
-        return answer
+        return answer, number.value
 
 
 _Side = TypeVar("_Side", bound="_ClientSide")
+_ClientLogin = tuple[_SaslLoginStruct, _OwnLogin]
+
+
+def _secrets_of(login: _ClientLogin) -> tuple[Any, ...]:
+    return login[0], *login[1].secrets()
+
+
+#: SCRAM, by the names of its mechanisms.
+_SCRAM = {"SCRAM-SHA-512": SHA_512, "SCRAM-SHA-256": SHA_256, "SCRAM-SHA-1": SHA_1}
+#: The other mechanisms that a client can select.
+_OTHERS = {"EXTERNAL": _Mechanism.EXTERNAL_AS, "PLAIN": _Mechanism.PLAIN, "ANONYMOUS": _Mechanism.ANONYMOUS}
+_SCRAM_NAMES = {version: name for name, version in _SCRAM.items()}
+
+
+def _scram_name(login: _LoginStruct) -> str:
+    """Returns the name of the mechanism of a login by SCRAM."""
+    name = _SCRAM_NAMES.get(login.version, "")
+    return f"{name}-PLUS" if name and login.channel_use == _ChannelUse.BOUND else name
 
 
 class _ClientSide(_Login):
     """A client's login, and its mechanism."""
 
-    __slots__ = ("_lock", "_login", "_struct")
+    __slots__ = ("_allowed", "_login", "_refusal_data", "_struct")
 
     def __init__(self, client: Client, *, hostname: Text = "") -> None:
         """A login of this client by SCRAM. The init has the hostname, if it is not empty. The client's own exchange is
-        not affected."""
-        self._begin(_Mechanism.SCRAM, client._login, hostname)
+        not affected. The login has its own copies of the password and the keys: you can wipe the client."""
+        with client._lock:
+            self._begin(self._login_of(_Mechanism.SCRAM, client._login, hostname))
 
-    def _begin(self, mechanism: int, login: _LoginStruct, hostname: Text) -> None:
-        name = _text(hostname)
+    def _begin(self, login: _ClientLogin, allowed: Iterable[_ClientLogin] = ()) -> None:
+        self._login, self._struct = login, self._fresh()
+        # The logins among which the list of mechanisms selects; none once it has, or where there is one mechanism.
+        self._allowed = list(allowed)
+        self._refusal_data: Optional[bytes] = None
+        self._lock = _Guard(self)
+
+    @staticmethod
+    def _login_of(mechanism: int, login: _OwnLogin, hostname: Text) -> _ClientLogin:
+        name, own = _text(hostname), login.copied()
         # (the original struct keeps the texts of its copy alive)
-        self._login = _SaslLoginStruct(mechanism=mechanism, hostname=name, hostname_len=len(name), login=login), login
-        self._struct = self._fresh()
-        self._lock = threading.RLock()
+        return _SaslLoginStruct(mechanism=mechanism, hostname=name, hostname_len=len(name), login=own), own
+
+    def _secrets(self) -> Iterable[Any]:
+        logins = [self._login, *self._allowed]
+        return [self._struct, *(secret for login in logins for secret in _secrets_of(login))]
 
     def _fresh(self) -> Any:
         raise NotImplementedError
@@ -1403,8 +2227,79 @@ class _ClientSide(_Login):
     @classmethod
     def _by(cls: type[_Side], mechanism: int, username: Text, password: Text, hostname: Text) -> _Side:
         side = cls.__new__(cls)
-        side._begin(mechanism, Client(SHA_256, username, password)._login, hostname)
+        with Client(SHA_256, username, password) as client:
+            side._begin(cls._login_of(mechanism, client._login, hostname))
         return side
+
+    @classmethod
+    def select(
+        cls: type[_Side],
+        username: Text,
+        password: Optional[Text],
+        mechanisms: Iterable[str] = tuple(_SCRAM),
+        *,
+        hostname: Text = "",
+        prepared: bool = False,
+        min_iterations: int = 4096,
+        max_iterations: int = 1_000_000,
+        signature_by_challenge: bool = False,
+    ) -> _Side:
+        """A login by the first of the allowed mechanisms that the server offers. Name them from the strongest to the
+        weakest: SCRAM-SHA-512, SCRAM-SHA-256 and SCRAM-SHA-1 are the default, and EXTERNAL, PLAIN and ANONYMOUS are
+        allowed only if you name them. PLAIN sends the password in clear, so allow it over TLS only. EXTERNAL asks for
+        the user that the transport has authenticated. SCRAM and PLAIN take a password. The other arguments are those of
+        `Client`.
+
+        An attacker can alter an offer, but the client never selects a mechanism that is not allowed here. If the server
+        offers none of them, the client sends nothing more, and the login fails: `why` is a `MechanismUnavailable`."""
+        options: dict[str, Any] = {
+            "prepared": prepared,
+            "min_iterations": min_iterations,
+            "max_iterations": max_iterations,
+            "signature_by_challenge": signature_by_challenge,
+        }
+        allowed = []
+        for name in mechanisms:
+            if name not in _SCRAM and name not in _OTHERS:
+                raise ValueError("a mechanism is none of " + ", ".join([*_SCRAM, *_OTHERS]))
+            mechanism = _OTHERS.get(name, _Mechanism.SCRAM)
+            words = (username, password) if mechanism in (_Mechanism.SCRAM, _Mechanism.PLAIN) else ("", "")
+            with Client(_SCRAM.get(name, SHA_256), *words, **options) as client:
+                allowed.append(cls._login_of(mechanism, client._login, hostname))
+        if not allowed:
+            raise ValueError("no mechanism is allowed")
+        side = cls.__new__(cls)
+        side._begin(allowed[0], allowed)
+        return side
+
+    def _select(self, body: bytes) -> None:
+        """Selects the first allowed login that a list of mechanisms offers, and wipes the others. Otherwise leaves the
+        first one: the library rejects the list, or the other frame, for it."""
+        for login in self._allowed:
+            name = _name_of(login[0])
+            if _library.fe2o3_sasl_offers(body, len(body), name, len(name)) == Status.OK:
+                others = [one for one in self._allowed if one is not login]
+                self._login, self._allowed = login, []
+                _wipe(*(secret for one in others for secret in _secrets_of(one)))
+                return
+
+    def mechanism(self) -> Optional[str]:
+        """Returns the name of the mechanism. None if the client selects it and has not yet (`select`)."""
+        with self._lock:
+            return None if self._allowed else _name_of(self._login[0]).decode("ascii")
+
+    @property
+    def refusal_data(self) -> Optional[bytes]:
+        """The additional data of the outcome that rejected the login (AMQP 1.0, part 5, section 5.3.3.6), if it has
+        any. They are not authenticated: anyone who can alter the connection can write them."""
+        self._alive()
+        return self._refusal_data
+
+    def _notice(self, body: bytes) -> None:
+        """Stores the additional data of a frame that rejected the login."""
+        progress, why = self._ends()
+        if progress == Progress.FAILED and Status.REFUSED_AUTH <= why <= Status.REFUSED_SYS_TEMP:
+            self._refusal_data = view_frame(body).message
 
     @classmethod
     def plain(cls: type[_Side], username: Text, password: Text, *, hostname: Text = "") -> _Side:
@@ -1442,6 +2337,13 @@ class _ClientSide(_Login):
         return Keys._of(struct)
 
 
+def _name_of(login: _SaslLoginStruct) -> bytes:
+    """Returns the name of the mechanism of a login."""
+    if login.mechanism == _Mechanism.SCRAM:
+        return _scram_name(login.login).encode("ascii")
+    return _Mechanism(login.mechanism).name.removesuffix("_AS").encode("ascii")
+
+
 class ClientConnection(_Connection, _ClientSide):
     """The client's side of one AMQP 1.0 connection, from its first byte to the end of the login. It does no I/O: you
     pass in received bytes, in pieces of any size, and send the bytes it returns."""
@@ -1465,7 +2367,9 @@ class ClientConnection(_Connection, _ClientSide):
         rest, answers, taken = _bytes(data), [], ctypes.c_size_t()
         with self._lock:
             while rest and self.progress == Progress.IN_PROGRESS:
-                nonce = secrets.token_bytes(32)
+                nonce, body = self._nonce(), self._peeked(rest)
+                if body:
+                    self._select(body)
                 answers.append(
                     _written(
                         512,
@@ -1475,6 +2379,7 @@ class ClientConnection(_Connection, _ClientSide):
                     )
                 )
                 rest = rest[taken.value :]
+                self._notice(body)
         return b"".join(answers), rest
 
 
@@ -1498,24 +2403,27 @@ class ClientSteps(_Steps, _ClientSide):
     def on_frame(self, body: Bytes) -> bytes:
         """Takes a received body, and returns the body to send: the init for the mechanisms, the response for a
         challenge, and nothing for an outcome. Then `progress` says how far the login is. If it raises, other than
-        OUT_OF_MEMORY, close the connection.
+        `OutOfMemory`, close the connection.
 
         PLAIN, ANONYMOUS and EXTERNAL accept any outcome Ok, even one that comes first. SCRAM accepts only an outcome
         that authenticates the server (RFC 5802, section 5)."""
         came, nonce = _bytes(body), secrets.token_bytes(32)
         with self._lock:
             self._goes_on()
-            return self._stepped(
+            self._select(came)
+            answer, self._progress = self._stepped(
                 lambda *room: _library.fe2o3_sasl_client_step(
                     self._login[0], self._struct, came, len(came), nonce, *room
                 )
             )
+            self._notice(came)
+            return answer
 
 
 class _ServerSide(_Login):
     """A server's login: what it offers, and its records."""
 
-    __slots__ = ("_iterations", "_lock", "_mechanisms", "_external_authcid", "_records_of", "_struct")
+    __slots__ = ("_attempt", "_iterations", "_mechanisms", "_external_authcid", "_records_of", "_struct")
 
     def __init__(
         self,
@@ -1537,7 +2445,8 @@ class _ServerSide(_Login):
         self._records_of, self._mechanisms = records_of, _number(mechanisms)
         self._iterations, self._struct = _number(iterations), self._fresh()
         self._external_authcid = _text("" if external_authcid is None else external_authcid)
-        self._lock = threading.RLock()
+        self._attempt: Optional[LoginAttempt] = None
+        self._lock = _Guard(self)
 
     def _fresh(self) -> Any:
         raise NotImplementedError
@@ -1545,20 +2454,29 @@ class _ServerSide(_Login):
     def _scram(self) -> Any:
         raise NotImplementedError
 
-    def _config(self, name: Optional[str]) -> _SaslServerConfigStruct:
-        """Returns the configuration for the library, with the records of this name, if there are any."""
-        records = [] if name is None else [record._struct for record in self._records_of(name)]
+    def _secrets(self) -> Iterable[Any]:
+        return [self._struct]
+
+    @contextlib.contextmanager
+    def _config(self, name: Optional[str]) -> Iterator[_SaslServerConfigStruct]:
+        """Lends the configuration to the library, with copies of the records of this name, if there are any."""
         known = b"" if name is None else _text(name)
-        return _SaslServerConfigStruct(
-            mechanisms=self._mechanisms,
-            iterations=self._iterations,
-            username=known,
-            username_len=len(known),
-            records=(_ScramRecordStruct * len(records))(*records),
-            records_count=len(records),
-            external_authcid=self._external_authcid,
-            external_authcid_len=len(self._external_authcid),
-        )
+        with contextlib.ExitStack() as stack:
+            found = () if name is None else self._records_of(name)
+            copies = [stack.enter_context(record._lending()) for record in found]
+            records = (_ScramRecordStruct * len(copies))(*copies)
+            stack.callback(_wipe, records)
+            self._alive()  # (`records_of` can wipe this side)
+            yield _SaslServerConfigStruct(
+                mechanisms=self._mechanisms,
+                iterations=self._iterations,
+                username=known,
+                username_len=len(known),
+                records=records,
+                records_count=len(records),
+                external_authcid=self._external_authcid,
+                external_authcid_len=len(self._external_authcid),
+            )
 
     @staticmethod
     def _named(call: Callable[..., int]) -> Optional[str]:
@@ -1570,8 +2488,25 @@ class _ServerSide(_Login):
                 return None
             raise
 
+    def last_attempt(self) -> Optional[LoginAttempt]:
+        """Returns what the last init claims, also after a rejection, for a log. None before the first init. Nobody is
+        authenticated by it (`authenticated_user`)."""
+        self._alive()
+        return self._attempt
+
+    def _claims(self, body: bytes, name: Optional[str]) -> None:
+        """Stores what a frame claims: an init, or a response that is the initial response. The name is the user."""
+        try:
+            frame = view_frame(body)
+        except Refused:
+            return
+        if frame.kind == _INIT:
+            self._attempt = LoginAttempt(frame.mechanism, name, frame.hostname)
+        elif self._attempt is not None and name is not None:
+            self._attempt = self._attempt._replace(claimed_user=name)
+
     def authenticated_user(self) -> Optional[str]:
-        """Returns the name of the authenticated user, without escapes; None for ANONYMOUS. Raises `Refused` if no
+        """Returns the name of the authenticated user, without escapes; None for ANONYMOUS. Raises `InvalidState` if no
         user is authenticated."""
         with self._lock:
             scram = self._scram()
@@ -1608,13 +2543,16 @@ class ServerConnection(_Connection, _ServerSide):
 
     def _step(self, data: bytes) -> tuple[bytes, int]:
         name = self._named(lambda *room: _library.fe2o3_sasl_server_claimed_user(self._struct, data, len(data), *room))
-        config, nonce, taken = self._config(name), secrets.token_bytes(32), ctypes.c_size_t()
-        answer = _written(
-            520,
-            lambda *room: _library.fe2o3_sasl_server_receive(
-                config, self._struct, data, len(data), nonce, ctypes.byref(taken), *room
-            ),
-        )
+        nonce, taken, body = self._nonce(), ctypes.c_size_t(), self._peeked(data)
+        with self._config(name) as config:
+            answer = _written(
+                520,
+                lambda *room: _library.fe2o3_sasl_server_receive(
+                    config, self._struct, data, len(data), nonce, ctypes.byref(taken), *room
+                ),
+            )
+        if body:
+            self._claims(body, name)
         return answer, taken.value
 
 
@@ -1638,80 +2576,130 @@ class ServerSteps(_Steps, _ServerSide):
     def offer(self) -> bytes:
         """Returns the frame body with which the server offers its mechanisms. Send it after the client's SASL
         header."""
-        config = self._config(None)
-        return _written(508, lambda *room: _library.fe2o3_sasl_server_offer(config, *room))
+        with self._lock, self._config(None) as config:
+            return _written(508, lambda *room: _library.fe2o3_sasl_server_offer(config, *room))
 
     def on_frame(self, body: Bytes) -> bytes:
         """Takes a received body, and returns the body to send: a challenge, or the outcome. Then `progress` says
-        how far the login is. If it raises, other than OUT_OF_MEMORY, close the connection."""
+        how far the login is. If it raises, other than `OutOfMemory`, close the connection."""
         came, nonce = _bytes(body), secrets.token_bytes(32)
         with self._lock:
             self._goes_on()
             name = self._named(
                 lambda *room: _library.fe2o3_sasl_server_step_claimed_user(self._struct, came, len(came), *room)
             )
-            config = self._config(name)
-            return self._stepped(
-                lambda *room: _library.fe2o3_sasl_server_step(config, self._struct, came, len(came), nonce, *room)
-            )
+            with self._config(name) as config:
+                answer, self._progress = self._stepped(
+                    lambda *room: _library.fe2o3_sasl_server_step(config, self._struct, came, len(came), nonce, *room)
+                )
+            self._claims(came, name)
+            return answer
 
 
-class Server:
-    """A SCRAM server, for one login at a time. Call `first` and then `final`. `first` starts a new exchange at any
-    time. The user is authenticated only if `final` does not raise."""
+def _rules_of(accept_cbind_flag_y: bool, strict: bool, channels: Optional[Iterable[Channel]]) -> _ScramRulesStruct:
+    """Returns the rules of a server. None for channels is a server that binds no channel."""
+    rules = _ScramRulesStruct(
+        accept_cbind_flag_y=bool(accept_cbind_flag_y), strict=bool(strict), binds_channel=channels is not None
+    )
+    for channel in channels or ():
+        name = channel.kind.name.lower()
+        if getattr(rules, name + "_len"):
+            raise ValueError("two channels are of one kind")
+        setattr(rules, name, channel._array())
+        setattr(rules, name + "_len", len(channel.data))
+    return rules
 
-    __slots__ = ("_exchange", "_lock")
 
-    def __init__(self) -> None:
-        """A server without an open challenge."""
-        # The record of a challenge, and the struct of the challenge: set together, so that a challenge is never
-        # answered with the record of another.
-        self._exchange = Record._of(_ScramRecordStruct()), _ScramServerStruct()
-        self._lock = threading.RLock()
+class _ClaimedUser:
+    """`Server.claimed_user`, which is called on the class or on a server."""
+
+    def __get__(self, server: Optional[Server], owner: Any = None) -> Callable[[Bytes], str]:
+        rules = functools.partial(_rules_of, False, False, None) if server is None else server._rules_copied
+        return types.MethodType(self.claimed_user, rules)
 
     @staticmethod
-    def claimed_user(client_first: Bytes) -> str:
-        """Returns the user name that a client-first message claims, without escapes. Nobody is authenticated yet:
-        use it only to look up the record."""
-        message = _bytes(client_first)
-        name = _written(256, lambda *room: _library.fe2o3_scram_server_claimed_user(message, len(message), *room))
+    def claimed_user(rules_of: Callable[[], _ScramRulesStruct], client_first: Bytes) -> str:
+        """Returns the user name that a client-first message claims, without escapes. Nobody is authenticated yet: use
+        it only to look up the record. Called on a server, it applies the rules of that server, such as its channels.
+        Called on the class, it accepts the GS2 headers `n,,` and `y,,`."""
+        message, call, rules = _bytes(client_first), _library.fe2o3_scram_server_claimed_user_with_rules, rules_of()
+        name = _written(256, lambda *room: call(rules, message, len(message), *room))
         return name.decode("utf-8")
+
+
+class Server(_Guarded):
+    """A SCRAM server, for one login at a time. Call `first` and then `final`. `first` starts a new exchange at any
+    time. The user is authenticated only if `final` does not raise.
+
+    `wipe`, or the end of a `with` statement, overwrites the exchange with its copy of the record."""
+
+    __slots__ = ("_exchange", "_rules")
+
+    def __init__(
+        self,
+        *,
+        accept_cbind_flag_y: bool = False,
+        strict: bool = False,
+        channels: Optional[Iterable[Channel]] = None,
+    ) -> None:
+        """A server without an open challenge. The GS2 header of a client has to be `n,,`. With `accept_cbind_flag_y`
+        it may also be `y,,`: the client supports channel binding, and was offered no mechanism with `-PLUS` (RFC 5802,
+        section 6). Only for a server that offers none.
+
+        With `channels` it is a server of the mechanism with `-PLUS`, and accepts only clients that bind one of these
+        channels. Pass a channel for each kind that you accept. If the list is empty, it accepts no client.
+
+        With `strict`, it rejects an attribute that RFC 5802 defines in the place of an extension: after the nonce of
+        the client-first message, or between the nonce and the proof of the client-final message. A server with
+        `channels` is strict in any case."""
+        self._rules = _rules_of(accept_cbind_flag_y, strict, channels)
+        # The record of a challenge, its struct, and its rules: set together, so that a challenge is never answered with
+        # those of another.
+        self._exchange = _ScramRecordStruct(), _ScramServerStruct(), self._rules
+        self._lock = _Guard(self)
+
+    def _secrets(self) -> Iterable[Any]:
+        return *self._exchange, self._rules
+
+    def _rules_copied(self) -> _ScramRulesStruct:
+        with self._lock:
+            return _ScramRulesStruct.from_buffer_copy(self._rules)
+
+    claimed_user = _ClaimedUser()
 
     def first(self, record: Record, client_first: Bytes, *, accept_cbind_flag_y: bool = False) -> bytes:
         """Answers the client-first message with the server-first message, with a fresh nonce. The record is that of
-        the claimed user (`claimed_user`), or a `Record.mock` for an unknown one.
-
-        The GS2 header of the message has to be `n,,`. With `accept_cbind_flag_y` it may also be `y,,`: the client
-        supports channel binding, and was offered no mechanism with `-PLUS` (RFC 5802, section 6). Only for a server
-        that offers none."""
+        the claimed user (`claimed_user`), or a `Record.mock` for an unknown one. With `accept_cbind_flag_y` the server
+        accepts the GS2 header `y,,` for this exchange, if it has no `channels`."""
         message, nonce, opened = _bytes(client_first), secrets.token_bytes(32), _ScramServerStruct()
-        call = _library.fe2o3_scram_server_first
+        call, rules, known = _library.fe2o3_scram_server_first_with_rules, self._rules_copied(), record._copied()
         if accept_cbind_flag_y:
-            call = _library.fe2o3_scram_server_first_with_cbind_flag_y
-        answer = _written(1024, lambda *room: call(record._struct, opened, nonce, message, len(message), *room))
-        with self._lock:
-            self._exchange = record, opened
+            rules.accept_cbind_flag_y = 1
+        replaced = known, opened
+        try:
+            answer = _written(1024, lambda *room: call(rules, known, opened, nonce, message, len(message), *room))
+            with self._lock:
+                replaced, self._exchange = self._exchange[:2], (known, opened, rules)
+        finally:
+            _wipe(*replaced)
         return answer
 
     def final(self, client_final: Bytes) -> bytes:
-        """Answers the client-final message with the server-final message, if its proof is right."""
-        message = _bytes(client_final)
+        """Answers the client-final message with the server-final message, if its proof is right. Otherwise raises
+        `AuthenticationFailed`. With `channels`, the client has to have bound the one of its kind, otherwise it raises
+        `ChannelBindingError`. Raises `ProtocolError` for another message."""
+        message, call = _bytes(client_final), _library.fe2o3_scram_server_final_with_rules
         with self._lock:
-            record, opened = self._exchange
-            return _written(
-                90,
-                lambda *room: _library.fe2o3_scram_server_final(record._struct, opened, message, len(message), *room),
-            )
+            known, opened, rules = self._exchange
+            return _written(90, lambda *room: call(rules, known, opened, message, len(message), *room))
 
     def authenticated_user(self) -> str:
-        """Returns the name of the authenticated user, without escapes. Raises `Refused` if no user is authenticated."""
+        """Returns the name of the authenticated user, without escapes. Raises `InvalidState` if no user is
+        authenticated."""
         with self._lock:
             opened = self._exchange[1]
             name = _written(256, lambda *room: _library.fe2o3_scram_server_authenticated_user(opened, *room))
         return name.decode("utf-8")
-
-    def __repr__(self) -> str:
-        return "Server()"
 
 
 def plain_message(username: Text, password: Text) -> bytes:
@@ -1720,9 +2708,11 @@ def plain_message(username: Text, password: Text) -> bytes:
 
     Raises `Refused` with NOT_UTF8 if a word is not UTF-8, with NAMES_NO_USER if the user name is empty, and with
     PROHIBITED_CHARACTER if a word contains a zero byte. An empty password is written, but servers reject it."""
-    name, secret = _text(username), _text(password)
-    given = name, len(name), secret, len(secret)
-    return _written(len(name) + len(secret) + 2, lambda *room: _library.fe2o3_plain_message(*given, *room))
+    name = _text(username)
+    with _passing(_hidden(password)) as given:
+        return _written(
+            len(name) + given[1] + 2, lambda *room: _library.fe2o3_plain_message(name, len(name), *given, *room)
+        )
 
 
 def plain_claimed_user(message: Bytes) -> str:
@@ -1748,11 +2738,12 @@ def plain_verify(
     hashed with SHA-256 and this iteration count, and rejected. That takes as many HMAC values as the login of a known
     user whose record has this count. `passwords`, one of `PlainPasswords`, says which password is tested for the
     received one: by default the typed one, of printable ASCII."""
-    given = _bytes(message)
-    records = (_ScramRecordStruct * 1)() if record is None else (_ScramRecordStruct * 1)(record._struct)
-    status = _library.fe2o3_plain_verify(
-        records, 0 if record is None else 1, _number(passwords), _number(iterations), given, len(given)
-    )
+    given, rules = _bytes(message), (_number(passwords), _number(iterations))
+    known = _ScramRecordStruct() if record is None else record._copied()
+    try:
+        status = _library.fe2o3_plain_verify(known, 0 if record is None else 1, *rules, given, len(given))
+    finally:
+        _wipe(known)
     if status == Status.SERVER_AUTHENTICATION_FAILED:
         return False
     _done(status)

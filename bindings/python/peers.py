@@ -47,9 +47,11 @@ class Secret:
             self.iterations,
         )
 
-    def finals(self, bare: bytes, server_first: bytes, header: bytes = b"n,,") -> tuple[bytes, bytes]:
-        """The client-final and the server-final message."""
-        without_proof = b"c=" + base64_of(header) + b"," + server_first.split(b",")[0]
+    def finals(
+        self, bare: bytes, server_first: bytes, header: bytes = b"n,,", extension: bytes = b""
+    ) -> tuple[bytes, bytes]:
+        """The client-final and the server-final message. To bind a channel, its data follow the header."""
+        without_proof = b"c=" + base64_of(header) + b"," + server_first.split(b",")[0] + extension
         exchange = b",".join((bare, server_first, without_proof))
         proof = exclusive_or(self.client_key, mac(self.version, self.stored_key, exchange))
         client_final = without_proof + b",p=" + base64_of(proof)
@@ -104,11 +106,19 @@ def fields_of(frame: bytes) -> tuple[int, list[Optional[bytes]]]:
 
 
 class Broker:
-    """The server's side of a connection, apart from the library: bytes in, bytes out."""
+    """The server's side of a connection, apart from the library: bytes in, bytes out. A client that binds a channel
+    binds these data."""
 
-    def __init__(self, secret: Secret, *names: str, code: int = 0, mar: Optional[Callable[[bytes], bytes]] = None):
+    def __init__(
+        self,
+        secret: Secret,
+        *names: str,
+        code: int = 0,
+        mar: Optional[Callable[[bytes], bytes]] = None,
+        channel_data: bytes = b"",
+    ):
         self.secret, self.names, self.code = secret, names, code
-        self.mar = mar or (lambda message: message)
+        self.mar, self.channel_data = mar or (lambda message: message), channel_data
         self.held, self.init, self.exchange = b"", [], (b"", b"")
 
     def receive(self, data: bytes) -> bytes:
@@ -134,12 +144,13 @@ class Broker:
             self.init = fields
             if not (fields[0] or b"").startswith(b"SCRAM"):
                 return frame_of(OUTCOME, bytes([0x50, self.code]))
-            bare = (fields[1] or b"")[3:]
+            flag, _, bare = (fields[1] or b"").split(b",", 2)
+            self.header = flag + b",,"
             nonce = bare.split(b",r=")[1]
             first = b"r=%s%s,s=%s,i=%d" % (nonce, b"server", base64_of(self.secret.salt), self.secret.iterations)
             self.exchange = bare, first
             return frame_of(CHALLENGE, short(0xA0, first))
-        client_final, server_final = self.secret.finals(*self.exchange)
+        client_final, server_final = self.secret.finals(*self.exchange, self.header + self.channel_data)
         if self.code or fields[0] != client_final:
             return frame_of(OUTCOME, bytes([0x50, self.code or 1]))
         return frame_of(OUTCOME, b"\x50\0", short(0xA0, self.mar(server_final)))

@@ -3,8 +3,8 @@
     broker.py PORT USERS [CERTIFICATE KEY AUTHORITY]
 
 USERS has a line for each user and hash (`Record.line`). `USERS.secret` is made at the first start. It has the secret of
-mock records. AUTHORITY issues the certificates of clients, which need none. Prints the port and a line for each login.
-Then it closes the connection, since it speaks no AMQP.
+mock records. AUTHORITY issues the certificates of clients, which need none. Prints the port and a line for each login:
+how it ended, the mechanism, the claimed user and the hostname. Then it closes the connection, since it speaks no AMQP.
 """
 
 from __future__ import annotations
@@ -17,11 +17,13 @@ import sys
 import time
 from pathlib import Path
 
-from fe2o3_sasl import SHA_1, SHA_256, SHA_512, Offer, Progress, Record, Refused, ServerConnection, Status
+import fe2o3_sasl_asyncio
+from fe2o3_sasl import SHA_1, SHA_256, SHA_512, CredentialsRejected, Offer, Record, Refused, ServerConnection
 
 SCRAM = {SHA_512: Offer.SCRAM_SHA_512, SHA_256: Offer.SCRAM_SHA_256, SHA_1: Offer.SCRAM_SHA_1}
-#: The limits: of open connections, of bytes and seconds for a login, and of bytes and seconds for a close.
-CONNECTIONS, LOGIN_BYTES, LOGIN_SECONDS, CLOSE_BYTES, CLOSE_SECONDS = 1000, 8192, 10, 65536, 2
+#: The limits: of open connections, of seconds for a login, and of bytes and seconds for a close. A login ends by itself
+#: after a few frames of at most 512 bytes.
+CONNECTIONS, LOGIN_SECONDS, CLOSE_BYTES, CLOSE_SECONDS = 1000, 10, 65536, 2
 #: That many refused logins lock a user for that many seconds. The counts of that many names are kept.
 REFUSALS, LOCK_SECONDS, NAMES = 5, 60, 100_000
 
@@ -80,24 +82,28 @@ class Broker:
             self.connections -= 1
 
     async def login(self, reader: asyncio.StreamReader, writer: asyncio.StreamWriter) -> str:
-        """Serves a login, and returns how it ended. Names are quoted, since they may hold line feeds."""
-        claimed = identity = certified_name(writer)
-
-        def records_of(name: str) -> list[Record]:
-            nonlocal claimed
-            claimed = name
-            return self.records_of(name)
-
+        """Serves a login, and returns how it ended, and what its last init claimed."""
+        identity = certified_name(writer)
         mechanisms = self.mechanisms | (Offer.EXTERNAL if identity else 0)
-        side = ServerConnection(records_of, mechanisms=mechanisms, external_authcid=identity)
-        try:
-            await asyncio.wait_for(carry(side, reader, writer), LOGIN_SECONDS)
-        except (OSError, Refused, asyncio.TimeoutError) as why:
-            return f"no login: {str(why) or 'it took too long'}"
-        if side.progress == Progress.AUTHENTICATED:
-            return f"logged in: {side.authenticated_user()!r}"
-        count = f", {self.refuse(claimed)} of {claimed!r}" if side.why.status == Status.REFUSED_AUTH else ""
-        return f"not logged in: {side.why.text}{count}"
+        with ServerConnection(self.records_of, mechanisms=mechanisms, external_authcid=identity) as side:
+            try:
+                await fe2o3_sasl_asyncio.serve(reader, writer, side, timeout=LOGIN_SECONDS)
+            except Refused as why:
+                attempt, count = side.last_attempt(), ""
+                if isinstance(why, CredentialsRejected) and attempt is not None:
+                    name = identity if attempt.claimed_user is None else attempt.claimed_user
+                    count = f", {self.refuse(name)} of {name!r}"
+                return f"not logged in: {why.text}{count}{claims(side)}"
+            except (OSError, asyncio.TimeoutError) as why:
+                return f"no login: {str(why) or 'it took too long'}{claims(side)}"
+            return f"logged in: {side.authenticated_user()!r}{claims(side)}"
+
+
+def claims(side: ServerConnection) -> str:
+    """Returns what the last init claimed, if there was one. Names are quoted, since they may hold line feeds."""
+    if (attempt := side.last_attempt()) is None:
+        return ""
+    return f" ({attempt.mechanism!r}, user {attempt.claimed_user!r}, host {attempt.hostname!r})"
 
 
 def certified_name(writer: asyncio.StreamWriter) -> str:
@@ -105,20 +111,6 @@ def certified_name(writer: asyncio.StreamWriter) -> str:
     subject = (writer.get_extra_info("peercert") or {}).get("subject", ())
     names = [value for part in subject for kind, value in part if kind == "commonName"]
     return names[0] if len(names) == 1 else ""
-
-
-async def carry(side: ServerConnection, reader: asyncio.StreamReader, writer: asyncio.StreamWriter) -> bytes:
-    """Receives and sends until the login ends. Returns the bytes that belong to AMQP."""
-    left, rest = LOGIN_BYTES, b""
-    while side.progress == Progress.IN_PROGRESS:
-        data = await reader.read(min(left, 4096))
-        if not data:
-            raise ConnectionError("the client ended the connection" if left else "it has too many bytes")
-        left -= len(data)
-        answer, rest = await asyncio.to_thread(side.receive, data)  # PLAIN hashes the password here
-        writer.write(answer)
-        await writer.drain()
-    return rest
 
 
 async def hang_up(reader: asyncio.StreamReader, writer: asyncio.StreamWriter) -> None:

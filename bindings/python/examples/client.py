@@ -16,7 +16,8 @@ import sys
 from dataclasses import dataclass, field
 from typing import Optional
 
-from fe2o3_sasl import SHA_256, SHA_512, Client, ClientConnection, Progress, Refused, offers
+import fe2o3_sasl_asyncio
+from fe2o3_sasl import ClientConnection, MechanismUnavailable, Refused
 
 LOGIN_SECONDS = 30
 
@@ -32,57 +33,39 @@ class Login:
     tls: Optional[ssl.SSLContext]
     has_certificate: bool
 
-    def allowed(self) -> list[tuple[str, ClientConnection]]:
+    def allowed(self) -> list[str]:
         """Returns the allowed mechanisms, the strongest first. An altered offer cannot add one."""
-        found = []
-        if self.password:
-            found += [("SCRAM-SHA-512", self.scram(SHA_512)), ("SCRAM-SHA-256", self.scram(SHA_256))]
+        found = ["SCRAM-SHA-512", "SCRAM-SHA-256"] if self.password else []
         if self.tls and self.has_certificate:
-            found += [("EXTERNAL", ClientConnection.external_as("", hostname=self.host))]
+            found += ["EXTERNAL"]
         if self.tls and self.password:
-            found += [("PLAIN", ClientConnection.plain(self.user, self.password, hostname=self.host))]
+            found += ["PLAIN"]
         return found
 
-    def scram(self, version: int) -> ClientConnection:
-        """Returns a login by SCRAM. Qpid Proton's servers send their signature in a challenge."""
-        client = Client(version, self.user, self.password, max_iterations=100_000, signature_by_challenge=True)
-        return ClientConnection(client, hostname=self.host)
-
-
-async def read_offer(reader: asyncio.StreamReader) -> tuple[bytes, bytes]:
-    """Reads the server's header and its mechanisms. Returns all bytes, and the frame body."""
-    header = await reader.readexactly(8)
-    if header != ClientConnection.open():
-        raise ConnectionError("the server does not speak SASL")
-    size = await reader.readexactly(4)
-    if not 8 <= int.from_bytes(size, "big") <= 512:  # AMQP 1.0, part 5, section 5.3.1
-        raise ConnectionError("a frame of that size is not allowed")
-    body = await reader.readexactly(int.from_bytes(size, "big") - 4)
-    return header + size + body, body
+    def side(self) -> ClientConnection:
+        """Returns a login that has not begun. Qpid Proton's servers send the signature of SCRAM in a challenge."""
+        if not (allowed := self.allowed()):
+            raise ConnectionError("no mechanism is allowed")
+        options = {"max_iterations": 100_000, "signature_by_challenge": True}
+        return ClientConnection.select(self.user, self.password, allowed, hostname=self.host, **options)
 
 
 async def log_in(login: Login, reader: asyncio.StreamReader, writer: asyncio.StreamWriter) -> tuple[str, bytes]:
     """Logs in. Returns the mechanism, and the bytes that belong to AMQP. Raises unless the client is logged in."""
-    writer.write(ClientConnection.open())
-    try:
-        data, body = await read_offer(reader)
-    except EOFError:
-        raise ConnectionError("the server closed the connection") from None
-    chosen = next(((name, side) for name, side in login.allowed() if offers(body, name)), None)
-    if chosen is None:
-        raise ConnectionError("the server offers no allowed mechanism")
-    mechanism, side = chosen
-    answer, rest = await asyncio.to_thread(side.receive, data)
-    while side.progress == Progress.IN_PROGRESS:
-        writer.write(answer)
-        await writer.drain()
-        data = await reader.read(4096)
-        if not data:
-            raise ConnectionError("the server closed the connection")
-        answer, rest = await asyncio.to_thread(side.receive, data)  # SCRAM hashes the password here
-    if side.why is not None:
-        raise side.why
-    return mechanism, rest
+    with login.side() as side:
+        try:
+            rest = await fe2o3_sasl_asyncio.log_in(reader, writer, side, timeout=LOGIN_SECONDS)
+        except Refused as why:
+            raise ConnectionError(reason(why, side)) from None
+        return side.mechanism() or "", rest
+
+
+def reason(why: Refused, side: ClientConnection) -> str:
+    """Returns why a login failed, with what the server sent about it."""
+    if isinstance(why, MechanismUnavailable) and side.mechanism() is None:
+        return "the server offers no allowed mechanism"
+    more = side.foreign_header() or side.refusal_data
+    return f"{why}: {more!r}" if more else str(why)
 
 
 async def run(login: Login) -> str:

@@ -31,9 +31,9 @@ def finish(side: Union[ClientConnection, ServerConnection], sock: socket.socket)
     """Receives and sends until the login of either side ends."""
     rest = b""
     while side.progress == Progress.IN_PROGRESS:
-        data = sock.recv(4096)
-        if not data:
-            raise ConnectionError("the peer closed the connection during the login")
+        if not (data := sock.recv(4096)):
+            side.end_of_input()
+            break
         answer, rest = side.receive(data)
         sock.sendall(answer)
     if side.why is not None:

@@ -32,7 +32,8 @@ fn serve(socket: &mut TcpStream, server: PasswordServer<Users>) -> Result<(Optio
     while side.progress() == Progress::InProgress {
         let len = read(socket, &mut room, until)?;
         if len == 0 {
-            return Err("the client closed the connection".into());
+            side.end_of_input();
+            break;
         }
         let received = side.receive(&room[..len])?;
         socket.write_all(&received.sent)?;

@@ -71,6 +71,27 @@ pub(crate) fn done(status: u32) -> Result<(), u32> {
     }
 }
 
+/// An export that computes a struct of a salted password, its salt and its iteration count.
+type MakesOfSalted<S> = unsafe extern "C" fn(u32, *const u8, usize, *const u8, usize, u32, *mut S) -> u32;
+
+/// Returns the struct that such an export writes over this one.
+pub(crate) fn made_of_salted<S>(
+    make: MakesOfSalted<S>,
+    mut of: S,
+    version: ScramVersion,
+    salted: &[u8],
+    salt: &[u8],
+    iterations: u32,
+) -> Result<S, RecordError> {
+    // SAFETY: `make` is an export of the library; the bytes are slices that live through the call, and the struct is one
+    // of this function.
+    let status = unsafe {
+        make(version.number(), salted.as_ptr(), salted.len(), salt.as_ptr(), salt.len(), iterations, &mut of)
+    };
+    done(status).map_err(RecordError::of)?;
+    Ok(of)
+}
+
 /// An export that computes a struct of a password, a salt and an iteration count.
 type Makes<S> = unsafe extern "C" fn(u32, u32, *const u8, usize, *const u8, usize, u32, *mut S) -> u32;
 

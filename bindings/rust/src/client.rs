@@ -1,8 +1,9 @@
 //! The client's side of an exchange.
 
 use crate::calls::{done, filled};
+use crate::channels::ClientChannel;
 use crate::keys::NO_KEYS;
-use crate::{generate_nonce, sys, CachedKeys, Password, ScramErrorKind, ScramVersion, ServerError};
+use crate::{generate_nonce, sys, CachedKeys, Channel, Password, ScramErrorKind, ScramVersion, ServerError};
 use std::fmt;
 use std::marker::PhantomData;
 
@@ -21,6 +22,8 @@ pub(crate) struct Who {
     min_iterations: u32,
     max_iterations: u32,
     signature_by_challenge: bool,
+    strict: bool,
+    channel: ClientChannel,
 }
 
 /// A login struct of the library, whose pointers point to what is borrowed for `'a`.
@@ -39,11 +42,32 @@ impl Who {
         version: ScramVersion,
     ) -> Self {
         let (password, form) = (password.as_str().to_owned(), password.form());
-        let (min_iterations, max_iterations, signature_by_challenge) = (4096, 1_000_000, false);
-        Self { username, password, form, keys, secret, version, min_iterations, max_iterations, signature_by_challenge }
+        Self {
+            username,
+            password,
+            form,
+            keys,
+            secret,
+            version,
+            min_iterations: 4096,
+            max_iterations: 1_000_000,
+            signature_by_challenge: false,
+            strict: false,
+            channel: ClientChannel::Absent,
+        }
+    }
+
+    /// Returns the name of the mechanism of SCRAM.
+    pub(crate) fn mechanism(&self) -> &'static str {
+        if self.channel.is_bound() {
+            self.version.plus_mechanism()
+        } else {
+            self.version.mechanism()
+        }
     }
 
     pub(crate) fn lend(&self) -> Lent<'_> {
+        let (channel_use, channel_kind, channel_data_len, channel_data) = self.channel.fields();
         let login = sys::Login {
             version: self.version.number(),
             secret: self.secret,
@@ -56,6 +80,11 @@ impl Who {
             password_len: self.password.len(),
             keys: &self.keys,
             signature_by_challenge: self.signature_by_challenge.into(),
+            strict: self.strict.into(),
+            channel_use,
+            channel_kind,
+            channel_data_len,
+            channel_data,
         };
         Lent { login, who: PhantomData }
     }
@@ -148,6 +177,35 @@ impl ScramClient {
         self
     }
 
+    /// Makes the client bind this channel, by the mechanism with `-PLUS` ([`Self::mechanism`]). Its GS2 header is then
+    /// `p=` with the kind of the channel, and it is strict in any case. Set the channel before the client-first message.
+    /// If the server did not offer that mechanism, use [`Self::channel_not_offered`].
+    pub fn with_channel(mut self, channel: Channel) -> Self {
+        self.who.channel = ClientChannel::Bound(channel);
+        self
+    }
+
+    /// Makes the client say that it has a channel, but was offered no mechanism with `-PLUS`: its GS2 header is `y,,`. A
+    /// server that did offer one rejects it, so that nobody on the way can remove the mechanism from the offer (RFC 5802,
+    /// section 6).
+    pub fn channel_not_offered(mut self) -> Self {
+        self.who.channel = ClientChannel::NotOffered;
+        self
+    }
+
+    /// With `is_strict`, makes the client reject an attribute that RFC 5802 defines in the place of an extension, after
+    /// the iteration count, by [`ScramErrorKind::MisplacedAttribute`]. A client that binds a channel is strict in any
+    /// case.
+    pub fn strict(mut self, is_strict: bool) -> Self {
+        self.who.strict = is_strict;
+        self
+    }
+
+    /// Returns the name of the mechanism, with `-PLUS` if the client binds a channel.
+    pub fn mechanism(&self) -> &'static str {
+        self.who.mechanism()
+    }
+
     /// Returns the client-first message. This starts a new exchange, whatever the state of the client is.
     ///
     /// # Panics
@@ -162,7 +220,7 @@ impl ScramClient {
         let lent = self.who.lend();
         let state = &mut self.state;
         // (each `,` and each `=` of a name is written with three bytes)
-        let room = self.who.username.len().saturating_mul(3).saturating_add(64);
+        let room = self.who.username.len().saturating_mul(3).saturating_add(96);
         filled(room, |out, len| {
             // SAFETY: the login's pointers are to what `lent` borrows; the state, the room and its length are borrowed
             // for writing, and so overlap nothing.
@@ -175,7 +233,8 @@ impl ScramClient {
     pub fn compute_client_final_message(&mut self, server_first: &str) -> Result<Vec<u8>, ScramErrorKind> {
         let lent = self.who.lend();
         let state = &mut self.state;
-        filled(server_first.len() + 128, |out, len| {
+        let more = if self.who.channel.is_bound() { 256 } else { 128 };
+        filled(server_first.len() + more, |out, len| {
             // SAFETY: the login's pointers are to what `lent` borrows, and the message is a slice that lives through
             // the call; the state, the room and its length are borrowed for writing, and so overlap nothing.
             unsafe {

@@ -2,8 +2,11 @@
 
 use crate::calls::filled;
 use crate::client::{Who, INITIAL};
+use crate::frames::view_frame;
 use crate::keys::NO_KEYS;
-use crate::{generate_nonce, sys, CachedKeys, ConnectionError, ScramClient, ScramVersion};
+use crate::peeks::{end_of_input, foreign_header, nonce_for, peek_body, wants_nonce};
+use crate::policies::{refusal_data, Choice};
+use crate::{sys, CachedKeys, ClientPolicy, ConnectionError, Frame, ScramClient, ScramVersion};
 use std::fmt;
 use std::marker::PhantomData;
 
@@ -17,6 +20,8 @@ const NEW: sys::SaslClient = sys::SaslClient { connection: FRESH, scram: INITIAL
 const FRAME_MOST: usize = 512;
 
 /// What a client logs in with.
+// (a connection has one of them, so the size of SCRAM's does not matter)
+#[allow(clippy::large_enum_variant)]
 #[derive(Clone)]
 pub enum SaslProfile {
     /// ANONYMOUS (RFC 4505).
@@ -98,6 +103,16 @@ impl Login {
         Self { who, mechanism, hostname: hostname.unwrap_or_default().to_owned() }
     }
 
+    /// Returns the name of the mechanism.
+    pub(crate) fn mechanism(&self) -> &'static str {
+        match self.mechanism {
+            sys::SCRAM => self.who.mechanism(),
+            sys::PLAIN => "PLAIN",
+            sys::ANONYMOUS | sys::ANONYMOUS_AS => "ANONYMOUS",
+            _ => "EXTERNAL",
+        }
+    }
+
     pub(crate) fn lend(&self) -> LentLogin<'_> {
         let login = sys::SaslLogin {
             mechanism: self.mechanism,
@@ -165,25 +180,35 @@ impl fmt::Debug for Received {
 /// while side.progress() == Progress::InProgress {
 ///     let len = socket.read(&mut came)?;
 ///     if len == 0 {
-///         return Err("the server closed the connection".into());
+///         side.end_of_input();
+///         break;
 ///     }
 ///     let received = side.receive(&came[..len])?;
 ///     socket.write_all(&received.sent)?;
 /// }
+/// assert_eq!(side.progress(), Progress::Authenticated);
 /// # Ok(())
 /// # }
 /// ```
 #[derive(Clone)]
 pub struct ClientNegotiation {
-    login: Login,
+    choice: Choice,
     state: sys::SaslClient,
+    refusal_data: Option<Vec<u8>>,
 }
 
 impl ClientNegotiation {
     /// Returns a new connection, on which the client logs in with this profile. The init has the hostname, if it is not
     /// empty.
     pub fn new(profile: impl Into<SaslProfile>, hostname: Option<&str>) -> Self {
-        Self { login: Login::new(profile.into(), hostname), state: NEW }
+        Self { choice: Choice::of(profile.into(), hostname), state: NEW, refusal_data: None }
+    }
+
+    /// Returns a new connection, on which the client logs in by the first profile of the policy whose mechanism the server
+    /// offers. If it offers none, the client sends nothing more, and the login fails with
+    /// [`ConnectionError::NotImplemented`]. The init has the hostname, if it is not empty.
+    pub fn select(policy: ClientPolicy, hostname: Option<&str>) -> Self {
+        Self { choice: Choice::among(policy, hostname), state: NEW, refusal_data: None }
     }
 
     /// Returns the SASL protocol header, which a client sends first.
@@ -202,9 +227,15 @@ impl ClientNegotiation {
     pub fn receive(&mut self, bytes: &[u8]) -> Result<Received, ConnectionError> {
         let mut received = Received { taken: 0, sent: Vec::new() };
         while received.taken < bytes.len() && self.progress() == Progress::InProgress {
-            let (taken, sent) = self.step(&bytes[received.taken..], &generate_nonce())?;
+            let rest = &bytes[received.taken..];
+            let body = peek_body(&self.state.connection, rest)?;
+            if let Some(body) = &body {
+                self.choice.select(body);
+            }
+            let (taken, sent) = self.step(rest, &nonce_for(&self.state.connection))?;
             received.taken += taken;
             received.sent.extend(sent);
+            self.refusal_data = body.and_then(|body| refusal_data(self.progress(), &body));
         }
         Ok(received)
     }
@@ -212,7 +243,7 @@ impl ClientNegotiation {
     /// Calls the library once: takes bytes to the end of the expected header or frame. The nonce is 32 random bytes,
     /// fresh for each call.
     fn step(&mut self, bytes: &[u8], nonce: &[u8; 32]) -> Result<(usize, Vec<u8>), ConnectionError> {
-        let lent = self.login.lend();
+        let lent = self.choice.lend();
         let state = &mut self.state;
         let mut taken = 0;
         let sent = filled(FRAME_MOST, |out, len| {
@@ -239,6 +270,40 @@ impl ClientNegotiation {
     /// Returns how far the login is.
     pub fn progress(&self) -> Progress {
         progress_of(&self.state.connection)
+    }
+
+    /// Ends the login, because the other side ended its stream. A login in progress fails with
+    /// [`ConnectionError::EndOfInput`]. Otherwise nothing changes.
+    pub fn end_of_input(&mut self) {
+        end_of_input(&mut self.state.connection);
+    }
+
+    /// Returns the eight bytes that the other side sent in the place of the SASL protocol header, if the login failed with
+    /// [`ConnectionError::ProtocolHeaderMismatch`]. They say which protocol it speaks (AMQP 1.0, part 2, section 2.2).
+    pub fn foreign_header(&self) -> Option<[u8; 8]> {
+        foreign_header(&self.state.connection)
+    }
+
+    /// Returns whether the next step of the login may use a nonce. Only then [`Self::receive`] reads random bytes.
+    pub fn wants_nonce(&self) -> bool {
+        wants_nonce(&self.state.connection)
+    }
+
+    /// Returns the frame that received bytes complete, if they complete one. Nothing is taken: pass the same bytes to
+    /// [`Self::receive`] after that. After the end of the login this is an error.
+    pub fn peek_frame(&self, bytes: &[u8]) -> Result<Option<Frame>, ConnectionError> {
+        peek_body(&self.state.connection, bytes)?.map(|body| view_frame(&body)).transpose()
+    }
+
+    /// Returns the name of the mechanism; `None` if the client selects it and has not yet ([`Self::select`]).
+    pub fn mechanism(&self) -> Option<&'static str> {
+        self.choice.mechanism()
+    }
+
+    /// Returns the additional data of the outcome that rejected the login (AMQP 1.0, part 5, section 5.3.3.6), if it has
+    /// any. They are not authenticated: anyone who can alter the connection can write them.
+    pub fn refusal_data(&self) -> Option<&[u8]> {
+        self.refusal_data.as_deref()
     }
 
     /// Returns the keys of a complete login by SCRAM, like [`ScramClient::keys`].

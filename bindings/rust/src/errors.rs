@@ -111,6 +111,9 @@ kinds! {
         IllegalClientState = CLIENT_ILLEGAL_CLIENT_STATE,
         /// The server-final message is no error of the server, and does not begin with `v=` or has another signature.
         ServerSignatureMismatch = CLIENT_SERVER_SIGNATURE_MISMATCH,
+        /// A strict client received an attribute that RFC 5802 defines in the place of an extension: after the iteration
+        /// count.
+        MisplacedAttribute = CLIENT_MISPLACED_ATTRIBUTE,
         /// The server sent this error in the place of its signature, such as `invalid-proof` for a wrong password.
         ServerError(ServerError) = SERVER_ERROR,
         /// An allocation failed. Nothing has changed, and you can repeat the call.
@@ -123,7 +126,8 @@ kinds! {
     ServerScramErrorKind {
         /// The message is not UTF-8.
         Utf8Error = SERVER_UTF8_ERROR,
-        /// The client-first message does not begin with `n,,`, or with `y,,` if that is accepted.
+        /// The client-first message does not begin with `n,,`, or with `y,,` if that is accepted. For a server with
+        /// channels, it does not begin with `p=` and the name of a kind of which the server has the channel.
         CannotParseGs2Header = SERVER_CANNOT_PARSE_GS2_HEADER,
         /// The client-first message has no user name, or one that is not escaped.
         CannotParseUsername = SERVER_CANNOT_PARSE_USERNAME,
@@ -137,7 +141,8 @@ kinds! {
         NormalizeError = SERVER_NORMALIZE_ERROR,
         /// The client-final message does not begin with `c=`, or its second part is absent or does not begin with `r=`.
         CannotParseClientFinalMessage = SERVER_CANNOT_PARSE_CLIENT_FINAL_MESSAGE,
-        /// The channel binding is not the header with which the client-first message began.
+        /// The channel binding is not the header with which the client-first message began, with the data of the
+        /// server's channel if there is one.
         InvalidChannelBinding = SERVER_INVALID_CHANNEL_BINDING,
         /// A channel binding or a proof is not base64.
         Base64DecodeError = SERVER_BASE64_DECODE_ERROR,
@@ -149,6 +154,9 @@ kinds! {
         AuthenticationFailed = SERVER_AUTHENTICATION_FAILED,
         /// No challenge is open.
         IllegalAuthenticatorState = SERVER_ILLEGAL_AUTHENTICATOR_STATE,
+        /// A strict server received an attribute that RFC 5802 defines in the place of an extension: after the nonce of
+        /// the client-first message, or between the nonce and the proof of the client-final message.
+        MisplacedAttribute = SERVER_MISPLACED_ATTRIBUTE,
         /// A name or a message does not fit into the struct, or the salt of the record has more than 128 bytes.
         TooLong = TOO_LONG,
         /// A key of the record is not as long as a digest of the version.
@@ -251,6 +259,8 @@ kinds! {
         RefusedSysPerm = REFUSED_SYS_PERM,
         /// The server rejected the login because of a temporary system error.
         RefusedSysTemp = REFUSED_SYS_TEMP,
+        /// The other side ended its stream before the login was complete.
+        EndOfInput = END_OF_INPUT,
         /// The server offers no mechanism.
         NoSuchMechanism = NO_SUCH_MECHANISM,
         /// A name or a message does not fit into the struct. Close the connection.

@@ -1,6 +1,6 @@
 //! The keys that a client can cache in place of its password.
 
-use crate::calls::{done, head, made, put};
+use crate::calls::{done, head, made, made_of_salted, put};
 use crate::{sys, Password, RecordError, ScramVersion};
 use std::fmt;
 
@@ -32,6 +32,20 @@ impl CachedKeys {
         iterations: u32,
     ) -> Result<Self, RecordError> {
         made(sys::fe2o3_scram_keys_make, NO_KEYS, version, password.into(), salt, iterations).map(Self)
+    }
+
+    /// Computes the keys of a salted password (RFC 5802, section 3). You computed it as `Hi(password, salt, iterations)`,
+    /// for example in a library that uses SHA instructions. The call cannot test that it is of this salt and count.
+    ///
+    /// The errors are, in this order: `KeyLengthMismatch` if the salted password is not as long as a digest of the
+    /// version, `TooLong` for a salt of more than 128 bytes, and `ZeroIterations`.
+    pub fn from_salted_password(
+        version: ScramVersion,
+        salted_password: &[u8],
+        salt: &[u8],
+        iterations: u32,
+    ) -> Result<Self, RecordError> {
+        made_of_salted(sys::fe2o3_scram_keys_of_salted, NO_KEYS, version, salted_password, salt, iterations).map(Self)
     }
 
     /// Returns keys from their stored parts.

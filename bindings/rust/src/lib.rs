@@ -25,17 +25,22 @@
 //! # }
 //! ```
 //!
-//! Secrets are not wiped from memory, neither here nor in the library. No `Debug` shows one.
+//! The library wipes what its calls leave in memory. Values of this crate are not wiped. No `Debug` shows a secret.
 #![deny(missing_docs)]
 #![deny(unsafe_op_in_unsafe_fn)]
 
+mod attempts;
 mod calls;
+mod channels;
 mod client;
 mod connection;
 mod errors;
+mod frames;
 mod keys;
 mod messages;
 mod password;
+mod peeks;
+mod policies;
 mod preparation;
 mod records;
 mod server;
@@ -47,16 +52,20 @@ mod steps;
 mod sys;
 mod version;
 
+pub use attempts::LoginAttempt;
 pub use calls::{fits, generate_nonce, library_version};
+pub use channels::{Channel, ChannelDataLength, ChannelKind};
 pub use client::ScramClient;
 pub use connection::{ClientNegotiation, Progress, Received, SaslProfile};
 pub use errors::{
     ConnectionError, PlainError, RecordError, RecordTextError, SaslprepError, ScramErrorKind, ServerScramErrorKind,
     Status,
 };
+pub use frames::{offers, view_frame, Frame};
 pub use keys::CachedKeys;
 pub use messages::{external_verify, plain_claimed_user, plain_message, plain_verify};
 pub use password::Password;
+pub use policies::ClientPolicy;
 pub use preparation::{saslprep, Unassigned};
 pub use records::{ScramRecord, StoredPassword};
 pub use server::{ScramAuthenticator, ScramCredentialProvider, SingleScramCredential};

@@ -1,6 +1,6 @@
 //! What a server stores of a password.
 
-use crate::calls::{done, filled, head, made};
+use crate::calls::{done, filled, head, made, made_of_salted};
 use crate::{sys, Password, RecordError, RecordTextError, ScramVersion};
 use std::fmt;
 use std::str::FromStr;
@@ -66,6 +66,22 @@ impl ScramRecord {
         iterations: u32,
     ) -> Result<Self, RecordError> {
         made(sys::fe2o3_scram_record_make, NO_RECORD, version, password.into(), salt, iterations).map(Self)
+    }
+
+    /// Computes the record of a salted password (RFC 5802, section 3). You computed it as `Hi(password, salt,
+    /// iterations)`, for example in a library that uses SHA instructions. The call cannot test that it is of this salt
+    /// and count.
+    ///
+    /// The errors are, in this order: `KeyLengthMismatch` if the salted password is not as long as a digest of the
+    /// version, `TooLong` for a salt of more than 128 bytes, and `ZeroIterations`.
+    pub fn from_salted_password(
+        version: ScramVersion,
+        salted_password: &[u8],
+        salt: &[u8],
+        iterations: u32,
+    ) -> Result<Self, RecordError> {
+        let make = sys::fe2o3_scram_record_of_salted;
+        made_of_salted(make, NO_RECORD, version, salted_password, salt, iterations).map(Self)
     }
 
     /// Returns the record of the parts that another server stores (RFC 5802, section 3), each as bytes, not in base64.
@@ -152,6 +168,16 @@ impl ScramRecord {
         let (form, text) = (password.form(), password.as_str());
         // SAFETY: the record is borrowed, and the password is a slice that lives through the call.
         let status = unsafe { sys::fe2o3_scram_record_verify(&self.0, form, text.as_ptr(), text.len()) };
+        done(status).is_ok()
+    }
+
+    /// Returns whether a salted password is the record's. A server that receives a password, for instance by PLAIN,
+    /// computes it with the salt and the iteration count of the record. The result is `false` for one that is not as long
+    /// as a digest of the version.
+    pub fn verify_salted_password(&self, salted_password: &[u8]) -> bool {
+        let (salted, len) = (salted_password.as_ptr(), salted_password.len());
+        // SAFETY: the record is borrowed, and the salted password is a slice that lives through the call.
+        let status = unsafe { sys::fe2o3_scram_record_verify_salted(&self.0, salted, len) };
         done(status).is_ok()
     }
 

@@ -1,8 +1,9 @@
 //! The server's side of an exchange.
 
 use crate::calls::filled;
+use crate::channels::{bind, NO_RULES};
 use crate::{
-    generate_nonce, sys, ScramRecord, ScramVersion, ServerScramErrorKind, StoredPassword, UserRecords,
+    generate_nonce, sys, Channel, ScramRecord, ScramVersion, ServerScramErrorKind, StoredPassword, UserRecords,
     DEFAULT_SCRAM_ITERATIONS,
 };
 use std::fmt;
@@ -22,7 +23,13 @@ pub(crate) const NO_CHALLENGE: sys::ScramServer = sys::ScramServer {
 };
 
 /// The states of a server whose challenge is open.
-const CHALLENGE_IS_OPEN: [u32; 2] = [sys::SCRAM_SERVER_CHALLENGE_OPEN, sys::SCRAM_SERVER_CHALLENGE_OPEN_CBIND_FLAG_Y];
+const CHALLENGE_IS_OPEN: [u32; 5] = [
+    sys::SCRAM_SERVER_CHALLENGE_OPEN,
+    sys::SCRAM_SERVER_CHALLENGE_OPEN_CBIND_FLAG_Y,
+    sys::SCRAM_SERVER_CHALLENGE_OPEN_TLS_UNIQUE,
+    sys::SCRAM_SERVER_CHALLENGE_OPEN_TLS_SERVER_END_POINT,
+    sys::SCRAM_SERVER_CHALLENGE_OPEN_TLS_EXPORTER,
+];
 
 /// The GS2 header of a client that supports channel binding, and was offered no mechanism with it (RFC 5802, section
 /// 6).
@@ -151,7 +158,7 @@ impl MockSettings {
 pub struct ScramAuthenticator<C: ScramCredentialProvider + Clone> {
     credentials: C,
     mock: Option<MockSettings>,
-    cbind_flag_y: bool,
+    rules: sys::ScramRules,
     challenged: String,
     state: sys::ScramServer,
 }
@@ -159,7 +166,7 @@ pub struct ScramAuthenticator<C: ScramCredentialProvider + Clone> {
 impl<C: ScramCredentialProvider + Clone> ScramAuthenticator<C> {
     /// Returns a server without an open challenge, which answers an unknown user with `None`.
     pub fn new(credentials: C) -> Self {
-        Self { credentials, mock: None, cbind_flag_y: false, challenged: String::new(), state: NO_CHALLENGE }
+        Self { credentials, mock: None, rules: NO_RULES, challenged: String::new(), state: NO_CHALLENGE }
     }
 
     /// Makes the server answer an unknown user with a mock record ([`ScramRecord::mock`]).
@@ -171,7 +178,23 @@ impl<C: ScramCredentialProvider + Clone> ScramAuthenticator<C> {
     /// Makes the server also accept the GS2 header `y,,`: the client supports channel binding, and was offered no
     /// mechanism with `-PLUS` (RFC 5802, section 6). Only for a server that offers none.
     pub fn accept_cbind_flag_y(mut self) -> Self {
-        self.cbind_flag_y = true;
+        self.rules.accept_cbind_flag_y = 1;
+        self
+    }
+
+    /// With `is_strict`, makes the server reject an attribute that RFC 5802 defines in the place of an extension, by
+    /// [`ServerScramErrorKind::MisplacedAttribute`]. Other extensions are ignored in any case. A server with channels is
+    /// strict in any case.
+    pub fn strict(mut self, is_strict: bool) -> Self {
+        self.rules.strict = is_strict.into();
+        self
+    }
+
+    /// Makes the server one of the mechanism with `-PLUS` (RFC 5802, section 6): it accepts only clients that bind one of
+    /// these channels. Pass a channel for each kind that you accept; of two channels of one kind the last one counts.
+    /// Without a channel the server accepts no client. Set them before the client-first message.
+    pub fn with_channels(mut self, channels: impl IntoIterator<Item = Channel>) -> Self {
+        self.rules = bind(self.rules, channels);
         self
     }
 
@@ -199,27 +222,23 @@ impl<C: ScramCredentialProvider + Clone> ScramAuthenticator<C> {
         client_first: &[u8],
         nonce: &[u8; 32],
     ) -> Result<Option<Vec<u8>>, ServerScramErrorKind> {
-        // (the call that returns the claimed user accepts both headers)
-        if !self.cbind_flag_y && client_first.starts_with(CBIND_FLAG_Y) && std::str::from_utf8(client_first).is_ok() {
+        // (without channels, the call that returns the claimed user accepts both headers)
+        let is_flag_y = client_first.starts_with(CBIND_FLAG_Y) && std::str::from_utf8(client_first).is_ok();
+        if is_flag_y && self.rules.accept_cbind_flag_y == 0 {
             return Err(ServerScramErrorKind::CannotParseGs2Header);
         }
-        let username = claimed_user(client_first)?;
+        let username = claimed_user(&self.rules, client_first)?;
         let record = match self.record(&username)? {
             Some(record) => record,
             None => return Ok(None),
         };
-        let state = &mut self.state;
-        let answer = if self.cbind_flag_y {
-            sys::fe2o3_scram_server_first_with_cbind_flag_y
-        } else {
-            sys::fe2o3_scram_server_first
-        };
+        let (rules, state) = (&self.rules, &mut self.state);
         let message = filled(client_first.len() + 256, |out, len| {
-            // SAFETY: both exports have the same parameters; the record, the nonce and the message are borrowed and
-            // live through the call; the state, the room and its length are borrowed for writing, and so overlap
-            // nothing.
+            // SAFETY: the rules, the record, the nonce and the message are borrowed and live through the call; the
+            // state, the room and its length are borrowed for writing, and so overlap nothing.
             unsafe {
-                answer(
+                sys::fe2o3_scram_server_first_with_rules(
+                    rules,
                     &record.0,
                     state,
                     nonce,
@@ -249,12 +268,13 @@ impl<C: ScramCredentialProvider + Clone> ScramAuthenticator<C> {
             Some(record) => record,
             None => return Ok(None),
         };
-        let state = &mut self.state;
+        let (rules, state) = (&self.rules, &mut self.state);
         filled(90, |out, len| {
-            // SAFETY: the record and the message are borrowed and live through the call; the state, the room and its
-            // length are borrowed for writing, and so overlap nothing.
+            // SAFETY: the rules, the record and the message are borrowed and live through the call; the state, the room
+            // and its length are borrowed for writing, and so overlap nothing.
             unsafe {
-                sys::fe2o3_scram_server_final(
+                sys::fe2o3_scram_server_final_with_rules(
+                    rules,
                     &record.0,
                     state,
                     client_final.as_ptr(),
@@ -297,12 +317,13 @@ pub(crate) fn authenticated_user(state: &sys::ScramServer) -> Option<String> {
 }
 
 /// Returns the user name that a client-first message claims, without escapes.
-fn claimed_user(client_first: &[u8]) -> Result<String, ServerScramErrorKind> {
+fn claimed_user(rules: &sys::ScramRules, client_first: &[u8]) -> Result<String, ServerScramErrorKind> {
     let name = filled(client_first.len(), |out, len| {
-        // SAFETY: the message is a slice that lives through the call; the room and its length are borrowed for writing,
-        // and so overlap nothing.
+        // SAFETY: the rules are borrowed, and the message is a slice that lives through the call; the room and its
+        // length are borrowed for writing, and so overlap nothing.
         unsafe {
-            sys::fe2o3_scram_server_claimed_user(
+            sys::fe2o3_scram_server_claimed_user_with_rules(
+                rules,
                 client_first.as_ptr(),
                 client_first.len(),
                 out.as_mut_ptr(),

@@ -1,10 +1,13 @@
 //! The server's side of a connection.
 
+use crate::attempts::claim;
 use crate::calls::filled;
 use crate::connection::{progress_of, Progress, Received, FRESH};
+use crate::frames::view_frame;
+use crate::peeks::{end_of_input, foreign_header, nonce_for, peek_body, wants_nonce};
 use crate::records::ScramRecord;
 use crate::server::{authenticated_user, MockSettings, NO_CHALLENGE};
-use crate::{generate_nonce, sys, ConnectionError, ScramVersion, DEFAULT_SCRAM_ITERATIONS};
+use crate::{sys, ConnectionError, Frame, LoginAttempt, ScramVersion, DEFAULT_SCRAM_ITERATIONS};
 use std::collections::HashMap;
 use std::fmt;
 use std::marker::PhantomData;
@@ -154,6 +157,13 @@ impl<R: UserRecords + Clone> PasswordServer<R> {
         self.with(sys::ACCEPT_CBIND_FLAG_Y, true)
     }
 
+    /// With `is_strict`, makes SCRAM reject an attribute that RFC 5802 defines in the place of an extension: after the
+    /// nonce of the client-first message, or between the nonce and the proof of the client-final message. Other extensions
+    /// are ignored in any case. Clients that follow RFC 5802 send no such attribute.
+    pub fn strict(self, is_strict: bool) -> Self {
+        self.with(sys::STRICT, is_strict)
+    }
+
     /// With `by_challenge`, makes SCRAM send the server's signature in a challenge: the outcome follows the client's empty
     /// response (RFC 4422, section 5). Only for clients that do not read the data of an outcome.
     pub fn signature_by_challenge(self, by_challenge: bool) -> Self {
@@ -234,13 +244,14 @@ pub(crate) fn named(
 pub struct ServerNegotiation<R: UserRecords + Clone> {
     config: PasswordServer<R>,
     state: sys::SaslServer,
+    attempt: Option<LoginAttempt>,
 }
 
 impl<R: UserRecords + Clone> ServerNegotiation<R> {
     /// Returns a new connection to this server.
     pub fn new(server: PasswordServer<R>) -> Self {
         let state = sys::SaslServer { connection: FRESH, scram: NO_CHALLENGE };
-        Self { config: server, state }
+        Self { config: server, state, attempt: None }
     }
 
     /// Takes received bytes, until all are used or the login ends. After an error the frames before the one that failed
@@ -255,7 +266,11 @@ impl<R: UserRecords + Clone> ServerNegotiation<R> {
             let rest = &bytes[received.taken..];
             let name = self.named(rest)?;
             let records = self.config.records(name.as_deref())?;
+            let body = peek_body(&self.state.connection, rest)?;
             let (taken, sent) = self.step(rest, name.as_deref(), &records)?;
+            if let Some(body) = body {
+                claim(&mut self.attempt, &body, name.as_deref());
+            }
             received.taken += taken;
             received.sent.extend(sent);
         }
@@ -287,7 +302,7 @@ impl<R: UserRecords + Clone> ServerNegotiation<R> {
         name: Option<&str>,
         records: &[sys::ScramRecord],
     ) -> Result<(usize, Vec<u8>), ConnectionError> {
-        let nonce = generate_nonce();
+        let nonce = nonce_for(&self.state.connection);
         let lent = self.config.lend(name, records);
         let state = &mut self.state;
         let mut taken = 0;
@@ -316,6 +331,35 @@ impl<R: UserRecords + Clone> ServerNegotiation<R> {
     /// Returns how far the login is.
     pub fn progress(&self) -> Progress {
         progress_of(&self.state.connection)
+    }
+
+    /// Ends the login, because the other side ended its stream. A login in progress fails with
+    /// [`ConnectionError::EndOfInput`]. Otherwise nothing changes.
+    pub fn end_of_input(&mut self) {
+        end_of_input(&mut self.state.connection);
+    }
+
+    /// Returns the eight bytes that the other side sent in the place of the SASL protocol header, if the login failed with
+    /// [`ConnectionError::ProtocolHeaderMismatch`]. They say which protocol it speaks (AMQP 1.0, part 2, section 2.2).
+    pub fn foreign_header(&self) -> Option<[u8; 8]> {
+        foreign_header(&self.state.connection)
+    }
+
+    /// Returns whether the next step of the login may use a nonce. Only then [`Self::receive`] reads random bytes.
+    pub fn wants_nonce(&self) -> bool {
+        wants_nonce(&self.state.connection)
+    }
+
+    /// Returns the frame that received bytes complete, if they complete one. Nothing is taken: pass the same bytes to
+    /// [`Self::receive`] after that. After the end of the login this is an error.
+    pub fn peek_frame(&self, bytes: &[u8]) -> Result<Option<Frame>, ConnectionError> {
+        peek_body(&self.state.connection, bytes)?.map(|body| view_frame(&body)).transpose()
+    }
+
+    /// Returns what the last init claims, also after a rejection, for a log; `None` before the first init. Nobody is
+    /// authenticated by it ([`Self::authenticated_user`]).
+    pub fn last_attempt(&self) -> Option<&LoginAttempt> {
+        self.attempt.as_ref()
     }
 
     /// Returns the authenticated user; `None` before the login is complete, and for ANONYMOUS.

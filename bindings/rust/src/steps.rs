@@ -1,11 +1,13 @@
 //! Both sides over frame bodies, for programs that read and write frames themselves.
 
+use crate::attempts::claim;
 use crate::calls::filled;
 use crate::client::INITIAL;
-use crate::connection::{Login, Progress};
+use crate::connection::Progress;
+use crate::policies::{refusal_data, Choice};
 use crate::server::{authenticated_user, NO_CHALLENGE};
 use crate::serving::{named, PasswordServer, UserRecords};
-use crate::{generate_nonce, sys, CachedKeys, ConnectionError, SaslProfile};
+use crate::{generate_nonce, sys, CachedKeys, ClientPolicy, ConnectionError, LoginAttempt, SaslProfile};
 use std::fmt;
 
 /// The most bytes of a body that is sent: a frame of 512 without its size (AMQP 1.0, part 5, section 5.3.1).
@@ -102,15 +104,26 @@ fn stepped(mut call: impl FnMut(&mut u32, &mut [u8], &mut usize) -> u32) -> Resu
 /// ```
 #[derive(Clone)]
 pub struct ClientSteps {
-    login: Login,
+    choice: Choice,
     state: sys::ScramClient,
     progress: Progress,
+    refusal_data: Option<Vec<u8>>,
 }
 
 impl ClientSteps {
     /// Returns a login with this profile that has not begun. The init has the hostname, if it is not empty.
     pub fn new(profile: impl Into<SaslProfile>, hostname: Option<&str>) -> Self {
-        Self { login: Login::new(profile.into(), hostname), state: INITIAL, progress: Progress::InProgress }
+        Self::begin(Choice::of(profile.into(), hostname))
+    }
+
+    /// Returns a login that has not begun, by the first profile of the policy whose mechanism the server offers. A list
+    /// with none of them is [`ConnectionError::NotImplemented`]. The init has the hostname, if it is not empty.
+    pub fn select(policy: ClientPolicy, hostname: Option<&str>) -> Self {
+        Self::begin(Choice::among(policy, hostname))
+    }
+
+    fn begin(choice: Choice) -> Self {
+        Self { choice, state: INITIAL, progress: Progress::InProgress, refusal_data: None }
     }
 
     /// Answers a frame body: the mechanisms with an init, a challenge with a response, and an outcome with no body. An
@@ -129,7 +142,8 @@ impl ClientSteps {
     /// Like [`Self::on_frame`], but with your nonce: 32 random bytes, fresh for each call.
     pub fn on_frame_with(&mut self, body: &[u8], nonce: &[u8; 32]) -> Result<Answered, ConnectionError> {
         goes_on(self.progress)?;
-        let lent = self.login.lend();
+        self.choice.select(body);
+        let lent = self.choice.lend();
         let state = &mut self.state;
         let answered = stepped(|progress, out, len| {
             // SAFETY: the login's pointers are to what `lent` borrows, and the body is a slice that lives through the
@@ -149,12 +163,24 @@ impl ClientSteps {
             }
         })?;
         self.progress = answered.progress;
+        self.refusal_data = refusal_data(self.progress, body);
         Ok(answered)
     }
 
     /// Returns how far the login is.
     pub fn progress(&self) -> Progress {
         self.progress
+    }
+
+    /// Returns the name of the mechanism; `None` if the client selects it and has not yet ([`Self::select`]).
+    pub fn mechanism(&self) -> Option<&'static str> {
+        self.choice.mechanism()
+    }
+
+    /// Returns the additional data of the outcome that rejected the login, like
+    /// [`crate::ClientNegotiation::refusal_data`].
+    pub fn refusal_data(&self) -> Option<&[u8]> {
+        self.refusal_data.as_deref()
     }
 
     /// Returns the keys of a complete login by SCRAM, like [`crate::ScramClient::keys`].
@@ -200,12 +226,13 @@ pub struct ServerSteps<R: UserRecords + Clone> {
     config: PasswordServer<R>,
     state: sys::ScramServer,
     progress: Progress,
+    attempt: Option<LoginAttempt>,
 }
 
 impl<R: UserRecords + Clone> ServerSteps<R> {
     /// Returns a login at this server that has not begun.
     pub fn new(server: PasswordServer<R>) -> Self {
-        Self { config: server, state: NO_CHALLENGE, progress: Progress::InProgress }
+        Self { config: server, state: NO_CHALLENGE, progress: Progress::InProgress, attempt: None }
     }
 
     /// Returns the frame body with which the server offers its mechanisms. Send it after the client's SASL header.
@@ -236,6 +263,7 @@ impl<R: UserRecords + Clone> ServerSteps<R> {
         let records = self.config.records(name.as_deref())?;
         let answered = self.step(body, nonce, name.as_deref(), &records)?;
         self.progress = answered.progress;
+        claim(&mut self.attempt, body, name.as_deref());
         Ok(answered)
     }
 
@@ -290,6 +318,11 @@ impl<R: UserRecords + Clone> ServerSteps<R> {
     /// Returns how far the login is.
     pub fn progress(&self) -> Progress {
         self.progress
+    }
+
+    /// Returns what the last init claims, like [`crate::ServerNegotiation::last_attempt`].
+    pub fn last_attempt(&self) -> Option<&LoginAttempt> {
+        self.attempt.as_ref()
     }
 
     /// Returns the authenticated user; `None` before the login is complete, and for ANONYMOUS.

@@ -102,6 +102,9 @@ pub const CLIENT_ILLEGAL_CLIENT_STATE: u32 = 35;
 /// The server-final message does not begin with `v=`, or has another signature.
 pub const CLIENT_SERVER_SIGNATURE_MISMATCH: u32 = 36;
 
+/// A strict client received an attribute that RFC 5802 defines in the place of an extension: after the iteration count.
+pub const CLIENT_MISPLACED_ATTRIBUTE: u32 = 37;
+
 /// The message is not UTF-8.
 pub const SERVER_UTF8_ERROR: u32 = 40;
 
@@ -144,6 +147,10 @@ pub const SERVER_AUTHENTICATION_FAILED: u32 = 52;
 
 /// No challenge is open.
 pub const SERVER_ILLEGAL_AUTHENTICATOR_STATE: u32 = 53;
+
+/// A strict server received an attribute that RFC 5802 defines in the place of an extension: after the nonce of the
+/// client-first message, or between the nonce and the proof of the client-final message.
+pub const SERVER_MISPLACED_ATTRIBUTE: u32 = 54;
 
 /// The text does not have five fields: parts are missing or left over.
 pub const RECORD_PARTS_MISMATCH: u32 = 60;
@@ -230,6 +237,15 @@ pub const UNASSIGNED_CODE_POINT: u32 = 88;
 /// fe2o3_scram_server_error says which.
 pub const SERVER_ERROR: u32 = 89;
 
+/// The other side ended its stream before the login was complete.
+pub const END_OF_INPUT: u32 = 90;
+
+/// The data of a channel are empty or have more than 64 bytes (RFC 5802, section 7).
+pub const CHANNEL_DATA_LENGTH: u32 = 91;
+
+/// The use of a channel is none of the `channel_use` constants, or its kind none of the `channel_kind` constants.
+pub const NO_SUCH_CHANNEL: u32 = 92;
+
 /// `scram_version`: SCRAM-SHA-1.
 pub const SHA_1: u32 = 1;
 
@@ -273,6 +289,28 @@ pub const TYPED: u32 = 0;
 
 /// `password_form`: The password as you prepared it (fe2o3_saslprep): any text, used without change.
 pub const PREPARED: u32 = 1;
+
+/// `channel_use`: The client does not support channel binding, or has no channel: its GS2 header is `n,,`.
+pub const CHANNEL_ABSENT: u32 = 0;
+
+/// `channel_use`: The client has a channel, but was offered no mechanism with `-PLUS`: its GS2 header is `y,,`. A
+/// server that offered one rejects it, so that nobody on the way can remove the mechanism from the offer.
+pub const CHANNEL_NOT_OFFERED: u32 = 1;
+
+/// `channel_use`: The client binds its channel, by a mechanism with `-PLUS`: its GS2 header is `p=` and the kind.
+pub const CHANNEL_BOUND: u32 = 2;
+
+/// `channel_kind`: `tls-unique` (RFC 5929, section 3): the first Finished message of the TLS handshake. Only for TLS
+/// 1.2 and older, and only with the extended master secret (RFC 7627).
+pub const TLS_UNIQUE: u32 = 1;
+
+/// `channel_kind`: `tls-server-end-point` (RFC 5929, section 4): the hash of the server's certificate. It does not
+/// protect against someone who has the server's private key.
+pub const TLS_SERVER_END_POINT: u32 = 2;
+
+/// `channel_kind`: `tls-exporter` (RFC 9266): 32 bytes of exported keying material. For TLS 1.3, and for TLS 1.2 with
+/// the extended master secret.
+pub const TLS_EXPORTER: u32 = 3;
 
 /// `plain_passwords`: The password as typed, which has to be printable ASCII. Every other password is rejected.
 pub const PLAIN_PASSWORDS_TYPED: u32 = 0;
@@ -324,6 +362,10 @@ pub const INITIAL_RESPONSE_BY_CHALLENGE: u32 = 512;
 /// `offer`: No mechanism: SCRAM sends the server's signature in a challenge, and the outcome OK follows the client's
 /// empty response (RFC 4422, section 5). For clients that do not read the data of an outcome.
 pub const SIGNATURE_BY_CHALLENGE: u32 = 1024;
+
+/// `offer`: No mechanism: SCRAM is strict. It rejects an attribute that RFC 5802 defines in the place of an extension:
+/// after the nonce of the client-first message, or between the nonce and the proof of the client-final message.
+pub const STRICT: u32 = 2048;
 
 /// `progress`: The login goes on: the other side has to send more.
 pub const IN_PROGRESS: u32 = 0;
@@ -394,6 +436,16 @@ pub const SCRAM_SERVER_INITIAL_RESPONSE_ASKED: u32 = 5;
 
 /// `scram_server_state`: Like SCRAM_SERVER_INITIAL_RESPONSE_ASKED, but the init had a hostname: `bare`.
 pub const SCRAM_SERVER_INITIAL_RESPONSE_ASKED_WITH_HOSTNAME: u32 = 6;
+
+/// `scram_server_state`: A challenge is open, to a client that binds the channel by `tls-unique`. Only over messages.
+pub const SCRAM_SERVER_CHALLENGE_OPEN_TLS_UNIQUE: u32 = 7;
+
+/// `scram_server_state`: A challenge is open, to a client that binds the channel by `tls-server-end-point`. Only over
+/// messages.
+pub const SCRAM_SERVER_CHALLENGE_OPEN_TLS_SERVER_END_POINT: u32 = 8;
+
+/// `scram_server_state`: A challenge is open, to a client that binds the channel by `tls-exporter`. Only over messages.
+pub const SCRAM_SERVER_CHALLENGE_OPEN_TLS_EXPORTER: u32 = 9;
 
 /// `server_error`: The message is no error.
 pub const SERVER_ERROR_NONE: u32 = 0;
@@ -526,12 +578,25 @@ pub struct Login {
     /// The password.
     pub password: *const u8,
     pub password_len: usize,
-    /// The keys of an earlier login, or a struct of zeros.
+    /// The keys of an earlier login, or a struct of zeros. You can replace them between the calls of an exchange: after
+    /// CLIENT_STALE_KEYS repeat the call with keys of the salt and the count that the server names.
     pub keys: *const ScramKeys,
     /// Whether the client accepts the server's signature in a challenge too, before an outcome without data (RFC 4422,
     /// section 5). 0 means that the signature has to come in the outcome. Any other value accepts it in both. Only
     /// `fe2o3_sasl_client_receive` and `fe2o3_sasl_client_step` use this field.
     pub signature_by_challenge: u32,
+    /// Whether the client is strict: it rejects an attribute that RFC 5802 defines in the place of an extension, after
+    /// the iteration count, by CLIENT_MISPLACED_ATTRIBUTE. 0 means that it skips it. Any other value is strict. A
+    /// client that binds a channel is strict in any case.
+    pub strict: u32,
+    /// What the client says of its channel (RFC 5802, section 6): one of the `channel_use` constants.
+    pub channel_use: u32,
+    /// The kind of the channel that is bound: one of the `channel_kind` constants. Only for CHANNEL_BOUND.
+    pub channel_kind: u32,
+    /// The number of bytes of `channel_data` in use, from 1 to 64. Only for CHANNEL_BOUND.
+    pub channel_data_len: u32,
+    /// The data of the channel that is bound, which identify it. You have them from TLS. Only for CHANNEL_BOUND.
+    pub channel_data: [u8; 64],
 }
 
 /// The state of a SCRAM client between calls. All zeros is a client that has sent nothing.
@@ -583,6 +648,38 @@ pub struct ScramServer {
     pub first: [u8; 1024],
 }
 
+/// What a SCRAM server accepts, where RFC 5802 leaves it a choice. You lend the struct to each call of an exchange,
+/// always with the same values.
+#[repr(C)]
+#[derive(Clone, Copy)]
+pub struct ScramRules {
+    /// Whether the GS2 header may be `y,,` too: the client supports channel binding, and was offered no mechanism with
+    /// `-PLUS` (RFC 5802, section 6). 0 is no, any other value yes. Only for a server that offers no such mechanism. It
+    /// has no effect if the server binds channels.
+    pub accept_cbind_flag_y: u32,
+    /// Whether an attribute that RFC 5802, section 5.1, defines is rejected in the place of an extension, by
+    /// SERVER_MISPLACED_ATTRIBUTE. 0 is no, any other value yes. A server that binds channels is always strict.
+    pub strict: u32,
+    /// Whether the server binds channels: it is of the mechanism with `-PLUS`, and accepts only clients that bind the
+    /// channel, by a kind of which the struct has data (RFC 5802, section 6). 0 is no, and the data are then not used.
+    /// Any other value is yes. Without data of any kind such a server accepts no client.
+    pub binds_channel: u32,
+    /// The number of bytes of `tls_unique` in use, at most 64, or 0 if the server does not accept this kind.
+    pub tls_unique_len: u32,
+    /// The data of `tls-unique` (RFC 5929, section 3): the first Finished message of the TLS handshake. Only for TLS
+    /// 1.2 and older, and only with the extended master secret (RFC 7627).
+    pub tls_unique: [u8; 64],
+    /// The number of bytes of `tls_server_end_point` in use, at most 64, or 0 if the server does not accept this kind.
+    pub tls_server_end_point_len: u32,
+    /// The data of `tls-server-end-point` (RFC 5929, section 4): the hash of the server's certificate.
+    pub tls_server_end_point: [u8; 64],
+    /// The number of bytes of `tls_exporter` in use, at most 64, or 0 if the server does not accept this kind.
+    pub tls_exporter_len: u32,
+    /// The data of `tls-exporter` (RFC 9266): 32 bytes of exported keying material. For TLS 1.3, and for TLS 1.2 with
+    /// the extended master secret.
+    pub tls_exporter: [u8; 64],
+}
+
 /// One side of a connection between calls. All zeros is a connection that has received nothing.
 #[repr(C)]
 #[derive(Clone, Copy)]
@@ -600,7 +697,9 @@ pub struct Connection {
     pub expected: u32,
     /// The number of bytes of `held` in use.
     pub held_len: u32,
-    /// The part of the expected header or frame that has been received.
+    /// The part of the expected header or frame that has been received. After a login that failed with
+    /// PROTOCOL_HEADER_MISMATCH, the 8 bytes that were received in the place of the header of SASL: `AMQP 2 1 0 0` for
+    /// a server that requires TLS first, `AMQP 0 1 0 0` for a client that begins AMQP without SASL.
     pub held: [u8; 512],
 }
 
@@ -638,7 +737,8 @@ pub struct SaslServerConfig {
     /// PLAIN_SASLPREP. By the latter it also rejects a password that SASLprep rejects or prepares to the empty text.
     /// With SIGNATURE_BY_CHALLENGE SCRAM's outcome OK follows the client's empty response to a challenge. With
     /// INITIAL_RESPONSE_BY_CHALLENGE an init for SCRAM or PLAIN without an initial response is answered by an empty
-    /// challenge, and the response is the initial response.
+    /// challenge, and the response is the initial response. With STRICT SCRAM rejects an attribute that RFC 5802
+    /// defines in the place of an extension.
     pub mechanisms: u32,
     /// The iteration count with which PLAIN hashes the password of an unknown user.
     pub iterations: u32,
@@ -695,7 +795,7 @@ pub struct SaslFrameView {
 }
 
 /// The sizes of the structs here, in the order of the numbers of `fe2o3_size`.
-pub const SIZES: [usize; 11] = [
+pub const SIZES: [usize; 12] = [
     size_of::<Login>(),
     size_of::<ScramClient>(),
     size_of::<ScramKeys>(),
@@ -707,6 +807,7 @@ pub const SIZES: [usize; 11] = [
     size_of::<SaslFrameView>(),
     size_of::<SaslServerConfig>(),
     size_of::<SaslServer>(),
+    size_of::<ScramRules>(),
 ];
 
 extern "C" {
@@ -720,6 +821,12 @@ extern "C" {
     /// Writes the text of a status to `text`. It ends with a zero byte and stays valid for as long as the library is
     /// loaded.
     pub fn fe2o3_status_text(status: u32, text: *mut Text);
+
+    /// Overwrites memory by zeros. Unlike a `memset` before the end of a block, it is never dropped by a compiler. Call
+    /// it for each struct, password and message with a secret, once you no longer need it.
+    ///
+    /// This function is written in C, and not proved.
+    pub fn fe2o3_wipe(memory: *mut core::ffi::c_void, len: usize);
 
     /// Writes the text that SASLprep (RFC 4013) prepares `text` to. Printable ASCII is prepared to itself; other ASCII
     /// is rejected.
@@ -800,6 +907,31 @@ extern "C" {
         password: *const u8,
         password_len: usize) -> u32;
 
+    /// Computes the record of a salted password (RFC 5802, section 3), which you computed as `Hi(password, salt,
+    /// iterations)`. The record is then that of fe2o3_scram_record_make. The call cannot test that the salted password
+    /// is of this salt and count. `salt` is random bytes, fresh for each record, at most 128: 16 suffice.
+    ///
+    /// The errors are, in this order: NO_SUCH_VERSION; RECORD_KEY_LENGTH_MISMATCH if the salted password has another
+    /// length than a digest of the hash; TOO_LONG for a salt of more than 128 bytes; and ZERO_ITERATIONS.
+    pub fn fe2o3_scram_record_of_salted(
+        version: u32,
+        salted: *const u8,
+        salted_len: usize,
+        salt: *const u8,
+        salt_len: usize,
+        iterations: u32,
+        kept: *mut ScramRecord) -> u32;
+
+    /// Compares a salted password (RFC 5802, section 3) with a record: OK if it is the record's, OTHER_PASSWORD if not,
+    /// and for each one if the record's iteration count is 0. A server that receives a password, for instance by PLAIN,
+    /// computes it as `Hi(password, salt, iterations)` with the salt and the count of the record. For a non-ASCII
+    /// password prepare it first (fe2o3_saslprep).
+    ///
+    /// The errors are, in this order: NO_SUCH_VERSION, and TOO_LONG for a `salt_len` above 128, if the struct holds no
+    /// record; and RECORD_KEY_LENGTH_MISMATCH if the salted password has another length than a digest of the hash. The
+    /// keys are compared over their whole length, whatever the bytes are; no claim is made about time.
+    pub fn fe2o3_scram_record_verify_salted(kept: *const ScramRecord, salted: *const u8, salted_len: usize) -> u32;
+
     /// Finds the record of a user in a text that has a line for each record: the name with each comma as `=2C` and each
     /// equals sign as `=3D`, a space, the text of the record, and a line feed. Of several lines for a name and version,
     /// the first counts.
@@ -837,8 +969,25 @@ extern "C" {
         iterations: u32,
         keys: *mut ScramKeys) -> u32;
 
+    /// Computes the keys of a salted password (RFC 5802, section 3), for a server that uses this salt and iteration
+    /// count. You computed it as `Hi(password, salt, iterations)`, for example with OpenSSL's PKCS5_PBKDF2_HMAC, of
+    /// which the output is as long as a digest. The keys are then those of fe2o3_scram_keys_make. The call cannot test
+    /// that the salted password is of this salt and count.
+    ///
+    /// The errors are, in this order: NO_SUCH_VERSION; RECORD_KEY_LENGTH_MISMATCH if the salted password has another
+    /// length than a digest of the hash; TOO_LONG for a salt of more than 128 bytes; and ZERO_ITERATIONS.
+    pub fn fe2o3_scram_keys_of_salted(
+        version: u32,
+        salted: *const u8,
+        salted_len: usize,
+        salt: *const u8,
+        salt_len: usize,
+        iterations: u32,
+        keys: *mut ScramKeys) -> u32;
+
     /// Writes the client-first message. This starts a new exchange, whatever the state of the client is. `nonce` is 32
-    /// fresh random bytes.
+    /// fresh random bytes. With CHANNEL_BOUND name the mechanism with `-PLUS` to the server, such as SCRAM-SHA-256-PLUS
+    /// (RFC 5802, section 6).
     pub fn fe2o3_scram_client_first(
         login: *const Login,
         client: *mut ScramClient,
@@ -848,7 +997,7 @@ extern "C" {
         out_len: *mut usize) -> u32;
 
     /// Answers the server-first message with the client-final message. `out` needs 128 bytes more than the server-first
-    /// message has, which is tested before anything is hashed.
+    /// message has, or 256 more if the client binds a channel. This is tested before anything is hashed.
     pub fn fe2o3_scram_client_final(
         login: *const Login,
         client: *mut ScramClient,
@@ -917,6 +1066,79 @@ extern "C" {
     /// `kept` is the record that `fe2o3_scram_server_first` was called with. `out` needs 90 bytes, which is tested
     /// before anything is hashed.
     pub fn fe2o3_scram_server_final(
+        kept: *const ScramRecord,
+        server: *mut ScramServer,
+        client_final: *const u8,
+        client_final_len: usize,
+        out: *mut u8,
+        out_size: usize,
+        out_len: *mut usize) -> u32;
+
+    /// Writes the user name that a client-first message claims, like `fe2o3_scram_server_claimed_user`, by these rules
+    /// (RFC 5802, section 5.1). If the server binds channels, the GS2 header has to be one that
+    /// `fe2o3_scram_server_first_with_rules` accepts. Otherwise `n,,` and `y,,` are both accepted here, whatever the
+    /// rules say: with rules of zeros the call does what `fe2o3_scram_server_claimed_user` does.
+    ///
+    /// The errors are those of `fe2o3_scram_server_first_with_rules` from CHANNEL_DATA_LENGTH to
+    /// SERVER_MISPLACED_ATTRIBUTE, in the same order.
+    pub fn fe2o3_scram_server_claimed_user_with_rules(
+        rules: *const ScramRules,
+        client_first: *const u8,
+        client_first_len: usize,
+        out: *mut u8,
+        out_size: usize,
+        out_len: *mut usize) -> u32;
+
+    /// Answers a client-first message like `fe2o3_scram_server_first`, by these rules (RFC 5802, section 5.1). Pass the
+    /// same rules to `fe2o3_scram_server_final_with_rules`. With rules of zeros the call does what
+    /// `fe2o3_scram_server_first` does.
+    ///
+    /// If the server binds channels, the GS2 header has to be `p=` with the name of a kind whose data the rules have
+    /// (section 6). Otherwise it has to be `n,,`, or `y,,` if the rules accept that.
+    ///
+    /// The errors are, in this order:
+    ///
+    /// - CHANNEL_DATA_LENGTH if the rules bind channels, and data have more than 64 bytes,
+    /// - SERVER_UTF8_ERROR,
+    /// - SERVER_CANNOT_PARSE_GS2_HEADER if the rules do not accept the header,
+    /// - SERVER_CANNOT_PARSE_USERNAME and SERVER_CANNOT_PARSE_CLIENT_NONCE,
+    /// - SERVER_MISPLACED_ATTRIBUTE of a strict server,
+    /// - NO_SUCH_VERSION and TOO_LONG if `kept` holds no record,
+    /// - TOO_LONG if a text of the challenge does not fit into the struct,
+    /// - ROOM_TOO_SMALL.
+    pub fn fe2o3_scram_server_first_with_rules(
+        rules: *const ScramRules,
+        kept: *const ScramRecord,
+        server: *mut ScramServer,
+        nonce: *const [u8; 32],
+        client_first: *const u8,
+        client_first_len: usize,
+        out: *mut u8,
+        out_size: usize,
+        out_len: *mut usize) -> u32;
+
+    /// Answers a client-final message like `fe2o3_scram_server_final`, by the rules that
+    /// `fe2o3_scram_server_first_with_rules` was called with (RFC 5802, section 5.1). With rules of zeros the call does
+    /// what `fe2o3_scram_server_final` does. If the server binds channels, the message has to have the GS2 header of
+    /// the exchange and the server's data of its kind (section 6).
+    ///
+    /// The errors are, in this order:
+    ///
+    /// - CHANNEL_DATA_LENGTH if the rules bind channels, and data have more than 64 bytes,
+    /// - ROOM_TOO_SMALL if `out` has fewer than 90 bytes,
+    /// - SERVER_ILLEGAL_AUTHENTICATOR_STATE if no challenge is open for these rules: none is open, or it is to a client
+    ///   that binds a channel by a kind of which the rules have no data, or the rules bind channels and its client
+    ///   binds none,
+    /// - NO_SUCH_VERSION and TOO_LONG if `kept` holds no record,
+    /// - SERVER_UTF8_ERROR, SERVER_CANNOT_PARSE_CLIENT_FINAL_MESSAGE and SERVER_BASE64_DECODE_ERROR,
+    /// - SERVER_INVALID_CHANNEL_BINDING if the message has another GS2 header than the exchange, or other data than the
+    ///   rules,
+    /// - SERVER_CANNOT_PARSE_CLIENT_FINAL_MESSAGE and SERVER_INCORRECT_CLIENT_FINAL_NONCE,
+    /// - SERVER_PROOF_NOT_FOUND_IN_CLIENT_FINAL and SERVER_BASE64_DECODE_ERROR, of the proof,
+    /// - SERVER_MISPLACED_ATTRIBUTE of a strict server,
+    /// - SERVER_XOR_LENGTH_MISMATCH and SERVER_AUTHENTICATION_FAILED if the proof is wrong.
+    pub fn fe2o3_scram_server_final_with_rules(
+        rules: *const ScramRules,
         kept: *const ScramRecord,
         server: *mut ScramServer,
         client_final: *const u8,
@@ -1015,7 +1237,8 @@ extern "C" {
     pub fn fe2o3_sasl_client_open(out: *mut u8, out_size: usize, out_len: *mut usize) -> u32;
 
     /// Takes received bytes, to the end of the expected header or frame, and writes the bytes to send, at most 512.
-    /// `out` needs 512 bytes, which is tested before anything is hashed. `nonce` is 32 fresh random bytes.
+    /// `out` needs 512 bytes, which is tested before anything is hashed. `nonce` is 32 fresh random bytes, or any bytes
+    /// if `fe2o3_sasl_wants_nonce` returns 0.
     ///
     /// OK does not mean that the login succeeds: look at `progress` and `why` of the connection. `taken` is how many
     /// bytes were used. While `progress` is IN_PROGRESS, pass the rest in the next call; after the login it belongs to
@@ -1044,7 +1267,8 @@ extern "C" {
         out_len: *mut usize) -> u32;
 
     /// Takes received bytes, to the end of the expected header or frame, and writes the bytes to send, at most 520.
-    /// `out` needs 520 bytes, which is tested before anything is hashed. `nonce` is 32 fresh random bytes.
+    /// `out` needs 520 bytes, which is tested before anything is hashed. `nonce` is 32 fresh random bytes, or any bytes
+    /// if `fe2o3_sasl_wants_nonce` returns 0.
     ///
     /// Before the call, look up the record of the user that the bytes claim (`fe2o3_sasl_server_claimed_user`). OK does
     /// not mean that the login succeeds: look at `progress` and `why` of the connection. `taken` is how many bytes were
@@ -1062,6 +1286,30 @@ extern "C" {
         out: *mut u8,
         out_size: usize,
         out_len: *mut usize) -> u32;
+
+    /// Returns 1 if the next call of `fe2o3_sasl_client_receive` or `fe2o3_sasl_server_receive` may use its nonce: a
+    /// client that expects the list of mechanisms, or a server that expects an init. Otherwise returns 0. Then every
+    /// nonce gives the same result, and you need no fresh random bytes.
+    pub fn fe2o3_sasl_wants_nonce(connection: *const Connection) -> u32;
+
+    /// Writes the body of the frame that `bytes` complete with the part that `connection` holds, without the four bytes
+    /// of the frame's size: at most 508 bytes. `out_len` is 0 if they complete no frame. Nothing is taken: pass the
+    /// same bytes to `fe2o3_sasl_client_receive` or `fe2o3_sasl_server_receive` after that.
+    ///
+    /// `expected` of the connection is the frame that has to come next. Parse the body with `fe2o3_sasl_view_frame`: a
+    /// server reads in it the mechanism and the hostname of an init, and a client the additional data of an outcome.
+    /// Pass a list of mechanisms to `fe2o3_sasl_offers`.
+    pub fn fe2o3_sasl_peek_frame(
+        connection: *const Connection,
+        bytes: *const u8,
+        bytes_len: usize,
+        out: *mut u8,
+        out_size: usize,
+        out_len: *mut usize) -> u32;
+
+    /// Ends a login after the other side has ended its stream (end of file). A login in progress fails with
+    /// END_OF_INPUT. Otherwise nothing changes.
+    pub fn fe2o3_sasl_end_of_input(connection: *mut Connection);
 
     /// Takes a frame body that the server sent, without the four bytes of the frame's size, and writes the body to
     /// send: the init for the mechanisms, the response for a challenge, and nothing (`out_len` is 0) for the outcome.

@@ -29,6 +29,15 @@ impl ScramVersion {
         }
     }
 
+    /// Returns the name of the SASL mechanism with channel binding (RFC 5802, section 4).
+    pub(crate) fn plus_mechanism(&self) -> &'static str {
+        match self {
+            ScramVersion::Sha1 => "SCRAM-SHA-1-PLUS",
+            ScramVersion::Sha256 => "SCRAM-SHA-256-PLUS",
+            ScramVersion::Sha512 => "SCRAM-SHA-512-PLUS",
+        }
+    }
+
     /// Returns how many bytes a digest has.
     pub(crate) fn digest_len(self) -> usize {
         match self {

@@ -271,6 +271,21 @@ fn a_client_that_could_bind_a_channel() {
     assert_eq!(side.receive(HEADER), Err(ConnectionError::NoSuchMechanism));
 }
 
+/// An attribute in the place of an extension: `i` is one of RFC 5802, and `x` is not.
+#[test]
+fn strict_servers() {
+    let refused = Progress::Failed(ConnectionError::RefusedAuth);
+    for (is_strict, extension, progress) in
+        [(false, "i=4096", Progress::InProgress), (true, "i=4096", refused), (true, "x=1", Progress::InProgress)]
+    {
+        let init = frame(0x41, &[b"\xa3\x0dSCRAM-SHA-256", &binary(format!("n,,n=user,r=x,{extension}").as_bytes())]);
+        let mut side = ServerNegotiation::new(offering(ScramVersion::Sha256).strict(is_strict));
+        let sent = side.receive(&[HEADER, &init].concat()).unwrap().sent;
+        assert_eq!(side.progress(), progress, "{is_strict} {extension}");
+        assert_eq!(sent.ends_with(&frame(OUTCOME, &[&[0x50, 1]])), progress == refused);
+    }
+}
+
 #[test]
 fn a_server_that_offers_nothing() {
     let mut side = ServerNegotiation::new(offering(ScramVersion::Sha1).hashes(&[]));

@@ -143,6 +143,40 @@ fn records() {
     }
 }
 
+/// The salted password of "pencil" with the salt of RFC 7677 and 4096 iterations: that of Python's hashlib.
+const SALTED: [u8; 32] = [
+    0xc4, 0xa4, 0x95, 0x10, 0x32, 0x3a, 0xb4, 0xf9, 0x52, 0xca, 0xc1, 0xfa, 0x99, 0x44, 0x19, 0x39, 0xe7, 0x8e, 0xa7,
+    0x4d, 0x6b, 0xe8, 0x1d, 0xdf, 0x70, 0x96, 0xe8, 0x75, 0x13, 0xdc, 0x61, 0x5d,
+];
+
+#[test]
+fn salted_passwords() {
+    let version = ScramVersion::Sha256;
+    let record = ScramRecord::from_salted_password(version, &SALTED, &RFC_SALT, 4096).unwrap();
+    let whole = ScramRecord::from_password(version, "pencil", &RFC_SALT, 4096).unwrap();
+    assert_eq!(record.to_text(), whole.to_text());
+    assert!(record.verify_salted_password(&SALTED) && record.verify_password("pencil"));
+    let mut other = SALTED;
+    other[31] ^= 1;
+    assert!(!record.verify_salted_password(&other) && !record.verify_salted_password(&SALTED[1..]));
+
+    let keys = CachedKeys::from_salted_password(version, &SALTED, &RFC_SALT, 4096).unwrap();
+    let made = CachedKeys::from_password(version, "pencil", &RFC_SALT, 4096).unwrap();
+    assert!(keys.client_key() == made.client_key() && keys.server_key() == made.server_key());
+    let mut server = ScramAuthenticator::new(SingleScramCredential::with_record("user", record));
+    assert_eq!(log_in(&mut ScramClient::with_keys("user", keys), &mut server), Ok(()));
+
+    let fails = |salted: &[u8], salt: &[u8], count| {
+        let keys = CachedKeys::from_salted_password(version, salted, salt, count).err();
+        assert_eq!(keys, ScramRecord::from_salted_password(version, salted, salt, count).err());
+        keys
+    };
+    assert_eq!(fails(&SALTED[1..], &[0; 129], 0), Some(RecordError::KeyLengthMismatch));
+    assert_eq!(fails(&[0; 33], &[0; 129], 0), Some(RecordError::KeyLengthMismatch));
+    assert_eq!(fails(&SALTED, &[0; 129], 0), Some(RecordError::TooLong));
+    assert_eq!(fails(&SALTED, &[0; 128], 0), Some(RecordError::ZeroIterations));
+}
+
 #[test]
 fn records_of_fields() {
     for version in VERSIONS {

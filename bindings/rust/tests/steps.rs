@@ -194,9 +194,7 @@ fn a_server_that_sends_its_signature_in_a_challenge() {
     let init = body(INIT, &[&symbol("SCRAM-SHA-256"), &client_first, NULL]);
     let response = body(RESPONSE, &[&binary(&format!("c=biws,{both},p={PROOF}"))]);
     let signed = body(CHALLENGE, &[&binary(&format!("v={SIGNATURE}"))]);
-    for (answer, code, progress, user) in
-        [("", 0, Progress::Authenticated, Some("user")), ("v", 1, REFUSED, None)]
-    {
+    for (answer, code, progress, user) in [("", 0, Progress::Authenticated, Some("user")), ("v", 1, REFUSED, None)] {
         let mut side = ServerSteps::new(scram(ScramVersion::Sha256).signature_by_challenge(true));
         side.on_frame_with(&init, &nonce(2)).unwrap();
         assert_eq!(side.on_frame(&response), Ok(Answered { body: signed.clone(), progress: Progress::InProgress }));
@@ -343,7 +341,12 @@ fn other_mechanisms() {
         (plain("pencils"), asked("PLAIN", &binary("\0user\0pencils")), REFUSED, None),
         (SaslProfile::Anonymous, asked("ANONYMOUS", NULL), Progress::Authenticated, None),
         (SaslProfile::External, asked("EXTERNAL", NULL), Progress::Authenticated, Some("peer")),
-        (SaslProfile::ExternalAs("peer".to_owned()), asked("EXTERNAL", &binary("peer")), Progress::Authenticated, Some("peer")),
+        (
+            SaslProfile::ExternalAs("peer".to_owned()),
+            asked("EXTERNAL", &binary("peer")),
+            Progress::Authenticated,
+            Some("peer"),
+        ),
         (SaslProfile::ExternalAs("other".to_owned()), asked("EXTERNAL", &binary("other")), REFUSED, None),
     ] {
         let mut side = ServerSteps::new(with_all(scram(ScramVersion::Sha256)));
