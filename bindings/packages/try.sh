@@ -1,0 +1,201 @@
+#!/usr/bin/env bash
+# The steps of `make packages`:
+#
+#   try.sh tools                      fails if a tool is missing
+#   try.sh twice ARCHIVE MAKE..       makes the packages twice, and compares the bytes
+#   try.sh logins VERSION INSTALL     makes a first login with each package outside the repository, without the kit;
+#                                     INSTALL is yes or no: whether to install the Debian package and remove it again
+#   try.sh ci ARCHIVE                 runs ci.sh without the kit
+set -euo pipefail
+export LC_ALL=C
+PACKED=build/packages
+LIMIT=60    # seconds for a first login
+WANTED='SCRAM-SHA-256: user is logged in, and the server is authenticated'
+
+fail() {
+    echo "packages: $*" >&2
+    exit 1
+}
+
+# PATH without the folders that have the kit's command.
+path_without_kit() {
+    local folder kept=
+    while read -r -d : folder; do
+        [ -e "$folder/rt" ] || kept=$kept${kept:+:}$folder
+    done <<< "$PATH:"
+    echo "$kept"
+}
+
+tools() {
+    local tool missing=()
+    PATH=$(path_without_kit)
+    for tool in cc ar ld nm objcopy objdump pkg-config python3 cargo dpkg tar gzip md5sum cmp; do
+        command -v "$tool" > /dev/null || missing+=("$tool")
+    done
+    ! command -v python3 > /dev/null || python3 -c 'import ensurepip, venv' 2> /dev/null ||
+        missing+=("the module venv of Python (Debian: python3-venv)")
+    [ ${#missing[@]} = 0 ] || fail "missing on the PATH without the kit: $(printf '%s, ' "${missing[@]}" | sed 's/, $//')"
+}
+
+# The second time from the proved archive again, with another umask and time zone.
+twice() {
+    local archive=$1 first file
+    shift
+    first=$(mktemp -d)
+    # shellcheck disable=SC2064
+    trap "rm -rf '$first'" EXIT
+    rm -rf "$PACKED"
+    "$@" dist > "$first/log" 2>&1 || { cat "$first/log"; fail "make dist failed"; }
+    mkdir "$first/packages"
+    cp "$archive" "$PACKED"/* "$first/packages"
+    rm -f "$archive" "$PACKED"/* build/*.o build/libfe2o3_sasl.*
+    (umask 002; TZ=Asia/Tokyo "$@" dist > "$first/log" 2>&1) || { cat "$first/log"; fail "make dist failed"; }
+    for file in "$first"/packages/*; do
+        cmp "$file" "$([ "${file##*/}" = "${archive##*/}" ] && echo "$archive" || echo "$PACKED/${file##*/}")"
+        echo "made twice with equal bytes: ${file##*/}, $(stat -c %s "$file") bytes"
+    done
+}
+
+# Runs a command with a clean environment and without the kit; `hidden FOLDERS COMMAND..` also empties the folders (a word)
+# for the command, if the system has mount namespaces for this user.
+hidden() {
+    local folders=$1 kit name root=() space
+    shift
+    kit=$(dirname "$(dirname "$(readlink -f "$(command -v rt || echo /none/none)")")")
+    [ ! -e "$kit/KIT-ID" ] || folders="$folders $kit"
+    local clean=(env -i HOME="$HOME" PATH="$(path_without_kit)" LC_ALL=C TMPDIR="${TMPDIR:-/tmp}")
+    for name in CARGO_HOME RUSTUP_HOME PYENV_ROOT; do
+        [ -z "${!name:-}" ] || clean+=("$name=${!name}")
+    done
+    [ "$(id -u)" = 0 ] || root=(--map-root-user)
+    space=(unshare "${root[@]}" --mount)
+    # shellcheck disable=SC2016
+    if "${space[@]}" sh -c 'mount -t tmpfs none "$HOME"' 2> /dev/null; then
+        "${space[@]}" sh -c 'for one in $1; do mount -t tmpfs none "$one" || exit; done; shift; exec "$@"' \
+            hidden "$folders" "${clean[@]}" "$@"
+    else
+        echo "note: no mount namespaces for this user, so these are only off the PATH: $folders" >&2
+        "${clean[@]}" "$@"
+    fi
+}
+
+logins() {
+    local outside
+    [ "$2" = no ] || [ "$(id -u)" = 0 ] || fail "INSTALL=yes needs root"
+    outside=$(mktemp -d "${TMPDIR:-/tmp}/fe2o3_packages.XXXXXX")
+    # shellcheck disable=SC2064
+    trap "rm -rf '$outside'" EXIT
+    cp -r "$PACKED" bindings/packages/first_login bindings/packages/try.sh "$outside"
+    (cd "$outside" && hidden "$OLDPWD" bash "$outside/try.sh" outside "$@" "$OLDPWD")
+}
+
+# Runs a function that prints the result of a login as its last line, and compares it.
+timed() {
+    local what=$1 begun said status took
+    shift
+    begun=$(date +%s%N)
+    set +e      # (bash would ignore `set -e` inside a command that `||` follows)
+    said=$(set -e; "$@" 2> log)
+    status=$?
+    set -e
+    [ $status = 0 ] || { cat log >&2; fail "$what failed"; }
+    took=$((($(date +%s%N) - begun) / 100000000))
+    [ "$said" = "$WANTED" ] || fail "$what printed: $said"
+    [ "$took" -le $((LIMIT * 10)) ] || fail "$what took $((took / 10)) s, and the limit is $LIMIT s"
+    printf '%4d.%d s  %s\n' $((took / 10)) $((took % 10)) "$what"
+}
+
+# Everything in the folder `packages` of the current one. Nothing of the repository.
+outside() {
+    local version=$1 install=$2 repository=$3
+    [ ! -e "$repository/Makefile" ] || echo "note: the repository can be read, but nothing names its folder" >&2
+    ! command -v rt > /dev/null || fail "rt is on the PATH"
+    unset LD_LIBRARY_PATH PYTHONPATH FE2O3_SASL_LIB
+    DEB=$(echo "$PWD"/packages/*.deb) WHEEL=$(echo "$PWD"/packages/*.whl)
+    CRATE=fe2o3-sasl-proved-$version
+    timed 'C, shared library of the Debian package' c_shared
+    timed 'C, static library of the Debian package' c_static
+    [ "$install" = no ] || timed 'C, Debian package installed by dpkg -i' c_installed
+    timed 'Python, wheel in a fresh venv' in_python
+    timed 'Rust, crate with its archive' in_rust packed
+    timed 'Rust, crate with the archive that pkg-config finds' in_rust pkg-config
+    rust_without_archive
+}
+
+# The Debian package, unpacked into a prefix.
+unpacked() {
+    dpkg -x "$DEB" prefix
+    export PKG_CONFIG_SYSROOT_DIR=$PWD/prefix PKG_CONFIG_PATH=$PWD/prefix/usr/lib/x86_64-linux-gnu/pkgconfig
+    LIBRARIES=$PWD/prefix/usr/lib/x86_64-linux-gnu
+    # (so that the folders below it are not left out like those of the system)
+    export PKG_CONFIG_ALLOW_SYSTEM_CFLAGS=1 PKG_CONFIG_ALLOW_SYSTEM_LIBS=1
+}
+
+c_shared() {
+    unpacked
+    # shellcheck disable=SC2046
+    cc -o login_c first_login/login.c $(pkg-config --cflags --libs fe2o3_sasl) -Wl,-rpath,"$LIBRARIES"
+    ./login_c
+}
+
+c_static() {
+    unpacked
+    # shellcheck disable=SC2046
+    cc -o login_c first_login/login.c $(pkg-config --cflags fe2o3_sasl) "$LIBRARIES/libfe2o3_sasl.a"
+    ./login_c
+}
+
+c_installed() {
+    trap 'dpkg -r libfe2o3-sasl >&2' EXIT
+    dpkg -i "$DEB" >&2
+    # shellcheck disable=SC2046
+    cc -o login_c first_login/login.c $(pkg-config --cflags --libs fe2o3_sasl)
+    ./login_c
+}
+
+in_python() {
+    python3 -m venv venv >&2
+    venv/bin/pip --disable-pip-version-check install --no-index "$WHEEL" >&2
+    venv/bin/python -c 'import fe2o3_sasl, sys; sys.exit(not fe2o3_sasl._library._name.startswith(sys.prefix))'
+    venv/bin/python first_login/login.py
+}
+
+# A program in the folder $1 that depends on the unpacked crate.
+rust_program() {
+    mkdir -p "$1/src"
+    tar -xf "packages/$CRATE.tar.gz" -C "$1"
+    cp first_login/login.rs "$1/src/main.rs"
+    printf '%s\n' '[package]' 'name = "login"' 'version = "0.0.0"' 'edition = "2021"' '[dependencies]' \
+        "fe2o3-sasl-proved = { path = \"$CRATE\" }" '[workspace]' > "$1/Cargo.toml"
+}
+
+in_rust() {
+    local folder=rust_$1
+    rust_program "$folder"
+    if [ "$1" = pkg-config ]; then
+        rm -r "${folder:?}/$CRATE/lib"
+        unpacked
+    fi
+    (cd "$folder" && cargo build --offline --quiet) >&2
+    "$folder/target/debug/login"
+}
+
+# What build.rs says if there is no archive.
+rust_without_archive() {
+    local way
+    rust_program rust_without
+    rm -r "rust_without/$CRATE/lib"
+    ! (cd rust_without && PKG_CONFIG_LIBDIR=$PWD cargo build --offline) > log 2>&1 || fail "the crate links without an archive"
+    for way in 'FE2O3_SASL_LIB: not set' 'packed with this crate: ' 'pkg-config: ' 'the repository: '; do
+        grep -qF -e "- $way" log || { cat log >&2; fail "the error of build.rs does not say: $way"; }
+    done
+    echo 'Rust, crate without an archive: the error names the four places'
+}
+
+ci() {
+    hidden '' bindings/packages/ci.sh "$1"
+}
+
+[ $# -gt 0 ] || { sed -n 's/^# \{0,1\}//p' "$0" >&2; exit 2; }
+[ "$1" = outside ] || cd "$(dirname "$0")/../.."
+"$@"

@@ -1,0 +1,112 @@
+#!/usr/bin/env python3
+"""Makes a Python wheel of the module and the shared library.
+
+    wheel.py LIBRARY SONAME CPU FOLDER          writes FOLDER/fe2o3_sasl-VERSION-TAG.whl, and prints its path
+
+The wheel has the package `fe2o3_sasl`: the text of bindings/python/fe2o3_sasl.py, which loads the library beside it in
+place of the system's, and LIBRARY under the name SONAME. Beside it is the module `fe2o3_sasl_asyncio`. The tag names the newest version of glibc that a symbol of the
+library needs. Times and the order of the files are fixed.
+"""
+import base64
+import hashlib
+import re
+import subprocess
+import sys
+import zipfile
+from pathlib import Path
+
+ROOT = Path(__file__).resolve().parents[2]
+MODULE = ROOT / "bindings" / "python" / "fe2o3_sasl.py"
+
+METADATA = """\
+Metadata-Version: 2.1
+Name: fe2o3-sasl
+Version: {version}
+Summary: SASL authentication with SCRAM for client and server, by a proved library
+License: MIT OR Apache-2.0
+License-File: LICENSE-APACHE
+License-File: LICENSE-MIT
+Classifier: Operating System :: POSIX :: Linux
+Classifier: Programming Language :: Python :: 3
+Classifier: Typing :: Typed
+Requires-Python: >=3.9
+Description-Content-Type: text/plain
+
+The processor has to support {cpu}. `import fe2o3_sasl` loads the library of this package, or the one that the
+environment variable FE2O3_SASL_LIB names. The module is not proved: it calls the proved library by ctypes.
+
+{doc}
+"""
+
+WHEEL = """\
+Wheel-Version: 1.0
+Generator: fe2o3_sasl
+Root-Is-Purelib: false
+Tag: {tag}
+"""
+
+
+def replaced(text, pattern, by):
+    """The text with the one place of the pattern replaced. Stops if there is not exactly one."""
+    places = re.findall(pattern, text)
+    if len(places) != 1:
+        sys.exit(f"wheel.py: {MODULE.name} has {len(places)} places of {pattern}, and needs one")
+    return re.sub(pattern, lambda _: by, text)
+
+
+def module_of(soname):
+    """The module's text, which loads the library beside it."""
+    text = MODULE.read_text(encoding="utf-8")
+    text = replaced(text, r"otherwise the system's\s+`libfe2o3_sasl\.so\.\d+`", f"otherwise `{soname}`\nbeside this file")
+    beside = f'or os.path.join(os.path.dirname(os.path.abspath(__file__)), "{soname}")'
+    return replaced(text, r'(?<=os\.environ\.get\("FE2O3_SASL_LIB"\) )or "libfe2o3_sasl\.so\.\d+"', beside)
+
+
+def glibc_of(library):
+    """The newest version of glibc that a symbol of the library needs."""
+    said = subprocess.run(["objdump", "-T", library], capture_output=True, text=True, check=True).stdout
+    return max(tuple(map(int, found.split("."))) for found in re.findall(r"GLIBC_([0-9.]+)", said))
+
+
+def version():
+    """The newest version of the change log."""
+    return re.search(r"^## (\d[\d.]*)", (ROOT / "CHANGELOG.md").read_text(encoding="utf-8"), re.MULTILINE)[1]
+
+
+def written(archive, name, data):
+    """Adds a file to the wheel, and returns its line of RECORD."""
+    entry = zipfile.ZipInfo(name, (1980, 1, 1, 0, 0, 0))
+    entry.create_system, entry.external_attr, entry.compress_type = 3, 0o100644 << 16, zipfile.ZIP_DEFLATED
+    archive.writestr(entry, data, compresslevel=9)
+    digest = base64.urlsafe_b64encode(hashlib.sha256(data).digest()).rstrip(b"=").decode()
+    return f"{name},sha256={digest},{len(data)}\n"
+
+
+def main():
+    if len(sys.argv) != 5:
+        sys.exit(__doc__)
+    library, soname, cpu, folder = sys.argv[1:]
+    major, minor = glibc_of(library)[:2]
+    number, tag = version(), f"py3-none-manylinux_{major}_{minor}_x86_64"
+    module = module_of(soname)
+    doc = re.match(r'"""(.*?)"""', module, re.DOTALL)[1].replace("\\\\", "\\").strip()
+    info = f"fe2o3_sasl-{number}.dist-info"
+    files = {
+        "fe2o3_sasl/__init__.py": module.encode(),
+        f"fe2o3_sasl/{soname}": Path(library).read_bytes(),
+        "fe2o3_sasl/py.typed": b"",
+        "fe2o3_sasl_asyncio.py": MODULE.with_name("fe2o3_sasl_asyncio.py").read_bytes(),
+        f"{info}/LICENSE-APACHE": (ROOT / "LICENSE-APACHE").read_bytes(),
+        f"{info}/LICENSE-MIT": (ROOT / "LICENSE-MIT").read_bytes(),
+        f"{info}/METADATA": METADATA.format(version=number, cpu=cpu, doc=doc).encode(),
+        f"{info}/WHEEL": WHEEL.format(tag=tag).encode(),
+    }
+    out = Path(folder) / f"fe2o3_sasl-{number}-{tag}.whl"
+    with zipfile.ZipFile(out, "w") as archive:
+        record = "".join(written(archive, name, data) for name, data in files.items())
+        written(archive, f"{info}/RECORD", (record + f"{info}/RECORD,,\n").encode())
+    print(out)
+
+
+if __name__ == "__main__":
+    main()
