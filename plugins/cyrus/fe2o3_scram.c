@@ -15,9 +15,10 @@
 #define MOST_ITERATIONS 1000000
 #define SALT_LEN 16
 
-/* Those of Cyrus SASL's own plugin. Of its features HTTP alone is here: no channel is bound, no one acts for others. */
+/* Those of Cyrus SASL's own plugin. Its features are here too, but no user acts for another. */
 #define SECURITY(bits) (SASL_SET_HASH_STRENGTH_BITS(bits) | SASL_SEC_NOPLAINTEXT | SASL_SEC_NOACTIVE \
     | SASL_SEC_NOANONYMOUS | SASL_SEC_MUTUAL_AUTH)
+#define FEATURES (SASL_FEAT_SUPPORTS_HTTP | SASL_FEAT_CHANNEL_BINDING)
 #define EXPORTED __attribute__((visibility("default")))
 #define UNUSED __attribute__((unused))
 
@@ -45,6 +46,7 @@ struct exchange {
     const struct mechanism *mechanism;
     enum expected expected;
     int asked, prepares;
+    sasl_cbinding_disp_t channel; /* of the server: what the client's header says of the channel */
     struct fe2o3_scram_client client;
     struct fe2o3_scram_server server;
     struct fe2o3_scram_record record;
@@ -125,14 +127,39 @@ static void dispose(void *context, const sasl_utils_t *utils)
     utils->free(context);
 }
 
-static int complete(sasl_out_params_t *result)
+static int complete(sasl_out_params_t *result, sasl_cbinding_disp_t channel, const sasl_channel_binding_t *binding)
 {
     result->doneflag = 1;
     result->mech_ssf = result->maxoutbuf = 0;
     result->encode = NULL;
     result->decode = NULL;
-    result->cbindingdisp = SASL_CB_DISP_NONE;
+    result->cbindingdisp = channel;
+    result->cbindingname = channel == SASL_CB_DISP_USED ? binding->name : NULL;
     return SASL_OK;
+}
+
+/* The kind of a channel with this registered name, or 0 if there is none. */
+static uint32_t kind_of(const char *name)
+{
+    if (strcmp(name, "tls-unique") == 0)
+        return FE2O3_TLS_UNIQUE;
+    if (strcmp(name, "tls-server-end-point") == 0)
+        return FE2O3_TLS_SERVER_END_POINT;
+    return strcmp(name, "tls-exporter") == 0 ? FE2O3_TLS_EXPORTER : 0;
+}
+
+/* The kind of the application's channel, or 0 after an error: it is not known, or its data are too long. */
+static uint32_t known_kind(const struct exchange *one, const sasl_utils_t *utils, const sasl_channel_binding_t *binding)
+{
+    static const struct fe2o3_login login;
+    uint32_t kind = binding ? kind_of(binding->name) : 0;
+    if (!kind)
+        refused(one, utils, SASL_BADPARAM, "this kind of channel binding is not known");
+    else if (binding->len == 0 || binding->len > sizeof login.channel_data)
+        refused(one, utils, SASL_BADPARAM, "the data of the channel are empty or have more than 64 bytes");
+    else
+        return kind;
+    return 0;
 }
 
 /* The client. Learns who logs in, and keeps the password until it is used. */
@@ -161,15 +188,37 @@ static int identify(struct exchange *one, sasl_client_params_t *params, sasl_int
     return params->canon_user(utils->conn, name->text, (unsigned)name->len, SASL_CU_AUTHID | SASL_CU_AUTHZID, result);
 }
 
+/* Puts into the login what the client says of its channel, as libsasl2 has decided it by the server's mechanisms. */
+static int say_channel(const struct exchange *one, const sasl_client_params_t *params, struct fe2o3_login *login)
+{
+    const sasl_channel_binding_t *binding = params->cbinding;
+    if (params->cbindingdisp == SASL_CB_DISP_WANT)
+        login->channel_use = FE2O3_CHANNEL_NOT_OFFERED;
+    if (params->cbindingdisp != SASL_CB_DISP_USED)
+        return SASL_OK;
+    login->channel_use = FE2O3_CHANNEL_BOUND;
+    login->channel_kind = known_kind(one, params->utils, binding);
+    if (!login->channel_kind)
+        return SASL_BADPARAM;
+    login->channel_data_len = (uint32_t)binding->len;
+    memcpy(login->channel_data, binding->data, binding->len);
+    return SASL_OK;
+}
+
 /* Writes the message that is expected, or believes the server. */
-static int client_answer(struct exchange *one, enum expected expected, const sasl_utils_t *utils, const sasl_out_params_t *who,
-    const char *in, unsigned in_len)
+static int client_answer(struct exchange *one, enum expected expected, const sasl_client_params_t *params,
+    const sasl_out_params_t *who, const char *in, unsigned in_len)
 {
     static const struct fe2o3_scram_keys no_keys;
-    const struct fe2o3_login login = {one->mechanism->version, FE2O3_BY_PASSWORD,
-        one->prepares ? FE2O3_PREPARED : FE2O3_TYPED, LEAST_ITERATIONS, MOST_ITERATIONS,
-        BYTES(who->authid, who->alen), BYTES(one->password, one->password_len), &no_keys, 0};
+    const sasl_utils_t *utils = params->utils;
+    struct fe2o3_login login = {.version = one->mechanism->version, .secret = FE2O3_BY_PASSWORD,
+        .form = one->prepares ? FE2O3_PREPARED : FE2O3_TYPED, .min_iterations = LEAST_ITERATIONS,
+        .max_iterations = MOST_ITERATIONS, .username = (const uint8_t *)who->authid, .username_len = who->alen,
+        .password = (const uint8_t *)one->password, .password_len = one->password_len, .keys = &no_keys};
     uint8_t nonce[32];
+    int code = expected == ENDED ? SASL_OK : say_channel(one, params, &login);
+    if (code != SASL_OK)
+        return code;
     switch (expected) {
     case FIRST:
         if (getentropy(nonce, sizeof nonce) != 0)
@@ -196,11 +245,11 @@ static int client_step(void *context, sasl_client_params_t *params, const char *
         return code;
     one->expected = ENDED;
     if (code == SASL_OK)
-        code = client_answer(one, expected, params->utils, result, in ? in : "", in_len);
+        code = client_answer(one, expected, params, result, in ? in : "", in_len);
     if (code != SASL_OK || expected == SECOND)
         params->utils->erasebuffer(one->password, sizeof one->password);
     if (code != SASL_OK || expected == THIRD)
-        return code == SASL_OK ? complete(result) : code;
+        return code == SASL_OK ? complete(result, params->cbindingdisp, params->cbinding) : code;
     one->expected = expected + 1;
     *out = (const char *)one->out;
     *out_len = (unsigned)one->out_len;
@@ -218,7 +267,7 @@ EXPORTED int sasl_client_plug_init(const sasl_utils_t *utils UNUSED, int most, i
     static sasl_client_plug_t plugs[MECHANISMS];
     for (int i = 0; i < MECHANISMS; i++)
         plugs[i] = (sasl_client_plug_t){.mech_name = mechanisms[i].name, .security_flags = mechanisms[i].security,
-            .features = SASL_FEAT_SUPPORTS_HTTP, .glob_context = (void *)&mechanisms[i], .mech_new = client_new,
+            .features = FEATURES, .glob_context = (void *)&mechanisms[i], .mech_new = client_new,
             .mech_step = client_step, .mech_dispose = dispose};
     *version = SASL_CLIENT_PLUG_VERSION;
     *list = plugs;
@@ -290,26 +339,65 @@ static int look_up(struct exchange *one, sasl_server_params_t *params, const cha
     return refused(one, utils, params->transition ? SASL_TRANS : stored ? SASL_NOVERIFY : SASL_NOUSER, "no secret");
 }
 
-/* Why a client-first message is refused that begins neither with "n,," nor with a "y,," that is taken. */
-static const char *why_header(const char *in, unsigned in_len)
+/* Why the header of a client-first message is refused. */
+static const char *why_header(const struct exchange *one, const sasl_server_params_t *params, const char *in, unsigned in_len)
 {
-    if (in_len >= 4 && (memcmp(in, "n,a=", 4) == 0 || memcmp(in, "y,a=", 4) == 0))
+    const char *comma = memchr(in, ',', in_len);
+    if (comma && in + in_len - comma >= 3 && memcmp(comma, ",a=", 3) == 0)
         return "an authorization identity is not supported";
-    if (in_len >= 2 && (memcmp(in, "p=", 2) == 0 || memcmp(in, "y,", 2) == 0))
-        return "channel binding is not supported";
+    if (one->channel == SASL_CB_DISP_WANT && SASL_CB_PRESENT(params))
+        return "the client assumes that the server supports no channel binding";
+    if (one->channel == SASL_CB_DISP_USED)
+        return params->cbinding ? "the client binds another kind of channel" : "the server has no channel to bind";
     return "the message does not begin with n,,";
+}
+
+/* Puts into the rules what the server accepts after a client's header: `y,,` only without a channel (RFC 5802, section 6),
+ * and `p=` only with the application's channel. */
+static int accept_channel(const struct exchange *one, const sasl_server_params_t *params, struct fe2o3_scram_rules *rules)
+{
+    const sasl_channel_binding_t *binding = params->cbinding;
+    uint32_t kind;
+    if (one->channel == SASL_CB_DISP_WANT)
+        rules->accept_cbind_flag_y = !binding;
+    if (one->channel != SASL_CB_DISP_USED || !binding)
+        return SASL_OK;
+    kind = known_kind(one, params->utils, binding);
+    if (!kind)
+        return SASL_BADPARAM;
+    rules->binds_channel = 1;
+    if (kind == FE2O3_TLS_UNIQUE) {
+        rules->tls_unique_len = (uint32_t)binding->len;
+        memcpy(rules->tls_unique, binding->data, binding->len);
+    } else if (kind == FE2O3_TLS_SERVER_END_POINT) {
+        rules->tls_server_end_point_len = (uint32_t)binding->len;
+        memcpy(rules->tls_server_end_point, binding->data, binding->len);
+    } else {
+        rules->tls_exporter_len = (uint32_t)binding->len;
+        memcpy(rules->tls_exporter, binding->data, binding->len);
+    }
+    return SASL_OK;
 }
 
 static int server_first(struct exchange *one, sasl_server_params_t *params, const char *in, unsigned in_len,
     sasl_out_params_t *result)
 {
     const sasl_utils_t *utils = params->utils;
+    struct fe2o3_scram_rules rules = {0};
     uint8_t name[sizeof one->server.user + 1], nonce[32];
     size_t len = 0;
-    uint32_t status = fe2o3_scram_server_claimed_user(BYTES(in, in_len), name, sizeof name - 1, &len);
-    int cbind_flag_y = is_on(one, utils, "scram_accept_cbind_flag_y"), code;
-    if (status == FE2O3_SERVER_CANNOT_PARSE_GS2_HEADER || (!cbind_flag_y && in_len > 0 && *in == 'y'))
-        return refused(one, utils, SASL_BADPROT, why_header(in, in_len));
+    uint32_t status;
+    int code;
+    one->channel = in_len > 0 && *in == 'p' ? SASL_CB_DISP_USED : in_len > 0 && *in == 'y' ? SASL_CB_DISP_WANT
+        : SASL_CB_DISP_NONE;
+    code = accept_channel(one, params, &rules);
+    if (code != SASL_OK)
+        return code;
+    status = fe2o3_scram_server_claimed_user_with_rules(&rules, BYTES(in, in_len), name, sizeof name - 1, &len);
+    if (status == FE2O3_OK && one->channel == SASL_CB_DISP_WANT && SASL_CB_PRESENT(params))
+        status = FE2O3_SERVER_CANNOT_PARSE_GS2_HEADER;
+    if (status == FE2O3_SERVER_CANNOT_PARSE_GS2_HEADER)
+        return refused(one, utils, SASL_BADPROT, why_header(one, params, in, in_len));
     if (status != FE2O3_OK)
         return told(one, utils, status);
     if (len == 0 || memchr(name, 0, len))
@@ -320,9 +408,19 @@ static int server_first(struct exchange *one, sasl_server_params_t *params, cons
         code = refused(one, utils, SASL_FAIL, "there are no random bytes");
     if (code != SASL_OK)
         return code;
-    status = (cbind_flag_y ? fe2o3_scram_server_first_with_cbind_flag_y : fe2o3_scram_server_first)(
-        &one->record, &one->server, nonce, BYTES(in, in_len), ROOM(one));
+    status = fe2o3_scram_server_first_with_rules(
+        &rules, &one->record, &one->server, nonce, BYTES(in, in_len), ROOM(one));
     return told(one, utils, status);
+}
+
+static int server_final(struct exchange *one, const sasl_server_params_t *params, const char *in, unsigned in_len)
+{
+    struct fe2o3_scram_rules rules = {0};
+    int code = accept_channel(one, params, &rules);
+    if (code != SASL_OK)
+        return code;
+    return told(one, params->utils,
+        fe2o3_scram_server_final_with_rules(&rules, &one->record, &one->server, BYTES(in, in_len), ROOM(one)));
 }
 
 static int server_step(void *context, sasl_server_params_t *params, const char *in, unsigned in_len,
@@ -339,14 +437,13 @@ static int server_step(void *context, sasl_server_params_t *params, const char *
     if (expected == FIRST)
         code = server_first(one, params, in ? in : "", in_len, result);
     else if (expected == SECOND)
-        code = told(one, params->utils,
-            fe2o3_scram_server_final(&one->record, &one->server, BYTES(in ? in : "", in_len), ROOM(one)));
+        code = server_final(one, params, in ? in : "", in_len);
     if (code != SASL_OK)
         return code;
     *out = (const char *)one->out;
     *out_len = (unsigned)one->out_len;
     if (expected == SECOND)
-        return complete(result);
+        return complete(result, one->channel, params->cbinding);
     one->expected = SECOND;
     return SASL_CONTINUE;
 }
@@ -363,7 +460,7 @@ EXPORTED int sasl_server_plug_init(const sasl_utils_t *utils UNUSED, int most, i
     static sasl_server_plug_t plugs[MECHANISMS];
     for (int i = 0; i < MECHANISMS; i++)
         plugs[i] = (sasl_server_plug_t){.mech_name = mechanisms[i].name, .security_flags = mechanisms[i].security,
-            .features = SASL_FEAT_SUPPORTS_HTTP, .glob_context = (void *)&mechanisms[i], .mech_new = server_new,
+            .features = FEATURES, .glob_context = (void *)&mechanisms[i], .mech_new = server_new,
             .mech_step = server_step, .mech_dispose = dispose};
     *version = SASL_SERVER_PLUG_VERSION;
     *list = plugs;

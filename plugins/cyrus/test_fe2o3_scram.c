@@ -94,8 +94,6 @@ static int get_option(void *context, const char *plugin, const char *option, con
         *value = "in_memory";
     else if (strcmp(option, "auto_transition") == 0 && now && now->flags & TRANSITION)
         *value = "yes";
-    else if (strcmp(option, "scram_accept_cbind_flag_y") == 0 && now)
-        *value = now->flags & CBIND_FLAG_Y ? "yes" : "no";
     else if (strcmp(option, "scram_saslprep") == 0 && now && now->flags & PREPARES)
         *value = "on";
     else if (strcmp(option, "scram_iteration_counter") == 0 && now && plugin && strcmp(plugin, mechanism) == 0)
@@ -183,10 +181,13 @@ struct run {
 
 static int start_client(sasl_conn_t *conn, const char **out, unsigned *len, const char **chosen)
 {
-    char names[64];
+    char names[96];
     sasl_interact_t *prompts = NULL;
     int code;
-    snprintf(names, sizeof names, "%s%s", mechanism, now->flags & TWO_NAMES ? " SCRAM-SHA-0" : "");
+    snprintf(names, sizeof names, "%s%s%s%s", mechanism, now->flags & TWO_NAMES ? " SCRAM-SHA-0" : "",
+        now->flags & PLUS ? " " : "", now->flags & PLUS ? mechanism : "");
+    if (now->flags & PLUS)
+        strcat(names, "-PLUS");
     code = sasl_client_start(conn, names, &prompts, out, len, chosen);
     if (code != SASL_INTERACT)
         return code;
@@ -199,14 +200,17 @@ static int start_client(sasl_conn_t *conn, const char **out, unsigned *len, cons
 
 static void demand(sasl_conn_t *client, sasl_conn_t *server)
 {
-    static const unsigned char data[] = "0123";
-    static sasl_channel_binding_t binding = {.name = "tls-unique", .critical = 0, .len = 4, .data = data};
-    static sasl_channel_binding_t must = {.name = "tls-unique", .critical = 1, .len = 4, .data = data};
+    static const unsigned char data[65] = "0123", other[] = "0124";
+    static sasl_channel_binding_t binding, must;
     static sasl_http_request_t request = {.method = "GET", .uri = "/", .entity = (const unsigned char *)"", .elen = 0,
         .non_persist = 0};
     sasl_security_properties_t properties = {0, 0, 0, 0, NULL, NULL};
+    binding = (sasl_channel_binding_t){.critical = (now->flags & MUST_BIND) != 0,
+        .name = now->flags & UNKNOWN_KIND ? "ldap" : now->flags & OTHER_KIND ? "tls-exporter" : "tls-unique",
+        .len = now->flags & LONG_DATA ? sizeof data : 4, .data = now->flags & OTHER_DATA ? other : data};
+    must = (sasl_channel_binding_t){.name = "tls-unique", .critical = 1, .len = 4, .data = data};
     if (now->flags & (MAY_BIND | MUST_BIND))
-        sasl_setprop(client, SASL_CHANNEL_BINDING, now->flags & MUST_BIND ? &must : &binding);
+        sasl_setprop(client, SASL_CHANNEL_BINDING, &binding);
     if (now->flags & SERVER_BINDS)
         sasl_setprop(server, SASL_CHANNEL_BINDING, &must);
     if (now->flags & HTTP) {
