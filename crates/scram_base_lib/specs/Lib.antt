@@ -1,1 +1,2 @@
+pub mod Channel
 pub mod Stop

@@ -2,11 +2,14 @@
 
 ghost use Rattle.std.specs.Prelude.{◌<◌, IfSome};
 
+mod channels;
+
+use crate::explain::channels::{channel_said, header_said, read_final, rules_for};
 use crate::stop::Stop;
 use crate::{input, wire};
 use fe2o3_sasl_wire::{Error, FrameView, SymbolsView, view_frame};
 use fe2o3_scram::{
-    ClientFinal, ClientFirst, ScramErrorKind, ServerFinal, ServerFirst, ServerScramErrorKind,
+    ChannelBindingFlag, ClientFirst, ScramErrorKind, ServerFinal, ServerFirst, ServerScramErrorKind,
 };
 use std::alloc::{AllocError, Global};
 use std::io::{BufRead, Write};
@@ -16,6 +19,12 @@ use std::io::{BufRead, Write};
 pub struct Heard {
     /// The side, which is printed before each message, or nothing.
     side: &'static str,
+
+    /// Whether the GS2 header may be that of any channel, and not only `n,,`.
+    any_header: bool,
+
+    /// The GS2 header of the client-first message.
+    header: ChannelBindingFlag,
 
     /// The user of the client-first message, not escaped.
     pub user: String,
@@ -51,7 +60,7 @@ pub fn explain<I: BufRead, O: Write>(
     input: &mut I,
     output: &mut O,
 ) -> Result<(), Stop> {
-    let mut heard = Heard::new(alloc, "");
+    let mut heard = Heard::of_any_header(alloc);
     if frames {
         return heard.bodies(alloc, input, output);
     }
@@ -105,14 +114,24 @@ impl From<AllocError> for Refusal {
 }
 
 impl Heard {
-    /// Returns an empty value. `side` is printed before each message.
+    /// Returns an empty value, for logins without channel binding, whose GS2 header is `n,,`. `side` is printed before
+    /// each message.
     pub fn new(alloc: Global, side: &'static str) -> Heard {
         Heard {
             side,
+            any_header: false,
+            header: ChannelBindingFlag::NotSupported,
             user: String::new(alloc),
             client_nonce: String::new(alloc),
             nonce: String::new(alloc),
         }
+    }
+
+    /// Returns an empty value, for logins with channel binding too. Nothing is printed before a message.
+    fn of_any_header(alloc: Global) -> Heard {
+        let mut heard = Heard::new(alloc, "");
+        heard.any_header = true;
+        heard
     }
 
     /// Returns the server's part of the nonce, which follows the client's (RFC 5802, section 5.1, `r`).
@@ -202,11 +221,14 @@ impl Heard {
 
     /// Returns what a client-first message says.
     fn client_first(&mut self, alloc: Global, message: &[u8]) -> Told {
-        let first = ClientFirst::parse(alloc, message)?;
+        let rules = rules_for(self.any_header, message.starts_with(b"p="));
+        let first = ClientFirst::parse_with_rules(alloc, message, rules)?;
+        self.header = first.header;
         self.user = first.username.as_str().to_string(alloc)?;
         self.client_nonce = first.client_nonce.to_string(alloc)?;
         let (user, nonce) = (first.username.as_str(), first.client_nonce);
-        Ok(format!(in alloc; "user {user:?}, nonce {nonce:?}")?)
+        let channel = header_said(alloc, first.header)?;
+        Ok(format!(in alloc; "{channel}user {user:?}, nonce {nonce:?}")?)
     }
 
     /// Returns what a server-first message says.
@@ -221,9 +243,11 @@ impl Heard {
 
     /// Returns what a client-final message says.
     fn client_final(&self, alloc: Global, message: &[u8]) -> Told {
-        let last = ClientFinal::parse(alloc, self.nonce.as_bytes(), message)?;
+        let nonce = self.nonce.as_bytes();
+        let (channel, last) = read_final(alloc, self.header, nonce, message)?;
+        let channel = channel_said(alloc, &channel)?;
         let proof = hex::encode(alloc, last.proof.as_slice())?;
-        Ok(format!(in alloc; "proof {proof}, same nonce")?)
+        Ok(format!(in alloc; "{channel}proof {proof}, same nonce")?)
     }
 }
 

@@ -3,6 +3,7 @@
 #![tactic(auto)]
 
 pub mod audited;
+pub mod channel;
 pub mod explain;
 pub mod input;
 pub mod lines;

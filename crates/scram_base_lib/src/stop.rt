@@ -85,6 +85,18 @@ pub enum Stop {
     #[error("The nonce is not 64 hexadecimal digits.")]
     WrongNonce,
 
+    /// The kind of the channel is none that the program knows.
+    #[error("The kind of the channel is not tls-unique, tls-server-end-point or tls-exporter.")]
+    WrongChannelKind,
+
+    /// The data of the channel are not in hexadecimal.
+    #[error("The data of the channel are not in hexadecimal.")]
+    WrongChannelData,
+
+    /// The data of the channel are empty or longer than 64 bytes.
+    #[error("The data of the channel are empty or longer than 64 bytes.")]
+    WrongChannelLength,
+
     /// A line of the input is not in hexadecimal.
     #[error("A line of standard input is not in hexadecimal.")]
     NotHex,
@@ -206,7 +218,12 @@ impl Stop {
     {
         match self {
             Stop::Ended | Stop::RefusedByServer => 1,
-            Stop::WrongSalt | Stop::WrongNonce | Stop::WrongName => 2,
+            Stop::WrongSalt
+            | Stop::WrongNonce
+            | Stop::WrongName
+            | Stop::WrongChannelKind
+            | Stop::WrongChannelData
+            | Stop::WrongChannelLength => 2,
             Stop::NoSuchRecord
             | Stop::OtherPassword
             | Stop::Client(_)

@@ -1,10 +1,12 @@
 //! `client`: the client side of a login. The input has the server's messages.
 
-ghost use Rattle.std.specs.Prelude.{◌≡◌, true, OnOk};
+ghost use Rattle.std.specs.Prelude.{◌≡◌, true, IfOk, OnOk, box_value, option_map};
 ghost use Rattle.fe2o3_scram.specs.ScramClient.{is_complete};
+ghost use Rattle.scram_base_lib.specs.Channel.{SaysChannel};
 
 use crate::{frames, keys, nonces};
 use fe2o3_scram::{CachedKeys, ClientSecret, Password, ScramClient, ScramErrorKind, ScramVersion};
+use scram_base_lib::channel::client_channel;
 use scram_base_lib::stop::Stop;
 use scram_base_lib::{input, wire};
 use std::alloc::Global;
@@ -29,6 +31,15 @@ pub struct Login<'a> {
 
     /// The key file, if any.
     pub keys: Option<&'a str>,
+
+    /// The channel that the client binds, `KIND:HEX`, if any.
+    pub channel: Option<&'a str>,
+
+    /// Whether the client has a channel, but was offered no mechanism with `-PLUS`. It has no effect beside `channel`.
+    pub channel_not_offered: bool,
+
+    /// Whether the client is strict.
+    pub strict: bool,
 
     /// The nonce in hexadecimal, or `None` for a random one.
     pub nonce: Option<&'a str>,
@@ -77,19 +88,30 @@ where
 }
 
 impl Login<'_> {
-    /// Returns the client. Its password is the first line of the input.
+    /// Returns the client. Its password is the first line of the input, which is read only if the channel is valid.
     fn client<R: Files + AllocGlobal, I: BufRead>(
         &self,
         rt: &R,
         input: &mut I,
-    ) -> Result<Box<ScramClient>, Stop> {
+    ) -> Result<Box<ScramClient>, Stop>
+        ensures channel { IfOk result (λ client. SaysChannel (option_map (λ word. word.now) self.now.channel)
+            self.now.channel_not_offered (box_value client).channel) }
+        ensures strict { IfOk result (λ client. (box_value client).strict ≡ self.now.strict) }
+        ensures limits { IfOk result (λ client. ((box_value client).limits.min_iterations ≡ self.now.min_iterations)
+            × ((box_value client).limits.max_iterations ≡ self.now.max_iterations)) }
+        ensures login { IfOk result (λ client. ((box_value client).user ≡ self.now.user.now)
+            × ((box_value client).version ≡ self.now.version)) }
+    {
+        let channel = client_channel(rt.alloc(), self.channel, self.channel_not_offered)?;
         let secret = self.secret(rt, input)?;
         let secret = secret.lent().ok_or(Stop::NoPassword)?;
         let user = self.user.to_string(rt.alloc())?;
         let client = ScramClient::with_secret(rt.alloc(), user, secret, self.version)?;
         let client = client
             .with_min_iterations(self.min_iterations)
-            .with_iteration_limit(self.max_iterations);
+            .with_iteration_limit(self.max_iterations)
+            .with_channel(channel)
+            .strict(self.strict);
         Ok(Box::new(rt.alloc(), client)?)
     }
 

@@ -1,6 +1,7 @@
 //! `--frames`: a login over the bytes of an AMQP connection.
 
-ghost use Rattle.std.specs.Prelude.{◌≡◌, IfOk, OnOk};
+ghost use Rattle.std.specs.Prelude.{◌≡◌, IfOk, OnOk, box_value};
+ghost use Rattle.fe2o3_sasl_core.specs.Profiles.{ScramProfile};
 ghost use Rattle.fe2o3_sasl_negotiation.specs.Sides.{client_side, server_side, connection_side};
 ghost use Rattle.fe2o3_sasl_negotiation.specs.declared.progress.Progress.TheVariants.{Authenticated};
 
@@ -99,11 +100,13 @@ where
     }
 }
 
-/// Returns the client's side.
+/// Returns the client's side. Its mechanism is that of the client, with its channel.
 fn negotiation(
     alloc: Global,
     client: Box<ScramClient>,
-) -> Result<Box<ClientNegotiation>, OutOfMemory> {
+) -> Result<Box<ClientNegotiation>, OutOfMemory>
+    ensures { IfOk result (λ side. (client_side (box_value side)).state ≡ ScramProfile (box_value client)) }
+{
     let profile = SaslProfile::from(Box::into_inner(client));
     Ok(Box::new(alloc, ClientNegotiation::new(alloc, profile, None))?)
 }

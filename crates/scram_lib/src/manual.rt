@@ -33,6 +33,9 @@ pub enum Kind {
 
     /// An option without a value.
     Flag,
+
+    /// An option without a value that cannot be used with another option.
+    FlagWithout(&'static str),
 }
 
 /// A word of a command: an argument or an option.
@@ -157,6 +160,43 @@ const KEYS: Word = Word {
     help: "Logs in with the keys in this file, if there are any, and stores the keys of the login in it",
 };
 
+const CHANNEL: Word = Word {
+    kind: Kind::Text,
+    name: "channel",
+    value: "KIND:HEX",
+    help: "Binds this channel, by the mechanism with -PLUS: KIND is tls-unique, tls-server-end-point or tls-exporter, \
+        HEX is its data",
+};
+
+const CHANNEL_NOT_OFFERED: Word = Word {
+    kind: Kind::FlagWithout("channel"),
+    name: "channel-not-offered",
+    value: "",
+    help: "Has a channel, but was offered no mechanism with -PLUS: the GS2 header is y,,",
+};
+
+const CHANNEL_ACCEPTED: Word = Word {
+    kind: Kind::Text,
+    name: "channel",
+    value: "KIND:HEX",
+    help: "Accepts only clients that bind this channel, by the mechanism with -PLUS: KIND is tls-unique, \
+        tls-server-end-point or tls-exporter, HEX is its data",
+};
+
+const ACCEPT_Y: Word = Word {
+    kind: Kind::FlagWithout("channel"),
+    name: "accept-y",
+    value: "",
+    help: "Accepts the GS2 header y,, too; never use it beside a server that offers a mechanism with -PLUS",
+};
+
+const STRICT: Word = Word {
+    kind: Kind::Flag,
+    name: "strict",
+    value: "",
+    help: "Rejects an attribute of RFC 5802 in the place of an extension, as --channel does",
+};
+
 const NONCE: Word = Word {
     kind: Kind::Text,
     name: "nonce",
@@ -210,12 +250,32 @@ pub static COMMANDS: [Words; 5] = [
     Words {
         name: "client",
         about: "Runs the client side of a login: after the password, each line is a message in base64",
-        words: &[M, USER, MIN_ITERATIONS, MAX_ITERATIONS, KEYS, NONCE, FRAMES],
+        words: &[
+            M,
+            USER,
+            MIN_ITERATIONS,
+            MAX_ITERATIONS,
+            KEYS,
+            CHANNEL,
+            CHANNEL_NOT_OFFERED,
+            STRICT,
+            NONCE,
+            FRAMES,
+        ],
     },
     Words {
         name: "server",
         about: "Runs the server side of a login for the users of a file: each line is a message in base64",
-        words: &[M, FILE, TELL_UNKNOWN_USERS, NONCE, FRAMES],
+        words: &[
+            M,
+            FILE,
+            TELL_UNKNOWN_USERS,
+            CHANNEL_ACCEPTED,
+            ACCEPT_Y,
+            STRICT,
+            NONCE,
+            FRAMES,
+        ],
     },
     Words {
         name: "explain",
@@ -260,7 +320,8 @@ impl Word {
         Ok(match self.kind {
             Kind::Place => arg.required(true),
             Kind::MechanismPlace => mechanism(arg.required(true)),
-            Kind::Flag => arg.long(self.name).action(ArgAction::SetTrue),
+            Kind::Flag => self.flag(arg),
+            Kind::FlagWithout(other) => return self.flag(arg).conflicts_with(other),
             Kind::Text => self.option(arg),
             Kind::Mechanism => mechanism(self.option(arg)),
             Kind::DefaultMechanism => mechanism(self.option(arg)).default_value("SCRAM-SHA-256"),
@@ -275,6 +336,11 @@ impl Word {
         Arg::new(alloc, self.name)
             .action(ArgAction::Set)
             .help(self.help)
+    }
+
+    /// Returns the word as an option without a value.
+    fn flag<'a>(&self, arg: Arg<'a>) -> Arg<'a> {
+        arg.long(self.name).action(ArgAction::SetTrue)
     }
 
     /// Returns the word as an option.

@@ -1,7 +1,8 @@
 //! `server`: the server side of a login, for the users of a file. The input has the client's messages.
 
-ghost use Rattle.std.specs.Prelude.{◌≡◌, ℕ, List, Some, IfOk, IsOk, OnOk};
-ghost use Rattle.fe2o3_scram.specs.ScramServer.{logged_in, state_in};
+ghost use Rattle.std.specs.Prelude.{◌≡◌, ℕ, List, Some, IfOk, IsOk, OnOk, option_map};
+ghost use Rattle.fe2o3_scram.specs.ScramServer.{logged_in, rules_in, state_in};
+ghost use Rattle.scram_base_lib.specs.Channel.{BindsOnly};
 
 pub mod mock;
 
@@ -9,10 +10,11 @@ use crate::server::mock::Shape;
 use crate::{frames, nonces};
 use fe2o3_sasl_negotiation::AuthenticatedUser;
 use fe2o3_scram::{
-    MultiRecordStore, RecordStore, ScramAuthenticator, ScramVersion, ServerError,
+    MultiRecordStore, RecordStore, ScramAuthenticator, ScramVersion, ServerError, ServerRules,
     ServerScramErrorKind,
 };
 use mock_secret::secret_of;
+use scram_base_lib::channel::server_rules;
 use scram_base_lib::stop::Stop;
 use scram_base_lib::{store, wire};
 use std::alloc::Global;
@@ -31,6 +33,15 @@ pub struct Service<'a> {
 
     /// Whether an unknown user is answered with an error, and not like a known one.
     pub tells_unknown_users: bool,
+
+    /// The channel that clients have to bind, `KIND:HEX`, if any.
+    pub channel: Option<&'a str>,
+
+    /// Whether the GS2 header `y,,` is accepted too. It has no effect beside `channel`.
+    pub accept_y: bool,
+
+    /// Whether the server is strict.
+    pub strict: bool,
 
     /// The nonce in hexadecimal, or `None` for a random one.
     pub nonce: Option<&'a str>,
@@ -51,16 +62,40 @@ where
     I: BufRead,
     O: Write,
 {
-    let server = server(rt, service)?;
+    let rules = service.rules(rt.alloc())?;
+    let server = server(rt, service, rules)?;
     if service.frames {
         return frames::serve(rt, service, server, input, output);
     }
     over_lines(rt, service, server, input, output)
 }
 
+impl Service<'_> {
+    /// Returns what the server accepts.
+    fn rules(&self, alloc: Global) -> Result<ServerRules, Stop>
+        ensures channels { IfOk result (λ rules. BindsOnly (option_map (λ word. word.now) self.now.channel)
+            rules.channels) }
+        ensures options { IfOk result (λ rules. (rules.accept_cbind_flag_y ≡ self.now.accept_y)
+            × (rules.strict ≡ self.now.strict)) }
+    {
+        server_rules(alloc, self.channel, self.accept_y, self.strict)
+    }
+}
+
+/// Returns the server of the users of a file, with these rules.
+fn server<R: Files + RandomSource + AllocGlobal>(
+    rt: &R,
+    service: &Service<'_>,
+    rules: ServerRules,
+) -> Result<ScramAuthenticator<RecordStore>, Stop>
+    ensures { IfOk result (λ server. rules_in server ≡ rules) }
+{
+    Ok(authenticator(rt, service)?.with_rules(rules))
+}
+
 /// Returns the server of the users of a file. Unless mock authentication is off, it answers an unknown user like a
 /// known one.
-fn server<R: Files + RandomSource + AllocGlobal>(
+fn authenticator<R: Files + RandomSource + AllocGlobal>(
     rt: &R,
     service: &Service<'_>,
 ) -> Result<ScramAuthenticator<RecordStore>, Stop> {

@@ -1,5 +1,8 @@
 //! The task that the arguments ask for.
 
+ghost use Rattle.std.specs.Prelude.{◌≡◌, true, false, Some, codes, option_map};
+ghost use Rattle.clap.specs.Matches.{first_value, found_of, one_text};
+
 use crate::client::{Login, log_in};
 use crate::record::{ITERATIONS, NewRecord};
 use crate::server::{Service, serve};
@@ -140,13 +143,23 @@ impl<'a> Task<'a> {
 }
 
 /// Returns the arguments of `client`.
-fn login<'a>(matches: &ArgMatches<'a>) -> Login<'a> {
+fn login<'a>(matches: &ArgMatches<'a>) -> Login<'a>
+    ensures channel { option_map (λ word. word.now) result.channel
+        ≡ first_value (found_of matches.now) (codes "channel") }
+    ensures not_offered { (one_text (found_of matches.now) (codes "channel-not-offered") ≡ Some (codes "true"))
+        → result.channel_not_offered ≡ true }
+    ensures strict { (one_text (found_of matches.now) (codes "strict") ≡ Some (codes "true"))
+        → result.strict ≡ true }
+{
     Login {
         version: version_of(matches, "M").unwrap_or(ScramVersion::Sha256),
         user: text(matches, "USER"),
         min_iterations: matches.get_one::<u32>("min-iterations").unwrap_or(4096),
         max_iterations: max_iterations(matches),
         keys: matches.get_str("keys"),
+        channel: matches.get_str("channel"),
+        channel_not_offered: matches.get_flag("channel-not-offered"),
+        strict: matches.get_flag("strict"),
         nonce: matches.get_str("nonce"),
         frames: matches.get_flag("frames"),
     }
@@ -160,11 +173,21 @@ fn max_iterations(matches: &ArgMatches<'_>) -> u32 {
 }
 
 /// Returns the arguments of `server`.
-fn service<'a>(matches: &ArgMatches<'a>) -> Service<'a> {
+fn service<'a>(matches: &ArgMatches<'a>) -> Service<'a>
+    ensures channel { option_map (λ word. word.now) result.channel
+        ≡ first_value (found_of matches.now) (codes "channel") }
+    ensures no_y { (one_text (found_of matches.now) (codes "accept-y") ≡ Some (codes "false"))
+        → result.accept_y ≡ false }
+    ensures strict { (one_text (found_of matches.now) (codes "strict") ≡ Some (codes "true"))
+        → result.strict ≡ true }
+{
     Service {
         version: version_of(matches, "M").unwrap_or(ScramVersion::Sha256),
         file: text(matches, "FILE"),
         tells_unknown_users: matches.get_flag("tell-unknown-users"),
+        channel: matches.get_str("channel"),
+        accept_y: matches.get_flag("accept-y"),
+        strict: matches.get_flag("strict"),
         nonce: matches.get_str("nonce"),
         frames: matches.get_flag("frames"),
     }

@@ -36,12 +36,13 @@ fn replay<W: Write>(
 }
 
 /// The files of runs.
-static FILES: [&str; 9] = [
+static FILES: [&str; 10] = [
     "words.txt",
     "records.txt",
     "users.txt",
     "logins.txt",
     "frames.txt",
+    "channels.txt",
     "explained.txt",
     "bodies.txt",
     "audits.txt",

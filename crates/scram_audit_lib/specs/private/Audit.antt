@@ -1,6 +1,7 @@
 -- When `scram explain --audit` ends with status 0, over the findings of `fe2o3_sasl`. No public clause cites this file.
 use Rattle.std.specs.Prelude.{◌≡◌, Bool, true, false, ◌&&◌, List, map}
 use Rattle.std.specs.List.{list_all, list_any}
+use Rattle.fe2o3_scram.specs.ClientFirst.{default_rules}
 use Rattle.fe2o3_scram.specs.Credentials.{serving}
 use Rattle.fe2o3_sasl.specs.Verdicts.{AuditsEvents}
 use Rattle.fe2o3_sasl.specs.Audit.{finding_of}
@@ -39,8 +40,8 @@ is_whole findings = list_all means_one findings && list_any verifies findings
 abbrev pub FindsAll : Sides → Login → List Finding → Type 0
 FindsAll sides login findings =
     AuditsEvents (login_of login.version login.user.now login.password.now login.limit)
-    (map given sides.client.events.items) (serving false login.credentials.now) (map given sides.server.events.items)
-    (map finding_of findings)
+    (map given sides.client.events.items) (serving default_rules login.credentials.now)
+    (map given sides.server.events.items) (map finding_of findings)
 
 -- what is found is whole
 abbrev pub FindsWhole : Sides → Login → Type 0

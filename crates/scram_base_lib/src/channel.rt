@@ -1,0 +1,121 @@
+//! The channel of an argument `KIND:HEX`, and what a client and a server do with it (RFC 5802, section 6).
+
+ghost use Rattle.std.specs.Prelude.{◌≡◌, ◌≢◌, ◌⊎◌, ℕ, List, Ok, IfOk, IfErr, option_map};
+ghost use Rattle.hex.specs.Hex.{decode_of};
+ghost use Rattle.scram_base_lib.specs.Channel.{BindsOnly, RejectsChannel, SaysChannel, SpellsChannel, digits_in, name_in, only_data};
+
+use crate::stop::Stop;
+use fe2o3_scram::{
+    ChannelBinding, ChannelBindings, ChannelData, ChannelKind, ClientChannel, ServerRules,
+};
+use std::alloc::Global;
+
+/// Parses a channel `KIND:HEX`: its kind is the text before the first colon, and its data are the rest.
+///
+/// The errors are `WrongChannelKind`, `WrongChannelData`, `WrongChannelLength` and `OutOfMemory`.
+pub fn parse_channel(alloc: Global, word: &str) -> Result<ChannelBinding, Stop>
+    ensures ok { IfOk result (SpellsChannel word.now) }
+    ensures err { IfErr result (RejectsChannel word.now) }
+{
+    let (name, digits) = parts_of(word);
+    let Some(kind) = ChannelKind::from_name(name) else {
+        return Err(Stop::WrongChannelKind);
+    };
+    let bytes = bytes_of(alloc, digits)?;
+    match ChannelData::new(&bytes) {
+        Ok(cbind_data) => Ok(ChannelBinding { kind, cbind_data }),
+        Err(_) => Err(Stop::WrongChannelLength),
+    }
+}
+
+/// Splits a word at its first colon. Without a colon the second part is empty.
+fn parts_of(word: &str) -> (&str, &str)
+    ensures name { result.0.now ≡ name_in word.now }
+    ensures digits { result.1.now ≡ digits_in word.now }
+{
+    match word.split_once(':') {
+        Some(parts) => parts,
+        None => (word, ""),
+    }
+}
+
+/// Decodes the data of a channel.
+fn bytes_of(alloc: Global, digits: &str) -> Result<Vec<u8>, Stop>
+    ensures ok { IfOk result (λ bytes. decode_of digits.now ≡ Ok bytes.items) }
+    ensures err { IfErr result (λ stop. (stop ≡ Stop.OutOfMemory) ⊎ ((stop ≡ Stop.WrongChannelData)
+        × ((bytes : List ℕ) → decode_of digits.now ≢ Ok bytes))) }
+{
+    match hex::decode(alloc, digits) {
+        Ok(bytes) => Ok(bytes),
+        Err(hex::FromHexError::OutOfMemory) => Err(Stop::OutOfMemory),
+        Err(_) => Err(Stop::WrongChannelData),
+    }
+}
+
+/// Returns what a client says of its channel: it binds the channel of the argument, if there is one. The errors are
+/// those of [`parse_channel`].
+pub fn client_channel(
+    alloc: Global,
+    word: Option<&str>,
+    not_offered: bool,
+) -> Result<ClientChannel, Stop>
+    ensures { IfOk result (SaysChannel (option_map (λ word. word.now) word.entry) not_offered) }
+{
+    match word {
+        Some(word) => Ok(ClientChannel::Bound(parse_channel(alloc, word)?)),
+        None if not_offered => Ok(ClientChannel::NotOffered),
+        None => Ok(ClientChannel::Absent),
+    }
+}
+
+/// Returns what a server accepts: only clients that bind the channel of the argument, if there is one. The errors are
+/// those of [`parse_channel`].
+pub fn server_rules(
+    alloc: Global,
+    word: Option<&str>,
+    accept_y: bool,
+    strict: bool,
+) -> Result<ServerRules, Stop>
+    ensures channels { IfOk result (λ rules. BindsOnly (option_map (λ word. word.now) word.entry) rules.channels) }
+    ensures options { IfOk result (λ rules. (rules.accept_cbind_flag_y ≡ accept_y) × (rules.strict ≡ strict)) }
+{
+    Ok(ServerRules {
+        accept_cbind_flag_y: accept_y,
+        strict,
+        channels: channels(alloc, word)?,
+    })
+}
+
+/// Returns the channel as a server knows it, if there is an argument with one.
+fn channels(alloc: Global, word: Option<&str>) -> Result<Option<ChannelBindings>, Stop>
+    ensures { IfOk result (BindsOnly (option_map (λ word. word.now) word.entry)) }
+{
+    match word {
+        Some(word) => Ok(Some(only(parse_channel(alloc, word)?))),
+        None => Ok(None),
+    }
+}
+
+/// Returns the channel as a server knows it that has the data of this kind only.
+fn only(binding: ChannelBinding) -> ChannelBindings
+    ensures { result ≡ only_data binding.kind binding.cbind_data }
+{
+    let known = Some(binding.cbind_data);
+    match binding.kind {
+        ChannelKind::TlsUnique => ChannelBindings {
+            tls_unique: known,
+            tls_server_end_point: None,
+            tls_exporter: None,
+        },
+        ChannelKind::TlsServerEndPoint => ChannelBindings {
+            tls_unique: None,
+            tls_server_end_point: known,
+            tls_exporter: None,
+        },
+        ChannelKind::TlsExporter => ChannelBindings {
+            tls_unique: None,
+            tls_server_end_point: None,
+            tls_exporter: known,
+        },
+    }
+}

@@ -1,0 +1,129 @@
+//! What the messages of a login say of its channel (RFC 5802, sections 6 and 7).
+
+ghost use Rattle.std.specs.Prelude.{◌≡◌, ◌≤◌, true, false, length, Ok, IfOk};
+ghost use Rattle.fe2o3_scram.specs.ChannelBinding.{TakesHeader, data_bytes, flag_of, is_bound};
+ghost use Rattle.fe2o3_scram.specs.ClientFinal.{ReadsFinalText, client_final_values};
+ghost use Rattle.fe2o3_scram.specs.ClientFirst.{default_rules};
+ghost use Rattle.fe2o3_scram.specs.declared.channel_binding.ChannelKind.TheVariants.{TlsUnique, TlsServerEndPoint, TlsExporter};
+ghost use Rattle.fe2o3_scram.specs.declared.scram_messages.channel_binding_flag.ChannelBindingFlag.TheVariants.{NotSupported, ClientSupports, Required};
+
+use base64::DecodeAllocError;
+use base64::engine::general_purpose::STANDARD;
+use fe2o3_scram::{
+    ChannelBinding, ChannelBindingFlag, ChannelBindings, ChannelData, ClientChannel, ClientFinal,
+    ServerRules, ServerScramErrorKind,
+};
+use std::alloc::{AllocError, Global};
+
+/// Returns the rules that accept the GS2 header of a client-first message: of one that binds a channel, each kind, and
+/// otherwise `n,,` and, with `any_header`, `y,,`.
+pub fn rules_for(any_header: bool, bound: bool) -> ServerRules
+    ensures plain { any_header ≡ false → result ≡ default_rules }
+    ensures unbound { any_header ≡ true → bound ≡ false → TakesHeader result NotSupported
+        × TakesHeader result ClientSupports }
+    ensures bound { any_header ≡ true → bound ≡ true → TakesHeader result (Required TlsUnique)
+        × TakesHeader result (Required TlsServerEndPoint) × TakesHeader result (Required TlsExporter) }
+{
+    // The parser only asks of which kinds the server has data.
+    let known = Some(ChannelData {
+        bytes: [0; 64],
+        len: 1,
+    });
+    let every_kind = ChannelBindings {
+        tls_unique: known,
+        tls_server_end_point: known,
+        tls_exporter: known,
+    };
+    ServerRules {
+        accept_cbind_flag_y: any_header,
+        strict: false,
+        channels: if any_header && bound {
+            Some(every_kind)
+        } else {
+            None
+        },
+    }
+}
+
+/// Returns what a GS2 header says, before the rest of its message. `n,,` says nothing.
+pub fn header_said(alloc: Global, header: ChannelBindingFlag) -> Result<String, AllocError> {
+    match header {
+        ChannelBindingFlag::NotSupported => Ok(String::new(alloc)),
+        ChannelBindingFlag::ClientSupports => {
+            String::from_str(alloc, "channel binding not offered, ")
+        }
+        ChannelBindingFlag::Required(kind) => {
+            let kind = kind.name();
+            format!(in alloc; "channel binding {kind}, ")
+        }
+    }
+}
+
+/// Returns what the channel binding of a client-final message says, before the rest of it. That of `n,,` says nothing.
+pub fn channel_said(alloc: Global, channel: &ClientChannel) -> Result<String, AllocError> {
+    let header = channel.flag().text();
+    match channel {
+        ClientChannel::Absent => Ok(String::new(alloc)),
+        ClientChannel::NotOffered => format!(in alloc; "header {header:?}, "),
+        ClientChannel::Bound(binding) => {
+            let digits = hex::encode(alloc, binding.cbind_data.as_slice())?;
+            format!(in alloc; "header {header:?}, data {digits}, ")
+        }
+    }
+}
+
+/// Reads a client-final message after this GS2 header, of a client that binds a channel with the data in the message.
+pub fn read_final<'a>(
+    alloc: Global,
+    header: ChannelBindingFlag,
+    nonce: &[u8],
+    message: &'a [u8],
+) -> Result<(ClientChannel, ClientFinal<'a>), ServerScramErrorKind>
+    ensures channel { IfOk result (λ read. flag_of read.0 ≡ header) }
+    ensures text { IfOk result (λ read. ReadsFinalText read.0 (is_bound read.0) nonce.now message.now
+        (Ok (client_final_values read.1))) }
+{
+    let channel = channel_in(alloc, header, message)?;
+    let strict = channel.is_bound();
+    let last = ClientFinal::parse_with_channel(alloc, &channel, strict, nonce, message)?;
+    Ok((channel, last))
+}
+
+/// Returns the channel that a client-final message binds after this GS2 header, with the data in the message.
+fn channel_in(
+    alloc: Global,
+    header: ChannelBindingFlag,
+    message: &[u8],
+) -> Result<ClientChannel, ServerScramErrorKind>
+    ensures { IfOk result (λ channel. flag_of channel ≡ header) }
+{
+    match header {
+        ChannelBindingFlag::NotSupported => Ok(ClientChannel::Absent),
+        ChannelBindingFlag::ClientSupports => Ok(ClientChannel::NotOffered),
+        ChannelBindingFlag::Required(kind) => Ok(ClientChannel::Bound(ChannelBinding {
+            kind,
+            cbind_data: data_in(alloc, header.text(), message)?,
+        })),
+    }
+}
+
+/// Returns the data of the channel in a client-final message, after the text of a GS2 header. The errors are those of
+/// the library's parser up to its test of the channel binding.
+fn data_in(alloc: Global, header: &str, message: &[u8]) -> Result<ChannelData, ServerScramErrorKind>
+    ensures { IfOk result (λ found. 1 ≤ length (data_bytes found)) }
+{
+    let text = str::from_utf8(message).map_err(|_| ServerScramErrorKind::Utf8Error)?;
+    let (first, _) = text.split_once(',').unwrap_or((text, ""));
+    let Some(binding) = first.strip_prefix("c=") else {
+        return Err(ServerScramErrorKind::CannotParseClientFinalMessage);
+    };
+    let input = match STANDARD.decode(alloc, binding.as_bytes()) {
+        Ok(input) => input,
+        Err(DecodeAllocError::OutOfMemory) => return Err(ServerScramErrorKind::OutOfMemory),
+        Err(_) => return Err(ServerScramErrorKind::Base64DecodeError),
+    };
+    let Some(cbind_data) = input.strip_prefix(header.as_bytes()) else {
+        return Err(ServerScramErrorKind::InvalidChannelBinding);
+    };
+    ChannelData::new(cbind_data).map_err(|_| ServerScramErrorKind::InvalidChannelBinding)
+}
