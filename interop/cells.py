@@ -25,8 +25,9 @@ class Cell:
     #: it.
     kept: Optional[User] = None
     #: The word of our side in the rows of such vectors, where it is not `client` or `server`: `prepared` for a client
-    #: with a prepared password, `unbound` for a server that takes `y,,`, `records` for one that has a record alone. Over
-    #: frames, the words of a server's options: it `asks` for an initial response, and `signs` in a challenge.
+    #: with a prepared password, `cbind_flag_y` for a server that takes `y,,`, `records` for one that has a record alone.
+    #: Over frames, the words of a server's options: it `asks` for an initial response, and `signs` in a challenge. A
+    #: mechanism with `-PLUS` adds `_plus` to the word.
     kept_as: str = ""
     #: Whether the logins are made at once, since the peer lets each wait.
     at_once: bool = False

@@ -1,13 +1,14 @@
 /* A login by libsasl2 over standard input and output, a message a line, as lines.c has it:
  *
- *     cyrus client PLUGINS MECHANISM USER PASSWORD [may | choose | must | late | as IDENTITY]
- *     cyrus server PLUGINS MECHANISM SASLDB COUNT [NAME]
+ *     cyrus client PLUGINS MECHANISM USER PASSWORD [may | choose | must | late | as IDENTITY | tls-unique HEX]
+ *     cyrus server PLUGINS MECHANISM SASLDB COUNT [NAME | tls-unique HEX]
  *     cyrus version
  *
  * PLUGINS is a folder of plugins, and SASLDB a file of users in the realm localhost. With `may`, `choose` and `must`
  * the client has a binding of its channel, made up, which it may use, or must; with `choose` it may, and has another
  * mechanism to choose from. With `late` it sends no initial response: its first message answers an empty line of the
- * server. IDENTITY is the authorization identity, or the trace information of ANONYMOUS. NAME is the name that the
+ * server. With `tls-unique` either side has to bind a channel with these data, and the name of the mechanism that is sent
+ * ends with -PLUS; libsasl2 itself does not say so. IDENTITY is the authorization identity, or the trace information of ANONYMOUS. NAME is the name that the
  * transport authenticated, for EXTERNAL; on the client's side it is USER. The status is 0 where the login is done;
  * standard error says why it is not. */
 #define _POSIX_C_SOURCE 200112L
@@ -19,6 +20,17 @@
 
 static char **words;
 static const char *identity = "";
+
+/* The channel that has to be bound, if it has data. */
+static unsigned char channel_data[64];
+static sasl_channel_binding_t channel = {"tls-unique", 1, 0, channel_data};
+
+static void read_channel(const char *digits)
+{
+    unsigned byte;
+    for (; channel.len < sizeof channel_data && sscanf(digits, "%2x", &byte) == 1; digits += 2)
+        channel_data[channel.len++] = (unsigned char)byte;
+}
 
 static int get_path(void *context, const char **path)
 {
@@ -122,14 +134,16 @@ static int run_client(const char *how)
     int late = strcmp(how, "late") == 0;
     sasl_conn_t *connection = NULL;
     const char *out = NULL, *mechanism = NULL;
-    char offered[64];
+    char offered[96];
     unsigned len = 0;
     int status = sasl_client_init(of_client);
     snprintf(offered, sizeof offered, "%s%s", words[3], strcmp(how, "choose") == 0 ? " SCRAM-SHA-0" : "");
+    if (channel.len > 0)
+        snprintf(offered, sizeof offered, "%s %s-PLUS", words[3], words[3]);
     if (status == SASL_OK)
         status = sasl_client_new("amqp", "localhost", NULL, NULL, of_client, SASL_SUCCESS_DATA, &connection);
     if (status == SASL_OK && *how != '\0' && !late)
-        status = sasl_setprop(connection, SASL_CHANNEL_BINDING, &binding);
+        status = sasl_setprop(connection, SASL_CHANNEL_BINDING, channel.len > 0 ? &channel : &binding);
     if (status == SASL_OK && strcmp(words[3], "EXTERNAL") == 0)
         status = sasl_setprop(connection, SASL_AUTH_EXTERNAL, words[4]);
     /* (without a place for it there is no initial response) */
@@ -137,7 +151,8 @@ static int run_client(const char *how)
         status = sasl_client_start(
             connection, offered, NULL, late ? NULL : &out, late ? NULL : &len, &mechanism);
     /* (a mechanism with one message is done by it) */
-    if ((status == SASL_OK || status == SASL_CONTINUE) && (printf("%s\n", mechanism) < 0 || fflush(stdout) != 0))
+    if ((status == SASL_OK || status == SASL_CONTINUE)
+        && (printf("%s%s\n", mechanism, channel.len > 0 ? "-PLUS" : "") < 0 || fflush(stdout) != 0))
         status = SASL_FAIL;
     for (; status == SASL_CONTINUE && (late || say(out, len)) && hear(); late = 0)
         status = sasl_client_step(connection, message, message_len, NULL, &out, &len);
@@ -155,9 +170,11 @@ static int run_server(const char *name)
     if (status == SASL_OK)
         status = sasl_server_new(
             "amqp", "localhost", "localhost", NULL, NULL, of_server, SASL_SUCCESS_DATA, &connection);
-    if (status == SASL_OK && *name != '\0')
+    if (status == SASL_OK && channel.len > 0)
+        status = sasl_setprop(connection, SASL_CHANNEL_BINDING, &channel);
+    else if (status == SASL_OK && *name != '\0')
         status = sasl_setprop(connection, SASL_AUTH_EXTERNAL, name);
-    printf("%s\n\n", words[3]);
+    printf("%s%s\n\n", words[3], channel.len > 0 ? "-PLUS" : "");
     fflush(stdout);
     if (status == SASL_OK)
         status = hear() ? sasl_server_start(connection, words[3], message, message_len, &out, &len) : SASL_FAIL;
@@ -181,6 +198,10 @@ int main(int count, char **given)
     if (strcmp(what, "client") == 0 && count == 8 && strcmp(given[6], "as") == 0) {
         identity = given[7];
         count = 6;
+    }
+    if (count == 8 && strcmp(given[6], "tls-unique") == 0) {
+        read_channel(given[7]);
+        count = 7;
     }
     if (strcmp(what, "client") == 0 && (count == 6 || count == 7))
         return run_client(count == 7 ? given[6] : "");

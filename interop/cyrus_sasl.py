@@ -9,6 +9,7 @@ from pathlib import Path
 from typing import Iterator, Optional
 
 import messages
+import tls
 from cells import Cell, Peer, none
 from messages import DONE, ENDED, NO_ONE, by_client
 from sides import COMMA, PAST, PATIENCE, SCRAM, SOFT, USER, Client, Ending, Side, User, marred
@@ -48,6 +49,7 @@ class CyrusSasl(Peer):
 
     def start(self, folder: Path) -> None:
         self.passwords, self.records = folder / "passwords", folder / "records"
+        self.authority = tls.Authority(folder / "authority")
         for user in (USER, COMMA, PAST_USER, SOFT_USER):
             make_user(self.passwords, user)
         make_user(self.records, USER, records=True)
@@ -90,10 +92,52 @@ class CyrusSasl(Peer):
 
         return login
 
+    def bound_server(self, mechanism: str, password: str = USER.password, relayed: bool = False):
+        """A login of our client to a server of libsasl2, with the channel of one connection under TLS, or each side with
+        that of another, since somebody between them relays all messages."""
+
+        def login(side: Side) -> Ending:
+            tunnel, other = tls.Tunnel(self.authority), tls.Tunnel(self.authority)
+            words = ["server", mechanism, str(self.passwords), "4096", "tls-unique", (other if relayed else tunnel).other()]
+            of = Client(mechanism + "-PLUS", USER._replace(password=password), channel=tunnel.channel())
+            return side.log_in(of, lambda ours: tunnel.between(ours, lambda end: self.run(end, *words)))
+
+        return login
+
+    def bound_client(self, mechanism: str, password: str = USER.password, relayed: bool = False):
+        """A login of a client of libsasl2 to our server, with the channel of one connection, or each with that of
+        another."""
+
+        def login(side: Side) -> Ending:
+            tunnel, other = tls.Tunnel(self.authority), tls.Tunnel(self.authority)
+            words = ["client", mechanism, USER.name, password, "tls-unique", (other if relayed else tunnel).other()]
+            return side.serve(mechanism + "-PLUS", {USER.name: side.record(mechanism, USER)},
+                              lambda ours: tunnel.between(ours, lambda end: self.run(end, *words)),
+                              more=(tunnel.channel(),))
+
+        return login
+
+    def bound(self, mechanism: str) -> Iterator[Cell]:
+        """Logins that bind the channel of a connection under TLS 1.2."""
+        relayed = "all messages relayed between two connections under TLS"
+
+        def cell(ours: str, what: str, login, ends: Ending) -> Cell:
+            return Cell(ours, mechanism + "-PLUS", what, login, ends)
+
+        yield cell("client", "a login, `tls-unique`", self.bound_server(mechanism), DONE)
+        yield cell("client", "a wrong password", self.bound_server(mechanism, "pencils"), ENDED)
+        yield cell("client", relayed, self.bound_server(mechanism, relayed=True), ENDED)
+        yield cell("server", "a login, `tls-unique`", self.bound_client(mechanism), Ending("logged in: user", True))
+        yield cell("server", "a wrong password", self.bound_client(mechanism, "pencils"),
+                   Ending("not logged in: Server: Authentication failed", False))
+        yield cell("server", relayed, self.bound_client(mechanism, relayed=True),
+                   Ending("not logged in: Server: Invalid channel binding", False))
+
     def cells(self) -> Iterator[Cell]:
         for mechanism in SCRAM:
             yield from self.our_clients(mechanism)
             yield from self.our_servers(mechanism)
+            yield from self.bound(mechanism)
         yield from messages.our_clients(self.log_in_by_message, PAST_USER)
         soft = SOFT_USER._replace(prepared=True)
         for what, user, ends in (
@@ -172,7 +216,7 @@ class CyrusSasl(Peer):
         yield cell("it may bind its channel, and sends `n,,`", self.serve(mechanism, USER, binds="may"), done)
         yield cell("it may bind its channel and chooses, and sends `y,,`",
                    self.serve(mechanism, USER, binds="choose", unbound=True), done,
-                   USER if mechanism == "SCRAM-SHA-512" else None, "unbound")
+                   USER if mechanism == "SCRAM-SHA-512" else None, "cbind_flag_y")
         yield cell("it may bind its channel and chooses, and sends `y,,`, which is not taken",
                    self.serve(mechanism, USER, binds="choose"), no_header)
         yield cell("it has to bind its channel, and sends `p=..,,`", self.serve(mechanism, USER, binds="must"),

@@ -12,6 +12,7 @@ from pathlib import Path
 from typing import Iterator, Optional
 
 import messages
+import tls
 from cells import Cell, Peer, none
 from messages import ENDED, NO_ONE, by_client
 from sides import COMMA, HARD, PAST, PATIENCE, SALT, SOFT, USER, Client, Ending, Side, User, marred
@@ -88,6 +89,56 @@ class GnuSasl(Peer):
     name = "GNU SASL"
     package = "gsasl"
 
+    def start(self, folder: Path) -> None:
+        self.authority = tls.Authority(folder / "authority")
+
+    def bound_server(self, client: Client, password: str, relayed: bool = False):
+        """A server of its library, and a client of ours, with the channel of one connection under TLS, or each with that of
+        another, since somebody between them relays all messages."""
+
+        def login(side: Side) -> Ending:
+            tunnel, other = tls.Tunnel(self.authority), tls.Tunnel(self.authority)
+            words = ("bound", "server", client.mechanism, password, (other if relayed else tunnel).other())
+            of = client._replace(channel=tunnel.channel())
+            return side.log_in(of, lambda ours: tunnel.between(ours, lambda end: worker(end, *words)))
+
+        return login
+
+    def bound_client(self, mechanism: str, user: User, known: User, relayed: bool = False):
+        """A client of its library, and a server of ours, with the channel of one connection, or each with that of
+        another."""
+
+        def login(side: Side) -> Ending:
+            tunnel, other = tls.Tunnel(self.authority), tls.Tunnel(self.authority)
+            words = ("bound", "client", mechanism, user.name, user.password, (other if relayed else tunnel).other())
+            record = side.record(mechanism.removesuffix("-PLUS"), known)
+            return side.serve(mechanism, {known.name: record},
+                              lambda ours: tunnel.between(ours, lambda end: worker(end, *words)),
+                              more=(tunnel.channel(),))
+
+        return login
+
+    def bound(self, mechanism: str) -> Iterator[Cell]:
+        """Logins that bind the channel of a connection under TLS 1.2."""
+        plus, done = mechanism + "-PLUS", Ending("logged in: Done", True)
+        # (PostgreSQL's are with SHA-256)
+        kept = USER if mechanism == "SCRAM-SHA-1" else None
+
+        def cell(ours: str, what: str, login, ends: Ending, kept: Optional[User] = None) -> Cell:
+            return Cell(ours, plus, what, login, ends, kept=kept)
+
+        yield cell("client", "a login, `tls-unique`", self.bound_server(Client(plus), USER.password), done, kept)
+        yield cell("client", "a wrong password", self.bound_server(Client(plus), "pencils"), ENDED)
+        yield cell("client", "all messages relayed between two connections under TLS",
+                   self.bound_server(Client(plus), USER.password, relayed=True), ENDED)
+        yield cell("server", "a login, `tls-unique`", self.bound_client(plus, USER, USER),
+                   Ending("logged in: user", True), kept)
+        yield cell("server", "a wrong password", self.bound_client(plus, User("user", "pencils"), USER),
+                   Ending("not logged in: Server: Authentication failed", False))
+        yield cell("server", "all messages relayed between two connections under TLS",
+                   self.bound_client(plus, USER, USER, relayed=True),
+                   Ending("not logged in: Server: Invalid channel binding", False))
+
     def missing(self) -> bool:
         return shutil.which("gsasl") is None
 
@@ -99,6 +150,7 @@ class GnuSasl(Peer):
         for mechanism in MECHANISMS:
             yield from self.our_clients(mechanism)
             yield from self.our_servers(mechanism)
+            yield from self.bound(mechanism)
         for ours in ("client", "server"):
             yield none(ours, "SCRAM-SHA-512", "a login", "it has only SHA-1 and SHA-256")
         yield from messages.our_clients(log_in_by_message, PAST)

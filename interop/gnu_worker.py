@@ -1,22 +1,27 @@
 #!/usr/bin/python3
-"""A login by libgsasl over standard input and output, a message a line in base64, by PLAIN, ANONYMOUS or EXTERNAL:
+"""A login by libgsasl over standard input and output, a message a line in base64, by PLAIN, ANONYMOUS, EXTERNAL, or SCRAM
+with a channel:
 
     gnu_worker.py client MECHANISM USER PASSWORD IDENTITY
     gnu_worker.py server MECHANISM NAME
+    gnu_worker.py bound client MECHANISM USER PASSWORD TLS_UNIQUE
+    gnu_worker.py bound server MECHANISM PASSWORD TLS_UNIQUE
 
 The program `gsasl` cannot do these: as a client it ends with the status 0 before the server has accepted its message,
-and as a server it has no callbacks for ANONYMOUS and EXTERNAL. IDENTITY is the authorization identity, or the trace
+and as a server it has no callbacks for ANONYMOUS and EXTERNAL; and it takes a channel only from its own TLS. IDENTITY is the authorization identity, or the trace
 information of ANONYMOUS. NAME is the trace information that the server expects, or the name that the transport
-authenticated. The library passes both to a callback, which accepts NAME, and an empty identity of EXTERNAL. The status
+authenticated. TLS_UNIQUE is the data of a channel in hexadecimal. The library passes both to a callback, which accepts NAME, and an empty identity of EXTERNAL. The status
 is 0 if the login succeeds.
 """
 
+import base64
 import ctypes
 import sys
 
 OK, NEEDS_MORE, AUTHENTICATION_ERROR, NO_CALLBACK = 0, 1, 31, 51
 #: Properties of gsasl.h.
 AUTHID, AUTHZID, PASSWORD, ANONYMOUS_TOKEN, VALIDATE_EXTERNAL, VALIDATE_ANONYMOUS = 1, 2, 3, 4, 501, 502
+SCRAM_ITER, SCRAM_SALT, CB_TLS_UNIQUE = 15, 16, 18
 
 CALLBACK = ctypes.CFUNCTYPE(ctypes.c_int, ctypes.c_void_p, ctypes.c_void_p, ctypes.c_int)
 
@@ -114,10 +119,47 @@ def run_server(mechanism, name):
     say("")
 
 
+def properties(known):
+    """A callback that tells what is known, when the library asks for it."""
+
+    def tell(_, session, asked):
+        if asked not in known:
+            return NO_CALLBACK
+        library().gsasl_property_set(session, asked, known[asked].encode())
+        return OK
+
+    return tell
+
+
+def run_bound(side, mechanism, *words):
+    """A login by SCRAM with `-PLUS`."""
+    *names, data = words
+    known = dict(zip((AUTHID, PASSWORD) if side == "client" else (PASSWORD,), names))
+    known |= {SCRAM_ITER: "4096", SCRAM_SALT: base64.b64encode(b"a salt").decode()}
+    known[CB_TLS_UNIQUE] = base64.b64encode(bytes.fromhex(data)).decode()
+    session = Session(side, mechanism, properties(known))
+    say(mechanism)
+    # (a server sends an empty challenge first, which our client expects)
+    if side == "server":
+        say("")
+    status, message = session.step(None if side == "client" else hear())
+    while status == NEEDS_MORE or message:
+        say(message)
+        if status == OK:
+            break
+        status, message = session.step(hear())
+    if side == "client":
+        say("")
+    hear()
+    if side == "server":
+        say("")
+
+
 def main():
     side, *words = sys.argv[1:]
+    runs = {"client": run_client, "server": run_server, "bound": run_bound}
     try:
-        (run_client if side == "client" else run_server)(*words)
+        runs[side](*words)
     except (Failure, BrokenPipeError) as why:
         print(why, file=sys.stderr)
         return 1

@@ -3,8 +3,8 @@
  * writes an empty line, the client first. A server that accepts the only message of a mechanism writes an empty line
  * before these.
  *
- *     lines client PORT MECHANISM USER LEAST MOST [prepared] [again]
- *     lines server USERS MECHANISM LOGINS [unbound]
+ *     lines client PORT MECHANISM USER LEAST MOST [prepared] [again] [KIND:HEX]
+ *     lines server USERS MECHANISM LOGINS [unbound | KIND:HEX]
  *     lines server USERS PLAIN LOGINS [prepared | saslprep]
  *     lines server USERS EXTERNAL LOGINS NAME
  *     lines record MECHANISM SALT COUNT [prepared]
@@ -12,9 +12,11 @@
  *
  * LEAST and MOST bound the iteration count, SALT is in base64, and USERS is a file of users' lines. All but the server
  * take the password from the first line of standard input; with `prepared` it is what SASLprep prepares that to, for a
- * record without code points that Unicode 3.2 does not assign. With `again` a second login goes by the keys that the
- * first one handed out, without the password. With `unbound` the server takes the GS2 header `y,,` too. The server
- * prints its port; each login has a line that says how it ended.
+ * record without code points that Unicode 3.2 does not assign. With `again` a second login uses the keys of the
+ * first one, without the password. With `unbound` the server takes the GS2 header `y,,` too. With a kind of
+ * channel binding, such as `tls-exporter`, and the data of the channel in hexadecimal, either side binds that channel:
+ * the name of the mechanism then ends with `-PLUS`. The server prints its port; each login has a line that says how it
+ * ended.
  *
  * For ANONYMOUS the USER is the trace information, and for EXTERNAL the authorization identity; both can be empty. NAME
  * is the name that the transport authenticated. With `prepared` a server of PLAIN expects a prepared password, and with
@@ -31,11 +33,58 @@
 
 static const struct text empty;
 
+/* The channel that this side binds, if its use says so. */
+static struct {
+    uint32_t use, kind, len;
+    uint8_t bytes[64];
+} bound;
+
+/* Reads a channel, KIND:HEX. Returns 0 if the word is none. */
+static int read_channel(const char *word)
+{
+    static const char *kinds[] = {"tls-unique:", "tls-server-end-point:", "tls-exporter:"};
+    for (uint32_t kind = 0; kind < 3; kind++) {
+        size_t before = strlen(kinds[kind]);
+        if (strncmp(word, kinds[kind], before) != 0)
+            continue;
+        unsigned byte;
+        for (word += before; bound.len < sizeof bound.bytes && sscanf(word, "%2x", &byte) == 1; word += 2)
+            bound.bytes[bound.len++] = (uint8_t)byte;
+        bound.use = FE2O3_CHANNEL_BOUND;
+        bound.kind = kind + 1;
+        return 1;
+    }
+    return 0;
+}
+
+/* The rules of the server. */
+static struct fe2o3_scram_rules rules;
+
+static void set_rules(int accepts_y)
+{
+    rules.accept_cbind_flag_y = (uint32_t)accepts_y;
+    rules.binds_channel = bound.use == FE2O3_CHANNEL_BOUND;
+    *(bound.kind == FE2O3_TLS_UNIQUE ? &rules.tls_unique_len : bound.kind == FE2O3_TLS_SERVER_END_POINT
+        ? &rules.tls_server_end_point_len : &rules.tls_exporter_len) = bound.len;
+    memcpy(rules.tls_unique, bound.bytes, sizeof bound.bytes);
+    memcpy(rules.tls_server_end_point, bound.bytes, sizeof bound.bytes);
+    memcpy(rules.tls_exporter, bound.bytes, sizeof bound.bytes);
+}
+
+/* The hash of a mechanism, whose name may end with -PLUS, or 0. */
 static uint32_t version_of(const char *mechanism)
 {
-    return strcmp(mechanism, "SCRAM-SHA-1") == 0 ? FE2O3_SHA_1
-        : strcmp(mechanism, "SCRAM-SHA-256") == 0 ? FE2O3_SHA_256
-        : strcmp(mechanism, "SCRAM-SHA-512") == 0 ? FE2O3_SHA_512 : 0;
+    static const struct {
+        const char *name;
+        uint32_t version;
+    } known[] = {{"SCRAM-SHA-1", FE2O3_SHA_1}, {"SCRAM-SHA-256", FE2O3_SHA_256}, {"SCRAM-SHA-512", FE2O3_SHA_512}};
+    for (int at = 0; at < 3; at++) {
+        size_t len = strlen(known[at].name);
+        if (strncmp(mechanism, known[at].name, len) == 0
+            && (mechanism[len] == 0 || strcmp(mechanism + len, "-PLUS") == 0))
+            return known[at].version;
+    }
+    return 0;
 }
 
 /* Returns whether a mechanism has one message only, that of the client. */
@@ -161,6 +210,10 @@ static int run_client(char **words, int prepared, int again, const char *typed)
     login.password = password.bytes;
     login.password_len = password.len;
     login.keys = &keys;
+    login.channel_use = bound.use;
+    login.channel_kind = bound.kind;
+    login.channel_data_len = bound.len;
+    memcpy(login.channel_data, bound.bytes, sizeof bound.bytes);
     if (status == FE2O3_OK)
         status = connected(loopback(words[0], 0), words[1], &login, &client);
     told(status == FE2O3_OK ? "logged in" : "not logged in", status);
@@ -177,7 +230,6 @@ static int run_client(char **words, int prepared, int again, const char *typed)
 
 static uint8_t users[65536], secret[32];
 static size_t users_len;
-static int takes_unbound;
 static uint32_t plain_passwords = FE2O3_PLAIN_PASSWORDS_TYPED;
 static const char *transport_name = "";
 
@@ -198,21 +250,22 @@ static uint32_t serve_scram(
     struct text message, answer;
     uint8_t nonce[32];
     uint32_t status;
-    status = fe2o3_scram_server_claimed_user(first->bytes, first->len, name->bytes, sizeof name->bytes, &name->len);
+    status = fe2o3_scram_server_claimed_user_with_rules(
+        &rules, first->bytes, first->len, name->bytes, sizeof name->bytes, &name->len);
     if (status != FE2O3_OK)
         return status;
     if (!random_bytes(nonce, sizeof nonce))
         return OTHER_SIDE_ENDED;
     fetch(name, version_of(mechanism), &record);
-    status = (takes_unbound ? fe2o3_scram_server_first_with_cbind_flag_y : fe2o3_scram_server_first)(
-        &record, &server, nonce, first->bytes, first->len, answer.bytes, sizeof answer.bytes, &answer.len);
+    status = fe2o3_scram_server_first_with_rules(
+        &rules, &record, &server, nonce, first->bytes, first->len, answer.bytes, sizeof answer.bytes, &answer.len);
     if (status != FE2O3_OK)
         return status;
     write_base64(out, &answer);
     if ((status = read_message(in, &message)) != FE2O3_OK)
         return status;
-    status = fe2o3_scram_server_final(
-        &record, &server, message.bytes, message.len, answer.bytes, sizeof answer.bytes, &answer.len);
+    status = fe2o3_scram_server_final_with_rules(
+        &rules, &record, &server, message.bytes, message.len, answer.bytes, sizeof answer.bytes, &answer.len);
     if (status != FE2O3_OK)
         return status;
     write_base64(out, &answer);
@@ -339,13 +392,17 @@ static int run_verify(const char *text, int prepared, const char *typed)
 int main(int count, char **words)
 {
     char password[1024] = "";
-    const char *what = count > 1 ? words[1] : "", *last = words[count - 1];
-    int again = strcmp(what, "client") == 0 && strcmp(last, "again") == 0, prepared;
-    int prepares = strcmp(last, "saslprep") == 0;
+    const char *what = count > 1 ? words[1] : "", *last;
+    int again, prepared, prepares, takes_unbound;
+    count -= count > 1 && read_channel(words[count - 1]);
+    last = words[count - 1];
+    again = strcmp(what, "client") == 0 && strcmp(last, "again") == 0;
+    prepares = strcmp(last, "saslprep") == 0;
     count -= again;
     prepared = strcmp(words[count - 1], "prepared") == 0;
     takes_unbound = strcmp(last, "unbound") == 0;
     count -= prepared + takes_unbound + prepares;
+    set_rules(takes_unbound);
     signal(SIGPIPE, SIG_IGN);
     if (strcmp(what, "server") == 0 && count == 6 && strcmp(words[3], "EXTERNAL") == 0)
         transport_name = words[--count];

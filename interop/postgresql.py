@@ -5,6 +5,7 @@ from __future__ import annotations
 
 import base64
 import contextlib
+import hashlib
 import os
 import shutil
 import socket
@@ -27,6 +28,9 @@ SASL, SASL_CONTINUE, SASL_FINAL, OK = 10, 11, 12, 0
 FORGED = "not logged in: Client: Server signature mismatch"
 #: The header of a client that could bind its channel, to a server that seems not to; and of one that could not.
 BINDS_NOT, CANNOT_BIND = b"y,,", b"n,,"
+#: The mechanism, the kind and the header of a client that binds its channel. No other kind is known to PostgreSQL.
+PLUS, KIND = MECHANISM + "-PLUS", "tls-server-end-point"
+BINDS = f"p={KIND},,".encode()
 
 
 class Ended(Exception):
@@ -98,7 +102,7 @@ class Messages:
         return name
 
 
-def to_server(port: int, ours: socket.socket, name: str, by_tls: bool) -> bool:
+def to_server(port: int, ours: socket.socket, name: str, mechanism: str, by_tls: bool) -> bool:
     """Hands the messages of our client to PostgreSQL and back. Whether PostgreSQL takes it for the user."""
     lines = Lines(ours)
     with dialled(port) as plain, (in_tls(plain) if by_tls else plain) as channel:
@@ -107,10 +111,10 @@ def to_server(port: int, ours: socket.socket, name: str, by_tls: bool) -> bool:
         channel.sendall(struct.pack(">II", len(words) + 8, PROTOCOL) + words)
         try:
             offered = server.challenge(SASL).split(b"\0")
-            assert MECHANISM.encode() in offered and (MECHANISM.encode() + b"-PLUS" in offered) == by_tls
-            ours.sendall(MECHANISM.encode() + b"\n\n")
+            assert MECHANISM.encode() in offered and (PLUS.encode() in offered) == by_tls
+            ours.sendall(mechanism.encode() + b"\n\n")
             first = lines.hear()
-            server.say(b"p", MECHANISM.encode() + b"\0" + struct.pack(">I", len(first)) + first)
+            server.say(b"p", mechanism.encode() + b"\0" + struct.pack(">I", len(first)) + first)
             lines.say(server.challenge(SASL_CONTINUE))
             server.say(b"p", lines.hear())
             lines.say(server.challenge(SASL_FINAL))
@@ -143,14 +147,15 @@ def begun(channel: socket.socket, context: Optional[ssl.SSLContext]) -> Messages
             channel = context.wrap_socket(channel, server_side=True)
 
 
-def to_client(client: Messages, ours: socket.socket, header: bytes) -> None:
+def to_client(client: Messages, ours: socket.socket, header: bytes, offered: tuple[str, ...]) -> None:
     """Hands the messages of a client of libpq to our server and back, and answers a query by nothing. The first one has
     to begin with this header."""
     lines = Lines(ours)
-    client.say(b"R", struct.pack(">I", SASL) + MECHANISM.encode() + b"\0\0")
-    first = client.response().split(b"\0", 1)[1][4:]
+    client.say(b"R", struct.pack(">I", SASL) + b"".join(name.encode() + b"\0" for name in offered) + b"\0")
+    mechanism, first = client.response().split(b"\0", 1)
+    first = first[4:]
     assert first.startswith(header)
-    ours.sendall(MECHANISM.encode() + b"\n")
+    ours.sendall(mechanism + b"\n")
     try:
         lines.say(first)
         client.say(b"R", struct.pack(">I", SASL_CONTINUE) + lines.hear())
@@ -178,15 +183,17 @@ def psql(port: int, name: str, password: str, more: str = "") -> subprocess.Pope
     )
 
 
-def from_psql(ours: socket.socket, user: User, context: Optional[ssl.SSLContext], header: bytes) -> bool:
+def from_psql(
+    ours: socket.socket, user: User, context: Optional[ssl.SSLContext], header: bytes, offered: tuple[str, ...]
+) -> bool:
     """A login of `psql` at our server. Whether it is content."""
     mode = f"sslmode={'require' if context else 'disable'}"
-    mode += f" channel_binding={'prefer' if header == BINDS_NOT else 'disable'}"
+    mode += f" channel_binding={ {BINDS: 'require', BINDS_NOT: 'prefer'}.get(header, 'disable') }"
     with listening() as listener:
         with ended_after(psql(listener.getsockname()[1], user.name, user.password, mode)) as client:
             channel, _ = listener.accept()
             with channel, contextlib.suppress(Ended, ConnectionError):
-                to_client(begun(channel, context), ours, header)
+                to_client(begun(channel, context), ours, header, offered)
             return client.wait(PATIENCE) == 0
 
 
@@ -251,25 +258,34 @@ class PostgreSql(Peer):
             if password is not None:
                 known = User(client.user.name, password, count)
                 self.role(known.name, password if count == 4096 else side.record(MECHANISM, known))
-            return side.log_in(client, lambda channel: to_server(self.port, channel, client.user.name, by_tls), mar)
+            words = (client.user.name, client.mechanism, by_tls)
+            return side.log_in(client, lambda channel: to_server(self.port, channel, *words), mar)
 
         return login
 
     def serve(
-        self, user: User, known: User, tls: bytes = b"", of_server: bool = False, mar=None, unbound: bool = False
+        self, user: User, known: User, tls: bytes = b"", of_server: bool = False, mar=None, unbound: bool = False,
+        bound: str = "", offered: tuple[str, ...] = (MECHANISM,),
     ):
         """A login of `psql` to our server, which knows one user: under no name, since libpq sends none in SCRAM.
-        Under TLS, where there is a header that it is to send there."""
+        Under TLS, where there is a header that it is to send there. Our server may bind a channel."""
         context = ssl.SSLContext(ssl.PROTOCOL_TLS_SERVER)
         context.load_cert_chain(*certificate(self.folder))
 
         def login(side: Side) -> Ending:
             record = self.made(known) if of_server else side.record(MECHANISM, known)
-            words = (user, context if tls else None, tls or CANNOT_BIND)
-            more = ("unbound",) if unbound else ()
-            return side.serve(MECHANISM, {"": record}, lambda channel: from_psql(channel, *words), mar, more)
+            words = (user, context if tls else None, tls or CANNOT_BIND, offered)
+            more = ("unbound",) if unbound else (bound,) if bound else ()
+            mechanism = PLUS if bound else MECHANISM
+            return side.serve(mechanism, {"": record}, lambda channel: from_psql(channel, *words), mar, more)
 
         return login
+
+    def channel(self, other: bytes = b"") -> str:
+        """What binds the channel of a connection under TLS: the hash of the certificate (RFC 5929, section 4.1), or that of
+        another one."""
+        shown = ssl.PEM_cert_to_DER_cert(certificate(self.folder)[0].read_text())
+        return f"{KIND}:{hashlib.sha256(shown + other).hexdigest()}"
 
     def made(self, user: User) -> str:
         """The record that the server makes of a password."""
@@ -294,7 +310,9 @@ class PostgreSql(Peer):
     def cells(self) -> Iterator[Cell]:
         yield from self.our_clients()
         yield from self.prepared_at_server()
+        yield from self.bound_clients()
         yield from self.our_servers()
+        yield from self.bound_servers()
         yield from self.prepared_at_ours()
         yield from self.records()
         for ours in ("client", "server"):
@@ -337,6 +355,43 @@ class PostgreSql(Peer):
         yield cell("password with a soft hyphen, prepared", SOFT._replace(prepared=True), HARD.password, HARD)
         yield cell("password with a soft hyphen, which it prepares", HARD, SOFT.password, None)
 
+    def bound_clients(self) -> Iterator[Cell]:
+        """Logins of our client that bind the channel of TLS."""
+        bound, other = (Client(PLUS, channel=self.channel(more)) for more in (b"", b"other"))
+        done, refused = Ending("logged in: Done", True), Ending("not logged in: the other side ended", False)
+
+        def cell(what: str, client: Client, ends: Ending, kept: Optional[User] = None) -> Cell:
+            return Cell("client", PLUS, what, self.log_in(client, USER.password, by_tls=True), ends, kept=kept)
+
+        yield cell("a login, `tls-server-end-point`", bound, done, USER)
+        yield cell("a login by cached keys", bound._replace(again=True),
+                   Ending("logged in: Done; logged in by keys: Done", True))
+        yield cell("the data of another channel", other, refused)
+        yield cell("a wrong password", bound._replace(user=User("user", "pencils")), refused)
+
+    def bound_servers(self) -> Iterator[Cell]:
+        """Logins of `psql` at our server that bind the channel of TLS."""
+        both, done = (PLUS, MECHANISM), Ending("logged in:", True)
+        header = Ending("not logged in: Server: Cannot parse GS2-header", False)
+
+        def cell(what: str, login, ends: Ending, kept: Optional[User] = None) -> Cell:
+            return Cell("server", PLUS, what, login, ends, kept=kept)
+
+        yield cell("a login, `tls-server-end-point`",
+                   self.serve(USER, USER, tls=BINDS, bound=self.channel(), offered=both), done,
+                   User("", USER.password))
+        yield cell("the data of another channel",
+                   self.serve(USER, USER, tls=BINDS, bound=self.channel(b"other"), offered=both),
+                   Ending("not logged in: Server: Invalid channel binding", False))
+        yield cell("a wrong password",
+                   self.serve(User("user", "pencils"), USER, tls=BINDS, bound=self.channel(), offered=both),
+                   Ending("not logged in: Server: Authentication failed", False))
+        yield cell("another kind of channel",
+                   self.serve(USER, USER, tls=BINDS, bound="tls-exporter:" + "00" * 32, offered=both), header)
+        yield cell("`-PLUS` removed from the offer, and `psql` has to bind", self.serve(USER, USER, tls=BINDS),
+                   Ending("not logged in: the other side ended", False))
+        yield cell("`-PLUS` removed from the offer, and `psql` may bind", self.serve(USER, USER, tls=BINDS_NOT), header)
+
     def our_servers(self) -> Iterator[Cell]:
         done, refused = Ending("logged in:", True), Ending("not logged in: Server: Authentication failed", False)
 
@@ -352,7 +407,7 @@ class PostgreSql(Peer):
         yield cell("our signature, altered on the way", self.serve(USER, USER, mar=marred), Ending("logged in:", False))
         yield cell("under TLS, where it sends `n,,`", self.serve(USER, USER, tls=CANNOT_BIND), done)
         yield cell("under TLS, where it sends `y,,`", self.serve(USER, USER, tls=BINDS_NOT, unbound=True), done,
-                   User("", USER.password), "unbound")
+                   User("", USER.password), "cbind_flag_y")
         yield cell("under TLS, where it sends `y,,`, which is not taken", self.serve(USER, USER, tls=BINDS_NOT),
                    Ending("not logged in: Server: Cannot parse GS2-header", False), User("", USER.password))
         yield cell("`n,,`, where `y,,` is taken", self.serve(USER, USER, unbound=True), done)

@@ -16,6 +16,8 @@ from peers import CHALLENGE, INIT, OUTCOME, RESPONSE, frame_of, mechanisms_frame
 
 ZEROS = "00" * 32
 REFUSED = b"\x50\x01"
+#: The end of the name of a mechanism that binds a channel.
+PLUS = "-PLUS"
 
 
 def hexed(data: bytes) -> str:
@@ -52,13 +54,29 @@ def record_word(mechanism: str, user: User) -> str:
     return f"{hexed(user.name.encode())}:{SALT.hex()}:{user.count}:{stored.hex()}:{server.hex()}"
 
 
+def side_of(side: str, mechanism: str) -> tuple[str, str]:
+    """The words of a side and of the version of its mechanism: a side that binds its channel has a word of its own."""
+    version = mechanism.removesuffix(PLUS)
+    return (side if version == mechanism else f"{side}_plus"), version
+
+
+def channel_words(mechanism: str, last: bytes) -> str:
+    """The kind and the data of the channel that a client-final message binds (RFC 5802, section 7), if there is one."""
+    if not mechanism.endswith(PLUS):
+        return ""
+    binding = next(part for part in last.split(b",") if part.startswith(b"c="))[2:]
+    header, channel = base64.b64decode(binding).split(b",,", 1)
+    return f" {header.decode().removeprefix('p=')} {channel.hex()}"
+
+
 def client_run(side: str, mechanism: str, user: User, tap: Tap) -> list[str]:
     """A run of our client."""
     first, last = messages(tap, "client")[:2]
     challenge, *finals = messages(tap, "server")
     offer = mechanisms_frame(mechanism)[4:].hex()
     init = body(INIT, short(0xA3, mechanism.encode()), data(first))
-    rows = [f"{side} {mechanism} {hexed(user.name.encode())} {hexed(user.password.encode())}",
+    words = " ".join([*side_of(side, mechanism), *map(hexed, (user.name.encode(), user.password.encode()))])
+    rows = [words + channel_words(mechanism, last),
             f"{nonce_of(first)} {offer} => Init {init}",
             f"{ZEROS} {body(CHALLENGE, data(challenge))} => Response {body(RESPONSE, data(last))}"]
     outcome = body(OUTCOME, b"\x50\0", data(finals[0]))
@@ -71,7 +89,8 @@ def server_run(side: str, mechanism: str, user: User, tap: Tap) -> list[str]:
     answers = messages(tap, "server")
     words = " ".join(map(hexed, (user.name.encode(), user.password.encode(), SALT)))
     init = body(INIT, short(0xA3, mechanism.encode()), data(first))
-    rows = [f"{side} {mechanism} {record_word(mechanism, user) if side == 'records' else words}"]
+    words = record_word(mechanism, user) if side == "records" else words
+    rows = [" ".join([*side_of(side, mechanism), words]) + (channel_words(mechanism, lasts[0]) if lasts else "")]
     if not answers:
         return [*rows, f"{ZEROS} {init} => Outcome:Auth {body(OUTCOME, REFUSED)}"]
     theirs = next(part for part in first.split(b",") if part.startswith(b"r="))
@@ -79,6 +98,15 @@ def server_run(side: str, mechanism: str, user: User, tap: Tap) -> list[str]:
     outcome = body(OUTCOME, b"\x50\0", data(answers[1]))
     return [*rows, f"{nonce} {init} => Challenge {body(CHALLENGE, data(answers[0]))}",
             f"{ZEROS} {body(RESPONSE, data(lasts[0]))} => Outcome:Ok {outcome}"]
+
+
+def of_other_channel(rows: list[str]) -> list[str]:
+    """The run of a server that binds a channel, with one bit of the channel data flipped: the last event is rejected."""
+    words, channel = rows[0].rsplit(" ", 1)
+    other = bytes.fromhex(channel)
+    asked = rows[-1].partition(" => ")[0]
+    return [f"{words} {bytes([other[0] ^ 1]).hex()}{other[1:].hex()}", *rows[1:-1],
+            f"{asked} => Outcome:Auth {body(OUTCOME, REFUSED)}"]
 
 
 def stream(side: str, mechanism: str, user: User, tap: Tap, options: str) -> list[str]:

@@ -98,7 +98,10 @@ def recorded(cell: Cell, peer: Peer, side: Side) -> str:
     else:
         run = record.client_run if cell.ours == "client" else record.server_run
         rows = run(cell.kept_as or cell.ours, cell.mechanism, cell.kept, tap)
-    return "\n".join(["", head, *rows, ""])
+    rows = ["", head, *rows]
+    if rows[2].startswith("server_plus"):
+        rows += ["", f"{head}, to a server with other channel data (altered)", *record.of_other_channel(rows[2:])]
+    return "\n".join([*rows, ""])
 
 
 def wanted(cell: Cell) -> list[str]:

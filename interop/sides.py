@@ -60,16 +60,18 @@ SOFT, HARD = User("user", "I\u00adX"), User("user", "IX")
 
 class Client(NamedTuple):
     """Who logs in by a client of ours, with its bounds of the count; `again` logs in by the keys once more. The name is
-    the trace information of ANONYMOUS, and the authorization identity of EXTERNAL."""
+    the trace information of ANONYMOUS, and the authorization identity of EXTERNAL. `channel` is what it binds, as a kind
+    of channel binding and the data in hexadecimal, with a colon between."""
 
     mechanism: str
     user: User = USER
     least: int = 4096
     most: int = 1_000_000
     again: bool = False
+    channel: str = ""
 
     def words(self, port: int) -> list[str]:
-        more = prepared(self.user) + (["again"] if self.again else [])
+        more = prepared(self.user) + (["again"] if self.again else []) + ([self.channel] if self.channel else [])
         return ["client", str(port), self.mechanism, self.user.name, str(self.least), str(self.most), *more]
 
 

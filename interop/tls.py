@@ -1,4 +1,5 @@
-"""TLS for logins by EXTERNAL. Our programs do not speak TLS: a relay in a thread does, between them and a peer."""
+"""TLS for logins by EXTERNAL, and for those that bind a channel. Our programs do not speak TLS: a relay in a thread does,
+between them and a peer."""
 
 from __future__ import annotations
 
@@ -145,3 +146,46 @@ def serve_external(side: Side, authority: Authority, peer: Callable[[int], Optio
         return Ending("no connection", seen)
     with ended_after(started[0]) as program:
         return Ending(program.stdout.readline().strip(), seen)
+
+
+class Tunnel:
+    """A connection under TLS 1.2 over the loopback, between a program of ours and a peer that do not speak TLS."""
+
+    def __init__(self, authority: Authority) -> None:
+        near, far = authority.client(None), ssl.create_default_context(ssl.Purpose.CLIENT_AUTH)
+        far.load_cert_chain(*authority.issue(HOST))
+        # (no later version has tls-unique)
+        near.maximum_version = ssl.TLSVersion.TLSv1_2
+        with listening() as listener:
+            begun = dialled(listener.getsockname()[1])
+            accepted, _ = listener.accept()
+        ends: list[ssl.SSLSocket] = []
+        other = threading.Thread(target=lambda: ends.append(far.wrap_socket(accepted, server_side=True)))
+        other.start()
+        self.near = near.wrap_socket(begun, server_hostname=HOST)
+        other.join()
+        self.far = ends[0]
+
+    def channel(self) -> str:
+        """What binds the channel at our end: `tls-unique` (RFC 5929, section 3)."""
+        return f"tls-unique:{self.near.get_channel_binding('tls-unique').hex()}"
+
+    def other(self) -> str:
+        """The data of the channel at the peer's end."""
+        return self.far.get_channel_binding("tls-unique").hex()
+
+    def between(self, ours: socket.socket, peer: Callable[[socket.socket], Optional[bool]]) -> Optional[bool]:
+        """Hands over what our program and a peer send, which is called with its end."""
+        plain, end = socket.socketpair()
+        for one, secure in ((ours, self.near), (plain, self.far)):
+            threading.Thread(target=handed_over, args=(one, secure), daemon=True).start()
+        with end:
+            return peer(end)
+
+
+def handed_over(plain: socket.socket, secure: ssl.SSLSocket) -> None:
+    """Hands bytes over until one side ends, and then ends the other."""
+    with contextlib.suppress(OSError), secure:
+        relay(plain, secure)
+    with contextlib.suppress(OSError):
+        plain.shutdown(socket.SHUT_WR)

@@ -1,6 +1,6 @@
 //! What the two programs share: base64, users' lines, and how a login is told.
 
-use fe2o3_sasl_proved::{generate_nonce, ScramAuthenticator, ScramCredentialProvider, ScramRecord, ScramVersion};
+use fe2o3_sasl_proved::{generate_nonce, Channel, ChannelKind, ScramAuthenticator, ScramCredentialProvider, ScramRecord, ScramVersion};
 use fe2o3_sasl_proved::{PasswordServer, StoredPassword, UserRecords};
 use std::io::BufRead;
 use std::sync::Arc;
@@ -44,8 +44,18 @@ pub fn password() -> Result<String, Failure> {
     Ok(line.trim_end_matches('\n').to_owned())
 }
 
-/// The version of a mechanism.
+/// The channel of a word, KIND:HEX; `None` if it is none.
+pub fn channel_of(word: &str) -> Option<Channel> {
+    let (kind, digits) = word.split_once(':')?;
+    let kinds = [ChannelKind::TlsUnique, ChannelKind::TlsServerEndPoint, ChannelKind::TlsExporter];
+    let kind = kinds.into_iter().find(|known| known.name() == kind)?;
+    let bytes = (0..digits.len()).step_by(2).map(|at| u8::from_str_radix(digits.get(at..at + 2)?, 16).ok());
+    Channel::new(kind, &bytes.collect::<Option<Vec<u8>>>()?).ok()
+}
+
+/// The version of a mechanism, whose name may end with `-PLUS`.
 pub fn version_of(mechanism: &str) -> Option<ScramVersion> {
+    let mechanism = mechanism.strip_suffix("-PLUS").unwrap_or(mechanism);
     [ScramVersion::Sha1, ScramVersion::Sha256, ScramVersion::Sha512]
         .into_iter()
         .find(|version| version.mechanism() == mechanism)

@@ -3,7 +3,7 @@
 use fe2o3_sasl_proved::{external_verify, plain_claimed_user, plain_message, plain_verify, saslprep};
 use fe2o3_sasl_proved::{Password, PlainPasswords, ScramClient, ScramRecord, ScramVersion, ServerScramErrorKind};
 use fe2o3_sasl_proved::{Unassigned, UserRecords};
-use interop::{from_base64, password, to_base64, told, version_of, Failure, Users};
+use interop::{channel_of, from_base64, password, to_base64, told, version_of, Failure, Users};
 use std::io::{BufRead, BufReader, Write};
 use std::net::{TcpListener, TcpStream};
 
@@ -92,23 +92,36 @@ fn run_client(words: &[&str], options: &[&str]) -> Result<i32, Failure> {
     let version = version_of(words[1]).ok_or("no such mechanism")?;
     let mut client =
         client_of(user, version, options.contains(&"prepared"))?.with_min_iterations(least).with_iteration_limit(most);
+    let channel = options.iter().find_map(|word| channel_of(word));
+    if let Some(channel) = channel.clone() {
+        client = client.with_channel(channel);
+    }
     let ended = log_in(port, &mut client);
     let status = told("logged in", &ended);
     if ended.is_err() || !options.contains(&"again") {
         return Ok(status);
     }
     let again = match client.keys() {
-        Some(keys) => log_in(port, &mut ScramClient::with_keys(user, keys)),
+        Some(keys) => {
+            let mut client = ScramClient::with_keys(user, keys);
+            if let Some(channel) = channel {
+                client = client.with_channel(channel);
+            }
+            log_in(port, &mut client)
+        }
         None => Err("no keys".into()),
     };
     Ok(told("logged in by keys", &again))
 }
 
 /// Lets the client log in that sent this first message, and returns its name.
-fn serve_scram(lines: &mut Lines, first: &[u8], users: Users, unbound: bool) -> Result<String, Failure> {
+fn serve_scram(lines: &mut Lines, first: &[u8], users: Users, options: &[&str]) -> Result<String, Failure> {
     let mut server = users.authenticator();
-    if unbound {
+    if options.contains(&"unbound") {
         server = server.accept_cbind_flag_y();
+    }
+    if let Some(channel) = options.iter().find_map(|word| channel_of(word)) {
+        server = server.with_channels([channel]);
     }
     let challenge = server.compute_server_first_message(first)?.ok_or("no such user")?;
     lines.say(&challenge)?;
@@ -144,7 +157,7 @@ fn serve(channel: TcpStream, users: Users, words: &[&str], options: &[&str]) -> 
         "PLAIN" => serve_plain(&message, &users, passwords(options))?,
         "ANONYMOUS" => String::new(),
         "EXTERNAL" => serve_external(&message, words.get(3).unwrap_or(&""))?,
-        _ => serve_scram(&mut lines, &message, users, options.contains(&"unbound"))?,
+        _ => serve_scram(&mut lines, &message, users, options)?,
     };
     if ONE_MESSAGE.contains(&words[1]) {
         lines.say(b"")?;
@@ -220,7 +233,8 @@ fn run_verify(words: &[&str], options: &[&str]) -> Result<i32, Failure> {
 fn main() -> Result<(), Failure> {
     let words: Vec<String> = std::env::args().skip(1).collect();
     let words: Vec<&str> = words.iter().map(String::as_str).collect();
-    let is_option = |word: &&str| ["prepared", "again", "unbound", "saslprep"].contains(word);
+    let is_option =
+        |word: &&str| ["prepared", "again", "unbound", "saslprep"].contains(word) || channel_of(word).is_some();
     let count = words.len() - words.iter().rev().take_while(|word| is_option(word)).count();
     let (words, options) = words.split_at(count);
     let status = match (words.first().copied(), words.len()) {
