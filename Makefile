@@ -27,12 +27,12 @@ check:
 # name of specs/ has two meanings; which functions make a meter or hash; the programs that the borrow checker has to
 # reject; and the tests of these tools.
 LINT = gate/refused $(patsubst tools/%.py,%,$(wildcard tools/gate/tests/*.py tools/generate/promises.py)) \
-    gate/meters gate/circles gate/names gate/quoted generate/header generate/signatures
+    gate/layout gate/meters gate/circles gate/names gate/quoted generate/header generate/signatures
 LINT += gate/prose gate/pages
 
 # The models that made the rows of tests: those that need a few seconds, and those that need a minute, GNU libidn
 # (Debian's package idn) or GNU SASL (gsasl).
-QUICK_MODELS = models/audit_rows models/broker_rows models/cbind_flag_runs models/frames generate/saslprep_tables
+QUICK_MODELS = models/audit_rows models/broker_rows models/cbind_flag_runs models/channel_rows models/frames generate/saslprep_tables
 SLOW_MODELS = models/negotiations models/saslprep_answers models/saslprep_passwords
 
 lint:
@@ -58,7 +58,7 @@ $(TRIED:%=tried/%): tried/%:
 # these the wrong bodies; and the two built programs that keep a secret, started again, which say nothing if all is
 # well.
 test:
-	@tools/gate/progress.py $$PPID 60 'a whole run takes 51 to 57 min on 4 processors, 79 on 2, and 8,600 to 11,200 s of processor' &
+	@tools/gate/progress.py $$PPID 60 'a whole run takes 51 to 75 min on 4 processors, and 8,600 to 11,200 s of processor' &
 	@$(SIDE_BY_SIDE) $(LINT:%=tried/%) $(QUICK_MODELS:%=tried/%) || { echo 'the quick checks failed'; exit 1; }
 	tools/gate/gate.py
 	@tools/gate/restarts.py
@@ -77,7 +77,7 @@ make prove           proves, builds and runs the programs of the demo           
 make lint            the quick checks of the pages, the sources and the tools       about 6 s
 make check-models    compares the rows of the tests with the models that wrote them about 2 min
 tools/prove FILE:LINE  proves the function at that line, with --only               10 s or more
-make test            the gate: lint, quick models, every proof, test and program    51 to 57 min
+make test            the gate: lint, quick models, every proof, test and program    51 to 75 min
 make quiet           like make test, but into a log, and prints its last line
 make install-program the program scram, under PREFIX and DESTDIR
 
@@ -86,10 +86,12 @@ make lib             proves and builds build/libfe2o3_sasl.a and .so            
 make header          writes the C header, and the declarations for Rust and Python  1 s
 make header-check    compares them with the sources                                 1 s
 make callers         builds and runs the programs of bindings/c
+make depths          measures the stack of each export                              5 s
 make rust            tests bindings/rust
 make python          tests bindings/python
 make install         the library, under PREFIX and DESTDIR
-make dist            the library, into build/fe2o3_sasl-VERSION-CPU.tar.gz
+make dist            packages: the library in build/fe2o3_sasl-VERSION-CPU.tar.gz; the others in build/packages
+make packages        makes them twice, and a first login with each, without the kit 1 to 3 min
 
 With other programs (plugins/plugins.mk, interop/interop.mk):
 make plugin          the plugin of Cyrus SASL
@@ -115,6 +117,9 @@ crates/scram/out/scram:
 
 # The library for callers in C and in Rust: lib, header, callers, install, dist.
 include bindings/callers.mk
+
+# Packages of it for machines without the kit: dist, packages.
+include bindings/packages.mk
 
 # Plugins of other libraries over it: plugin, plugin-test, plugin-logins.
 include plugins/plugins.mk

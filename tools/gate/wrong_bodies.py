@@ -9,18 +9,20 @@ which clause rejects it. Then follow lines `file:`, `old:` and `new:`; the old t
 
 Wrong bodies of different functions do not disturb each other, since a caller knows a function by its contract only. So
 those of a crate are planted in rounds, all of a round in one check; no two of a round are in one function. A check is
-asked, by `--only`, for the functions that the round changes, and so for those that they call. The first check of a crate
-starts from nothing, the next ones from what it kept. A round that has a body with a law, or a function whose path the
-text does not determine, is a whole check. Each body passes if
+asked, by `--only`, for the functions that the round changes, and so for those that they call. Each other function loses
+its body, and has a hole for a proof: the check takes it by its contract, and does not prove it again. The first check of
+a crate starts from nothing, the next ones from what it kept. A round that has a body with a law, or a function whose path
+the text does not determine, is a whole check, of every body and proof. Each body passes if
 
 - the check leaves a goal open inside the function that the body changes, at a clause and not of safety only,
 - the check reports the function by its path, as one that is not proved, and
-- nothing else that is checked fails: the others are proved, or wait for one that is changed.
+- nothing else that is checked fails: the others are proved, wait for one that is changed, or rest on a hole.
 
 What a round is not asked for cannot fail because of its bodies. A body with no law changes neither the head nor a clause
-of its function, which is tested here, and the proofs of all other functions rest on its contract. That the functions are
-proved without the wrong bodies is not tested here: `rt ci` proves the crate, and tools/gate/gate.py, which runs both,
-fails if either does.
+of its function, which is tested here, and the proofs of all other functions rest on its contract. For the same reason no
+goal is left open because a function that is called has lost its body. That the functions are proved without the wrong
+bodies is not tested here: `rt ci` proves the crate, and tools/gate/gate.py, which runs both, fails if either does. With
+--unturned no body is planted in the rounds, and each function that they ask for has to be proved but for such holes.
 
 The work is done in a copy, so the tree and its out/ stay as they are. With --kept the copy starts from what earlier
 checks kept in out/, for work on one edit; the gate starts from nothing. The libraries below a crate are proved first, or
@@ -58,12 +60,20 @@ IMPL = re.compile(r"impl (\S+?): (not proved|could not tell)\b(.*)")
 # What is said of one that would be proved if those were that it calls.
 WAITS = re.compile(r"it (calls|passes the block|waits for|rests on|has)\b")
 # The last line of a check that was asked for some functions.
-ASKED = re.compile(r"only=(\d+) proved=(\d+)$")
+ASKED = re.compile(r"only=(\d+) holes=\d+$")
 
 HEAD = re.compile(r'^( *)(?:pub(?:\([a-z]+\))? )?(?:const )?(?:unsafe )?(?:extern "C" )?fn (\w+)', re.M)
 TYPE = re.compile(r"^(?:pub(?:\([a-z]+\))? )?(?:struct|enum) (\w+)", re.M)
 # The head of an impl whose functions have a path that the text determines: the trait, its one argument, and the type.
 TOLD_IMPL = re.compile(r"^impl(?:<[^{]*?>)? (?:([\w:]+)(?:<(\w+)>)? for )?(\w+)(?:<[^{]*>)?\s*(?:where[^{]*)?\{$", re.M)
+# What the body of a function that is taken by its contract is, and its proof.
+NO_BODY = "loop {}"
+HOLE = """\
+use Rattle.{crate}.proofs.{path}.Statement.{{statement}}
+
+pub {name}_spec : {{M : Type 1}} → statement M
+{name}_spec = ?
+"""
 IMPL_HEAD = re.compile(r"^impl\b[^{]*?(?:\bfor )?(\w+)(?:<[^{]*>)?\s*(?:where[^{]*)?\{", re.M)
 
 
@@ -113,11 +123,17 @@ def line_of(text, at):
 def modules_of_types(root, crate):
     """The modules that define a struct or an enum of each name."""
     found = {}
-    for at, _, names in os.walk(f"{root}/crates/{crate}/src"):
-        for path in [os.path.relpath(f"{at}/{it}", f"{root}/crates/{crate}") for it in names if it.endswith(".rt")]:
-            for it in TYPE.finditer(source(crate, path)):
-                found.setdefault(it[1], set()).add(module_of(path))
+    for path in sources_of(root, crate):
+        for it in TYPE.finditer(source(crate, path)):
+            found.setdefault(it[1], set()).add(module_of(path))
     return found
+
+
+def sources_of(root, crate):
+    """The paths of the sources of a crate, in its folder."""
+    top = f"{root}/crates/{crate}"
+    files = [f"{at}/{it}" for at, _, names in os.walk(f"{top}/src") for it in names if it.endswith(".rt")]
+    return sorted(os.path.relpath(it, top) for it in files)
 
 
 def module_of(path):
@@ -125,7 +141,7 @@ def module_of(path):
 
 
 def told_path(crate, path, text, head):
-    """The path of a function as a check prints it, for a method by its type's module; or nothing."""
+    """The path of a function as a check prints it, or nothing. A method of no trait is named by its type's module."""
     module = module_of(path)
     if not head[1]:
         return "::".join([crate, *module, head[2]])
@@ -133,10 +149,12 @@ def told_path(crate, path, text, head):
     impl = TOLD_IMPL.match(text, blocks[-1].start()) if blocks else None
     if not impl or len(head[1]) != 4:
         return ""
-    modules = modules_of_types(ROOT, crate).get(impl[3], {module})
+    modules = {module} if impl[1] else modules_of_types(ROOT, crate).get(impl[3], {module})
     if len(modules) != 1:
         return ""
     trait = (impl[1] or "").rpartition("::")[2] + (impl[2] or "")[:1].upper() + (impl[2] or "")[1:]
+    # (a `drop` is reported as one of the type)
+    trait = "" if trait == "Drop" else trait
     name, alias = impl[3], re.search(rf"^pub type {impl[3]}<(\w+)> =", text, re.M)
     if re.match(rf"impl<[^{{]*?\b{name}\b:", impl[0]):
         name = "Any"
@@ -151,11 +169,9 @@ def function_around(crate, path, text, at):
     if not heads:
         return None
     head = heads[-1]
-    end = re.compile(rf"^{head[1]}\}}$", re.M).search(text, head.end())
+    opening, end = braces_of(text, head)
     if not end or at > end.end():
         return None
-    opening = re.compile(rf"^{head[1]}\{{$", re.M).search(text, head.end(), end.start())
-    opening = opening or re.compile(r"\{$", re.M).search(text, head.end(), end.start())
     if not opening or at < opening.start():
         raise BadEdit(f"it turns the head or a clause of {head[2]}, and not its body")
     lines, first = text.split("\n"), line_of(text, head.start())
@@ -163,6 +179,15 @@ def function_around(crate, path, text, at):
     while first > 1 and not re.search(r"^\s*(///.*)?$|[{};]$", lines[first - 2]):
         first -= 1
     return Place(path, first, line_of(text, end.end()), head[2], told_path(crate, path, text, head))
+
+
+def braces_of(text, head):
+    """The lines with the opening and the closing brace of a function's body, each None where there is none."""
+    end = re.compile(rf"^{head[1]}\}}$", re.M).search(text, head.end())
+    if not end:
+        return None, None
+    opening = re.compile(rf"^{head[1]}\{{$", re.M).search(text, head.end(), end.start())
+    return opening or re.compile(r"\{$", re.M).search(text, head.end(), end.start()), end
 
 
 def law_of(path, text, at, law):
@@ -268,6 +293,42 @@ def planted(bodies):
     return texts
 
 
+def lines_of_body(text, head):
+    """Where the lines of a function's body begin and end, or None if it has no lines of its own."""
+    opening, end = braces_of(text, head)
+    # (the next braces after a body in one line are those of another item: on the same line, or below an empty one)
+    if not opening or "}" in text[head.start() :].partition("\n")[0] or "\n\n" in text[head.end() : opening.start()]:
+        return None
+    return opening.end() + 1, end.start()
+
+
+def by_contract(crate, texts, asked):
+    """The texts of a crate in which each function that is not asked for has no body and a hole for a proof.
+
+    They are given by their path, with None for a file that goes. The functions that have both are those whose path the
+    text determines, and that have a body of lines. The lines of all others stay where they are.
+    """
+    found = {}
+    for path in sources_of(ROOT, crate):
+        text = texts.get(path) or source(crate, path)
+        for head in reversed([*HEAD.finditer(text)]):
+            told, body = told_path(crate, path, text, head), lines_of_body(text, head)
+            if told and told not in asked and body and "const " not in head[0]:
+                first, last = body
+                text = text[:first] + NO_BODY + "\n" * text.count("\n", first, last) + text[last:]
+                found |= hole(crate, told)
+        found[path] = text
+    return found
+
+
+def hole(crate, told):
+    """The files of the proof of a function that is taken by its contract."""
+    names = told.split("::")[1:]
+    folder = "/".join(["proofs", *names])
+    proof = HOLE.format(crate=crate, path=".".join(names), name=names[-1])
+    return {f"{folder}/Proof.antt": proof, f"{folder}/Answers.antt": None, f"{folder}/Invariants.antt": None}
+
+
 @dataclass
 class Said:
     """What a check said: goals left open, errors, functions that are not proved, and what fell of itself."""
@@ -307,7 +368,7 @@ def is_refused(ended, asked):
     told = ASKED.match(ended)
     if not asked:
         return ended.startswith("logic=not-proved")
-    return bool(told) and asked <= int(told[1]) and int(told[2]) < int(told[1])
+    return bool(told) and asked <= int(told[1])
 
 
 def asked_of(bodies):
@@ -370,6 +431,8 @@ def bodies_of(crate, word):
 class Copy:
     """A copy of crates with their lines of crates.txt, in which they are proved or turned."""
 
+    PARTS = ("src", "specs", "proofs")
+
     def __init__(self, room, lines, names, kept):
         self.room, self.lines = room, lines
         os.makedirs(f"{room}/crates")
@@ -377,18 +440,29 @@ class Copy:
         with open(f"{room}/crates.txt", "w", encoding="utf-8") as it:
             it.writelines(lines[name] for name in names)
         for name in names:
-            for part in ("src", "specs", "proofs", *(["out"] if kept else [])):
-                if os.path.isdir(f"{ROOT}/crates/{name}/{part}"):
-                    shutil.copytree(f"{ROOT}/crates/{name}/{part}", f"{self.folder(name)}/{part}")
+            self.lay_out(name, [*self.PARTS, *(["out"] if kept else [])])
             os.makedirs(f"{self.folder(name)}/out", exist_ok=True)
 
     def folder(self, crate):
         return f"{self.room}/crates/{crate}"
 
+    def lay_out(self, crate, parts):
+        for part in parts:
+            shutil.rmtree(f"{self.folder(crate)}/{part}", ignore_errors=True)
+            if os.path.isdir(f"{ROOT}/crates/{crate}/{part}"):
+                shutil.copytree(f"{ROOT}/crates/{crate}/{part}", f"{self.folder(crate)}/{part}")
+
     def write(self, crate, texts):
+        """Writes these texts in place of those of the crate. One that is None goes."""
+        self.lay_out(crate, self.PARTS)
         for path, text in texts.items():
-            with open(f"{self.folder(crate)}/{path}", "w", encoding="utf-8") as it:
-                it.write(text)
+            file = f"{self.folder(crate)}/{path}"
+            os.makedirs(os.path.dirname(file), exist_ok=True)
+            if text is not None:
+                with open(file, "w", encoding="utf-8") as it:
+                    it.write(text)
+            elif os.path.exists(file):
+                os.remove(file)
 
     def proved(self, crate):
         """The command that proves a library, and builds it for those above."""
@@ -408,6 +482,7 @@ class Copy:
             words += ["--crate-type", "staticlib", "--links", f"{crate}="]
             for it in used_by(self.lines, crate):
                 words += ["--links", f"{it}="]
+        words += ["--allow-holes"] * bool(asked)
         for it in asked:
             words += ["--only", it]
         return checked(self.folder(crate), f"{KIT}/bin/rattle", "check", *words)
@@ -419,6 +494,7 @@ class Trial:
     def __init__(self, room, lines, asked):
         self.room, self.lines, self.asked = room, lines, asked.crates or [*lines]
         self.word, self.logs, self.kept, self.given = asked.only, asked.logs, asked.kept, asked.built
+        self.unturned = asked.unturned
         # (of a library that another one here uses what its proof kept is at hand)
         self.is_below = {under for it in self.asked for under in below(lines, it)}
         based = [] if self.given else [it for it in lines if it in self.is_below]
@@ -493,15 +569,16 @@ class Trial:
         return copy
 
     def round(self, copy, crate, bodies):
-        texts = planted(bodies)
-        copy.write(crate, texts)
+        asked, texts = asked_of(bodies), planted([] if self.unturned else bodies)
+        copy.write(crate, by_contract(crate, texts, asked) if asked else texts)
         with self.lane:
-            status, log = copy.turned(crate, asked_of(bodies))
-        copy.write(crate, {path: source(crate, path) for path in texts})
+            status, log = copy.turned(crate, asked)
         if self.logs:
             os.makedirs(self.logs, exist_ok=True)
             with open(f"{self.logs}/{crate}-{bodies[0].name}.log", "w", encoding="utf-8") as it:
                 it.write(log)
+        if self.unturned:
+            return self.unturned_round(crate, asked, understood(log))
         at, stray = judge(crate, bodies, log, status)
         refused = [f"{it}: refused at {at[it.name][0]}" for it in bodies if at[it.name]]
         others = [f"{it}: NOT REFUSED where it stands" for it in bodies if not at[it.name]]
@@ -510,6 +587,13 @@ class Trial:
             names = ", ".join(it.name for it in bodies)
             more = [f"    {it[:200]}" for it in stray[:8]]
             self.fail("\n".join([f"wrong bodies of {crate}: beside {names} there falls what no edit turns:", *more]))
+
+    def unturned_round(self, crate, asked, said):
+        left = [f"    {path}:{line}: {it}"[:200] for path, line, it in [*said.goals, *said.errors]]
+        left += [f"    {it} is not proved" for it in sorted(said.unproved)]
+        if left or not is_refused(said.ended, len(asked)):
+            return self.fail("\n".join([f"functions of {crate} are not proved without wrong bodies: {said.ended}", *left[:8]]))
+        self.say([], f"functions of {crate}: {len(asked)} are proved without wrong bodies, but for holes")
 
 
 # The checks at work, which end with this process.
@@ -571,6 +655,7 @@ def main():
     parser.add_argument("--built", metavar="FOLDER", help="take the libraries below as they are put there")
     parser.add_argument("--lanes", type=int, default=2, help="how many checks at a time (2)")
     parser.add_argument("--only", metavar="WORD", default="", help="only the bodies whose name has this word")
+    parser.add_argument("--unturned", action="store_true", help="plant no body, and demand that no goal is left open")
     parser.add_argument("--logs", metavar="FOLDER", help="write what each round's check said into this folder")
     asked = parser.parse_args()
     lines = libraries(asked.crates)

@@ -4,8 +4,9 @@
     tools/generate/header.py write [LANGUAGE..]     writes the declarations
     tools/generate/header.py check [LANGUAGE..]     prints the first line that differs, and ends with status 1 if one does
 
-A language is `c`, for bindings/c/fe2o3_sasl.h, `rust`, for bindings/rust/src/sys.rs, or `python`, for the marked part of
-bindings/python/fe2o3_sasl.py; without one, it is all three. The script reads the structs under `#[repr(C)]`, the
+A language is `c`, for bindings/c/fe2o3_sasl.h, `wrappers`, for bindings/wiping/exports.c, `rust`, for
+bindings/rust/src/sys.rs, or `python`, for the marked part of bindings/python/fe2o3_sasl.py; without one, it is all. The
+script reads the structs under `#[repr(C)]`, the
 functions under `#[unsafe(no_mangle)]`, the numbers of `enum Status`, and the enums of tools/generate/header_preamble.h. The docs
 of the kinds of errors come from the libraries. It relies on the layout of `rt fmt`. It rejects, with file and line, what
 it does not know, an export or a struct that SECTIONS does not list, an export without a doc or with a condition (C would
@@ -30,12 +31,13 @@ SECTIONS = [  # in the order of use: a title, the structs, and the functions aft
     ("Passwords", "", "saslprep"),
     ("Records, which a server stores in place of passwords", "ScramRecord",
      "scram_record_make scram_record_from_fields scram_record_mock scram_record_parse scram_record_text"
-     " scram_record_verify scram_lines_find scram_line"),
-    ("Keys, which a client can cache in place of a password", "ScramKeys", "scram_keys_make"),
+     " scram_record_verify scram_record_of_salted scram_record_verify_salted scram_lines_find scram_line"),
+    ("Keys, which a client can cache in place of a password", "ScramKeys", "scram_keys_make scram_keys_of_salted"),
     ("A SCRAM client, over messages", "Login ScramClient",
      "scram_client_first scram_client_final scram_client_verify scram_client_get_keys"),
-    ("A SCRAM server, over messages", "ScramServer",
+    ("A SCRAM server, over messages", "ScramServer ScramRules",
      "scram_server_claimed_user scram_server_first scram_server_first_with_cbind_flag_y scram_server_final"
+     " scram_server_claimed_user_with_rules scram_server_first_with_rules scram_server_final_with_rules"
      " scram_server_authenticated_user"),
     ("Errors that a server sends in the place of a message", "",
      "scram_server_error scram_server_error_text scram_server_error_message"),
@@ -44,9 +46,13 @@ SECTIONS = [  # in the order of use: a title, the structs, and the functions aft
      "sasl_client_open sasl_client_receive"),
     ("The server's side of a connection, over bytes", "SaslServerConfig SaslServer",
      "sasl_server_claimed_user sasl_server_receive"),
+    ("Both sides of a connection, before a call, and at the end of the stream", "",
+     "sasl_wants_nonce sasl_peek_frame sasl_end_of_input"),
     ("Both sides over frame bodies, for programs that read frames themselves", "SaslFrameView",
      "sasl_client_step sasl_server_offer sasl_server_step_claimed_user sasl_server_step sasl_view_frame sasl_offers"),
 ]
+WIPED = "Secrets"  # the section of WIPE
+LENT = {"ScramRules": "Its value without options."}  # structs with pointers that no call writes, but that have an INIT
 KIND_NAMES = {"ScramErrorKind": "CLIENT_", "ServerScramErrorKind": "SERVER_", "RecordTextError": "RECORD_"}
 
 STRUCT = re.compile(r"#\[repr\(C\)\]\n#\[derive\(Drop\)\]\npub struct (\w+)(?:<'a>)? \{\n(.*?)^\}$", re.M | re.S)
@@ -69,6 +75,12 @@ Export = namedtuple("Export", "doc name parts answer")
 Struct = namedtuple("Struct", "doc name fields")
 Status = namedtuple("Status", "doc name number")
 Enum = namedtuple("Enum", "doc name values")  # values: of Status
+
+# The export that is C, of bindings/wiping.
+WIPE = Export(["Overwrites memory by zeros. Unlike a `memset` before the end of a block, it is never dropped by a compiler.",
+               "Call it for each struct, password and message with a secret, once you no longer need it.",
+               "", "This function is written in C, and not proved."], "fe2o3_wipe",
+              [Part("memory", "mut", "void", None), Part("len", "value", "usize", None)], None)
 
 
 def snake(name):
@@ -167,6 +179,7 @@ class Reader:
             sections.append((title, [structs.pop(one) for one in kinds.split()], [exports.pop(one) for one in names]))
         if structs or exports:
             sys.exit(f"{folder}: {', '.join([*structs, *exports])}: in no section")
+        sections.insert(1, (WIPED, [], [WIPE]))
         self.structs = [one for _, kinds, _ in sections for one in kinds]
         self.exports = [one for _, _, calls in sections for one in calls]
         return sections
@@ -260,19 +273,24 @@ def comment(doc, indent=""):
 
 
 def rust_doc(doc, indent=""):
-    room = textwrap.TextWrapper(WIDTH - len(indent) - 4, break_on_hyphens=False)
-    text = "\n\n".join(map(room.fill, "\n".join(doc).split("\n\n")))
+    def fill(part):
+        return textwrap.fill(part.replace("\n  ", "\n"), WIDTH - len(indent) - 4, break_on_hyphens=False,
+                             subsequent_indent="  " * part.startswith("- "))
+
+    # (each item of a list is filled by itself)
+    text = "\n\n".join("\n".join(map(fill, re.split(r"\n(?=- )", part))) for part in "\n".join(doc).split("\n\n"))
     return "".join(f"{indent}/// {line}".rstrip() + "\n" for line in text.splitlines())
 
 
 def c_part(part):
-    kind = C_NUMBERS.get(part.kind) or "struct fe2o3_" + snake(part.kind)
+    kind = {"void": "void", **C_NUMBERS}.get(part.kind) or "struct fe2o3_" + snake(part.kind)
     kind = f"const {kind}" if part.form == "const" else kind
     return f"{kind} {part.name}[{part.count}]" if part.count else f"{kind} {'*' * (part.form != 'value')}{part.name}"
 
 
 def rust_part(part):
-    kind = f"[{part.kind}; {part.count}]" if part.count else part.kind
+    kind = "core::ffi::c_void" if part.kind == "void" else part.kind
+    kind = f"[{kind}; {part.count}]" if part.count else kind
     return f"{part.name}: {'' if part.form in ('value', 'array') else f'*{part.form} '}{kind}"
 
 
@@ -295,14 +313,41 @@ def c_header(reader):
         for one in structs:
             out.append(f"\n{comment(one.doc)}struct fe2o3_{snake(one.name)} {{\n")
             out += [f"{comment(doc, '    ')}    {c_part(part)};\n" for doc, part in one.fields] + ["};\n"]
-            if one.name in written and "const" in [part.form for _, part in one.fields]:
+            if (one.name in written or one.name in LENT) and "const" in [part.form for _, part in one.fields]:
                 empty = ", ".join('(const uint8_t *)""' if part.form == "const" else "0" for _, part in one.fields)
-                out.append(f"/* Its value before its first use. */\n"
+                out.append(f"/* {LENT.get(one.name, 'Its value before its first use.')} */\n"
                            f"#define FE2O3_{snake(one.name).upper()}_INIT {{ {empty} }}\n")
         for doc, name, parts, answer in exports:
             given = [c_part(part) for part in parts] or ["void"]
             out.append(f"\n{comment(doc)}" + called(f"{C_NUMBERS.get(answer, 'void')} {name}", given, ";"))
     return "".join(out) + "\n#ifdef __cplusplus\n}\n#endif\n\n#endif\n"
+
+
+WRAPPERS = """\
+/* The exports of the library. Each calls the proved function, and then clears the stack that it used. Written by
+ * tools/generate/header.py.
+ *
+ * The linker gives each proved function its name with `proved_` (bindings/callers.mk). */
+#include "../c/fe2o3_sasl.h"
+#include "wipe.h"
+"""
+
+
+def c_wrappers(reader):
+    def fill(line, indent=""):
+        line = textwrap.fill(line, WIDTH, initial_indent=indent, subsequent_indent=indent + "    ")
+        return line.replace("~", " ") + "\n"
+
+    out = [WRAPPERS]
+    for _, name, parts, answer in reader.exports:
+        if name == WIPE.name:
+            continue
+        kind, given = C_NUMBERS.get(answer, "void"), ", ".join(c_part(part).replace(" ", "~") for part in parts) or "void"
+        passed = f"proved_{name}({', '.join(part.name for part in parts)});"
+        out += ["\n", fill(f"{kind} proved_{name}({given});"), fill(f"{kind} {name}({given})"), "{\n",
+                fill(f"{kind} answer = {passed}" if answer else passed, "    "),
+                f"    clear_stack(depth_{name.removeprefix('fe2o3_')});\n", "    return answer;\n" if answer else "", "}\n"]
+    return "".join(out)
 
 
 def in_rust(doc):
@@ -339,7 +384,7 @@ def python_part(part, written):
         return PYTHON_NUMBERS.get(part.kind) or f"_{part.kind}Struct"
     if part.form == "array":
         return f"{PYTHON_NUMBERS[part.kind]} * {part.count}"
-    if part.kind == "u8":
+    if part.kind in ("u8", "void"):
         return "ctypes.c_void_p" if part.form == "mut" or written else "ctypes.c_char_p"
     return f"ctypes.POINTER({PYTHON_NUMBERS.get(part.kind) or f'_{part.kind}Struct'})"
 
@@ -366,7 +411,8 @@ def python_block(reader):
                             " Without them it rejects non-ASCII passwords.\n    SIGNATURE_BY_CHALLENGE: SCRAM sends the server's"
                             " signature in a challenge, and the outcome follows the client's empty\n    response."
                             " INITIAL_RESPONSE_BY_CHALLENGE: SCRAM and PLAIN answer an init without an initial response by"
-                            " an\n    empty challenge, and the client's response is then the initial response.",
+                            " an\n    empty challenge, and the client's response is then the initial response. STRICT: SCRAM"
+                            " rejects an attribute\n    that RFC 5802 defines in the place of an extension.",
                             [(one.name.replace("OFFER_", ""), one.number) for one in enums["offer"].values]))
     out.append(python_class("IntEnum", "PlainPasswords", "Which password `plain_verify` tests for the one of a message."
                             " TYPED: the password as typed, which has to be\n    printable ASCII. PREPARED: the password as"
@@ -374,9 +420,14 @@ def python_block(reader):
                             " received password to.",
                             [(one.name.replace("PLAIN_PASSWORDS_", ""), one.number)
                              for one in enums["plain_passwords"].values]))
+    out.append(python_class("IntEnum", "ChannelKind", "A kind of channel binding. Both sides have to use one kind."
+                            " TLS_UNIQUE (RFC 5929, section 3) is for TLS 1.2 and\n    older, TLS_SERVER_END_POINT (RFC 5929,"
+                            " section 4) for every version. TLS_EXPORTER (RFC 9266) is for TLS 1.3 and,\n    with the"
+                            " extended master secret, for TLS 1.2.",
+                            [(one.name, one.number) for one in enums["channel_kind"].values]))
     for name, title, prefix in [("mechanism", "_Mechanism", ""), ("secret", "_Secret", ""), ("password_form", "_Form", ""),
-                                ("unassigned", "_Unassigned", "UNASSIGNED_"), ("scram_server_state", "_ServerState",
-                                                                               "SCRAM_SERVER_")]:
+                                ("channel_use", "_ChannelUse", "CHANNEL_"), ("unassigned", "_Unassigned", "UNASSIGNED_"),
+                                ("scram_server_state", "_ServerState", "SCRAM_SERVER_")]:
         values = [(one.name.replace(prefix, ""), one.number) for one in enums[name].values]
         out.append(python_class("IntEnum", title, enums[name].doc[0].split(". ")[0].rstrip(".") + ".", values))
     for one in reader.structs:
@@ -407,11 +458,16 @@ def c_page(reader, page):
     return c_header(reader)
 
 
+def wrappers_page(reader, page):
+    return c_wrappers(reader)
+
+
 def rust_page(reader, page):
     return rust_block(reader)
 
 
-PAGES = {"c": ("bindings/c/fe2o3_sasl.h", c_page), "rust": ("bindings/rust/src/sys.rs", rust_page),
+PAGES = {"c": ("bindings/c/fe2o3_sasl.h", c_page), "wrappers": ("bindings/wiping/exports.c", wrappers_page),
+         "rust": ("bindings/rust/src/sys.rs", rust_page),
          "python": ("bindings/python/fe2o3_sasl.py", python_page)}
 
 

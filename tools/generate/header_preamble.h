@@ -17,7 +17,7 @@
  * - A struct that a call writes to is used by one call at a time. Any thread may call, but no signal handler.
  * - A struct is set to zeros before its first use, or to its FE2O3_.._INIT if it has pointers. All zeros is a client
  *   that has sent nothing, a server without an open challenge, a connection that has received nothing, or no keys.
- * - malloc, realloc and free are those of C, and there is enough stack.
+ * - malloc, realloc and free are those of C, and there is enough stack. A call uses and clears at most 96 KiB of it.
  *
  * Numbers, bytes, and lengths inside structs may have any value. So any bit pattern of a struct without pointers is
  * legal, even one that the library never wrote, or wrote for another login: every call defines its result, and none
@@ -31,8 +31,11 @@
  * - Each call returns, never aborts, and keeps no pointer. It allocates by malloc and frees all of it. If an allocation
  *   fails it returns FE2O3_OUT_OF_MEMORY.
  *
- * What they do not promise: secrets are not wiped, neither from freed memory nor from the stack. Records, keys, and the
- * structs of clients that have answered hold secrets; wiping them is up to you. Comparisons are not guaranteed to take
+ * What a wrapper in C around each call does, which is tested and not proved: it wipes the memory that the call has
+ * allocated, the stack that it has used, and the registers that it may have changed.
+ *
+ * What they do not promise: your own copies of secrets are not wiped. Records, keys, the structs of clients that have
+ * answered, passwords and messages of PLAIN are yours: wipe them by fe2o3_wipe. Comparisons are not guaranteed to take
  * constant time. The library has no random numbers: you pass 32 fresh random bytes for each nonce. */
 #ifndef FE2O3_SASL_H
 #define FE2O3_SASL_H
@@ -93,6 +96,31 @@ enum fe2o3_password_form {
     FE2O3_PREPARED = 1
 };
 
+/* What a client says of the channel under an exchange, such as TLS (RFC 5802, section 6). */
+enum fe2o3_channel_use {
+    /* The client does not support channel binding, or has no channel: its GS2 header is `n,,`. */
+    FE2O3_CHANNEL_ABSENT = 0,
+    /* The client has a channel, but was offered no mechanism with `-PLUS`: its GS2 header is `y,,`. A server that offered
+     * one rejects it, so that nobody on the way can remove the mechanism from the offer. */
+    FE2O3_CHANNEL_NOT_OFFERED = 1,
+    /* The client binds its channel, by a mechanism with `-PLUS`: its GS2 header is `p=` and the kind. */
+    FE2O3_CHANNEL_BOUND = 2
+};
+
+/* A kind of channel binding. Both sides have to use one kind: a client selects it, and cannot ask a server which kinds it
+ * has. */
+enum fe2o3_channel_kind {
+    /* `tls-unique` (RFC 5929, section 3): the first Finished message of the TLS handshake. Only for TLS 1.2 and older,
+     * and only with the extended master secret (RFC 7627). */
+    FE2O3_TLS_UNIQUE = 1,
+    /* `tls-server-end-point` (RFC 5929, section 4): the hash of the server's certificate. It does not protect against
+     * someone who has the server's private key. */
+    FE2O3_TLS_SERVER_END_POINT = 2,
+    /* `tls-exporter` (RFC 9266): 32 bytes of exported keying material. For TLS 1.3, and for TLS 1.2 with the extended
+     * master secret. */
+    FE2O3_TLS_EXPORTER = 3
+};
+
 /* Which password fe2o3_plain_verify tests for the one of a message. User names are compared as received. */
 enum fe2o3_plain_passwords {
     /* The password as typed, which has to be printable ASCII. Every other password is rejected. */
@@ -137,7 +165,10 @@ enum fe2o3_offer {
     FE2O3_INITIAL_RESPONSE_BY_CHALLENGE = 512,
     /* No mechanism: SCRAM sends the server's signature in a challenge, and the outcome OK follows the client's empty
      * response (RFC 4422, section 5). For clients that do not read the data of an outcome. */
-    FE2O3_SIGNATURE_BY_CHALLENGE = 1024
+    FE2O3_SIGNATURE_BY_CHALLENGE = 1024,
+    /* No mechanism: SCRAM is strict. It rejects an attribute that RFC 5802 defines in the place of an extension: after
+     * the nonce of the client-first message, or between the nonce and the proof of the client-final message. */
+    FE2O3_STRICT = 2048
 };
 
 /* How far a login on a connection is. */
@@ -183,7 +214,7 @@ enum fe2o3_scram_client_state {
 };
 
 /* How far the exchange of a SCRAM server is. Other values count as FE2O3_SCRAM_SERVER_INITIAL. A challenge is open in
- * two of these states. */
+ * five of these states. */
 enum fe2o3_scram_server_state {
     /* No challenge is open, and no user is authenticated. */
     FE2O3_SCRAM_SERVER_INITIAL = 0,
@@ -201,7 +232,13 @@ enum fe2o3_scram_server_state {
      * bodies. */
     FE2O3_SCRAM_SERVER_INITIAL_RESPONSE_ASKED = 5,
     /* Like FE2O3_SCRAM_SERVER_INITIAL_RESPONSE_ASKED, but the init had a hostname: `bare`. */
-    FE2O3_SCRAM_SERVER_INITIAL_RESPONSE_ASKED_WITH_HOSTNAME = 6
+    FE2O3_SCRAM_SERVER_INITIAL_RESPONSE_ASKED_WITH_HOSTNAME = 6,
+    /* A challenge is open, to a client that binds the channel by `tls-unique`. Only over messages. */
+    FE2O3_SCRAM_SERVER_CHALLENGE_OPEN_TLS_UNIQUE = 7,
+    /* A challenge is open, to a client that binds the channel by `tls-server-end-point`. Only over messages. */
+    FE2O3_SCRAM_SERVER_CHALLENGE_OPEN_TLS_SERVER_END_POINT = 8,
+    /* A challenge is open, to a client that binds the channel by `tls-exporter`. Only over messages. */
+    FE2O3_SCRAM_SERVER_CHALLENGE_OPEN_TLS_EXPORTER = 9
 };
 
 /* The error that a server sends in the place of a message (RFC 5802, section 7, `server-error-value`). */

@@ -141,10 +141,10 @@ class Keys(Record):
 
 
 class ScramServer:
-    """A server of one user, which takes these GS2 headers (section 6)."""
+    """A server of one user, which takes these GS2 headers, and can bind a channel of these data (section 6)."""
 
-    def __init__(self, mechanism, user, password, salt, count, headers=(b"n,,",)):
-        self.mechanism, self.headers = mechanism, headers
+    def __init__(self, mechanism, user, password, salt, count, headers=(b"n,,",), channel=b""):
+        self.mechanism, self.headers, self.channel = mechanism + ("-PLUS" if channel else ""), headers, channel
         self.known, self.salt, self.count = user, salt, count
         self.keys = Keys(HASHES[mechanism], password, salt, count)
         self.header = self.bare = self.first = self.nonce = None
@@ -155,7 +155,8 @@ class ScramServer:
             raise Refused("Auth")
         if not text(message).startswith(self.headers):
             raise Refused("CannotParseGs2Header")
-        header, bare = message[:3], message[3:]
+        header = next(it for it in self.headers if message.startswith(it))
+        bare = message[len(header):]
         parts = bare.split(b",")
         user = unescaped(attribute(parts[0], b"n=", "CannotParseUsername"))
         if len(parts) < 2:
@@ -169,7 +170,7 @@ class ScramServer:
 
     def response(self, message):
         parts = text(message).split(b",")
-        if unbase64(attribute(parts[0], b"c=", "CannotParseClientFinalMessage")) != self.header:
+        if unbase64(attribute(parts[0], b"c=", "CannotParseClientFinalMessage")) != self.header + self.channel:
             raise Refused("InvalidChannelBinding")
         if attribute((parts + [b""])[1], b"r=", "CannotParseClientFinalMessage") != self.nonce:
             raise Refused("IncorrectClientFinalNonce")
@@ -263,10 +264,12 @@ class ExtraServer:
 
 class ScramClient:
     """A client with a password, prepared or as it is typed, and a limit on the iteration count. With `by_challenge` it
-    takes the server-final message in a challenge too, which it answers by an empty response (RFC 4422, section 5)."""
+    takes the server-final message in a challenge too, which it answers by an empty response (RFC 4422, section 5). It can
+    bind a channel, as a GS2 header and data (RFC 5802, section 6)."""
 
-    def __init__(self, mechanism, user, password, limit, prepared=False, by_challenge=False):
-        self.mechanism, self.name = mechanism, HASHES[mechanism]
+    def __init__(self, mechanism, user, password, limit, prepared=False, by_challenge=False, channel=None):
+        self.mechanism, self.name = mechanism + ("-PLUS" if channel else ""), HASHES[mechanism]
+        self.header, self.channel = channel or (b"n,,", b"")
         self.user, self.password, self.limit, self.prepared = user, password, limit, prepared
         self.by_challenge = by_challenge
         self.nonce = self.bare = self.signature = None
@@ -275,7 +278,7 @@ class ScramClient:
     def first(self, nonce):
         self.nonce = base64.b64encode(nonce)
         self.bare = b"n=" + escaped(self.user) + b",r=" + self.nonce
-        return b"n,," + self.bare
+        return self.header + self.bare
 
     def count(self, digits):
         if re.fullmatch(rb"\+?[0-9]+", digits) is None or not 1 <= int(digits) <= HIGHEST:
@@ -306,7 +309,7 @@ class ScramClient:
         if not self.prepared and not all(0x20 <= it <= 0x7E for it in self.password):
             raise Refused("NormalizeError")
         keys = Keys(self.name, self.password, salt, count)
-        final = b"c=" + base64.b64encode(b"n,,") + b",r=" + nonce
+        final = b"c=" + base64.b64encode(self.header + self.channel) + b",r=" + nonce
         signed = b",".join([self.bare, message, final])
         self.signature = keys.signature(signed)
         return final + b",p=" + base64.b64encode(keys.proof(signed))
@@ -513,8 +516,13 @@ def side_of(line):
     return side_of_run(line)
 
 
-def scram_server(mechanism, user, password, salt, count, *headers):
-    return Server(ScramServer(mechanism, unhexed(user), unhexed(password), unhexed(salt), int(count), *headers))
+def scram_server(mechanism, user, password, salt, count, *more):
+    return Server(ScramServer(mechanism, unhexed(user), unhexed(password), unhexed(salt), int(count), *more))
+
+
+def header_of(kind):
+    """The GS2 header of a client that binds a channel by this kind, under no other name (RFC 5802, section 7)."""
+    return b"p=%b,," % kind.encode()
 
 
 def side_of_run(line):
@@ -529,6 +537,11 @@ def side_of_run(line):
             return side
         case ["prepared", mechanism, user, password]:
             return Client(ScramClient(mechanism, unhexed(user), unhexed(password), HIGHEST, prepared=True), None)
+        case ["client_plus", mechanism, user, password, kind, data]:
+            channel = header_of(kind), unhexed(data)
+            return Client(ScramClient(mechanism, unhexed(user), unhexed(password), HIGHEST, channel=channel), None)
+        case ["server_plus", mechanism, user, password, salt, kind, data]:
+            return scram_server(mechanism, user, password, salt, 4096, (header_of(kind),), unhexed(data))
     raise ValueError(line)
 
 

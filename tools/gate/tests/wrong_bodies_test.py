@@ -63,12 +63,13 @@ impl TryFrom<[u8; 2]> for Pair {
 """
 HALF = "note: src/lib.rt:8:1: it is not proved that what the function ensures holds when it returns (`returns`)"
 HALF_FALLS = "fn numbers::half: no proof: expected answers in ./proofs/half/Answers.antt; `search` did not prove `returns`"
-HALF_PROVED = "fn numbers::half: proved"
+HALF_PROVED = "fn numbers::half: no holes"
 LARGER = "note: src/lib.rt:16:5: it is not proved that what the function ensures holds when it returns (`returns`)"
 LARGER_FALLS = "fn numbers::Pair::larger: no proof: expected answers in ./proofs/Pair/larger/Answers.antt"
 LARGER_WAITS = "fn numbers::Pair::larger: no proof: it calls `numbers::half`, which is not proved"
+LARGER_RESTS = "fn numbers::Pair::larger: depends on a hole in `Rattle.numbers.proofs.half.Proof.half_spec`"
 LAW = "src/lib.rt:32:29: error: keeps-value: expected type `copy ≡ pair`"
-ONE_FALLS = "only=1 proved=0"
+ONE_FALLS, TWO_FALL = "only=1 holes=0", "only=2 holes=0"
 NOT_PROVED = "logic=not-proved functions=3"
 
 
@@ -101,27 +102,28 @@ class WrongBodies(unittest.TestCase):
     def test_refused_where_it_stands(self):
         body = self.read(edit("    x / 2", "    x / 3"))
         self.assertEqual(self.judge([body], HALF, HALF_FALLS, ONE_FALLS), ([True], False))
-        self.assertEqual(self.judge([body], HALF, HALF_FALLS, LARGER_WAITS, "only=3 proved=1"), ([True], False))
+        self.assertEqual(self.judge([body], HALF, HALF_FALLS, LARGER_WAITS, "only=3 holes=0"), ([True], False))
+        self.assertEqual(self.judge([body], HALF, HALF_FALLS, LARGER_RESTS, "only=3 holes=1"), ([True], False))
 
     def test_an_edit_that_is_proved(self):
         body = self.read(edit("    x / 2", "    x / 2 + 0"))
-        self.assertEqual(self.judge([body], HALF_PROVED, "only=1 proved=1", status=0), ([False], True))
-        self.assertEqual(self.judge([body], HALF_PROVED, LARGER_WAITS, "only=2 proved=1"), ([False], True))
+        self.assertEqual(self.judge([body], HALF_PROVED, "only=1 holes=0", status=0), ([False], True))
+        self.assertEqual(self.judge([body], HALF_PROVED, LARGER_WAITS, TWO_FALL), ([False], True))
 
     def test_an_edit_that_is_refused_elsewhere(self):
         body = self.read(edit("    x / 2", "    x / 3"))
-        self.assertEqual(self.judge([body], LARGER, LARGER_FALLS, "only=2 proved=1"), ([False], True))
+        self.assertEqual(self.judge([body], LARGER, LARGER_FALLS, TWO_FALL), ([False], True))
 
     def test_an_edit_that_fells_another_function_too(self):
         body = self.read(edit("    x / 2", "    x / 3"))
-        self.assertEqual(self.judge([body], HALF, HALF_FALLS, LARGER, LARGER_FALLS, "only=2 proved=0"), ([True], True))
+        self.assertEqual(self.judge([body], HALF, HALF_FALLS, LARGER, LARGER_FALLS, TWO_FALL), ([True], True))
 
     def test_a_function_that_the_check_does_not_tell_of(self):
         body = self.read(edit("    x / 2", "    x / 3"))
         self.assertEqual(self.judge([body], HALF, LARGER_WAITS, ONE_FALLS), ([True], True))
         self.assertEqual(self.judge([body], HALF, HALF_PROVED, ONE_FALLS), ([True], True))
-        self.assertEqual(self.judge([body], HALF, HALF_FALLS, "only=0 proved=0"), ([True], True))
-        self.assertEqual(self.judge([body], HALF, HALF_FALLS, "only=1 proved=1"), ([True], True))
+        self.assertEqual(self.judge([body], HALF, HALF_FALLS, "only=0 holes=0"), ([True], True))
+        self.assertEqual(self.judge([body], HALF, HALF_FALLS, "only=1 proved=0"), ([True], True))
 
     def test_a_check_of_another_kind(self):
         body = self.read(edit("    x / 2", "    x / 3"))
@@ -146,6 +148,41 @@ class WrongBodies(unittest.TestCase):
         self.assertEqual(self.asked(beside + "fn third(x: u32) -> u32 { x / 3 } /// Two numbers.\n"), ["numbers::half"])
         self.assertEqual(self.asked(beside + "const THREE: u32 = 3; /// Two numbers.\n"), [])
         self.assertEqual(self.asked(beside + "fn third(x: u32) -> u32 { x / 3 }\n"), [])
+
+    def test_functions_that_are_taken_by_their_contracts(self):
+        half = self.read(edit("    x / 2", "    x / 3"))
+        texts = wrong_bodies.by_contract("numbers", wrong_bodies.planted([half]), ["numbers::half"])
+        left = LIBRARY.replace("    x / 2", "    x / 3")
+        for body in ("self.left.max(self.right)", "Ok(Pair { left: self.left, right: self.right })", "Pair { left, right: 0 }"):
+            left = left.replace(f"        {body}", wrong_bodies.NO_BODY)
+        self.assertEqual(texts.pop("src/lib.rt"), left)
+        folders = [f"proofs/{it}" for it in ("Pair/larger", "PairClone/clone", "PairFromU32/from")]
+        self.assertEqual(sorted({os.path.dirname(it) for it in texts}), folders)
+        self.assertIn("\nclone_spec = ?\n", texts["proofs/PairClone/clone/Proof.antt"])
+        self.assertIn("Rattle.numbers.proofs.PairClone.clone.Statement.", texts["proofs/PairClone/clone/Proof.antt"])
+        self.assertIsNone(texts["proofs/PairClone/clone/Answers.antt"])
+
+    def test_functions_that_keep_their_text(self):
+        with open(f"{self.crate}/src/lib.rt", "a", encoding="utf-8") as it:
+            it.write("\npub fn law()\n    ensures { Law }\n{}\n\npub struct Other {\n    one: u32,\n}\n")
+            it.write("\nconst fn one() -> u32 {\n    1\n}\n\npub trait Keeps {\n    fn keep(&self);\n}\n")
+            it.write("\nfn third(x: u32) -> u32 { x / 3 } impl Other {\n    ghost one = { λ x. x };\n}\n")
+        texts = wrong_bodies.by_contract("numbers", {}, ["numbers::half"])
+        more = wrong_bodies.source("numbers", "src/lib.rt").removeprefix(LIBRARY)
+        self.assertIn("const fn one", more)
+        self.assertTrue(texts["src/lib.rt"].endswith(more))
+
+    def test_how_methods_are_named(self):
+        text = "pub struct Key {\n    bits: u32,\n}\n\nimpl Drop for Key {\n    fn drop(self) {\n        wipe(self);\n    }\n}\n"
+        with open(f"{self.crate}/src/key.rt", "w", encoding="utf-8") as it:
+            it.write(text)
+        with open(f"{self.crate}/src/more.rt", "w", encoding="utf-8") as it:
+            it.write(text.partition("\n\n")[2].replace("Drop for ", "").replace("drop", "clear"))
+            it.write("\nimpl Keeps for Key {\n    fn keep(&self) {\n        wipe(self);\n    }\n}\n")
+        texts = wrong_bodies.by_contract("numbers", {}, ["numbers::half"])
+        self.assertIn("proofs/key/Key/drop/Proof.antt", texts)
+        self.assertIn("proofs/key/Key/clear/Proof.antt", texts)
+        self.assertIn("proofs/more/KeyKeeps/keep/Proof.antt", texts)
 
     def test_a_proof_file_alone_that_no_longer_fits(self):
         body = self.read(edit("    x / 2", "    x / 3"))
@@ -172,8 +209,8 @@ class WrongBodies(unittest.TestCase):
         bodies = [self.read(edit("    x / 2", "    x / 3"), "one"), self.read(edit("left.max(self.right)", "left"), "two")]
         self.assertEqual(wrong_bodies.rounds_of(bodies), [bodies])
         waits = LARGER_FALLS.partition(" expected")[0] + " it calls `numbers::half`, which is not proved"
-        self.assertEqual(self.judge(bodies, HALF, HALF_FALLS, waits, "only=2 proved=0"), ([True, False], False))
-        self.assertEqual(self.judge(bodies, HALF, HALF_FALLS, "only=2 proved=1"), ([True, False], True))
+        self.assertEqual(self.judge(bodies, HALF, HALF_FALLS, waits, TWO_FALL), ([True, False], False))
+        self.assertEqual(self.judge(bodies, HALF, HALF_FALLS, TWO_FALL), ([True, False], True))
         self.assertEqual(self.judge(bodies, HALF, HALF_FALLS, LARGER, LARGER_FALLS, ONE_FALLS), ([True, True], True))
 
     def test_two_of_one_function_stand_apart(self):
