@@ -62,6 +62,12 @@ cbind_input channel = header_text (flag_of channel) ++ cbind_data channel
 abbrev pub HoldsChannelBytes : ClientChannel → Type 0
 HoldsChannelBytes channel = IsBytes (cbind_data channel)
 
+-- the client requires channel binding (RFC 5802, section 7: the flag `p=`)
+abbrev pub is_required : ChannelBindingFlag → Bool
+is_required NotSupported = false
+is_required ClientSupports = false
+is_required (Required kind) = true
+
 -- the mechanism with channel binding (RFC 5802, section 4)
 abbrev pub plus_name : ScramVersion → List ℕ
 plus_name version = mechanism_name version ++ codes "-PLUS"

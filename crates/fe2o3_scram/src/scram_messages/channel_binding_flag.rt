@@ -1,7 +1,7 @@
 //! The GS2 header of a client that acts for itself (RFC 5802, sections 6 and 7).
 
 ghost use Rattle.std.specs.Prelude.{◌≡◌, ◌++◌, IsTrue, MatchOption};
-ghost use Rattle.fe2o3_scram.specs.ChannelBinding.{TakesBound, TakesHeader, TakesUnbound, header_text};
+ghost use Rattle.fe2o3_scram.specs.ChannelBinding.{TakesBound, TakesHeader, TakesUnbound, header_text, is_required};
 ghost use Rattle.fe2o3_scram.specs.declared.channel_binding.ChannelKind.{ChannelKind as KindOf};
 ghost use Rattle.fe2o3_scram.specs.Texts.{StartsWith};
 
@@ -40,6 +40,13 @@ impl ChannelBindingFlag {
             }
             ChannelBindingFlag::Required(ChannelKind::TlsExporter) => EXPORTER_GS2_HEADER,
         }
+    }
+
+    /// Returns whether the client requires channel binding: whether the header is `p=` and a kind.
+    pub fn is_required(self) -> bool
+        ensures { result ≡ is_required self }
+    {
+        matches!(self, ChannelBindingFlag::Required(_))
     }
 }
 

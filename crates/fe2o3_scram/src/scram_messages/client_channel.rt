@@ -54,7 +54,7 @@ impl ClientChannel {
     }
 
     /// Returns the data of the channel, which is empty if none is bound.
-    fn data(&self) -> &[u8]
+    pub fn data(&self) -> &[u8]
         ensures { result.now ≡ cbind_data self.now }
     {
         match self {

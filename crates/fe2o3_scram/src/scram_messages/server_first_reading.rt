@@ -66,12 +66,33 @@ impl<'a> ServerFirst<'a> {
         Ok(first)
     }
 
-    /// Like `parse`, for a client with this secret, which accepts the counts within these limits.
+    /// Reads a server-first message like `parse`, for a client that says this of its channel, has this secret, and
+    /// accepts the counts within these limits. A client that binds a channel is strict.
     ///
     /// The errors are, in this order: those of `parse` up to `IterationCountParseError`; `IterationCountTooSmall` and
-    /// `IterationCountTooLarge`; `MisplacedAttribute` of a client that is `strict` or binds a channel if a part after the count is an attribute that
+    /// `IterationCountTooLarge`; `MisplacedAttribute` of a strict client if a part after the count is an attribute that
     /// RFC 5802 defines; `NormalizeError` if a typed password is needed and is not printable ASCII, or `StaleKeys` if the
-    /// secret is only keys and the message names another salt or count than theirs.
+    /// secret is only keys and the message names another salt or count than theirs. Only the salt is allocated:
+    /// `OutOfMemory` is returned only if none of the first five errors applies.
+    pub fn parse_with_channel(
+        alloc: Global,
+        channel: &ClientChannel,
+        strict: bool,
+        client_nonce: &str,
+        secret: ClientSecret<'_>,
+        limits: IterationLimits,
+        text: &'a str,
+    ) -> Result<Self, ScramErrorKind>
+        ensures reads { Gives ScramErrorKind.OutOfMemory (ReachesSalt client_nonce.now text.now)
+            server_first_values result
+            (ReadsServerFirst (client_of client_nonce.now (secret_of secret.entry) limits channel.now strict) text.now) }
+        ensures count { IfOk result (λ first. (1 ≤ first.iterations) × (first.iterations ≤ limits.max_iterations)) }
+    {
+        let first = ServerFirst::read(alloc, client_nonce, secret, limits, channel, strict, text)?;
+        Ok(first)
+    }
+
+    /// Reads a server-first message like `parse_with_channel`, and states that its values serve the secret.
     pub(super) fn read(
         alloc: Global,
         client_nonce: &str,
