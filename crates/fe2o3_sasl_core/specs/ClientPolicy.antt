@@ -118,3 +118,9 @@ abbrev pub IsFirstTaken : ClientPolicy → List ℕ → Secret → List (List �
 IsFirstTaken policy user secret names mechanisms mechanism = (k : ℕ) × (slice_get mechanisms k ≡ Some mechanism)
     × CanTake policy user secret names mechanism
     × AllByRecursion (λ other. ¬ CanTake policy user secret names other) (take k mechanisms)
+
+-- the profile that a client selects from an offer: that of the strongest mechanism that can be selected
+abbrev pub SelectsProfile : ClientPolicy → List ℕ → Secret → List (List ℕ) → Profile → Type 0
+SelectsProfile policy user secret names profile = (mechanism : Mechanism)
+    × IsFirstTaken policy user secret names by_strength mechanism
+    × (profile_by policy user secret mechanism ≡ Some profile)

@@ -17,6 +17,7 @@ pub mod ProfileFaults
 pub mod Profiles
 pub mod SaslProfile
 pub mod ClientPolicy
+pub mod ClientPolicyLaws
 pub mod Costs
 pub mod Runs
 pub mod Hex

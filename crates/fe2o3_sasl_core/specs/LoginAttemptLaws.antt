@@ -2,12 +2,16 @@
 -- `login_attempts::laws`.
 use Rattle.std.specs.Prelude.{◌≡◌, ◌↔◌, ◌⊎◌, ◌≤◌, ◌+◌, ℕ, Option, Some, List, slice_get, Ok}
 use Rattle.fe2o3_sasl_wire.specs.SaslFrames.{SaslFrame}
+use Rattle.fe2o3_scram.specs.declared.hmac.ScramVersion.{ScramVersion}
+use Rattle.fe2o3_scram.specs.declared.scram_messages.server_rules.ServerRules.{ServerRules}
+use Rattle.fe2o3_scram.specs.ChannelBinding.{server_mechanism}
+use Rattle.fe2o3_scram.specs.ClientFirst.{ClientFirst, ReadsClientFirst}
 use Rattle.fe2o3_sasl_core.specs.AnyMechanismLaws.{Machine}
 use Rattle.fe2o3_sasl_core.specs.Bodies.{SpellsBody}
 use Rattle.fe2o3_sasl_core.specs.ChallengeCounts.{BoundsChallenges, ChallengesOnlyAtInit}
 use Rattle.fe2o3_sasl_core.specs.Events.{Given, ServerSays}
 use Rattle.fe2o3_sasl_core.specs.ExtraChallengeLaws.{HasOneReply, HasSomeReply, IsError}
-use Rattle.fe2o3_sasl_core.specs.LoginAttempts.{Attempt, ClaimOf, IsAttempt, Recorded, recorded_hmacs, recorded_machine}
+use Rattle.fe2o3_sasl_core.specs.LoginAttempts.{Attempt, ClaimOf, ClaimsUser, IsAttempt, Recorded, recorded_hmacs, recorded_machine}
 use Rattle.fe2o3_sasl_core.specs.Runs.{Runs, AcceptorSteps}
 
 -- ---- claims
@@ -19,6 +23,11 @@ OneClaim = (mechanism text : List ℕ) (user other : Option (List ℕ)) → Clai
 
 abbrev pub SomeClaim : Type 0
 SomeClaim = (mechanism text : List ℕ) → (user : Option (List ℕ)) × ClaimOf mechanism text user
+
+-- the user name that a server of SCRAM reads in a client-first message, by any rules, is claimed to its mechanism
+abbrev pub ClaimsWhatServersRead : Type 0
+ClaimsWhatServersRead = (version : ScramVersion) (rules : ServerRules) (text : List ℕ) (first : ClientFirst)
+    → ReadsClientFirst rules text (Ok first) → ClaimsUser (server_mechanism version rules) text first.user
 
 -- ---- the server answers like its acceptor
 

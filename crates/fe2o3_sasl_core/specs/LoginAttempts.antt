@@ -1,10 +1,11 @@
 -- What the inits of a connection claim (AMQP 1.0, part 5, section 5.3.3.2), and a server that keeps the last claim.
-use Rattle.std.specs.Prelude.{◌≡◌, ◌⊎◌, ℕ, Option, Some, None, MatchOption, option_map, List, codes, string_bytes, Ok}
+use Rattle.std.specs.Prelude.{◌≡◌, ◌⊎◌, ℕ, Bool, true, false, Option, Some, None, MatchOption, option_map, List, codes, string_bytes, Ok}
 use Rattle.fe2o3_sasl_wire.specs.SaslFrames as frames
 use Rattle.fe2o3_sasl_wire.specs.SaslFrames.{SaslFrame}
+use Rattle.fe2o3_scram.specs.ChannelBinding.{mechanism_of, no_data}
 use Rattle.fe2o3_scram.specs.ClientFirst.{ClientFirst, HasEscapes, ReadsClientFirst, either_header}
-use Rattle.fe2o3_scram.specs.Hmac.{mechanism_name}
 use Rattle.fe2o3_scram.specs.declared.hmac.ScramVersion.{ScramVersion}
+use Rattle.fe2o3_scram.specs.declared.scram_messages.server_rules.ServerRules.{ServerRules}
 use Rattle.fe2o3_sasl_core.specs.PlainServer.{IsTaken, PlainParts, SpellsPlain}
 use Rattle.fe2o3_sasl_core.specs.declared.rejection.Rejection.{Rejection}
 use Rattle.fe2o3_sasl_core.specs.declared.login_attempts.LoginAttempt.{LoginAttempt}
@@ -12,12 +13,28 @@ use Rattle.fe2o3_sasl_core.specs.declared.login_attempts.WithLastAttempt.{WithLa
 
 -- ---- what an init claims
 
--- an initial response of this mechanism claims this user name: a client-first message of SCRAM, after either GS2 header
--- (RFC 5802, section 7), or a message of PLAIN that is accepted for a test (RFC 4616, section 2)
+-- a reader that accepts the GS2 header of clients that bind a channel of any kind (RFC 5929, sections 3 and 4; RFC 9266,
+-- section 2). A client-first message shows the kind and no data, so that the data do not matter. The reader is strict,
+-- like every server that binds a channel (`is_strict`)
+abbrev pub any_kind : ServerRules
+any_kind = record {
+  accept_cbind_flag_y = false;
+  strict = false;
+  channels =
+      Some (record { tls_unique = Some no_data; tls_server_end_point = Some no_data; tls_exporter = Some no_data });
+}
+
+-- the GS2 headers of a mechanism (RFC 5802, section 6): with -PLUS the client binds a channel, and without it none
+abbrev pub headers_of : Bool → ServerRules
+headers_of false = either_header
+headers_of true = any_kind
+
+-- an initial response of this mechanism claims this user name: a client-first message of SCRAM, after a GS2 header of
+-- the mechanism (RFC 5802, sections 4, 6 and 7), or a message of PLAIN that is accepted for a test (RFC 4616, section 2)
 abbrev pub ClaimsUser : List ℕ → List ℕ → List ℕ → Type 0
 ClaimsUser mechanism text name =
-    ((version : ScramVersion) × (first : ClientFirst) × (mechanism ≡ mechanism_name version)
-    × ReadsClientFirst either_header text (Ok first) × (name ≡ first.user))
+    ((version : ScramVersion) × (plus : Bool) × (first : ClientFirst) × (mechanism ≡ mechanism_of version plus)
+    × ReadsClientFirst (headers_of plus) text (Ok first) × (name ≡ first.user))
     ⊎ ((mechanism ≡ codes "PLAIN") × ((parts : PlainParts) × SpellsPlain parts text × IsTaken parts
     × (name ≡ parts.user)))
 
@@ -29,7 +46,8 @@ ClaimOf mechanism text user =
 -- memory is requested to read a claim: the initial response claims a name, or its client-first message has a name with
 -- escapes
 abbrev pub ClaimAllocates : List ℕ → List ℕ → Type 0
-ClaimAllocates mechanism text = ((version : ScramVersion) × (mechanism ≡ mechanism_name version) × HasEscapes either_header text)
+ClaimAllocates mechanism text = ((version : ScramVersion) × (plus : Bool) × (mechanism ≡ mechanism_of version plus)
+    × HasEscapes (headers_of plus) text)
     ⊎ ((name : List ℕ) × ClaimsUser mechanism text name)
 
 -- what an init claims: its mechanism, the user name of its initial response, and its hostname

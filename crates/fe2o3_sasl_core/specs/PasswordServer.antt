@@ -1,7 +1,8 @@
 -- A server of SCRAM, PLAIN, ANONYMOUS and EXTERNAL over one list of records, of which some mechanisms are offered (AMQP
 -- 1.0, part 5, section 5.3.3.1).
-use Rattle.std.specs.Prelude.{◌≡◌, ◌<◌, ℕ, Bool, true, false, Option, Some, None, MatchOption, List, [], ◌∷◌, codes, option_map}
+use Rattle.std.specs.Prelude.{◌≡◌, ◌<◌, ◌&&◌, ℕ, Bool, true, false, not, is_some, Option, Some, None, MatchOption, List, [], ◌∷◌, codes, option_map}
 use Rattle.fe2o3_sasl_wire.specs.SaslFrames.{SaslFrame}
+use Rattle.fe2o3_scram.specs.declared.channel_binding.ChannelBindings.{ChannelBindings}
 use Rattle.fe2o3_scram.specs.declared.hmac.ScramVersion.{ScramVersion}
 use Rattle.fe2o3_scram.specs.declared.hmac.ScramVersion.TheVariants.{Sha1, Sha256, Sha512}
 use Rattle.fe2o3_scram.specs.declared.scram_messages.server_rules.ServerRules.{ServerRules}
@@ -30,6 +31,7 @@ use Rattle.fe2o3_sasl_core.specs.declared.password_server.builder.RestoredState.
 use Rattle.fe2o3_sasl_core.specs.declared.password_server.PasswordServer.{PasswordServer as Server}
 use Rattle.fe2o3_sasl_core.specs.declared.password_server.builder.PasswordServerBuilder.{PasswordServerBuilder}
 use Rattle.fe2o3_sasl_core.specs.declared.password_server.builder.ScramHashes.{ScramHashes}
+use Rattle.fe2o3_sasl_core.specs.declared.password_server.all_scrams.AllScrams.{AllScrams}
 use Rattle.fe2o3_sasl_core.specs.declared.password_server.others.Others.{Others}
 use Rattle.fe2o3_sasl_core.specs.declared.password_server.scrams.Scrams.{Scrams}
 
@@ -43,8 +45,12 @@ ScramStates = BothStates Acceptor (BothStates Acceptor Acceptor)
 abbrev pub OtherStates : Type 0
 OtherStates = BothStates PlainState (BothStates Acceptor External)
 
+-- SCRAM with -PLUS, then without (RFC 5802, section 6)
+abbrev pub AllScramStates : Type 0
+AllScramStates = BothStates ScramStates ScramStates
+
 abbrev pub PasswordParts : Type 0
-PasswordParts = BothStates ScramStates OtherStates
+PasswordParts = BothStates AllScramStates OtherStates
 
 -- all of them, and the names that may be offered
 abbrev pub PasswordState : Type 0
@@ -63,6 +69,9 @@ weaker_names parts = both_names (acceptor_names parts.first) (acceptor_names par
 abbrev pub scrams_names : ScramStates → List (List ℕ)
 scrams_names parts = both_names (acceptor_names parts.first) (weaker_names parts.second)
 
+abbrev pub all_scrams_names : AllScramStates → List (List ℕ)
+all_scrams_names parts = both_names (scrams_names parts.first) (scrams_names parts.second)
+
 abbrev pub last_names : BothStates Acceptor External → List (List ℕ)
 last_names parts = both_names (acceptor_names parts.first) (external_names parts.second)
 
@@ -70,7 +79,7 @@ abbrev pub others_names : OtherStates → List (List ℕ)
 others_names parts = both_names (plain_names parts.first) (last_names parts.second)
 
 abbrev pub parts_names : PasswordParts → List (List ℕ)
-parts_names parts = both_names (scrams_names parts.first) (others_names parts.second)
+parts_names parts = both_names (all_scrams_names parts.first) (others_names parts.second)
 
 abbrev pub password_names : PasswordState → List (List ℕ)
 password_names server = offering_names parts_names server
@@ -84,6 +93,10 @@ abbrev pub scrams_machine : ScramStates → List ℕ → SaslFrame → SaslFrame
 scrams_machine parts nonce frame reply next =
     any_mechanism_machine acceptor_names weaker_names acceptor_machine weaker_machine parts nonce frame reply next
 
+abbrev pub all_scrams_machine : AllScramStates → List ℕ → SaslFrame → SaslFrame → AllScramStates → Type 0
+all_scrams_machine parts nonce frame reply next =
+    any_mechanism_machine scrams_names scrams_names scrams_machine scrams_machine parts nonce frame reply next
+
 abbrev pub last_machine : BothStates Acceptor External → List ℕ → SaslFrame → SaslFrame → BothStates Acceptor External → Type 0
 last_machine parts nonce frame reply next =
     any_mechanism_machine acceptor_names external_names acceptor_machine external_machine parts nonce frame reply next
@@ -94,7 +107,7 @@ others_machine parts nonce frame reply next =
 
 abbrev pub parts_machine : PasswordParts → List ℕ → SaslFrame → SaslFrame → PasswordParts → Type 0
 parts_machine parts nonce frame reply next =
-    any_mechanism_machine scrams_names others_names scrams_machine others_machine parts nonce frame reply next
+    any_mechanism_machine all_scrams_names others_names all_scrams_machine others_machine parts nonce frame reply next
 
 abbrev pub password_machine : PasswordState → List ℕ → SaslFrame → SaslFrame → PasswordState → Type 0
 password_machine server nonce frame reply next = offering_machine parts_names parts_machine server nonce frame reply next
@@ -104,12 +117,15 @@ abbrev pub scrams_reasons : ScramStates → SaslFrame → Rejection → Type 0
 scrams_reasons = any_mechanism_reasons acceptor_names weaker_names acceptor_reasons
     (any_mechanism_reasons acceptor_names acceptor_names acceptor_reasons acceptor_reasons)
 
+abbrev pub all_scrams_reasons : AllScramStates → SaslFrame → Rejection → Type 0
+all_scrams_reasons = any_mechanism_reasons scrams_names scrams_names scrams_reasons scrams_reasons
+
 abbrev pub others_reasons : OtherStates → SaslFrame → Rejection → Type 0
 others_reasons = any_mechanism_reasons plain_names last_names plain_reasons
     (any_mechanism_reasons acceptor_names external_names acceptor_reasons external_reasons)
 
 abbrev pub parts_reasons : PasswordParts → SaslFrame → Rejection → Type 0
-parts_reasons = any_mechanism_reasons scrams_names others_names scrams_reasons others_reasons
+parts_reasons = any_mechanism_reasons all_scrams_names others_names all_scrams_reasons others_reasons
 
 abbrev pub password_reasons : PasswordState → SaslFrame → Rejection → Type 0
 password_reasons = offering_reasons parts_names parts_reasons
@@ -121,6 +137,9 @@ weaker_allocates = any_mechanism_allocates acceptor_names acceptor_names accepto
 abbrev pub scrams_allocates : ScramStates → SaslFrame → Type 0
 scrams_allocates = any_mechanism_allocates acceptor_names weaker_names acceptor_allocates weaker_allocates
 
+abbrev pub all_scrams_allocates : AllScramStates → SaslFrame → Type 0
+all_scrams_allocates = any_mechanism_allocates scrams_names scrams_names scrams_allocates scrams_allocates
+
 abbrev pub last_allocates : BothStates Acceptor External → SaslFrame → Type 0
 last_allocates = any_mechanism_allocates acceptor_names external_names acceptor_allocates (λ _ _. ⊥)
 
@@ -128,7 +147,7 @@ abbrev pub others_allocates : OtherStates → SaslFrame → Type 0
 others_allocates = any_mechanism_allocates plain_names last_names plain_allocates last_allocates
 
 abbrev pub parts_allocates : PasswordParts → SaslFrame → Type 0
-parts_allocates = any_mechanism_allocates scrams_names others_names scrams_allocates others_allocates
+parts_allocates = any_mechanism_allocates all_scrams_names others_names all_scrams_allocates others_allocates
 
 abbrev pub password_allocates : PasswordState → SaslFrame → Type 0
 password_allocates = offering_allocates parts_names parts_allocates
@@ -140,6 +159,9 @@ weaker_hmacs = any_mechanism_hmacs acceptor_names acceptor_names acceptor_hmacs 
 abbrev pub scrams_hmacs : ScramStates → SaslFrame → ℕ → Type 0
 scrams_hmacs = any_mechanism_hmacs acceptor_names weaker_names acceptor_hmacs weaker_hmacs
 
+abbrev pub all_scrams_hmacs : AllScramStates → SaslFrame → ℕ → Type 0
+all_scrams_hmacs = any_mechanism_hmacs scrams_names scrams_names scrams_hmacs scrams_hmacs
+
 abbrev pub last_hmacs : BothStates Acceptor External → SaslFrame → ℕ → Type 0
 last_hmacs = any_mechanism_hmacs acceptor_names external_names acceptor_hmacs (λ _ _ n. n ≡ 0)
 
@@ -147,7 +169,7 @@ abbrev pub others_hmacs : OtherStates → SaslFrame → ℕ → Type 0
 others_hmacs = any_mechanism_hmacs plain_names last_names plain_hmacs last_hmacs
 
 abbrev pub parts_hmacs : PasswordParts → SaslFrame → ℕ → Type 0
-parts_hmacs = any_mechanism_hmacs scrams_names others_names scrams_hmacs others_hmacs
+parts_hmacs = any_mechanism_hmacs all_scrams_names others_names all_scrams_hmacs others_hmacs
 
 abbrev pub password_hmacs : PasswordState → SaslFrame → ℕ → Type 0
 password_hmacs = offering_hmacs parts_names parts_hmacs
@@ -157,13 +179,16 @@ abbrev pub scrams_user : ScramStates → Option (List ℕ)
 scrams_user parts = part_names parts.selected (acceptor_user parts.first)
     (part_names parts.second.selected (acceptor_user parts.second.first) (acceptor_user parts.second.second))
 
+abbrev pub all_scrams_user : AllScramStates → Option (List ℕ)
+all_scrams_user parts = part_names parts.selected (scrams_user parts.first) (scrams_user parts.second)
+
 abbrev pub others_user : OtherStates → Option (List ℕ)
 others_user parts = part_names parts.selected parts.first.user
     (part_names parts.second.selected None (external_user parts.second.second))
 
 abbrev pub password_user : PasswordState → Option (List ℕ)
 password_user server = let parts = server.inner in
-    part_names parts.selected (scrams_user parts.first) (others_user parts.second)
+    part_names parts.selected (all_scrams_user parts.first) (others_user parts.second)
 
 -- what this part has, of two
 abbrev pub of_part : {A : Type 0} → Option Selected → Option A → Option A → Option A
@@ -183,8 +208,11 @@ weaker_open parts = of_part parts.selected (open_of Sha256 parts.first) (open_of
 abbrev pub scrams_open : ScramStates → Option (ScramVersion × ServerChallenge)
 scrams_open parts = of_part parts.selected (open_of Sha512 parts.first) (weaker_open parts.second)
 
+abbrev pub all_scrams_open : AllScramStates → Option (ScramVersion × ServerChallenge)
+all_scrams_open parts = of_part parts.selected (scrams_open parts.first) (scrams_open parts.second)
+
 abbrev pub password_open : PasswordState → Option (ScramVersion × ServerChallenge)
-password_open server = of_part server.inner.selected (scrams_open server.inner.first) None
+password_open server = of_part server.inner.selected (all_scrams_open server.inner.first) None
 
 -- ---- the server of the settings
 
@@ -194,9 +222,10 @@ pub record MockChoice : Type 0 where
   pub salt_len : ℕ
   pub count : ℕ
 
--- an exchange of SCRAM: its hash, and what the server sent last in it
+-- an exchange of SCRAM: its hash, whether its mechanism has -PLUS, and what the server sent last in it
 pub record SavedExchange : Type 0 where
   pub version : ScramVersion
+  pub plus : Bool
   pub state : ServerState
 
 -- what a server offers and knows: the records; the settings of mock authentication, if any; the hashes of SCRAM, and
@@ -235,10 +264,24 @@ count_of_unknown (Some count) mock = count
 count_of_unknown None None = 4096
 count_of_unknown None (Some mock) = mock.count
 
--- the provider of SCRAM by one hash: the records of that hash
-abbrev pub scram_provider : PasswordSettings → ScramVersion → Provider
-scram_provider settings version = mocking (option_map (mock_for version) settings.mock)
-    (serving settings.rules (provider_for version settings.records))
+-- no data of any kind, and otherwise those of the server
+abbrev pub or_no_channels : Option ChannelBindings → ChannelBindings
+or_no_channels None = record { tls_unique = None; tls_server_end_point = None; tls_exporter = None }
+or_no_channels (Some channels) = channels
+
+-- what SCRAM accepts in a client's messages: with -PLUS the channel of the server, and otherwise none; and `y,,` only where
+-- no mechanism with -PLUS is offered (RFC 5802, section 6)
+abbrev pub scram_rules : Bool → ServerRules → ServerRules
+scram_rules true rules = record rules { channels = Some (or_no_channels rules.channels) }
+scram_rules false rules = record rules {
+  accept_cbind_flag_y = rules.accept_cbind_flag_y && not (is_some rules.channels);
+  channels = None;
+}
+
+-- the provider of SCRAM by one hash, with -PLUS or without it: the records of that hash
+abbrev pub scram_provider : Bool → PasswordSettings → ScramVersion → Provider
+scram_provider plus settings version = mocking (option_map (mock_for version) settings.mock)
+    (serving (scram_rules plus settings.rules) (provider_for version settings.records))
 
 -- the parts of SCRAM to which the last init went, if it was of this hash: of all, and of SCRAM-SHA-256 and SCRAM-SHA-1
 abbrev pub first_asked : Option ScramVersion → Option Selected
@@ -251,15 +294,29 @@ second_asked (Some Sha256) = Some First
 second_asked (Some Sha1) = Some Second
 second_asked asked = None
 
--- SCRAM by each hash in a state of its own, with these parts selected
-abbrev pub scrams_in : PasswordSettings → (ScramVersion → ServerState) → Option Selected → Option Selected → ScramStates
-scrams_in settings states selected weaker = record {
-  first = ScramAcceptor (scram_provider settings Sha512) (states Sha512);
+-- where SCRAM by three hashes is: the state of each hash, and the parts that are selected
+pub record ScramsAt : Type 0 where
+  pub states : ScramVersion → ServerState
+  pub selected : Option Selected
+  pub weaker : Option Selected
+
+-- SCRAM by each hash, with -PLUS or without it
+abbrev pub scrams_in : Bool → PasswordSettings → ScramsAt → ScramStates
+scrams_in plus settings at = record {
+  first = ScramAcceptor (scram_provider plus settings Sha512) (at.states Sha512);
   second = record {
-    first = ScramAcceptor (scram_provider settings Sha256) (states Sha256);
-    second = ScramAcceptor (scram_provider settings Sha1) (states Sha1);
-    selected = weaker;
+    first = ScramAcceptor (scram_provider plus settings Sha256) (at.states Sha256);
+    second = ScramAcceptor (scram_provider plus settings Sha1) (at.states Sha1);
+    selected = at.weaker;
   };
+  selected = at.selected;
+}
+
+-- SCRAM with -PLUS and without it, of which this one is selected
+abbrev pub all_scrams_in : PasswordSettings → ScramsAt → ScramsAt → Option Selected → AllScramStates
+all_scrams_in settings plus plain selected = record {
+  first = scrams_in true settings plus;
+  second = scrams_in false settings plain;
   selected = selected;
 }
 
@@ -296,7 +353,10 @@ external_mechanism (byte ∷ bytes) = codes "EXTERNAL"
 
 -- the names that may be offered, the strongest first
 abbrev pub names_for : PasswordSettings → List (List ℕ)
-names_for settings = name_where settings.hashes.sha_512 (codes "SCRAM-SHA-512")
+names_for settings = name_where (is_some settings.rules.channels && settings.hashes.sha_512) (codes "SCRAM-SHA-512-PLUS")
+    ∷ name_where (is_some settings.rules.channels && settings.hashes.sha_256) (codes "SCRAM-SHA-256-PLUS")
+    ∷ name_where (is_some settings.rules.channels && settings.hashes.sha_1) (codes "SCRAM-SHA-1-PLUS")
+    ∷ name_where settings.hashes.sha_512 (codes "SCRAM-SHA-512")
     ∷ name_where settings.hashes.sha_256 (codes "SCRAM-SHA-256")
     ∷ name_where settings.hashes.sha_1 (codes "SCRAM-SHA-1")
     ∷ name_where settings.plain (codes "PLAIN")
@@ -304,9 +364,27 @@ names_for settings = name_where settings.hashes.sha_512 (codes "SCRAM-SHA-512")
     ∷ external_mechanism settings.external
     ∷ []
 
--- the hash of the exchange that is continued
+-- the exchange that is continued, if its mechanism has -PLUS, or if it has not
+abbrev pub exchange_where : Bool → SavedExchange → Option SavedExchange
+exchange_where true exchange = Some exchange
+exchange_where false exchange = None
+
+abbrev pub exchange_with : Bool → Option SavedExchange → Option SavedExchange
+exchange_with plus None = None
+exchange_with true (Some exchange) = exchange_where exchange.plus exchange
+exchange_with false (Some exchange) = exchange_where (not exchange.plus) exchange
+
+-- its hash
 abbrev pub asked_of : Option SavedExchange → Option ScramVersion
 asked_of restored = option_map (λ (exchange : SavedExchange). exchange.version) restored
+
+-- the part of all of SCRAM to which the last init went
+abbrev pub part_where : Bool → Selected
+part_where true = First
+part_where false = Second
+
+abbrev pub part_asked : Option SavedExchange → Option Selected
+part_asked restored = option_map (λ (exchange : SavedExchange). part_where exchange.plus) restored
 
 -- the acceptors of the settings, with SCRAM in this state
 abbrev pub offering_for : {S : Type 0} → PasswordSettings → S → Offering (BothStates S OtherStates)
@@ -319,12 +397,11 @@ offering_for settings scrams = record {
   allowed = names_for settings;
 }
 
--- the server of the settings with these states of SCRAM, and these parts selected
-abbrev pub password_server_in : PasswordSettings → (ScramVersion → ServerState) → Option Selected → Option Selected
-    → Option Selected → PasswordState
-password_server_in settings states part selected weaker = record {
+-- the server of the settings with SCRAM in these states, and these parts selected
+abbrev pub password_server_in : PasswordSettings → ScramsAt → ScramsAt → Option Selected → Option Selected → PasswordState
+password_server_in settings plus plain selected part = record {
   inner = record {
-    first = scrams_in settings states selected weaker;
+    first = all_scrams_in settings plus plain selected;
     second = others_of settings;
     selected = part;
   };
@@ -340,11 +417,19 @@ abbrev pub opened : Option SavedExchange → ScramVersion → ServerState
 opened None version = Initial
 opened (Some exchange) version = opened_where (is_version exchange.version version) exchange
 
+-- SCRAM by three hashes before a login, or in the exchange that it continues
+abbrev pub scrams_at : Option SavedExchange → ScramsAt
+scrams_at exchange = record {
+  states = opened exchange;
+  selected = first_asked (asked_of exchange);
+  weaker = second_asked (asked_of exchange);
+}
+
 -- the server before a login, or in the exchange that it continues
 abbrev pub password_server : PasswordSettings → PasswordState
-password_server settings = password_server_in settings (opened settings.restored)
-    (option_map (λ (version : ScramVersion). First) (asked_of settings.restored)) (first_asked (asked_of settings.restored))
-    (second_asked (asked_of settings.restored))
+password_server settings = password_server_in settings (scrams_at (exchange_with true settings.restored))
+    (scrams_at (exchange_with false settings.restored)) (part_asked settings.restored)
+    (option_map (λ (version : ScramVersion). First) (asked_of settings.restored))
 
 -- the settings offer no mechanism
 abbrev pub OffersNothing : PasswordSettings → Type 0
@@ -360,13 +445,16 @@ scram_state scram = ScramAcceptor (served_by (λ store. store) scram) (state_in 
 abbrev pub scrams_state : Scrams → ScramStates
 scrams_state scrams = both_states scram_state (both_states scram_state scram_state) scrams.joined
 
+abbrev pub all_scrams_state : AllScrams → AllScramStates
+all_scrams_state scrams = both_states scrams_state scrams_state scrams.joined.inner.value
+
 abbrev pub others_state : Others → OtherStates
 others_state others =
     both_states (plain_state (λ store. store)) (both_states (λ _. AnonymousAcceptor) external_of) others.joined
 
 -- the state of the server that a value is
 abbrev pub password_state : Server → PasswordState
-password_state server = offering_of (both_states scrams_state others_state) server.acceptors
+password_state server = offering_of (both_states all_scrams_state others_state) server.acceptors
 
 -- an open challenge with its hash
 abbrev pub challenge_with : ScramVersion × OpenChallenge → ScramVersion × ServerChallenge
@@ -381,7 +469,7 @@ state_held (states.Challenge challenge stored) = ServerFirstSent (challenge_kept
 state_held (states.Authenticated user) = ServerFinalSent user.now
 
 abbrev pub restored_held : Restored → SavedExchange
-restored_held held = record { version = held.version; state = state_held held.state }
+restored_held held = record { version = held.version; plus = held.plus; state = state_held held.state }
 
 -- the settings that a builder holds
 abbrev pub settings_of : PasswordServerBuilder → PasswordSettings

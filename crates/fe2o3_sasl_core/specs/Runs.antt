@@ -13,6 +13,7 @@ use Rattle.fe2o3_sasl_core.specs.Events.{Given, Login, ServerSays, Challenged, C
 use Rattle.fe2o3_sasl_core.specs.Bodies.{SpellsBody, carried, server_says}
 use Rattle.fe2o3_sasl_core.specs.Profiles.{Profile, profile_machine, scram_profile, StepAllocates}
 use Rattle.fe2o3_sasl_core.specs.Hex.{SpellsHex}
+use Rattle.fe2o3_sasl_core.specs.declared.client_options.ClientOptions.{ClientOptions}
 use Rattle.fe2o3_sasl_core.specs.declared.events.ClientReply.{ClientReply}
 use Rattle.fe2o3_sasl_core.specs.declared.events.ClientReply.TheVariants as client_replies
 use Rattle.fe2o3_sasl_core.specs.declared.events.Event.{Event}
@@ -145,15 +146,17 @@ login_of version user password limit =
       hostname = None;
     }
 
--- this login, which accepts the signature in a challenge too, or does not
-abbrev pub accepting : Bool → Login → Login
-accepting signature_by_challenge login = record {
-  user = login.user;
-  secret = login.secret;
-  version = login.version;
-  limits = login.limits;
-  channel = login.channel;
-  strict = login.strict;
-  signature_by_challenge = signature_by_challenge;
-  hostname = login.hostname;
-}
+-- the login of these words with the options of a client, with the password as typed, without a hostname
+abbrev pub login_with : ClientOptions → ScramVersion → List ℕ → List ℕ → Login
+login_with options version user password =
+    let secret = Password (Typed password) in
+    record {
+      user = user;
+      secret = secret;
+      version = version;
+      limits = options.limits;
+      channel = options.channel;
+      strict = options.strict;
+      signature_by_challenge = options.signature_by_challenge;
+      hostname = None;
+    }

@@ -3,10 +3,12 @@
 ghost use Rattle.std.specs.Prelude.{◌≡◌, ◌≢◌, ◌↔◌, true, false, Some, IfOk, IfErr, OnOk, MatchBool, MatchOption, List, ℕ, None, ◌&&◌, not, if◌then◌else◌, option_map, is_some};
 ghost use Rattle.std.specs.List.{AllByRecursion, Contains};
 ghost use Rattle.fe2o3_scram.specs.ClientSecret.{IsOfVersion, secret_of, up_to, no_limit};
-ghost use Rattle.fe2o3_sasl_core.specs.ClientPolicy.{bound_channel, by_strength, policy_name, is_allowed, is_from, secret_for, scram_by, plain_by, profile_by, unbound_channel, CanTake, IsFirstTaken};
+ghost use Rattle.fe2o3_sasl_core.specs.ClientPolicy.{bound_channel, by_strength, policy_name, is_allowed, is_from, secret_for, scram_by, plain_by, profile_by, unbound_channel, CanTake, IsFirstTaken, SelectsProfile};
 ghost use Rattle.fe2o3_sasl_core.specs.declared.client_policy.ClientPolicy.{ClientPolicy as PolicyOf};
 ghost use Rattle.fe2o3_sasl_core.specs.SaslProfile.{profile_of};
 ghost use Rattle.fe2o3_sasl_core.specs.declared.client_policy.ChoiceError.TheVariants.{OutOfMemory as OutOfMemoryError};
+
+pub mod laws;
 
 use crate::OutOfMemory;
 use crate::mechanism_names::{ANONYMOUS, EXTERNAL, PLAIN};
@@ -159,7 +161,8 @@ impl ClientPolicy {
     }
 
     /// Binds this channel (RFC 5802, section 6): the client prefers the mechanisms with `-PLUS`. If the server offers
-    /// none that it can select, it says so (`y,,`), and a server that did offer one rejects it.
+    /// none that it can select, it says so (`y,,`), and a server that did offer one rejects it
+    /// (`laws::selected_channels`).
     pub fn bind_channel(self, channel: ChannelBinding) -> Self
         ensures { result ≡ record self { channel = Some channel } }
     {
@@ -442,7 +445,8 @@ fn profile_by_mechanism(
 /// Returns the profile for the strongest mechanism that is offered, that the policy allows and for which the secret
 /// serves. The order is SCRAM-SHA-512-PLUS, SCRAM-SHA-256-PLUS, SCRAM-SHA-1-PLUS, these three without `-PLUS`,
 /// EXTERNAL, PLAIN, ANONYMOUS. Keys serve for SCRAM of their own version; of a password with keys, other versions and
-/// PLAIN use the password. The profile has sent nothing.
+/// PLAIN use the password. The profile has sent nothing. `laws::selected_channels` says what it does with a channel.
+///
 /// Errors: `NoAcceptableMechanism` if there is no such mechanism, and otherwise `OutOfMemory`.
 pub fn select_mechanism(
     alloc: Global,
@@ -451,9 +455,8 @@ pub fn select_mechanism(
     secret: &ClientSecret<'_>,
     policy: ClientPolicy,
 ) -> Result<SaslProfile, ChoiceError>
-    ensures ok { IfOk result (λ profile. (mechanism : Mechanism)
-        × IsFirstTaken policy username.now (secret_of secret.now) offer.now by_strength mechanism
-        × (profile_by policy username.now (secret_of secret.now) mechanism ≡ Some (profile_of profile))) }
+    ensures ok { IfOk result (λ profile.
+        SelectsProfile policy username.now (secret_of secret.now) offer.now (profile_of profile)) }
     ensures err { IfErr result (λ error. error ≢ ChoiceError.OutOfMemory
         → AllByRecursion (λ other. ¬ CanTake policy username.now (secret_of secret.now) offer.now other) by_strength) }
     ensures memory { (result ≡ Err ChoiceError.OutOfMemory)

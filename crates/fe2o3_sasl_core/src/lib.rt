@@ -6,6 +6,7 @@
 #![tactic(auto)]
 
 pub mod any_mechanism;
+pub mod client_options;
 pub mod client_policy;
 pub mod events;
 pub mod external_server;
@@ -22,6 +23,7 @@ pub mod steps;
 pub mod whole_runs;
 
 pub use crate::any_mechanism::{AnyMechanism, HasMechanism, Selected};
+pub use crate::client_options::ClientOptions;
 pub use crate::client_policy::{ChoiceError, ClientPolicy, Mechanism, select_mechanism};
 pub use crate::events::{ClientReply, Event, EventError, ServerReply};
 pub use crate::external_server::{ExternalServer, NoExternalIdentity};
@@ -46,6 +48,6 @@ pub use crate::steps::{
 };
 pub use crate::whole_runs::{
     run_acceptor, run_profile, scram_client_run, scram_client_run_limited,
-    scram_client_run_with_signature_by_challenge, scram_server_run, scram_server_run_with_rules,
+    scram_client_run_with_options, scram_server_run, scram_server_run_with_rules,
 };
 pub use std::alloc::AllocError as OutOfMemory;

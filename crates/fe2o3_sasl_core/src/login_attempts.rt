@@ -1,13 +1,15 @@
 //! What the inits of a connection claim (AMQP 1.0, part 5, section 5.3.3.2), and an acceptor that keeps the last claim,
 //! also after a rejection.
 
-ghost use Rattle.std.specs.Prelude.{◌≡◌, ◌⊎◌, ◌≤◌, ◌^◌, ℕ, List, None, Ok, IfOk, IfErr, OnErr, MatchOption, option_map, string_bytes};
+ghost use Rattle.std.specs.Prelude.{◌≡◌, ◌≢◌, ◌⊎◌, ◌≤◌, ◌^◌, ℕ, Bool, List, None, Ok, IfOk, IfErr, OnErr, MatchOption, option_map, string_bytes};
 ghost use Rattle.std.specs.Cow.{cow_str_bytes};
 ghost use Rattle.fe2o3_sasl_wire.specs.AmqpTypes.{binary_bytes, init_frame, response_frame};
-ghost use Rattle.fe2o3_scram.specs.ClientFirst.{ClientFirst as FirstValues, HasEscapes, ReadsClientFirst, either_header};
+ghost use Rattle.fe2o3_scram.specs.ChannelBinding.{mechanism_of};
+ghost use Rattle.fe2o3_scram.specs.ClientFirst.{ClientFirst as FirstValues, HasEscapes, ReadsClientFirst};
+ghost use Rattle.fe2o3_scram.specs.declared.hmac.ScramVersion.{ScramVersion as VersionOf};
 ghost use Rattle.fe2o3_sasl_core.specs.Costs.{CostsAtMost};
 ghost use Rattle.fe2o3_sasl_core.specs.SaslAcceptor.{HasReason, reason_in, sent_frame};
-ghost use Rattle.fe2o3_sasl_core.specs.LoginAttempts.{ClaimAllocates, ClaimIn, ClaimOf, IsAttempt, Recorded, attempt_of, recorded_allocates, recorded_hmacs, recorded_machine, recorded_of, recorded_reasons, rejection_in};
+ghost use Rattle.fe2o3_sasl_core.specs.LoginAttempts.{ClaimAllocates, ClaimIn, ClaimOf, IsAttempt, Recorded, attempt_of, headers_of, recorded_allocates, recorded_hmacs, recorded_machine, recorded_of, recorded_reasons, rejection_in};
 
 pub mod laws;
 
@@ -18,7 +20,11 @@ use crate::plain_server::plain_user;
 use crate::rejection::Rejection;
 use crate::sasl_acceptor::{AuthenticatedUser, SaslAcceptor, SaslServerFrame};
 use fe2o3_sasl_wire::{Array, SaslInit, SaslResponse, Symbol};
-use fe2o3_scram::hmac::{Meter, ScramVersion};
+use fe2o3_scram::channel_binding::{ChannelBindings, ChannelData};
+use fe2o3_scram::hmac::{
+    Meter, SCRAM_SHA_1, SCRAM_SHA_1_PLUS, SCRAM_SHA_256, SCRAM_SHA_256_PLUS, SCRAM_SHA_512,
+    SCRAM_SHA_512_PLUS,
+};
 use fe2o3_scram::scram_messages::ServerScramErrorKind;
 use fe2o3_scram::{ClientFirst, ServerRules};
 use std::alloc::{AllocError, Global};
@@ -67,6 +73,9 @@ impl Clone for LoginAttempt {
 ///
 /// - For SCRAM-SHA-1, SCRAM-SHA-256 and SCRAM-SHA-512 it is the unescaped name of the client-first message, whose GS2
 ///   header is `n,,` or `y,,` (RFC 5802, section 7).
+/// - For SCRAM-SHA-1-PLUS, SCRAM-SHA-256-PLUS and SCRAM-SHA-512-PLUS it is the unescaped name of the client-first
+///   message, whose GS2 header is `p=tls-unique,,`, `p=tls-server-end-point,,` or `p=tls-exporter,,` (RFC 5802, sections
+///   6 and 7). The message is read strictly, like by every server that binds channels ([`ServerRules::strict`]).
 /// - For PLAIN it is the name that `plain_user` returns (RFC 4616, section 2).
 /// - For every other mechanism, and for a message that cannot be parsed, it is `None`.
 ///
@@ -80,8 +89,8 @@ pub fn claimed_user(
     ensures ok { IfOk result (λ user. ClaimOf mechanism.now message.now (option_map string_bytes user)) }
     ensures memory { IfErr result (λ _. ClaimAllocates mechanism.now message.now) }
 {
-    if let Some(_) = ScramVersion::from_mechanism(mechanism) {
-        return scram_user(alloc, message);
+    if let Some(plus) = binds_channel(mechanism) {
+        return scram_user(alloc, message, headers_of(plus));
     }
     if mechanism != PLAIN {
         return Ok(None);
@@ -89,6 +98,46 @@ pub fn claimed_user(
     match plain_user(message) {
         Some(user) => Ok(Some(user.to_string(alloc)?)),
         None => Ok(None),
+    }
+}
+
+/// Returns whether SCRAM of this name binds a channel (RFC 5802, section 4), or `None` for every other mechanism.
+fn binds_channel(mechanism: &str) -> Option<bool>
+    ensures { MatchOption result
+        ((version : VersionOf) (plus : Bool) → mechanism_of version plus ≢ mechanism.now)
+        (λ plus. (version : VersionOf) × (mechanism_of version plus ≡ mechanism.now)) }
+{
+    match mechanism {
+        SCRAM_SHA_1 | SCRAM_SHA_256 | SCRAM_SHA_512 => Some(false),
+        SCRAM_SHA_1_PLUS | SCRAM_SHA_256_PLUS | SCRAM_SHA_512_PLUS => Some(true),
+        _ => None,
+    }
+}
+
+/// Returns which GS2 headers belong to SCRAM: with `-PLUS` those of any kind of channel binding, and without it `n,,`
+/// and `y,,` (RFC 5802, section 6).
+fn headers_of(plus: bool) -> ServerRules
+    ensures { result ≡ headers_of plus }
+{
+    if !plus {
+        return ServerRules {
+            accept_cbind_flag_y: true,
+            strict: false,
+            channels: None,
+        };
+    }
+    let no_data = ChannelData {
+        bytes: [0; 64],
+        len: 0,
+    };
+    ServerRules {
+        accept_cbind_flag_y: false,
+        strict: false,
+        channels: Some(ChannelBindings {
+            tls_unique: Some(no_data),
+            tls_server_end_point: Some(no_data),
+            tls_exporter: Some(no_data),
+        }),
     }
 }
 
@@ -103,20 +152,19 @@ fn user_of_init(alloc: Global, init: &SaslInit) -> Result<Option<String>, OutOfM
     }
 }
 
-/// Returns the user name of a client-first message after either GS2 header, or `None` if it cannot be parsed.
+/// Returns the user name of a client-first message that these rules accept, or `None` if it cannot be parsed.
 #[tactic(auto, using(crate::proofs::lemmas::machines::LoginAttemptLemmas::unread))]
-fn scram_user(alloc: Global, message: &[u8]) -> Result<Option<String>, OutOfMemory>
+fn scram_user(
+    alloc: Global,
+    message: &[u8],
+    rules: ServerRules,
+) -> Result<Option<String>, OutOfMemory>
     ensures ok { IfOk result (λ user. MatchOption (option_map string_bytes user)
-        ((first : FirstValues) → ¬ ReadsClientFirst either_header message.now (Ok first))
-        (λ name. (first : FirstValues) × ReadsClientFirst either_header message.now (Ok first) × (name ≡ first.user))) }
-    ensures memory { IfErr result (λ _. HasEscapes either_header message.now
-        ⊎ ((first : FirstValues) × ReadsClientFirst either_header message.now (Ok first))) }
+        ((first : FirstValues) → ¬ ReadsClientFirst rules message.now (Ok first))
+        (λ name. (first : FirstValues) × ReadsClientFirst rules message.now (Ok first) × (name ≡ first.user))) }
+    ensures memory { IfErr result (λ _. HasEscapes rules message.now
+        ⊎ ((first : FirstValues) × ReadsClientFirst rules message.now (Ok first))) }
 {
-    let rules = ServerRules {
-        accept_cbind_flag_y: true,
-        strict: false,
-        channels: None,
-    };
     match ClientFirst::parse_with_rules(alloc, message, rules) {
         Ok(first) => Ok(Some(first.username.as_str().to_string(alloc)?)),
         Err(ServerScramErrorKind::OutOfMemory) => Err(OutOfMemory),

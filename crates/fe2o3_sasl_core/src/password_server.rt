@@ -7,14 +7,16 @@ ghost use Rattle.fe2o3_scram.specs.Credentials.{serving};
 ghost use Rattle.fe2o3_scram.specs.MockSettings.{mocking};
 ghost use Rattle.fe2o3_sasl_core.specs.SaslAcceptor.{AnonymousAcceptor, ScramAcceptor};
 
+mod all_scrams;
+mod boxed;
 mod builder;
 mod others;
 mod scrams;
 
 use crate::OutOfMemory;
 use crate::any_mechanism::{AnyMechanism, HasMechanism, Selected};
+use crate::password_server::all_scrams::AllScrams;
 use crate::password_server::others::Others;
-use crate::password_server::scrams::Scrams;
 use crate::restrict_mechanisms::RestrictMechanisms;
 use crate::sasl_acceptor::{AuthenticatedUser, SaslAcceptor, SaslServerFrame};
 pub use builder::{BuildError, PasswordServerBuilder, ScramHashes};
@@ -24,10 +26,10 @@ use fe2o3_scram::hmac::{Meter, ScramVersion};
 use std::alloc::{AllocError, Global};
 
 /// The acceptors of a server, of which it may offer only some.
-type Acceptors = RestrictMechanisms<AnyMechanism<Scrams, Others>>;
+type Acceptors = RestrictMechanisms<AnyMechanism<AllScrams, Others>>;
 
-/// A server of SCRAM-SHA-512, SCRAM-SHA-256, SCRAM-SHA-1, PLAIN, ANONYMOUS and EXTERNAL, of which it may offer only
-/// some. [`PasswordServerBuilder`] builds it.
+/// A server of SCRAM-SHA-512, SCRAM-SHA-256 and SCRAM-SHA-1, each with `-PLUS` and without it, and of PLAIN, ANONYMOUS
+/// and EXTERNAL. It may offer only some of them. [`PasswordServerBuilder`] builds it.
 ///
 /// The struct hides the types of its acceptors, which a caller would otherwise prove at each exit.
 #[derive(Drop)]
@@ -77,10 +79,22 @@ impl SaslAcceptor for PasswordServer {
     ghost clone_keeps = { λ server copy same i. record {
       inner = record {
         first = record {
-          first = ScramAcceptor (mocking (same.0.0.0.3 i) (serving (same.0.0.0.1 i) (same.0.0.0.0 i))) (same.0.0.0.2 i);
+          first = record {
+            first = ScramAcceptor (mocking (same.0.0.0.0.3 i) (serving (same.0.0.0.0.1 i) (same.0.0.0.0.0 i))) (same.0.0.0.0.2 i);
+            second = record {
+              first = ScramAcceptor (mocking (same.0.0.0.1.0.3 i) (serving (same.0.0.0.1.0.1 i) (same.0.0.0.1.0.0 i))) (same.0.0.0.1.0.2 i);
+              second = ScramAcceptor (mocking (same.0.0.0.1.1.3 i) (serving (same.0.0.0.1.1.1 i) (same.0.0.0.1.1.0 i))) (same.0.0.0.1.1.2 i);
+              selected = same.0.0.0.1.2 i;
+            };
+            selected = same.0.0.0.2 i;
+          };
           second = record {
             first = ScramAcceptor (mocking (same.0.0.1.0.3 i) (serving (same.0.0.1.0.1 i) (same.0.0.1.0.0 i))) (same.0.0.1.0.2 i);
-            second = ScramAcceptor (mocking (same.0.0.1.1.3 i) (serving (same.0.0.1.1.1 i) (same.0.0.1.1.0 i))) (same.0.0.1.1.2 i);
+            second = record {
+              first = ScramAcceptor (mocking (same.0.0.1.1.0.3 i) (serving (same.0.0.1.1.0.1 i) (same.0.0.1.1.0.0 i))) (same.0.0.1.1.0.2 i);
+              second = ScramAcceptor (mocking (same.0.0.1.1.1.3 i) (serving (same.0.0.1.1.1.1 i) (same.0.0.1.1.1.0 i))) (same.0.0.1.1.1.2 i);
+              selected = same.0.0.1.1.2 i;
+            };
             selected = same.0.0.1.2 i;
           };
           selected = same.0.0.2 i;

@@ -3,7 +3,7 @@
 ghost use Rattle.std.specs.Prelude.{◌≡◌, ◌++◌, ◌∷◌, false, IfOk, IfErr, OnOk, OnErr, IsAscii, option_map, string_bytes};
 ghost use Rattle.fe2o3_sasl_wire.specs.AmqpTypes.{binary_bytes};
 ghost use Rattle.fe2o3_sasl_core.specs.Profiles.{ScramProfile, PlainProfile, MessageProfile, AnonymousMessage, ExternalMessage, scram_profile, profile_name, initial_response, after_init};
-ghost use Rattle.fe2o3_sasl_core.specs.Runs.{accepting, login_of};
+ghost use Rattle.fe2o3_sasl_core.specs.Runs.{login_with};
 ghost use Rattle.fe2o3_sasl_core.specs.SaslProfile.{RefusesUrl, HasCredentials, profile_of};
 
 mod error;
@@ -14,6 +14,7 @@ mod scram_frames;
 mod single_message;
 
 use crate::OutOfMemory;
+use crate::client_options::ClientOptions;
 use crate::mechanism_names::{ANONYMOUS, EXTERNAL, PLAIN, symbol_of};
 pub use error::{ProfileError, UrlError};
 use fe2o3_sasl_wire::{Binary, SaslInit, SaslOutcome, SaslResponse, Symbol};
@@ -124,20 +125,23 @@ impl SaslProfile {
         })
     }
 
-    /// Returns a SCRAM profile of this version that has sent nothing, and rejects an iteration count above the limit.
-    /// With `signature_by_challenge` it accepts the server's signature in a challenge too.
+    /// Returns a SCRAM profile of this version with these options, which has sent nothing.
     pub(crate) fn scram(
         username: String,
         password: String,
         version: ScramVersion,
-        limit: u32,
-        signature_by_challenge: bool,
+        options: ClientOptions,
     ) -> SaslProfile
-        ensures { profile_of result ≡ scram_profile (accepting signature_by_challenge
-            (login_of version (string_bytes username) (string_bytes password) limit)) }
+        ensures { profile_of result
+            ≡ scram_profile (login_with options version (string_bytes username) (string_bytes password)) }
     {
-        let client = ScramClient::new(username, password, version).with_iteration_limit(limit);
-        SaslProfile::scram_of(client.signature_by_challenge(signature_by_challenge))
+        let client = ScramClient::new(username, password, version)
+            .with_min_iterations(options.limits.min_iterations)
+            .with_iteration_limit(options.limits.max_iterations)
+            .with_channel(options.channel)
+            .strict(options.strict)
+            .signature_by_challenge(options.signature_by_challenge);
+        SaslProfile::scram_of(client)
     }
 
     /// Returns the name of the mechanism.

@@ -2,6 +2,7 @@
 //! 5.3.2).
 
 ghost use Rattle.std.specs.Prelude.{◌≡◌, ◌<◌, ◌≤◌, ◌+◌, ◌++◌, ◌∷◌, [], map, IfOk, OnErr, vec_len, vec_capacity};
+ghost use Rattle.base64.specs.GeneralPurpose.{IsBytes};
 ghost use Rattle.fe2o3_sasl_wire.specs.FrameView.{shown};
 ghost use Rattle.fe2o3_scram.specs.ClientFirst.{default_rules};
 ghost use Rattle.fe2o3_scram.specs.Credentials.{serving};
@@ -12,15 +13,17 @@ ghost use Rattle.fe2o3_sasl_core.specs.ServerHistory.{ServerHistory};
 ghost use Rattle.fe2o3_sasl_core.specs.Headline.{AnswersOkExactly, ReportsOkExactly, TakenVerifiersAgree};
 ghost use Rattle.fe2o3_sasl_core.specs.UnalteredRuns.{ClientLogsIn, ServerLogsIn};
 ghost use Rattle.fe2o3_sasl_core.specs.SaslProfile.{profile_of};
-ghost use Rattle.fe2o3_sasl_core.specs.Runs.{AcceptorSteps, ProfileSteps, Runs, StartsAs, given, server_answer, client_answer, accepting, login_of};
+ghost use Rattle.fe2o3_sasl_core.specs.Runs.{AcceptorSteps, ProfileSteps, Runs, StartsAs, given, server_answer, client_answer, login_of, login_with};
 
 use crate::OutOfMemory;
+use crate::client_options::ClientOptions;
 use crate::events::{ClientReply, Event, ServerReply};
 use crate::sasl_acceptor::SaslAcceptor;
 use crate::sasl_profile::{ProfileError, SaslProfile};
 use crate::steps::{acceptor_step, profile_step};
 use fe2o3_sasl_wire::Error;
 use fe2o3_scram::ServerRules;
+use fe2o3_scram::client_secret::IterationLimits;
 use fe2o3_scram::credentials::ScramCredentialProvider;
 use fe2o3_scram::hmac::ScramVersion;
 use fe2o3_scram::scram_server::ScramAuthenticator;
@@ -154,43 +157,43 @@ pub fn scram_client_run_limited(
     ensures unaltered { IfOk result (λ replies. ClientLogsIn (login_of version user.now password.now limit)
         (map given events.now) (map client_answer replies.items)) }
 {
-    scram_client_run_with_signature_by_challenge(
-        alloc, user, password, version, limit, false, events,
-    )
+    let options = ClientOptions {
+        limits: IterationLimits::up_to(limit),
+        ..ClientOptions::new()
+    };
+    scram_client_run_with_options(alloc, user, password, version, options, events)
 }
 
-/// Like `scram_client_run_limited`, but with `signature_by_challenge` the client accepts the server's signature in a
-/// challenge too, which it answers by an empty response. It then reports an Ok without data
-/// (`ScramClient::signature_by_challenge`; RFC 4422, section 5).
-pub fn scram_client_run_with_signature_by_challenge(
+/// Like `scram_client_run`, but the client has these options. One that binds a channel or is strict rejects an attribute
+/// that RFC 5802 defines in the place of an extension (`ScramClient::strict`).
+pub fn scram_client_run_with_options(
     alloc: Global,
     user: &str,
     password: &str,
     version: ScramVersion,
-    limit: u32,
-    signature_by_challenge: bool,
+    options: ClientOptions,
     events: &[Event],
 ) -> Result<Vec<Result<ClientReply, ProfileError>>, OutOfMemory>
-    ensures history { IfOk result (λ replies. ClientHistory (accepting signature_by_challenge
-        (login_of version user.now password.now limit)) (map given events.now) (map client_answer replies.items)) }
-    ensures exactly { IfOk result (λ replies. ReportsOkExactly (accepting signature_by_challenge
-        (login_of version user.now password.now limit)) (map given events.now) (map client_answer replies.items)) }
-    ensures agreement { IfOk result (λ replies. TakenVerifiersAgree (accepting signature_by_challenge
-        (login_of version user.now password.now limit)) (map given events.now) (map client_answer replies.items)) }
-    ensures unaltered { IfOk result (λ replies. ClientLogsIn (accepting signature_by_challenge
-        (login_of version user.now password.now limit)) (map given events.now) (map client_answer replies.items)) }
+    ensures history { IfOk result (λ replies. ClientHistory (login_with options version user.now password.now)
+        (map given events.now) (map client_answer replies.items)) }
+    ensures exactly { IfOk result (λ replies. ReportsOkExactly (login_with options version user.now password.now)
+        (map given events.now) (map client_answer replies.items)) }
+    ensures agreement { IfOk result (λ replies. TakenVerifiersAgree (login_with options version user.now password.now)
+        (map given events.now) (map client_answer replies.items)) }
+    ensures unaltered { IfOk result (λ replies. ClientLogsIn (login_with options version user.now password.now)
+        (map given events.now) (map client_answer replies.items)) }
 {
+    are_bytes(options.channel.data());
     let username = String::from_str(alloc, user)?;
     let password = String::from_str(alloc, password)?;
-    let mut profile = SaslProfile::scram(
-        username,
-        password,
-        version,
-        limit,
-        signature_by_challenge,
-    );
+    let mut profile = SaslProfile::scram(username, password, version, options);
     run_profile(alloc, &mut profile, events, None)
 }
+
+/// States that these are bytes. The function does nothing: it is called for its clause.
+fn are_bytes(bytes: &[u8])
+    ensures { IsBytes bytes.now }
+{}
 
 /// Adds an item, for which there is room.
 fn push_within<T: Drop>(items: &mut Vec<T>, item: T)

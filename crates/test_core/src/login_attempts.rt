@@ -102,3 +102,41 @@ fn claimed_users(rt: HostRuntime) {
     claims_user(&rt, "PLAIN", "us,er", None);
     claims_user(&rt, "ANONYMOUS", "us,er", None);
 }
+
+#[test]
+fn claimed_users_with_plus(rt: HostRuntime) {
+    let plus = "SCRAM-SHA-256-PLUS";
+    claims_user(
+        &rt,
+        "SCRAM-SHA-1-PLUS",
+        "p=tls-unique,,n=us=2Cer,r=abc",
+        Some(USER),
+    );
+    claims_user(
+        &rt,
+        plus,
+        "p=tls-server-end-point,,n=us=2Cer,r=abc",
+        Some(USER),
+    );
+    claims_user(
+        &rt,
+        "SCRAM-SHA-512-PLUS",
+        "p=tls-exporter,,n=us=2Cer,r=abc",
+        Some(USER),
+    );
+    claims_user(&rt, plus, "p=tls-exporter,,n=us=2Cer,r=abc,x=1", Some(USER));
+    claims_user(&rt, plus, "p=tls-exporter,,n=us=2,r=abc", None);
+    claims_user(&rt, plus, "p=tls-exporter,,n=us=2Cer,r=abc,i=1", None);
+    claims_user(&rt, plus, "p=tls-other,,n=us=2Cer,r=abc", None);
+    claims_user(&rt, plus, "p=tls-exporter,a=id,n=us=2Cer,r=abc", None);
+    claims_user(&rt, plus, "n,,n=us=2Cer,r=abc", None);
+    claims_user(&rt, plus, "y,,n=us=2Cer,r=abc", None);
+    claims_user(&rt, SCRAM, "p=tls-exporter,,n=us=2Cer,r=abc", None);
+    claims_user(&rt, SCRAM, "n,,n=us=2Cer,r=abc,i=1", Some(USER));
+    claims_user(
+        &rt,
+        "scram-sha-256-plus",
+        "p=tls-exporter,,n=us=2Cer,r=abc",
+        None,
+    );
+}

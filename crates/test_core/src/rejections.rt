@@ -3,6 +3,7 @@
 use crate::printed::tell;
 use crate::values::bytes;
 use fe2o3_sasl::any_mechanism::HasMechanism;
+use fe2o3_sasl::channel_binding::{ChannelBindings, ChannelData};
 use fe2o3_sasl::credentials::MultiRecordStore;
 use fe2o3_sasl::extra_challenges::{ExtraChallenges, WithExtraChallenges};
 use fe2o3_sasl::login_attempts::WithLastAttempt;
@@ -78,6 +79,47 @@ static ASKED: [Row; 2] = [
     (Some("PLAIN"), None, Some(Rejection::UnexpectedInit)),
 ];
 
+/// A reason for a header that the server does not accept.
+const OTHER_HEADER: Option<Rejection> = Some(Rejection::Scram(
+    ServerScramErrorKind::CannotParseGs2Header,
+));
+
+/// Inits to a server that binds `tls-exporter` (RFC 5802, section 6). It accepts no `y,,`, with `-PLUS` or without it.
+static BOUND: [Row; 8] = [
+    (
+        Some("SCRAM-SHA-256-PLUS"),
+        Some("p=tls-exporter,,n=user,r=abc"),
+        None,
+    ),
+    (
+        Some("SCRAM-SHA-256-PLUS"),
+        Some("p=tls-unique,,n=user,r=abc"),
+        OTHER_HEADER,
+    ),
+    (
+        Some("SCRAM-SHA-256-PLUS"),
+        Some("n,,n=user,r=abc"),
+        OTHER_HEADER,
+    ),
+    (
+        Some("SCRAM-SHA-256-PLUS"),
+        Some("y,,n=user,r=abc"),
+        OTHER_HEADER,
+    ),
+    (Some("SCRAM-SHA-256"), Some("y,,n=user,r=abc"), OTHER_HEADER),
+    (Some("SCRAM-SHA-256"), Some("n,,n=user,r=abc"), None),
+    (
+        Some("SCRAM-SHA-256"),
+        Some("p=tls-exporter,,n=user,r=abc"),
+        OTHER_HEADER,
+    ),
+    (
+        Some("SCRAM-SHA-1-PLUS"),
+        Some("p=tls-exporter,,n=user,r=abc"),
+        Some(Rejection::MechanismNotOffered),
+    ),
+];
+
 /// A text for each reason.
 static TEXTS: [(Rejection, &str); 10] = [
     (Rejection::MechanismNotOffered, "Mechanism not offered"),
@@ -104,6 +146,20 @@ fn server<R: Abort + AllocGlobal>(rt: &R) -> PasswordServer {
     let builder = PasswordServerBuilder::new(&users).plain_under_tls(true);
     builder
         .external("user")
+        .build(rt.alloc())
+        .expect(rt, "a server")
+}
+
+/// Returns a server of SCRAM that binds `tls-exporter`, and would accept `y,,` if it bound no channel.
+fn bound_server<R: Abort + AllocGlobal>(rt: &R) -> PasswordServer {
+    let users = MultiRecordStore::parse_lines(rt.alloc(), LINES).expect(rt, "users");
+    let builder = PasswordServerBuilder::new(&users).accept_cbind_flag_y(true);
+    builder
+        .channels(Some(ChannelBindings {
+            tls_unique: None,
+            tls_server_end_point: None,
+            tls_exporter: Some(ChannelData::new(&[7; 32]).expect(rt, "data")),
+        }))
         .build(rt.alloc())
         .expect(rt, "a server")
 }
@@ -147,6 +203,25 @@ fn the_last_rejection(rt: HostRuntime) {
     };
     let asking = WithExtraChallenges::new(server(&rt), extra);
     keeps(&rt, WithLastAttempt::new(asking), &ASKED);
+
+    keeps(&rt, WithLastAttempt::new(bound_server(&rt)), &BOUND);
+}
+
+#[test]
+fn a_server_with_a_channel_offers_plus_first(rt: HostRuntime) {
+    let names = bound_server(&rt)
+        .mechanisms(rt.alloc())
+        .expect(&rt, "memory");
+    let wanted = [
+        "SCRAM-SHA-512-PLUS",
+        "SCRAM-SHA-256-PLUS",
+        "SCRAM-SHA-512",
+        "SCRAM-SHA-256",
+    ];
+    assert!(&rt; names.0.len() == wanted.len());
+    for (name, other) in names.0.iter().zip(wanted.iter()) {
+        assert!(&rt; name.as_str() == *other, "{name:?}");
+    }
 }
 
 #[test]

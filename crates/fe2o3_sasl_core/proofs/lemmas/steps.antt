@@ -2,6 +2,7 @@ pub mod AcceptorReplyLemmas
 pub mod HexEventLemmas
 pub mod HexTextLemmas
 pub mod LongerRunLemmas
+pub mod OptionLemmas
 pub mod ProfileReplyLemmas
 pub mod SignatureStepLemmas
 pub mod WrittenReplyLemmas

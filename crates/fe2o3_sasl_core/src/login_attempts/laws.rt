@@ -1,14 +1,16 @@
 //! Laws of claims, and of a server that keeps the last claim. Each function has an empty body and states only its
 //! contract.
 
-ghost use Rattle.fe2o3_sasl_core.specs.LoginAttemptLaws.{LastAnsweredInitIsKept, OneClaim, RecordedBoundsHold, RecordedChallengesOnlyAtInit, RecordedCostsLikeAcceptor, RecordedOneReplyIsKept, RecordedRepliesLikeAcceptor, RecordedRunsLikeAcceptor, RecordedSomeReplyIsKept, SomeClaim};
+ghost use Rattle.fe2o3_sasl_core.specs.LoginAttemptLaws.{ClaimsWhatServersRead, LastAnsweredInitIsKept, OneClaim, RecordedBoundsHold, RecordedChallengesOnlyAtInit, RecordedCostsLikeAcceptor, RecordedOneReplyIsKept, RecordedRepliesLikeAcceptor, RecordedRunsLikeAcceptor, RecordedSomeReplyIsKept, SomeClaim};
 
 use crate::any_mechanism::HasMechanism;
 
-/// States that an initial response claims one user name or none, and never both.
+/// States that an initial response claims one user name or none, and never both. A name that a server of SCRAM reads in
+/// a client-first message is claimed to that server's mechanism, with `-PLUS` and without it.
 pub fn claims()
     ensures one { OneClaim }
     ensures some { SomeClaim }
+    ensures servers { ClaimsWhatServersRead }
 {}
 
 /// States that a server that keeps the last claim is its acceptor: it answers each frame alike, makes as many HMAC

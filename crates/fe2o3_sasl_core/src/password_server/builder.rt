@@ -1,6 +1,7 @@
 //! The builder of `PasswordServer`: its options, and the errors of `build`.
 
 ghost use Rattle.std.specs.Prelude.{◌≡◌, [], true, false, Some, None};
+ghost use Rattle.fe2o3_scram.specs.ChannelBinding.{is_required};
 ghost use Rattle.fe2o3_sasl_core.specs.PasswordServer.{settings_of};
 ghost use Rattle.fe2o3_scram.specs.ClientFirst.{default_rules};
 ghost use Rattle.fe2o3_scram.specs.Credentials.{kept};
@@ -16,7 +17,7 @@ use fe2o3_scram::credentials::MultiRecordStore;
 use fe2o3_scram::hmac::ScramVersion;
 use fe2o3_scram::provider::StoredPassword;
 use fe2o3_scram::scram_server::SaltTooLong;
-use fe2o3_scram::{OpenChallenge, ServerRules};
+use fe2o3_scram::{ChannelBindings, OpenChallenge, ServerRules};
 use std::alloc::AllocError;
 use thiserror::Error;
 
@@ -73,10 +74,11 @@ enum RestoredState<'a> {
     Authenticated(&'a str),
 }
 
-/// The exchange that a server continues, with the hash of its mechanism.
+/// The exchange that a server continues, with the hash of its mechanism, and whether that has `-PLUS`.
 #[derive(Clone, Copy)]
 struct Restored<'a> {
     version: ScramVersion,
+    plus: bool,
     state: RestoredState<'a>,
 }
 
@@ -94,7 +96,8 @@ pub struct ScramHashes {
 }
 
 /// Builds a [`PasswordServer`] over the records of a store. Without options the server offers
-/// SCRAM-SHA-512 and SCRAM-SHA-256, in this order, and answers an unknown user with `Auth` at once.
+/// SCRAM-SHA-512 and SCRAM-SHA-256, in this order, and answers an unknown user with `Auth` at once. It offers them with
+/// `-PLUS` too, before the others, if it has a channel to bind.
 ///
 /// ```text
 /// let server = PasswordServerBuilder::new(&records)
@@ -186,7 +189,8 @@ impl<'a> PasswordServerBuilder<'a> {
     }
 
     /// Returns this builder, whose SCRAM accepts the GS2 flag `y` if `accept` is true
-    /// (`ScramAuthenticator::accept_cbind_flag_y`).
+    /// (`ScramAuthenticator::accept_cbind_flag_y`). It has no effect beside `channels`: a server that binds channels
+    /// rejects such a client, since someone has removed a mechanism from the offer (RFC 5802, section 6).
     pub fn accept_cbind_flag_y(self, accept: bool) -> Self
         ensures { settings_of result ≡ record (settings_of self.entry) {
           rules = record ((settings_of self.entry).rules) { accept_cbind_flag_y = accept };
@@ -200,7 +204,24 @@ impl<'a> PasswordServerBuilder<'a> {
         builder
     }
 
-    /// Returns this builder, whose SCRAM is strict if `strict` is true (`ScramAuthenticator::strict`).
+    /// Returns this builder, which also offers SCRAM with `-PLUS`, by the same hashes, if it has a channel to bind: a
+    /// client that binds a channel has to bind this one, by a kind whose data are here (RFC 5802, section 6;
+    /// `ScramAuthenticator::with_channels`). A client that supports no channel binding still logs in without `-PLUS`.
+    pub fn channels(self, channels: Option<ChannelBindings>) -> Self
+        ensures { settings_of result ≡ record (settings_of self.entry) {
+          rules = record ((settings_of self.entry).rules) { channels = channels };
+        } }
+    {
+        let mut builder = self;
+        builder.rules = ServerRules {
+            channels,
+            ..self.rules
+        };
+        builder
+    }
+
+    /// Returns this builder, whose SCRAM is strict if `strict` is true (`ScramAuthenticator::strict`). With `-PLUS` it
+    /// always is.
     pub fn strict(self, strict: bool) -> Self
         ensures { settings_of result ≡ record (settings_of self.entry) {
           rules = record ((settings_of self.entry).rules) { strict = strict };
@@ -269,7 +290,7 @@ impl<'a> PasswordServerBuilder<'a> {
 
     /// Returns this builder, whose server has this open challenge of SCRAM by this hash, as
     /// `PasswordServer::open_challenge` returned it, and this record of its user
-    /// (`ScramAuthenticator::restore_challenge`).
+    /// (`ScramAuthenticator::restore_challenge`). Its mechanism has `-PLUS` if the client bound a channel.
     pub fn open_challenge(
         self,
         version: ScramVersion,
@@ -279,6 +300,7 @@ impl<'a> PasswordServerBuilder<'a> {
         ensures { settings_of result ≡ record (settings_of self.entry) {
           restored = Some (record {
             version = version;
+            plus = is_required challenge.now.header;
             state = ServerFirstSent (challenge_kept challenge.now) (kept stored.now);
           });
         } }
@@ -286,6 +308,7 @@ impl<'a> PasswordServerBuilder<'a> {
         let mut builder = self;
         builder.restored = Some(Restored {
             version,
+            plus: challenge.header.is_required(),
             state: RestoredState::Challenge { challenge, stored },
         });
         builder
@@ -293,15 +316,16 @@ impl<'a> PasswordServerBuilder<'a> {
 
     /// Returns this builder, whose server has authenticated this user by SCRAM with this hash
     /// (`ScramAuthenticator::restore_authenticated`). The caller vouches for the name. It replaces an open challenge of
-    /// this builder.
+    /// this builder. Whether the login had `-PLUS` plays no part any more.
     pub fn authenticated(self, version: ScramVersion, username: &'a str) -> Self
         ensures { settings_of result ≡ record (settings_of self.entry) {
-          restored = Some (record { version = version; state = ServerFinalSent username.now });
+          restored = Some (record { version = version; plus = false; state = ServerFinalSent username.now });
         } }
     {
         let mut builder = self;
         builder.restored = Some(Restored {
             version,
+            plus: false,
             state: RestoredState::Authenticated(username),
         });
         builder

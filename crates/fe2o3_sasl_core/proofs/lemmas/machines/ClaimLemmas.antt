@@ -1,32 +1,43 @@
--- An initial response claims one user name, or none: `one_claim`, `some_claim`.
-use Rattle.std.proofs.Common.{◌≡◌, ◌≢◌, ◌⊎◌, ◌≤◌, ℕ, arith, Option, Some, None, List, [], length, codes, refl, sym, ap, ◌∙◌, inl, inr, Result, Ok, Err}
+-- An initial response claims one user name, or none: `one_claim`, `some_claim`. What a server of SCRAM reads is claimed:
+-- `claims_what_servers_read`.
+use Rattle.std.proofs.Common.{Bool, true, false, ◌≡◌, ◌≢◌, ◌⊎◌, ◌≤◌, ℕ, arith, Option, Some, None, List, [], length, codes, refl, sym, ap, subst, ◌∙◌, inl, inr, Result, Ok, Err}
 use Rattle.std.proofs.lemmas.Bool.{cases_lt}
+use Rattle.std.specs.Prelude.{◌||◌, T, is_some}
 use Rattle.fe2o3_scram.specs.declared.hmac.ScramVersion.{ScramVersion}
 use Rattle.fe2o3_scram.specs.declared.hmac.ScramVersion.TheVariants as versions
 use Rattle.fe2o3_scram.specs.declared.scram_messages.error.ServerScramErrorKind.{ServerScramErrorKind}
-use Rattle.fe2o3_scram.specs.ClientFirst.{ClientFirst, ReadsClientFirst, either_header}
-use Rattle.fe2o3_scram.specs.Hmac.{mechanism_name}
+use Rattle.fe2o3_scram.specs.declared.scram_messages.server_rules.ServerRules.{ServerRules}
+use Rattle.fe2o3_scram.specs.declared.scram_messages.channel_binding_flag.ChannelBindingFlag.{ChannelBindingFlag}
+use Rattle.fe2o3_scram.specs.declared.scram_messages.channel_binding_flag.ChannelBindingFlag.TheVariants.{NotSupported, ClientSupports, Required}
+use Rattle.fe2o3_scram.specs.declared.channel_binding.ChannelBindings.{ChannelBindings}
+use Rattle.fe2o3_scram.specs.declared.channel_binding.ChannelKind.TheVariants.{TlsUnique, TlsServerEndPoint, TlsExporter}
+use Rattle.fe2o3_scram.specs.ChannelBinding.{TakesFlag, TakesHeader, is_strict, mechanism_of, no_data}
+use Rattle.fe2o3_scram.specs.ClientFirst.{ClientFirst, NamesClientFirst, ReadsClientFirst}
+use Rattle.fe2o3_scram.proofs.lemmas.messages.ClientFirstLemmas.{after_nonce}
 use Rattle.fe2o3_scram.proofs.lemmas.messages.OneValueLemmas.{one_client_first_value}
 use Rattle.fe2o3_scram.proofs.lemmas.messages.SomeReadingLemmas.{some_client_first}
 use Rattle.fe2o3_scram.proofs.lemmas.texts.CutLemmas.{cut_or, uncut}
 use Rattle.fe2o3_scram.proofs.lemmas.texts.DecisionLemmas.{Decided, Found, both_or, not_or, same_or, utf8_or}
-use Rattle.fe2o3_sasl_core.specs.LoginAttemptLaws.{OneClaim, SomeClaim}
-use Rattle.fe2o3_sasl_core.specs.LoginAttempts.{ClaimOf, ClaimsUser}
+use Rattle.fe2o3_sasl_core.specs.LoginAttemptLaws.{ClaimsWhatServersRead, OneClaim, SomeClaim}
+use Rattle.fe2o3_sasl_core.specs.LoginAttempts.{ClaimOf, ClaimsUser, headers_of}
 use Rattle.fe2o3_sasl_core.specs.PlainServer.{IsTaken, PlainParts, SpellsPlain}
-use Rattle.fe2o3_sasl_core.proofs.lemmas.machines.LoginAttemptLemmas.{not_plain, other_claims_none, plain_claims_none, refused, scram_claims_none}
+use Rattle.fe2o3_sasl_core.proofs.lemmas.machines.LoginAttemptLemmas.{not_plain, one_plus, other_claims_none, plain_claims_none, refused, scram_claims_none}
 use Rattle.fe2o3_sasl_core.proofs.lemmas.machines.PlainMessageLemmas.{cut_once, cut_thrice, cut_twice, not_cut, not_taken, not_utf8, one_message}
 
 -- ---- at most one
 
 one_name : (mechanism text name other : List ℕ) → ClaimsUser mechanism text name → ClaimsUser mechanism text other
     → name ≡ other
-one_name mechanism text name other (inl (version, first, is, reads, same)) (inl (version', first', is', reads', same')) =
-    same ∙ (ap (λ (f : ClientFirst). f.user) (one_client_first_value either_header text first first' reads reads')
+one_name mechanism text name other (inl (version, plus, first, is, reads, same))
+    (inl (version', plus', first', is', reads', same')) =
+    let one = one_plus version version' plus plus' (sym is ∙ is') in
+    let both = subst (λ (p : Bool). ReadsClientFirst (headers_of p) text (Ok first)) one reads in
+    same ∙ (ap (λ (f : ClientFirst). f.user) (one_client_first_value (headers_of plus') text first first' both reads')
     ∙ sym same')
-one_name mechanism text name other (inl (version, first, is, reads, same)) (inr (plain, more)) =
-    absurd (not_plain version (sym is ∙ plain))
-one_name mechanism text name other (inr (plain, more)) (inl (version, first, is, reads, same)) =
-    absurd (not_plain version (sym is ∙ plain))
+one_name mechanism text name other (inl (version, plus, first, is, reads, same)) (inr (plain, more)) =
+    absurd (not_plain version plus (sym is ∙ plain))
+one_name mechanism text name other (inr (plain, more)) (inl (version, plus, first, is, reads, same)) =
+    absurd (not_plain version plus (sym is ∙ plain))
 one_name mechanism text name other (inr (plain, (parts, spells, taken, same)))
     (inr (plain', (parts', spells', taken', same'))) =
     same ∙ (ap (λ (p : PlainParts). p.user) (one_message text parts parts' spells spells') ∙ sym same')
@@ -40,23 +51,43 @@ one_claim mechanism text (Some name) (Some other) is too =
 
 -- ---- some
 
-version_or : (mechanism : List ℕ) → Found (λ (version : ScramVersion). mechanism_name version ≡ mechanism)
-version_or mechanism = elim (same_or (mechanism_name versions.Sha1) mechanism) [
+-- whether a name is one of SCRAM, with -PLUS or without it
+abbrev IsName : List ℕ → ScramVersion × Bool → Type 0
+IsName mechanism named = mechanism_of named.0 named.1 ≡ mechanism
+
+version_or : (mechanism : List ℕ) (plus : Bool) → Found (λ (version : ScramVersion). mechanism_of version plus ≡ mechanism)
+version_or mechanism plus = elim (same_or (mechanism_of versions.Sha1 plus) mechanism) [
   | inl is ↦ inl (versions.Sha1, is)
-  | inr first ↦ elim (same_or (mechanism_name versions.Sha256) mechanism) [
+  | inr first ↦ elim (same_or (mechanism_of versions.Sha256 plus) mechanism) [
     | inl is ↦ inl (versions.Sha256, is)
-    | inr second ↦ elim (same_or (mechanism_name versions.Sha512) mechanism) [
+    | inr second ↦ elim (same_or (mechanism_of versions.Sha512 plus) mechanism) [
       | inl is ↦ inl (versions.Sha512, is)
       | inr third ↦ inr (none first second third)
     ]
   ]
 ]
   where
-    none : mechanism_name versions.Sha1 ≢ mechanism → mechanism_name versions.Sha256 ≢ mechanism
-        → mechanism_name versions.Sha512 ≢ mechanism → (version : ScramVersion) → mechanism_name version ≢ mechanism
+    none : mechanism_of versions.Sha1 plus ≢ mechanism → mechanism_of versions.Sha256 plus ≢ mechanism
+        → mechanism_of versions.Sha512 plus ≢ mechanism → (version : ScramVersion)
+        → mechanism_of version plus ≢ mechanism
     none first second third versions.Sha1 = first
     none first second third versions.Sha256 = second
     none first second third versions.Sha512 = third
+
+name_or : (mechanism : List ℕ) → Found (IsName mechanism)
+name_or mechanism = elim (version_or mechanism false) [
+  | inl (version, is) ↦ inl ((version, false), is)
+  | inr without ↦ elim (version_or mechanism true) [
+    | inl (version, is) ↦ inl ((version, true), is)
+    | inr with_plus ↦ inr (none without with_plus)
+  ]
+]
+  where
+    none : ((version : ScramVersion) → mechanism_of version false ≢ mechanism)
+        → ((version : ScramVersion) → mechanism_of version true ≢ mechanism) → (named : ScramVersion × Bool)
+        → ¬ IsName mechanism named
+    none without with_plus (version, false) = without version
+    none without with_plus (version, true) = with_plus version
 
 message_or : (text : List ℕ) → Found (λ (parts : PlainParts). SpellsPlain parts text)
 message_or text = elim (utf8_or text) [
@@ -110,14 +141,15 @@ taken_message_or text = elim (message_or text) [
   ]
 ]
 
-some_scram : (mechanism text : List ℕ) (version : ScramVersion) → mechanism_name version ≡ mechanism
-    → (answer : Result ClientFirst ServerScramErrorKind) → ReadsClientFirst either_header text answer
+some_scram : (mechanism text : List ℕ) (version : ScramVersion) (plus : Bool) → mechanism_of version plus ≡ mechanism
+    → (answer : Result ClientFirst ServerScramErrorKind) → ReadsClientFirst (headers_of plus) text answer
     → (user : Option (List ℕ)) × ClaimOf mechanism text user
-some_scram mechanism text version is (Ok first) reads = (Some first.user, inl (version, first, sym is, reads, refl))
-some_scram mechanism text version is (Err why) reads =
-    (None, scram_claims_none mechanism text version is (λ first. refused text why first reads))
+some_scram mechanism text version plus is (Ok first) reads =
+    (Some first.user, inl (version, plus, first, sym is, reads, refl))
+some_scram mechanism text version plus is (Err why) reads =
+    (None, scram_claims_none mechanism text version plus is (λ first. refused (headers_of plus) text why first reads))
 
-some_plain : (mechanism text : List ℕ) → ((version : ScramVersion) → mechanism_name version ≢ mechanism)
+some_plain : (mechanism text : List ℕ) → ((version : ScramVersion) (plus : Bool) → mechanism_of version plus ≢ mechanism)
     → mechanism ≡ codes "PLAIN" → Found (λ (parts : PlainParts). SpellsPlain parts text × IsTaken parts)
     → (user : Option (List ℕ)) × ClaimOf mechanism text user
 some_plain mechanism text other plain (inl (parts, both)) =
@@ -125,16 +157,74 @@ some_plain mechanism text other plain (inl (parts, both)) =
 some_plain mechanism text other plain (inr none) =
     (None, plain_claims_none mechanism text other (λ parts spells taken. none parts (spells, taken)))
 
-some_other : (mechanism text : List ℕ) → ((version : ScramVersion) → mechanism_name version ≢ mechanism)
+some_other : (mechanism text : List ℕ) → ((version : ScramVersion) (plus : Bool) → mechanism_of version plus ≢ mechanism)
     → Decided (mechanism ≡ codes "PLAIN") → (user : Option (List ℕ)) × ClaimOf mechanism text user
 some_other mechanism text other (inl plain) = some_plain mechanism text other plain (taken_message_or text)
 some_other mechanism text other (inr not) = (None, other_claims_none mechanism text other not)
 
-some_of : (mechanism text : List ℕ) → Found (λ (version : ScramVersion). mechanism_name version ≡ mechanism)
-    → (user : Option (List ℕ)) × ClaimOf mechanism text user
-some_of mechanism text (inl (version, is)) =
-    let read = some_client_first either_header text in some_scram mechanism text version is read.0 read.1
-some_of mechanism text (inr other) = some_other mechanism text other (same_or mechanism (codes "PLAIN"))
+some_of : (mechanism text : List ℕ) → Found (IsName mechanism) → (user : Option (List ℕ)) × ClaimOf mechanism text user
+some_of mechanism text (inl ((version, plus), is)) =
+    let read = some_client_first (headers_of plus) text in some_scram mechanism text version plus is read.0 read.1
+some_of mechanism text (inr other) =
+    some_other mechanism text (λ version plus. other (version, plus)) (same_or mechanism (codes "PLAIN"))
 
 pub some_claim : SomeClaim
-some_claim mechanism text = some_of mechanism text (version_or mechanism)
+some_claim mechanism text = some_of mechanism text (name_or mechanism)
+
+-- ---- what a server reads
+
+-- a header that a server accepts is one of its mechanism
+header_of_mechanism : (channels : Option ChannelBindings) (accept_y : Bool) (header : ChannelBindingFlag)
+    → TakesFlag channels accept_y header → TakesHeader (headers_of (is_some channels)) header
+header_of_mechanism None accept_y NotSupported takes = tt
+header_of_mechanism None accept_y ClientSupports takes = tt
+header_of_mechanism None accept_y (Required kind) takes = takes
+header_of_mechanism (Some channels) accept_y NotSupported takes = takes
+header_of_mechanism (Some channels) accept_y ClientSupports takes = takes
+header_of_mechanism (Some channels) accept_y (Required TlsUnique) takes = (no_data, refl)
+header_of_mechanism (Some channels) accept_y (Required TlsServerEndPoint) takes = (no_data, refl)
+header_of_mechanism (Some channels) accept_y (Required TlsExporter) takes = (no_data, refl)
+
+-- a claim is read strictly only where each server is strict
+strict_like_servers : (channels : Option ChannelBindings) (strict : Bool)
+    → T (is_strict (headers_of (is_some channels))) → T (is_some channels || strict)
+strict_like_servers None strict is = absurd is
+strict_like_servers (Some channels) strict is = tt
+
+read_by_server : (rules : ServerRules) (text : List ℕ) (first : ClientFirst) → ReadsClientFirst rules text (Ok first)
+    → ReadsClientFirst (headers_of (is_some rules.channels)) text (Ok first)
+unfolding ReadsClientFirst
+read_by_server rules text first reads =
+    let names = reads.1 in
+    let takes = header_of_mechanism rules.channels rules.accept_cbind_flag_y first.header names.header in (
+      (
+        reads.0.0,
+        (
+          λ absent. absent first.header takes (first.bare, names.bare),
+          (
+            λ none. none first.user (first.header, first.bare, takes, names.bare, names.user),
+            (
+              λ none. none first.nonce (first.header, first.bare, takes, names.bare, names.nonce),
+              (
+                λ wrong. reads.0.1.1.1.1.0 (
+                  strict_like_servers rules.channels rules.strict wrong.0,
+                  (
+                    first.header,
+                    first.bare,
+                    names.header,
+                    names.bare,
+                    after_nonce (headers_of (is_some rules.channels)) first.header text first.bare names.bare wrong.1,
+                  ),
+                ),
+                tt,
+              ),
+            ),
+          ),
+        ),
+      ),
+      record { header = takes; bare = names.bare; user = names.user; nonce = names.nonce },
+    )
+
+pub claims_what_servers_read : ClaimsWhatServersRead
+claims_what_servers_read version rules text first reads =
+    inl (version, is_some rules.channels, first, refl, read_by_server rules text first reads, refl)

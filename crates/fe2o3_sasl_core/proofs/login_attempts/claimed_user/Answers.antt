@@ -5,7 +5,8 @@ use Rattle.fe2o3_sasl_core.proofs.login_attempts.claimed_user.Goals as goal
 
 pub returns-in-Some-clause-memory : goal.returns-in-Some-clause-memory
 returns-in-Some-clause-memory c = IfErr-weaker c.scram_user.result _ _
-    (λ _ asks. scram_allocates c.args.mechanism.now c.args.message.now c.in-Some.field-0 c.in-Some.ensures asks)
+    (λ _ asks. scram_allocates c.args.mechanism.now c.args.message.now c.in-Some.ensures.0 c.in-Some.plus
+    c.in-Some.ensures.1 (rw c.headers_of.ensures at asks))
     c.scram_user.ensures.memory
 
 pub returns-in_err-to_string-in-Some-plain_user-clause-memory :

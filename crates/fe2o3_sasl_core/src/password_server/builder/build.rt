@@ -1,9 +1,9 @@
 //! Builds a `PasswordServer` from the options of its builder.
 
-ghost use Rattle.std.specs.Prelude.{◌≡◌, ◌≢◌, ◌↔◌, [], false, None, IfOk, IfErr, IsTrue, map};
+ghost use Rattle.std.specs.Prelude.{◌≡◌, ◌≢◌, ◌↔◌, [], true, false, None, IfOk, IfErr, IsTrue, map, option_map};
 ghost use Rattle.fe2o3_scram.specs.Mixed.{provider_for};
 ghost use Rattle.fe2o3_sasl_core.specs.ExternalServer.{external_of};
-ghost use Rattle.fe2o3_sasl_core.specs.PasswordServer.{HasLongSalts, OffersNothing, asked_of, count_of_unknown, external_mechanism, external_name, first_asked, name_where, names_for, offering_for, opened, others_names, others_of, others_state, password_server, password_state, scram_provider, scram_state, scrams_in, scrams_state, second_asked, settings_of, state_held};
+ghost use Rattle.fe2o3_sasl_core.specs.PasswordServer.{HasLongSalts, OffersNothing, all_scrams_in, all_scrams_state, asked_of, count_of_unknown, exchange_with, external_mechanism, external_name, first_asked, name_where, names_for, offering_for, opened, or_no_channels, others_names, others_of, others_state, part_asked, password_server, password_state, restored_held, scram_provider, scram_rules, scram_state, scrams_at, scrams_in, scrams_state, second_asked, settings_of, state_held};
 ghost use Rattle.fe2o3_sasl_core.specs.AnyMechanism.{both_names};
 ghost use Rattle.fe2o3_sasl_core.specs.AnyMechanismSides.{both_states};
 ghost use Rattle.fe2o3_sasl_core.specs.RestrictMechanisms.{offering_names, offering_of};
@@ -16,7 +16,8 @@ use crate::OutOfMemory;
 use crate::any_mechanism::{AnyMechanism, HasMechanism, Selected};
 use crate::external_server::ExternalServer;
 use crate::password_server::PasswordServer;
-use crate::password_server::builder::{BuildError, PasswordServerBuilder, RestoredState};
+use crate::password_server::all_scrams::AllScrams;
+use crate::password_server::builder::{BuildError, PasswordServerBuilder, Restored, RestoredState};
 use crate::password_server::others::Others;
 use crate::password_server::scrams::{Scram, Scrams, Weaker, second_asked};
 use crate::plain_server::PlainServer;
@@ -24,6 +25,7 @@ use crate::restrict_mechanisms::{OfferError, RestrictMechanisms};
 use fe2o3_scram::credentials::{DEFAULT_SCRAM_ITERATIONS, RecordStore};
 use fe2o3_scram::hmac::ScramVersion;
 use fe2o3_scram::scram_server::ScramAuthenticator;
+use fe2o3_scram::{ChannelBindings, ServerRules};
 use std::alloc::Global;
 
 impl RestoredState<'_> {
@@ -62,7 +64,7 @@ impl PasswordServerBuilder<'_> {
         if self.has_long_salts() {
             return Err(BuildError::SaltTooLong);
         }
-        let scrams = self.scrams(alloc)?;
+        let scrams = self.all_scrams(alloc)?;
         Ok(PasswordServer {
             acceptors: self.offered(alloc, scrams)?,
         })
@@ -108,10 +110,14 @@ impl PasswordServerBuilder<'_> {
     }
 
     /// Returns the names that may be offered. A mechanism that is not offered has the empty name here.
-    fn names(&self) -> [&'static str; 6]
+    fn names(&self) -> [&'static str; 9]
         ensures { map (λ name. name.now) result ≡ names_for (settings_of self.now) }
     {
+        let plus = self.rules.channels.is_some();
         [
+            name_where(plus && self.hashes.sha_512, "SCRAM-SHA-512-PLUS"),
+            name_where(plus && self.hashes.sha_256, "SCRAM-SHA-256-PLUS"),
+            name_where(plus && self.hashes.sha_1, "SCRAM-SHA-1-PLUS"),
             name_where(self.hashes.sha_512, "SCRAM-SHA-512"),
             name_where(self.hashes.sha_256, "SCRAM-SHA-256"),
             name_where(self.hashes.sha_1, "SCRAM-SHA-1"),
@@ -128,51 +134,107 @@ impl PasswordServerBuilder<'_> {
         Ok(self.records.for_version(version).clone()?)
     }
 
-    /// Returns the hash of the exchange that is continued.
-    fn asked(&self) -> Option<ScramVersion>
-        ensures { result ≡ asked_of (settings_of self.now).restored }
+    /// Returns the exchange that is continued, if its mechanism has `-PLUS`, or if it has not.
+    fn exchange(&self, plus: bool) -> Option<Restored<'_>>
+        ensures { option_map restored_held result ≡ exchange_with plus (settings_of self.now).restored }
+    {
+        match self.restored {
+            Some(restored) if restored.plus == plus => Some(restored),
+            _ => None,
+        }
+    }
+
+    /// Returns the part of SCRAM to which the last init of that exchange went.
+    fn part_asked(&self) -> Option<Selected>
+        ensures { result ≡ part_asked (settings_of self.now).restored }
     {
         match &self.restored {
-            Some(restored) => Some(restored.version),
+            Some(restored) if restored.plus => Some(Selected::First),
+            Some(_) => Some(Selected::Second),
             None => None,
         }
     }
 
-    /// Returns SCRAM by every hash.
-    fn scrams(&self, alloc: Global) -> Result<Scrams, BuildError>
-        ensures ok { IfOk result (λ scrams. scrams_state scrams
-            ≡ scrams_in (settings_of self.now) (opened (settings_of self.now).restored)
-            (first_asked (asked_of (settings_of self.now).restored)) (second_asked (asked_of (settings_of self.now).restored))) }
+    /// Returns what SCRAM accepts in a client's messages, with `-PLUS` or without it.
+    fn scram_rules(&self, plus: bool) -> ServerRules
+        ensures { result ≡ scram_rules plus (settings_of self.now).rules }
+    {
+        if plus {
+            ServerRules {
+                channels: Some(or_no_channels(self.rules.channels)),
+                ..self.rules
+            }
+        } else {
+            ServerRules {
+                accept_cbind_flag_y: self.rules.accept_cbind_flag_y
+                    && !self.rules.channels.is_some(),
+                channels: None,
+                ..self.rules
+            }
+        }
+    }
+
+    /// Returns SCRAM by every hash, with `-PLUS` and without it.
+    fn all_scrams(&self, alloc: Global) -> Result<AllScrams, BuildError>
+        ensures ok { IfOk result (λ scrams. all_scrams_state scrams ≡ all_scrams_in (settings_of self.now)
+            (scrams_at (exchange_with true (settings_of self.now).restored))
+            (scrams_at (exchange_with false (settings_of self.now).restored)) (part_asked (settings_of self.now).restored)) }
         ensures err { IfErr result (λ error. (error ≡ BuildNoMechanism → ⊥)
             × (error ≡ BuildSaltTooLong → HasLongSalts (settings_of self.now))) }
     {
-        let strongest = self.scram(alloc, ScramVersion::Sha512)?;
-        let weaker = self.weaker(alloc)?;
-        Ok(Scrams::new(strongest, weaker, self.asked()))
+        let plus = self.scrams(alloc, true)?;
+        match self.scrams(alloc, false) {
+            Ok(plain) => Ok(AllScrams::new(alloc, plus, plain, self.part_asked())?),
+            Err(error) => Err(error),
+        }
+    }
+
+    /// Returns SCRAM by every hash, with `-PLUS` or without it.
+    fn scrams(&self, alloc: Global, plus: bool) -> Result<Scrams, BuildError>
+        ensures ok { IfOk result (λ scrams. scrams_state scrams
+            ≡ scrams_in plus (settings_of self.now) (scrams_at (exchange_with plus (settings_of self.now).restored))) }
+        ensures err { IfErr result (λ error. (error ≡ BuildNoMechanism → ⊥)
+            × (error ≡ BuildSaltTooLong → HasLongSalts (settings_of self.now))) }
+    {
+        let exchange = self.exchange(plus);
+        let asked = version_of(&exchange);
+        let strongest = self.scram(alloc, plus, &exchange, ScramVersion::Sha512)?;
+        let weaker = self.weaker(alloc, plus, &exchange)?;
+        Ok(Scrams::new(strongest, weaker, asked))
     }
 
     /// Returns SCRAM by SHA-256 and SHA-1.
-    fn weaker(&self, alloc: Global) -> Result<Weaker, BuildError>
+    fn weaker(
+        &self,
+        alloc: Global,
+        plus: bool,
+        exchange: &Option<Restored<'_>>,
+    ) -> Result<Weaker, BuildError>
         ensures ok { IfOk result (λ scrams. both_states scram_state scram_state scrams
-            ≡ (scrams_in (settings_of self.now) (opened (settings_of self.now).restored) None
-            (second_asked (asked_of (settings_of self.now).restored))).second) }
+            ≡ (scrams_in plus (settings_of self.now) (scrams_at (option_map restored_held exchange.now))).second) }
         ensures err { IfErr result (λ error. (error ≡ BuildNoMechanism → ⊥)
             × (error ≡ BuildSaltTooLong → HasLongSalts (settings_of self.now))) }
     {
-        let first = self.scram(alloc, ScramVersion::Sha256)?;
-        let second = self.scram(alloc, ScramVersion::Sha1)?;
-        Ok(AnyMechanism::with_selected(first, second, second_asked(self.asked())))
+        let first = self.scram(alloc, plus, exchange, ScramVersion::Sha256)?;
+        let second = self.scram(alloc, plus, exchange, ScramVersion::Sha1)?;
+        Ok(AnyMechanism::with_selected(first, second, second_asked(version_of(exchange))))
     }
 
-    /// Returns the server of SCRAM by this hash, in the exchange that is continued if it is of this hash.
-    fn scram(&self, alloc: Global, version: ScramVersion) -> Result<Scram, BuildError>
-        ensures ok { IfOk result (λ scram. scram_state scram
-            ≡ ScramAcceptor (scram_provider (settings_of self.now) version) (opened (settings_of self.now).restored version)) }
+    /// Returns the server of SCRAM by this hash, in the exchange if it is of this hash.
+    fn scram(
+        &self,
+        alloc: Global,
+        plus: bool,
+        exchange: &Option<Restored<'_>>,
+        version: ScramVersion,
+    ) -> Result<Scram, BuildError>
+        ensures ok { IfOk result (λ scram. scram_state scram ≡ ScramAcceptor
+            (scram_provider plus (settings_of self.now) version) (opened (option_map restored_held exchange.now) version)) }
         ensures err { IfErr result (λ error. (error ≡ BuildNoMechanism → ⊥)
             × (error ≡ BuildSaltTooLong → HasLongSalts (settings_of self.now))) }
     {
-        let fresh = self.fresh(alloc, version)?;
-        match &self.restored {
+        let fresh = self.fresh(alloc, plus, version)?;
+        match exchange {
             Some(restored) if is_version(restored.version, version) => {
                 Ok(restored.state.restore(alloc, fresh)?)
             }
@@ -181,14 +243,14 @@ impl PasswordServerBuilder<'_> {
     }
 
     /// Returns the server of SCRAM by this hash, without an open challenge.
-    fn fresh(&self, alloc: Global, version: ScramVersion) -> Result<Scram, BuildError>
+    fn fresh(&self, alloc: Global, plus: bool, version: ScramVersion) -> Result<Scram, BuildError>
         ensures ok { IfOk result (λ scram. scram_state scram
-            ≡ ScramAcceptor (scram_provider (settings_of self.now) version) Initial) }
+            ≡ ScramAcceptor (scram_provider plus (settings_of self.now) version) Initial) }
         ensures err { IfErr result (λ error. (error ≡ BuildNoMechanism → ⊥)
             × (error ≡ BuildSaltTooLong → HasLongSalts (settings_of self.now))) }
     {
         let scram = ScramAuthenticator::new(self.store(version)?);
-        let scram = scram.with_rules(self.rules);
+        let scram = scram.with_rules(self.scram_rules(plus));
         match &self.mock {
             Some(mock) => {
                 let secret = mock.secret.to_vec(alloc)?;
@@ -230,6 +292,30 @@ impl PasswordServerBuilder<'_> {
             (None, Some(mock)) => mock.iterations,
             (None, None) => DEFAULT_SCRAM_ITERATIONS,
         }
+    }
+}
+
+/// Returns the hash of an exchange.
+fn version_of(exchange: &Option<Restored<'_>>) -> Option<ScramVersion>
+    ensures { result ≡ asked_of (option_map restored_held exchange.now) }
+{
+    match exchange {
+        Some(restored) => Some(restored.version),
+        None => None,
+    }
+}
+
+/// Returns the channels of a server, or no data of any kind if it binds none.
+fn or_no_channels(channels: Option<ChannelBindings>) -> ChannelBindings
+    ensures { result ≡ or_no_channels channels }
+{
+    match channels {
+        Some(channels) => channels,
+        None => ChannelBindings {
+            tls_unique: None,
+            tls_server_end_point: None,
+            tls_exporter: None,
+        },
     }
 }
 
