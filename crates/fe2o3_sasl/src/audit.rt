@@ -12,7 +12,7 @@ ghost use Rattle.fe2o3_scram.specs.Credentials.{serving};
 ghost use Rattle.fe2o3_scram.specs.ClientSecret.{no_limit};
 ghost use Rattle.fe2o3_sasl_core.specs.Verdicts.{AuditsEvents};
 ghost use Rattle.fe2o3_sasl.specs.Audit.{finding_of};
-ghost use Rattle.fe2o3_sasl_core.specs.Runs.{given, accepting, login_of};
+ghost use Rattle.fe2o3_sasl_core.specs.Runs.{given, login_of, login_with};
 ghost use Rattle.fe2o3_sasl.specs.declared.audit.AuditError.TheVariants.{OutOfMemory as NoMemory};
 
 mod client_receipts;
@@ -23,11 +23,11 @@ mod server_receipts;
 use crate::audit::client_receipts::{client_is_complete, client_receipts};
 use crate::audit::matching::{match_proofs, match_verifiers};
 use crate::audit::server_receipts::{server_is_complete, server_receipts};
+use fe2o3_sasl_core::client_options::ClientOptions;
 use fe2o3_sasl_core::events::Event;
-use fe2o3_sasl_core::whole_runs::{
-    scram_client_run_with_signature_by_challenge, scram_server_run_with_rules,
-};
+use fe2o3_sasl_core::whole_runs::{scram_client_run_with_options, scram_server_run_with_rules};
 use fe2o3_scram::ServerRules;
+use fe2o3_scram::client_secret::IterationLimits;
 use fe2o3_scram::credentials::ScramCredentialProvider;
 use fe2o3_scram::hmac::ScramVersion;
 use std::alloc::{AllocError, Global};
@@ -241,13 +241,16 @@ pub fn audit_with_rules<C: ScramCredentialProvider>(
         (map given client_events.now) (serving rules (C.meaning credentials.now))
         (map given server_events.now) (map finding_of findings.items)) }
 {
-    audit_with_signature_by_challenge(
+    let options = ClientOptions {
+        limits: IterationLimits::up_to(limit),
+        ..ClientOptions::new()
+    };
+    audit_with_options(
         alloc,
         user,
         password,
         version,
-        limit,
-        false,
+        options,
         client_events,
         rules,
         credentials,
@@ -255,33 +258,30 @@ pub fn audit_with_rules<C: ScramCredentialProvider>(
     )
 }
 
-/// Like `audit_with_rules`, but with `signature_by_challenge` the client accepts the server's signature in a
-/// challenge too (`ScramClient::signature_by_challenge`; RFC 4422, section 5). Its finding is at the Ok without data
-/// that follows. The empty response to that challenge shows no proof.
-pub fn audit_with_signature_by_challenge<C: ScramCredentialProvider>(
+/// Audits two lists of bodies like `audit`, of a client with these options and a server with these rules
+/// (`ScramAuthenticator::with_rules`). With `signature_by_challenge` the finding of a signature that came in a challenge
+/// is at the Ok without data that follows. The empty response to that challenge shows no proof.
+pub fn audit_with_options<C: ScramCredentialProvider>(
     alloc: Global,
     user: &str,
     password: &str,
     version: ScramVersion,
-    limit: u32,
-    signature_by_challenge: bool,
+    options: ClientOptions,
     client_events: &[Event],
     rules: ServerRules,
     credentials: &C,
     server_events: &[Event],
 ) -> Result<Vec<Finding>, AuditError>
-    ensures { IfOk result (λ findings. AuditsEvents
-        (accepting signature_by_challenge (login_of version user.now password.now limit))
+    ensures { IfOk result (λ findings. AuditsEvents (login_with options version user.now password.now)
         (map given client_events.now) (serving rules (C.meaning credentials.now))
         (map given server_events.now) (map finding_of findings.items)) }
 {
-    let client_replies = scram_client_run_with_signature_by_challenge(
+    let client_replies = scram_client_run_with_options(
         alloc,
         user,
         password,
         version,
-        limit,
-        signature_by_challenge,
+        options,
         client_events,
     )?;
     let server_replies = scram_server_run_with_rules(alloc, rules, credentials, server_events)?;
@@ -296,8 +296,7 @@ pub fn audit_with_signature_by_challenge<C: ScramCredentialProvider>(
         user,
         password,
         version,
-        limit,
-        signature_by_challenge,
+        options,
         client_events,
         &client_replies,
     )?;

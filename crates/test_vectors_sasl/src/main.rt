@@ -31,7 +31,7 @@ enum Kind {
 }
 
 /// The files of rows.
-static FILES: [(Kind, &str); 13] = [
+static FILES: [(Kind, &str); 14] = [
     (Kind::Frames, "frames.txt"),
     (Kind::Frames, "worked-frames.txt"),
     (Kind::Frames, "peers.txt"),
@@ -41,6 +41,7 @@ static FILES: [(Kind, &str); 13] = [
     (Kind::Runs, "cbind-flag-y-runs.txt"),
     (Kind::Audits, "audits.txt"),
     (Kind::NamedAudits, "named-audits.txt"),
+    (Kind::NamedAudits, "channel-audits.txt"),
     (Kind::Commands, "commands.txt"),
     (Kind::Connections, "connections.txt"),
     (Kind::Connections, "peer-connections.txt"),

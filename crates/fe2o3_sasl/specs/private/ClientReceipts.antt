@@ -12,7 +12,7 @@ use Rattle.fe2o3_sasl.specs.declared.audit.client_receipts.Last.{Last}
 use Rattle.fe2o3_sasl.specs.declared.audit.client_receipts.Words.{Words}
 use Rattle.fe2o3_sasl_core.specs.Events.{Given, Login, ClientSays, Started, Answered, Reported, Refused}
 use Rattle.fe2o3_sasl_core.specs.Positions.{IsLastOpen}
-use Rattle.fe2o3_sasl_core.specs.Runs.{accepting, login_of}
+use Rattle.fe2o3_sasl_core.specs.Runs.{login_with}
 use Rattle.fe2o3_sasl_core.specs.Bodies.{SpellsBody}
 use Rattle.fe2o3_sasl_core.specs.TwoSides.{ChallengeAt, proof_at}
 use Rattle.fe2o3_sasl.specs.private.Receipts.{ClientReceipt, OfAnswer, Covers, IsShownReceipt, IsTakenReceipt, ProvesAt, ReportsAt}
@@ -93,8 +93,7 @@ ClientKeeps login place init event events (Refused fault) last next shown shown'
 
 -- the login with these words
 abbrev pub login_at : Words → Login
-login_at words = accepting words.signature_by_challenge
-    (login_of words.version words.user.now words.password.now words.limit)
+login_at words = login_with words.options words.version words.user.now words.password.now
 
 -- the keys of the password with this salt and this count
 abbrev pub AreKeys : Words → List ℕ → ℕ → ClientKeys → Type 0

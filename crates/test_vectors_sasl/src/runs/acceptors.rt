@@ -92,17 +92,21 @@ fn data_of(channel: ChannelBinding, kind: ChannelKind) -> Option<ChannelData> {
     }
 }
 
-/// Returns the rules of a server that binds this channel, and accepts no other kind.
-fn rules_of_channel(channel: ChannelBinding) -> ServerRules {
-    let channels = ChannelBindings {
+/// Returns what a server knows of a channel, by no kind but that of the channel.
+pub fn channels_of(channel: ChannelBinding) -> ChannelBindings {
+    ChannelBindings {
         tls_unique: data_of(channel, ChannelKind::TlsUnique),
         tls_server_end_point: data_of(channel, ChannelKind::TlsServerEndPoint),
         tls_exporter: data_of(channel, ChannelKind::TlsExporter),
-    };
+    }
+}
+
+/// Returns the rules of a server that binds this channel, and accepts no other kind.
+fn rules_of_channel(channel: ChannelBinding) -> ServerRules {
     ServerRules {
         accept_cbind_flag_y: false,
         strict: false,
-        channels: Some(channels),
+        channels: Some(channels_of(channel)),
     }
 }
 

@@ -3,10 +3,10 @@
 use crate::replies::{Reply, agree_all};
 use crate::rows::Row;
 use crate::runs::Run;
-use crate::runs::acceptors::{credential_of, rules_of};
-use fe2o3_sasl::audit::{
-    Finding, audit, audit_limited, audit_with_rules, audit_with_signature_by_challenge,
-};
+use crate::runs::acceptors::{channels_of, credential_of, rules_of};
+use fe2o3_sasl::audit::{Finding, audit, audit_limited, audit_with_options, audit_with_rules};
+use fe2o3_sasl::client_options::ClientOptions;
+use fe2o3_sasl::scram_messages::{ClientChannel, ServerRules};
 use sasl_lab_lib::audit::line_of;
 
 impl Reply for Finding {
@@ -17,9 +17,8 @@ impl Reply for Finding {
     }
 }
 
-/// Checks an audit: `VERSION USER PASSWORD SERVER-USER SERVER-PASSWORD SALT`, followed by the limit of the client, or
-/// `cbind_flag_y` if the server accepts the GS2 header `y,,`, or `signature_by_challenge` if the client accepts the
-/// server's signature in a challenge.
+/// Checks an audit: `VERSION USER PASSWORD SERVER-USER SERVER-PASSWORD SALT`, followed by the limit of the client, or by
+/// options, of which `cbind_flag_y` by itself is one of the server.
 pub fn check(row: &mut Row<'_>, run: &Run<'_>) {
     let (alloc, version, user, password) = (row.alloc, row.version(), row.text(), row.text());
     let (client, server) = (run.client_events.as_slice(), run.events.as_slice());
@@ -35,19 +34,47 @@ pub fn check(row: &mut Row<'_>, run: &Run<'_>) {
                 alloc, &user, &password, version, limit, client, rules, credential, server,
             )
         }
-        "signature_by_challenge" => {
-            let (limit, rules) = (u32::MAX, rules_of(false));
-            audit_with_signature_by_challenge(
-                alloc, &user, &password, version, limit, true, client, rules, credential, server,
-            )
-        }
-        limit => {
-            let limit = row.made(limit.parse::<u32>(), 0);
-            audit_limited(
+        words => match words.parse::<u32>() {
+            Ok(limit) => audit_limited(
                 alloc, &user, &password, version, limit, client, credential, server,
-            )
-        }
+            ),
+            Err(_) => {
+                let (options, rules) = options_of(row, words);
+                audit_with_options(
+                    alloc, &user, &password, version, options, client, rules, credential, server,
+                )
+            }
+        },
     };
     let found = row.made(found, Vec::new(alloc));
     agree_all(row, &found, &run.wanted);
+}
+
+/// Returns the options of a client and the rules of a server: words with spaces between them, as the head of
+/// `channel-audits.txt` has them.
+fn options_of<'a>(row: &mut Row<'a>, words: &'a str) -> (ClientOptions, ServerRules) {
+    let (mut options, mut rules) = (ClientOptions::new(), ServerRules::new());
+    for word in words.split(' ') {
+        row.turn_to(word);
+        match row.word() {
+            "client" => options.channel = bound_channel(row),
+            "unoffered" => options.channel = ClientChannel::NotOffered,
+            "strict" => options.strict = true,
+            "signature_by_challenge" => options.signature_by_challenge = true,
+            "least" => options.limits.min_iterations = row.number(),
+            "most" => options.limits.max_iterations = row.number(),
+            "server" => rules.channels = row.channel().map(channels_of),
+            "cbind_flag_y" => rules.accept_cbind_flag_y = true,
+            _ => row.refuse("no option"),
+        }
+    }
+    (options, rules)
+}
+
+/// Returns what a client says of a channel that it binds: `KIND DATA`.
+pub fn bound_channel(row: &mut Row<'_>) -> ClientChannel {
+    match row.channel() {
+        Some(channel) => ClientChannel::Bound(channel),
+        None => ClientChannel::Absent,
+    }
 }

@@ -2,15 +2,16 @@
 
 use crate::replies::{Reply, agree_all, say_negotiation};
 use crate::rows::Row;
+use crate::runs::audits::bound_channel;
 use crate::runs::{Part, Run, Side, check_side};
 use fe2o3_sasl::cached_keys::CachedKeys;
+use fe2o3_sasl::client_options::ClientOptions;
 use fe2o3_sasl::client_secret::ClientSecret;
 use fe2o3_sasl::hmac::{Meter, ScramVersion};
 use fe2o3_sasl::passwords::Password;
-use fe2o3_sasl::runs::{Event, profile_step, run_profile};
+use fe2o3_sasl::runs::{Event, profile_step, run_profile, scram_client_run_with_options};
 use fe2o3_sasl::sasl_profile::{SaslProfile, SaslScramSha256};
 use fe2o3_sasl::scram_client::ScramClient;
-use fe2o3_sasl::scram_messages::ClientChannel;
 use fe2o3_sasl_wire::view_frame;
 
 /// A profile as a side, and the hostname of its init.
@@ -64,15 +65,25 @@ pub fn check(row: &mut Row<'_>, run: &Run<'_>, kind: &str) {
     check_profile(row, run, profile, hostname);
 }
 
-/// Checks a profile that binds a channel: `VERSION USER PASSWORD KIND DATA`.
+/// Checks a profile that binds a channel, by itself and in a whole run: `VERSION USER PASSWORD KIND DATA`.
 pub fn check_bound(row: &mut Row<'_>, run: &Run<'_>) {
-    let (version, user, password) = (row.version(), row.text(), row.text());
-    let client = ScramClient::new(user, password, version);
-    let profile = row.channel().map(|channel| {
-        let channel = ClientChannel::Bound(channel);
-        SaslProfile::from(client.with_channel(channel))
-    });
-    check_profile(row, run, profile, None);
+    let (alloc, version, user, password) = (row.alloc, row.version(), row.text(), row.text());
+    let options = ClientOptions {
+        channel: bound_channel(row),
+        ..ClientOptions::new()
+    };
+    let replies = scram_client_run_with_options(
+        alloc,
+        &user,
+        &password,
+        version,
+        options,
+        &run.events,
+    );
+    let replies = row.made(replies, Vec::new(alloc));
+    agree_all(row, &replies, &run.wanted);
+    let client = ScramClient::new(user, password, version).with_channel(options.channel);
+    check_profile(row, run, Some(SaslProfile::from(client)), None);
 }
 
 /// Checks a profile, if there is one, with this hostname.

@@ -1,15 +1,15 @@
-use Rattle.std.proofs.Common.{map, arith}
+use Rattle.std.proofs.Common.{◌≡◌, ℕ, map, arith, length, subst}
 use Rattle.fe2o3_sasl_core.specs.Events.{Login}
-use Rattle.fe2o3_sasl_core.specs.Runs.{given, client_answer, accepting, login_of}
+use Rattle.fe2o3_sasl_core.specs.Runs.{given, client_answer, login_with}
 use Rattle.fe2o3_sasl.specs.private.Findings.{client_receipt}
+use Rattle.fe2o3_sasl.specs.private.Receipts.{Covers, IsShownReceipt, ProvesAt}
 use Rattle.fe2o3_sasl.proofs.lemmas.audit.ClientReceiptLemmas.{client_next, start_behind}
 use Rattle.fe2o3_sasl.proofs.lemmas.audit.CoverLemmas.{at_index}
 use Rattle.fe2o3_sasl.proofs.audit.client_receipts.client_receipts.Goals as goal
 
 pub loop-place-preserved : goal.loop-place-preserved
 loop-place-preserved c =
-    let login : Login = accepting c.args.signature_by_challenge
-    (login_of c.args.version c.args.user.now c.args.password.now c.args.limit) in
+    let login : Login = login_with c.args.options c.args.version c.args.user.now c.args.password.now in
     let events = map given c.args.events.now in
     let replies = map client_answer c.args.replies.now in
     let i = c.loop-place.place in
@@ -34,3 +34,13 @@ loop-place-preserved c =
           (given event) (client_answer reply) keeps c.loop-place.invariant.behind;
       keys = c.in_ok-last.ensures.kept;
     }
+
+pub returns-clause-shown : goal.returns-clause-shown
+returns-clause-shown c =
+    let login : Login = login_with c.args.options c.args.version c.args.user.now c.args.password.now in
+    let events = map given c.args.events.now in
+    let replies = map client_answer c.args.replies.now in
+    let whole : c.loop-place.place ≡ length c.args.events.now = omega arith in
+    subst (λ (k : ℕ). Covers (IsShownReceipt login events replies) (λ receipt. receipt.place)
+    (ProvesAt login events replies) k (map client_receipt c.loop-place.receipts.shown.items)) whole
+    c.loop-place.invariant.so_far.shows

@@ -3,16 +3,15 @@ use Rattle.fe2o3_scram.specs.Credentials.{Provider, serving}
 use Rattle.fe2o3_sasl.specs.Audit.{finding_of}
 use Rattle.fe2o3_sasl_core.specs.Complete.{ClientComplete, ServerComplete}
 use Rattle.fe2o3_sasl_core.specs.Events.{Login}
-use Rattle.fe2o3_sasl_core.specs.Runs.{given, client_answer, server_answer, accepting, login_of}
+use Rattle.fe2o3_sasl_core.specs.Runs.{given, client_answer, server_answer, login_with}
 use Rattle.fe2o3_sasl.specs.private.Findings.{client_receipt, server_receipt, is_taken, is_shown, verifier_finding, proof_finding, findings_of}
 use Rattle.fe2o3_sasl.specs.private.Receipts.{Covers, IsShownReceipt, IsTakenReceipt, IsOkReceipt, ProvesAt, ReportsAt, ConcludesAt}
 use Rattle.fe2o3_sasl.proofs.lemmas.audit.AuditLemmas.{audits_events}
-use Rattle.fe2o3_sasl.proofs.audit.audit_with_signature_by_challenge.Goals as goal
+use Rattle.fe2o3_sasl.proofs.audit.audit_with_options.Goals as goal
 
 pub returns : goal.returns
 returns g c =
-    let login : Login = accepting c.args.signature_by_challenge
-    (login_of c.args.version c.args.user.now c.args.password.now c.args.limit) in
+    let login : Login = login_with c.args.options c.args.version c.args.user.now c.args.password.now in
     let provider : Provider =
     serving c.args.rules (g.C.ScramCredentialProvider.meaning c.args.credentials.now) in
     let inputs = map given c.args.client_events.now in
