@@ -7,12 +7,11 @@ use Rattle.fe2o3_sasl_wire.specs.SaslFrames.{SaslFrame}
 use Rattle.fe2o3_sasl_wire.specs.declared.sasl_frames.error.Error.{Error}
 use Rattle.fe2o3_scram.specs.ClientSecret.{Secret, secret_of}
 use Rattle.fe2o3_sasl_core.specs.Bodies.{SpellsBody}
-use Rattle.fe2o3_sasl_core.specs.ClientPolicy.{CanTake, IsFirstTaken, by_strength, profile_by}
+use Rattle.fe2o3_sasl_core.specs.ClientPolicy.{CanTake, SelectsProfile, by_strength}
 use Rattle.fe2o3_sasl_core.specs.Events.{Given}
 use Rattle.fe2o3_sasl_core.specs.Profiles.{Profile}
 use Rattle.fe2o3_sasl_core.specs.SaslProfile.{profile_of}
 use Rattle.fe2o3_sasl_core.specs.declared.client_policy.ClientPolicy.{ClientPolicy}
-use Rattle.fe2o3_sasl_core.specs.declared.client_policy.Mechanism.{Mechanism}
 use Rattle.fe2o3_sasl_core.specs.declared.sasl_profile.error.ProfileError.TheVariants.{NotImplemented}
 use Rattle.fe2o3_sasl_negotiation.specs.ClientNegotiation.{ClientOpens, ClientReplies, ClientReplyCosts}
 use Rattle.fe2o3_sasl_negotiation.specs.Negotiations.{AnswersTo, Completes, Receiving, Receives, Side, SideOutput, closes}
@@ -38,9 +37,8 @@ pub record Selection : Type 0 where
 -- the profile that is selected of these mechanisms: that of the strongest that is offered, that the policy allows and
 -- for which the secret serves
 abbrev pub IsSelected : Selection → List (List ℕ) → Profile → Type 0
-IsSelected selection names profile = (mechanism : Mechanism)
-    × IsFirstTaken selection.policy selection.user selection.secret names by_strength mechanism
-    × (profile_by selection.policy selection.user selection.secret mechanism ≡ Some profile)
+IsSelected selection names profile =
+    SelectsProfile selection.policy selection.user selection.secret names profile
 
 -- none of these mechanisms can be selected
 abbrev pub NoneIsSelected : Selection → List (List ℕ) → Type 0
