@@ -63,12 +63,12 @@ static struct fe2o3_scram_rules rules;
 static void set_rules(int accepts_y)
 {
     rules.accept_cbind_flag_y = (uint32_t)accepts_y;
-    rules.binds_channel = bound.use == FE2O3_CHANNEL_BOUND;
-    *(bound.kind == FE2O3_TLS_UNIQUE ? &rules.tls_unique_len : bound.kind == FE2O3_TLS_SERVER_END_POINT
-        ? &rules.tls_server_end_point_len : &rules.tls_exporter_len) = bound.len;
-    memcpy(rules.tls_unique, bound.bytes, sizeof bound.bytes);
-    memcpy(rules.tls_server_end_point, bound.bytes, sizeof bound.bytes);
-    memcpy(rules.tls_exporter, bound.bytes, sizeof bound.bytes);
+    rules.channels.binds_channel = bound.use == FE2O3_CHANNEL_BOUND;
+    *(bound.kind == FE2O3_TLS_UNIQUE ? &rules.channels.tls_unique_len : bound.kind == FE2O3_TLS_SERVER_END_POINT
+        ? &rules.channels.tls_server_end_point_len : &rules.channels.tls_exporter_len) = bound.len;
+    memcpy(rules.channels.tls_unique, bound.bytes, sizeof bound.bytes);
+    memcpy(rules.channels.tls_server_end_point, bound.bytes, sizeof bound.bytes);
+    memcpy(rules.channels.tls_exporter, bound.bytes, sizeof bound.bytes);
 }
 
 /* The hash of a mechanism, whose name may end with -PLUS, or 0. */

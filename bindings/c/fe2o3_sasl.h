@@ -842,19 +842,11 @@ struct fe2o3_scram_server {
     uint8_t first[1024];
 };
 
-/* What a SCRAM server accepts, where RFC 5802 leaves it a choice. You lend the struct to each call of an exchange,
- * always with the same values. */
-struct fe2o3_scram_rules {
-    /* Whether the GS2 header may be `y,,` too: the client supports channel binding, and was offered no mechanism with
-     * `-PLUS` (RFC 5802, section 6). 0 is no, any other value yes. Only for a server that offers no such mechanism. It
-     * has no effect if the server binds channels. */
-    uint32_t accept_cbind_flag_y;
-    /* Whether an attribute that RFC 5802, section 5.1, defines is rejected in the place of an extension, by
-     * FE2O3_SERVER_MISPLACED_ATTRIBUTE. 0 is no, any other value yes. A server that binds channels is always strict. */
-    uint32_t strict;
-    /* Whether the server binds channels: it is of the mechanism with `-PLUS`, and accepts only clients that bind the
-     * channel, by a kind of which the struct has data (RFC 5802, section 6). 0 is no, and the data are then not used. Any
-     * other value is yes. Without data of any kind such a server accepts no client. */
+/* What identifies the channel of a server (RFC 5802, section 6). All zeros is a server that binds no channel. */
+struct fe2o3_server_channels {
+    /* Whether the server binds channels: by a mechanism with `-PLUS` it accepts only clients that bind the channel, by a
+     * kind of which the struct has data (RFC 5802, section 6). 0 is no, and the data are then not used. Any other value
+     * is yes. Without data of any kind such a mechanism accepts no client. */
     uint32_t binds_channel;
     /* The number of bytes of `tls_unique` in use, at most 64, or 0 if the server does not accept this kind. */
     uint32_t tls_unique_len;
@@ -871,6 +863,20 @@ struct fe2o3_scram_rules {
     /* The data of `tls-exporter` (RFC 9266): 32 bytes of exported keying material. For TLS 1.3, and for TLS 1.2 with
      * the extended master secret. */
     uint8_t tls_exporter[64];
+};
+
+/* What a SCRAM server accepts, where RFC 5802 leaves it a choice. You lend the struct to each call of an exchange,
+ * always with the same values. */
+struct fe2o3_scram_rules {
+    /* Whether the GS2 header may be `y,,` too: the client supports channel binding, and was offered no mechanism with
+     * `-PLUS` (RFC 5802, section 6). 0 is no, any other value yes. Only for a server that offers no such mechanism. It
+     * has no effect if the server binds channels. */
+    uint32_t accept_cbind_flag_y;
+    /* Whether an attribute that RFC 5802, section 5.1, defines is rejected in the place of an extension, by
+     * FE2O3_SERVER_MISPLACED_ATTRIBUTE. 0 is no, any other value yes. A server that binds channels is always strict. */
+    uint32_t strict;
+    /* The server's channel, if it is of the mechanism with `-PLUS`. */
+    struct fe2o3_server_channels channels;
 };
 
 /* Writes the user name that a client-first message claims, without escapes. Nobody is authenticated yet: use it only
@@ -1178,6 +1184,10 @@ struct fe2o3_sasl_server_config {
      * it. If empty, EXTERNAL is not offered, and an init for it fails with FE2O3_REFUSED_AUTH. */
     const uint8_t *external_authcid;
     size_t external_authcid_len;
+    /* The server's channel. If it binds channels, SCRAM is also offered with `-PLUS`, by the same hashes, and before
+     * the other mechanisms. SCRAM without `-PLUS` then accepts no client that has seen no such mechanism (`y,,`; RFC
+     * 5802, section 6), whatever FE2O3_ACCEPT_CBIND_FLAG_Y says. */
+    struct fe2o3_server_channels channels;
 };
 
 /* The server's side of a connection between calls. All zeros is a connection that has received nothing. */

@@ -316,8 +316,8 @@ int main(void)
     tried("client_final, prepared", answer);
     tried("server_final, prepared", conclude);
     tried("client_verify, prepared", verify);
-    rules.binds_channel = 1;
-    rules.tls_exporter_len = login.channel_data_len = 32;
+    rules.channels.binds_channel = 1;
+    rules.channels.tls_exporter_len = login.channel_data_len = 32;
     login.channel_use = FE2O3_CHANNEL_BOUND;
     login.channel_kind = FE2O3_TLS_EXPORTER;
     tried("client_first, with a channel", first);
@@ -329,6 +329,14 @@ int main(void)
     login.channel_use = FE2O3_CHANNEL_ABSENT;
     puts("a connection, SCRAM-SHA-256");
     connection(FE2O3_SCRAM, "us,er");
+    puts("a connection, SCRAM-SHA-256-PLUS");
+    config.channels = rules.channels;
+    sasl_login.login.channel_use = FE2O3_CHANNEL_BOUND;
+    sasl_login.login.channel_kind = FE2O3_TLS_EXPORTER;
+    sasl_login.login.channel_data_len = 32;
+    connection(FE2O3_SCRAM, "us,er");
+    config.channels.binds_channel = 0;
+    sasl_login.login.channel_use = FE2O3_CHANNEL_ABSENT;
     puts("a connection, PLAIN");
     connection(FE2O3_PLAIN, "us,er");
     puts("a connection, ANONYMOUS");

@@ -315,10 +315,10 @@ static void draw_rules(struct fe2o3_scram_rules *rules)
         return;
     rules->accept_cbind_flag_y = below(2);
     rules->strict = below(2);
-    rules->binds_channel = below(2);
-    rules->tls_unique_len = below(66);
-    rules->tls_server_end_point_len = below(66);
-    rules->tls_exporter_len = below(66);
+    rules->channels.binds_channel = below(2);
+    rules->channels.tls_unique_len = below(66);
+    rules->channels.tls_server_end_point_len = below(66);
+    rules->channels.tls_exporter_len = below(66);
 }
 
 static void with_a_server(void)
@@ -443,8 +443,12 @@ static void with_a_side_of_a_server(void)
         ONE_OF(0, FE2O3_INITIAL_RESPONSE_BY_CHALLENGE, FE2O3_SIGNATURE_BY_CHALLENGE, FE2O3_STRICT);
     struct fe2o3_sasl_server_config config = {.mechanisms = below(129) | option, .iterations = below(9),
         .username = TEXT("user"), .records = &all.record, .records_count = below(2), .external_authcid = TEXT("peer")};
+    struct fe2o3_scram_rules rules;
     struct text came = {{0}, 0};
     uint32_t status;
+    draw_rules(&rules);
+    if (below(4) == 0)
+        config.channels = rules.channels;
     to_server(&drawn.server_side, &came);
     if (below(4) == 0)
         fill(came.bytes, came.len);

@@ -328,12 +328,12 @@ static void bind_channel(struct fe2o3_login *login, uint32_t kind, uint32_t len)
 
 static struct fe2o3_scram_rules binding(uint32_t kind, uint32_t len)
 {
-    struct fe2o3_scram_rules rules = {.binds_channel = 1};
-    *(kind == FE2O3_TLS_UNIQUE ? &rules.tls_unique_len : kind == FE2O3_TLS_SERVER_END_POINT
-        ? &rules.tls_server_end_point_len : &rules.tls_exporter_len) = len;
-    memcpy(rules.tls_unique, channel_data, sizeof channel_data);
-    memcpy(rules.tls_server_end_point, channel_data, sizeof channel_data);
-    memcpy(rules.tls_exporter, channel_data, sizeof channel_data);
+    struct fe2o3_scram_rules rules = {.channels.binds_channel = 1};
+    *(kind == FE2O3_TLS_UNIQUE ? &rules.channels.tls_unique_len : kind == FE2O3_TLS_SERVER_END_POINT
+        ? &rules.channels.tls_server_end_point_len : &rules.channels.tls_exporter_len) = len;
+    memcpy(rules.channels.tls_unique, channel_data, sizeof channel_data);
+    memcpy(rules.channels.tls_server_end_point, channel_data, sizeof channel_data);
+    memcpy(rules.channels.tls_exporter, channel_data, sizeof channel_data);
     return rules;
 }
 
@@ -370,7 +370,7 @@ static void channels(uint32_t version)
     struct fe2o3_scram_record record = {0};
     const struct fe2o3_login plain = {.version = version, .min_iterations = 4096, .max_iterations = 100000,
         .username = TEXT("user"), .password = TEXT("pencil"), .keys = &no_keys};
-    const struct fe2o3_scram_rules no_rules = {0}, no_data = {.binds_channel = 1}, with_y = {.accept_cbind_flag_y = 1};
+    const struct fe2o3_scram_rules no_rules = {0}, no_data = {.channels.binds_channel = 1}, with_y = {.accept_cbind_flag_y = 1};
     struct exchange one;
     fe2o3_scram_record_make(version, FE2O3_TYPED, TEXT("pencil"), salt, sizeof salt, 4096, &record);
     for (uint32_t kind = FE2O3_TLS_UNIQUE; kind <= FE2O3_TLS_EXPORTER; kind++) {

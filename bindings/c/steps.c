@@ -133,7 +133,7 @@ static struct fe2o3_sasl_server_config config_of(const struct fe2o3_scram_record
 {
     struct fe2o3_sasl_server_config config = {
         offer_of(record->version) | FE2O3_OFFER_PLAIN | FE2O3_OFFER_ANONYMOUS | FE2O3_OFFER_EXTERNAL, 4096, TEXT("user"),
-        record, 1, TEXT("peer")};
+        record, 1, TEXT("peer"), {0}};
     return config;
 }
 
@@ -613,6 +613,37 @@ static void initial_response_by_challenge(void)
         fe2o3_sasl_server_offer(&config, ROOM(out)) == FE2O3_NO_SUCH_MECHANISM);
 }
 
+/* A server that binds the channel of the connection (RFC 5802, section 6). */
+static void channels(const char *mechanism, uint32_t version)
+{
+    struct fe2o3_scram_record record = record_by(version);
+    struct fe2o3_sasl_login login = login_by(FE2O3_SCRAM, version), unaware = login;
+    struct fe2o3_sasl_server_config config = config_of(&record);
+    struct exchange one;
+    struct body offer;
+    config.mechanisms |= FE2O3_ACCEPT_CBIND_FLAG_Y;
+    config.channels.binds_channel = 1;
+    config.channels.tls_exporter_len = login.login.channel_data_len = 32;
+    memset(config.channels.tls_exporter, 7, 32);
+    memset(login.login.channel_data, 7, 32);
+    login.login.channel_use = FE2O3_CHANNEL_BOUND;
+    login.login.channel_kind = FE2O3_TLS_EXPORTER;
+    told(mechanism, "a client that binds the channel", ends(&login, &config, FE2O3_AUTHENTICATED, &one));
+    told(mechanism, "one without a channel", ends(&unaware, &config, FE2O3_AUTHENTICATED, &one));
+    login.login.channel_data[31]++;
+    told(mechanism, "other data of the channel", ends(&login, &config, FE2O3_REFUSED_AUTH, &one));
+    login.login.channel_kind = FE2O3_TLS_UNIQUE;
+    told(mechanism, "another kind of channel", ends(&login, &config, FE2O3_REFUSED_AUTH, &one));
+    login.login.channel_use = FE2O3_CHANNEL_NOT_OFFERED;
+    told(mechanism, "a client that has seen no -PLUS", ends(&login, &config, FE2O3_REFUSED_AUTH, &one));
+    config.channels.tls_exporter_len = 65;
+    told(mechanism, "data of the channel that are too long",
+        fe2o3_sasl_server_offer(&config, ROOM(offer)) == FE2O3_CHANNEL_DATA_LENGTH);
+    config.channels.binds_channel = 0;
+    told(mechanism, "which play no part where no channel is bound",
+        ends(&login, &config, FE2O3_AUTHENTICATED, &one));
+}
+
 int main(void)
 {
     by_several();
@@ -623,6 +654,9 @@ int main(void)
     by_others();
     out_of_turn();
     cbind_flag_y();
+    channels("SCRAM-SHA-1", FE2O3_SHA_1);
+    channels("SCRAM-SHA-256", FE2O3_SHA_256);
+    channels("SCRAM-SHA-512", FE2O3_SHA_512);
     strict();
     signature_by_challenge();
     initial_response_by_challenge();

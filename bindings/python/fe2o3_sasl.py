@@ -452,10 +452,8 @@ class _ScramServerStruct(ctypes.Structure):
     ]
 
 
-class _ScramRulesStruct(ctypes.Structure):
+class _ServerChannelsStruct(ctypes.Structure):
     _fields_ = [
-        ("accept_cbind_flag_y", ctypes.c_uint32),
-        ("strict", ctypes.c_uint32),
         ("binds_channel", ctypes.c_uint32),
         ("tls_unique_len", ctypes.c_uint32),
         ("tls_unique", ctypes.c_uint8 * 64),
@@ -463,6 +461,14 @@ class _ScramRulesStruct(ctypes.Structure):
         ("tls_server_end_point", ctypes.c_uint8 * 64),
         ("tls_exporter_len", ctypes.c_uint32),
         ("tls_exporter", ctypes.c_uint8 * 64),
+    ]
+
+
+class _ScramRulesStruct(ctypes.Structure):
+    _fields_ = [
+        ("accept_cbind_flag_y", ctypes.c_uint32),
+        ("strict", ctypes.c_uint32),
+        ("channels", _ServerChannelsStruct),
     ]
 
 
@@ -502,6 +508,7 @@ class _SaslServerConfigStruct(ctypes.Structure):
         ("records_count", ctypes.c_size_t),
         ("external_authcid", ctypes.c_char_p),
         ("external_authcid_len", ctypes.c_size_t),
+        ("channels", _ServerChannelsStruct),
     ]
 
 
@@ -2423,7 +2430,7 @@ class ClientSteps(_Steps, _ClientSide):
 class _ServerSide(_Login):
     """A server's login: what it offers, and its records."""
 
-    __slots__ = ("_attempt", "_iterations", "_mechanisms", "_external_authcid", "_records_of", "_struct")
+    __slots__ = ("_attempt", "_channels", "_iterations", "_mechanisms", "_external_authcid", "_records_of", "_struct")
 
     def __init__(
         self,
@@ -2432,6 +2439,7 @@ class _ServerSide(_Login):
         mechanisms: int = Offer.SCRAM_SHA_512 | Offer.SCRAM_SHA_256,
         iterations: int = 4096,
         external_authcid: Optional[Text] = None,
+        channels: Optional[Iterable[Channel]] = None,
     ) -> None:
         """A login by one of the mechanisms, a sum of `Offer`:
 
@@ -2441,10 +2449,15 @@ class _ServerSide(_Login):
         PLAIN uses the first record. For a name without records it returns `Record.mock(..)` for each hash, so that the
         client does not learn which names exist, or none. With the iteration count PLAIN hashes the password of an
         unknown user. EXTERNAL accepts `external_authcid`, the name that the transport has authenticated. If it is None
-        or empty, EXTERNAL is not offered, and an init for it fails."""
+        or empty, EXTERNAL is not offered, and an init for it fails.
+
+        With `channels` SCRAM is also offered with `-PLUS`: pass the channel of the connection once for each kind that the
+        server accepts (`Channel`; RFC 5802, section 6). A client that supports no channel binding still logs in without
+        `-PLUS`. `Offer.ACCEPT_CBIND_FLAG_Y` then has no effect."""
         self._records_of, self._mechanisms = records_of, _number(mechanisms)
         self._iterations, self._struct = _number(iterations), self._fresh()
         self._external_authcid = _text("" if external_authcid is None else external_authcid)
+        self._channels = _channels_of(channels)
         self._attempt: Optional[LoginAttempt] = None
         self._lock = _Guard(self)
 
@@ -2476,6 +2489,7 @@ class _ServerSide(_Login):
                 records_count=len(records),
                 external_authcid=self._external_authcid,
                 external_authcid_len=len(self._external_authcid),
+                channels=self._channels,
             )
 
     @staticmethod
@@ -2596,18 +2610,23 @@ class ServerSteps(_Steps, _ServerSide):
             return answer
 
 
-def _rules_of(accept_cbind_flag_y: bool, strict: bool, channels: Optional[Iterable[Channel]]) -> _ScramRulesStruct:
-    """Returns the rules of a server. None for channels is a server that binds no channel."""
-    rules = _ScramRulesStruct(
-        accept_cbind_flag_y=bool(accept_cbind_flag_y), strict=bool(strict), binds_channel=channels is not None
-    )
+def _channels_of(channels: Optional[Iterable[Channel]]) -> _ServerChannelsStruct:
+    """Returns the channels of a server. None is a server that binds no channel."""
+    bound = _ServerChannelsStruct(binds_channel=channels is not None)
     for channel in channels or ():
         name = channel.kind.name.lower()
-        if getattr(rules, name + "_len"):
+        if getattr(bound, name + "_len"):
             raise ValueError("two channels are of one kind")
-        setattr(rules, name, channel._array())
-        setattr(rules, name + "_len", len(channel.data))
-    return rules
+        setattr(bound, name, channel._array())
+        setattr(bound, name + "_len", len(channel.data))
+    return bound
+
+
+def _rules_of(accept_cbind_flag_y: bool, strict: bool, channels: Optional[Iterable[Channel]]) -> _ScramRulesStruct:
+    """Returns the rules of a server. None for channels is a server that binds no channel."""
+    return _ScramRulesStruct(
+        accept_cbind_flag_y=bool(accept_cbind_flag_y), strict=bool(strict), channels=_channels_of(channels)
+    )
 
 
 class _ClaimedUser:

@@ -72,12 +72,21 @@ def framed(body: bytes) -> bytes:
 def frame_of(code: int, *fields: bytes) -> bytes:
     """A frame of a described list with these fields."""
     data = b"".join(fields)
-    return framed(b"\0\x53" + bytes([code, 0xC0, len(data) + 1, len(fields)]) + data)
+    if len(data) < 255:
+        head = bytes([0xC0, len(data) + 1, len(fields)])
+    else:
+        head = struct.pack(">BII", 0xD0, len(data) + 4, len(fields))
+    return framed(b"\0\x53" + bytes([code]) + head + data)
 
 
 def short(constructor: int, data: bytes) -> bytes:
     """A value of variable width, whose size has one byte."""
     return bytes([constructor, len(data)]) + data
+
+
+def binary(data: bytes) -> bytes:
+    """A value of type binary."""
+    return short(0xA0, data) if len(data) < 256 else struct.pack(">BI", 0xB0, len(data)) + data
 
 
 def mechanisms_frame(*names: str) -> bytes:
@@ -212,7 +221,7 @@ class Side:
             response, self.withheld = self.withheld, None
             return frame_of(RESPONSE, response)
         if code == CHALLENGE:
-            return frame_of(RESPONSE, short(0xA0, self.answer(fields_of(unit)[1][0] or b"")))
+            return frame_of(RESPONSE, binary(self.answer(fields_of(unit)[1][0] or b"")))
         # (the code is a byte behind its constructor)
         self.code = unit[15] if unit[11] == 0xC0 else unit[21]
         self.logged_in = self.code == 0 and self.believes(unit)
@@ -252,11 +261,14 @@ class Plain(Side):
 
 
 class Login(Side):
-    """SCRAM (RFC 5802)."""
+    """SCRAM (RFC 5802), with `-PLUS` if the header is `p=` and a kind of channel."""
 
-    def __init__(self, version: int, name: str, password: str, header: bytes = b"n,,") -> None:
+    def __init__(
+        self, version: int, name: str, password: str, header: bytes = b"n,,", channel_data: bytes = b""
+    ) -> None:
         self.version, self.name, self.password, self.mechanism = version, name, password, MECHANISMS[version]
-        self.header = header
+        self.mechanism += "-PLUS" if header.startswith(b"p=") else ""
+        self.header, self.channel_data = header, channel_data
 
     def first(self) -> bytes:
         self.bare, self.signed = bare_of(self.name, bytes(32)), False
@@ -269,7 +281,7 @@ class Login(Side):
             return b""
         _, salt, count = challenge.split(b",")
         secret = Secret(self.version, self.password, base64.b64decode(salt[2:]), int(count[2:]))
-        client_final, self.server_final = secret.finals(self.bare, challenge, self.header)
+        client_final, self.server_final = secret.finals(self.bare, challenge, self.header + self.channel_data)
         return client_final
 
     def believes(self, unit: bytes) -> bool:

@@ -28,7 +28,7 @@ import fe2o3_sasl
 from examples.login import log_in, serve
 from fe2o3_sasl import SHA_1, SHA_256, SHA_512, Client, ClientConnection, Keys, Record, Refused, Server, Progress, Status
 from fe2o3_sasl import ClientSteps, Offer, ServerConnection, ServerError, ServerSteps, server_error, server_error_message
-from fe2o3_sasl import Channel, ChannelKind
+from fe2o3_sasl import Channel, ChannelKind, offers
 from peers import (
     CHALLENGE,
     INIT,
@@ -481,7 +481,7 @@ def channel_of(kind: ChannelKind) -> Channel:
 
 
 class Channels(Case):
-    """Channel binding over messages, and by clients on connections."""
+    """Channel binding over messages and on connections."""
 
     def reported(self, status: int, name: str, call: Callable[..., object], *arguments: object) -> None:
         """A call of a server fails, and the server reports it by this name (RFC 5802, section 7)."""
@@ -572,7 +572,7 @@ class Channels(Case):
                     rejects = Status.SERVER_CANNOT_PARSE_GS2_HEADER, server.first, record, header + bare
                     if header not in accepted:
                         self.refused(*rejects)
-                        if header != b"y,," or server._rules.binds_channel:
+                        if header != b"y,," or server._rules.channels.binds_channel:
                             # (without channels, `claimed_user` accepts both headers)
                             self.refused(Status.SERVER_CANNOT_PARSE_GS2_HEADER, server.claimed_user, header + bare)
                         continue
@@ -666,6 +666,41 @@ class Channels(Case):
             connected(connection, Broker(known, mechanism), 7)
             self.assertEqual((connection.mechanism(), connection.progress), (mechanism, Progress.AUTHENTICATED))
 
+    def test_servers_on_connections(self) -> None:
+        accept_y = Offer.ACCEPT_CBIND_FLAG_Y
+        for version, mechanism in MECHANISMS.items():
+            known = of({"user": Record.make(version, "pencil", salt=SALT)})
+            for kind, name in KIND_NAMES.items():
+                bound, data, own = b"p=" + name + b",,", DATA[kind], channel_of(kind)
+                others = [channel_of(other) for other in KIND_NAMES if other != kind]
+                for header, sent, channels, option, is_accepted in (
+                    (bound, data, [own], 0, True),
+                    (bound, data, [own, *others], accept_y, True),
+                    (bound, data, others, 0, False),
+                    (bound, data, [], 0, False),
+                    (bound, data, None, 0, False),
+                    (bound, b"other", [own], 0, False),
+                    (b"n,,", b"", [own], 0, True),
+                    # A client that has seen no -PLUS: someone has removed it from the offer.
+                    (b"y,,", b"", [own], accept_y, False),
+                    (b"y,,", b"", [], accept_y, False),
+                    (b"y,,", b"", None, accept_y, True),
+                ):
+                    by = Login(version, "user", "pencil", header, sent)
+                    options: Any = {"mechanisms": OFFERS[version] | option, "channels": channels}
+                    connection, steps = ServerConnection(known, **options), ServerSteps(known, **options)
+                    self.assertEqual(offers(steps.offer(), mechanism + "-PLUS"), channels is not None)
+                    self.assertTrue(offers(steps.offer(), mechanism))
+                    by.begin()
+                    served(connection, by, 7)
+                    steps_served(steps, by)
+                    for side in (connection, steps):
+                        self.assertEqual(side.progress == Progress.AUTHENTICATED, is_accepted, (header, channels))
+                    self.assertEqual(by.logged_in, is_accepted)
+        for two in ([Channel(1, b"a"), Channel(1, b"a")], [Channel(1, b"a"), Channel(2, b"a"), Channel(1, b"b")]):
+            with self.assertRaises(ValueError):
+                ServerConnection(nobody, channels=two)
+
     def test_channels_that_are_none(self) -> None:
         unfit: Any
         for kind in (0, 4, -1, 2**32 + 1):
@@ -725,7 +760,7 @@ class Channels(Case):
             server = Server(channels=[channel])
             client_final = client.final(server.first(record, client.first()))
             for rules in (server._rules, server._exchange[2]):
-                setattr(rules, kind.name.lower() + "_len", 65)
+                setattr(rules.channels, kind.name.lower() + "_len", 65)
             self.refused(Status.CHANNEL_DATA_LENGTH, server.final, client_final)
             self.refused(Status.CHANNEL_DATA_LENGTH, server.first, record, client.first())
             self.refused(Status.CHANNEL_DATA_LENGTH, server.claimed_user, client.first())
@@ -1373,6 +1408,8 @@ class Peeks(Case):
         for name, response, host, claimed in (
             (b"SCRAM-SHA-256", first, b"host", "us,er"),
             (b"SCRAM-SHA-256", b"n,,r=nonce", b"host", None),
+            (b"SCRAM-SHA-256-PLUS", b"p=tls-exporter,,n=us=2Cer,r=nonce", b"host", "us,er"),
+            (b"SCRAM-SHA-256-PLUS", first, b"host", None),
             (b"PLAIN", plain, None, "user"),
             (b"ANONYMOUS", b"trace", b"", None),
             (b"OTHER", None, b"host", None),
@@ -2573,18 +2610,19 @@ class RandomStructs(Case):
         """Rules of random bytes, whose lengths mostly fit. For each GS2 header the state of an open challenge and the
         data of the channel. Whether no length is too large."""
         rules = self.filled(fe2o3_sasl._ScramRulesStruct)
-        for field in ("accept_cbind_flag_y", "strict", "binds_channel"):
+        channels = rules.channels
+        for struct, field in ((rules, "accept_cbind_flag_y"), (rules, "strict"), (channels, "binds_channel")):
             if self.chance():
-                setattr(rules, field, self.random.randrange(2))
+                setattr(struct, field, self.random.randrange(2))
         headers, fits = {b"n,,": (1, b""), b"y,,": (3, b"")}, True
         for kind, text in KIND_NAMES.items():
             name = kind.name.lower()
             if self.random.random() < 0.95:
-                setattr(rules, name + "_len", self.random.choice((0, 1, 12, 32, 64)))
-            size = getattr(rules, name + "_len")
-            headers[b"p=" + text + b",,"] = 6 + kind, bytes(getattr(rules, name))[:size]
+                setattr(channels, name + "_len", self.random.choice((0, 1, 12, 32, 64)))
+            size = getattr(channels, name + "_len")
+            headers[b"p=" + text + b",,"] = 6 + kind, bytes(getattr(channels, name))[:size]
             fits = fits and size <= 64
-        return rules, headers, fits or not rules.binds_channel
+        return rules, headers, fits or not channels.binds_channel
 
     def known_record(self) -> tuple[Any, bytes, bytes]:
         """A record with a salt of a length that fits, and the ClientKey and the StoredKey of it."""
@@ -2603,12 +2641,12 @@ class RandomStructs(Case):
             server = self.filled(fe2o3_sasl._ScramServerStruct)
             header, extension = self.random.choice(list(headers)), self.random.choice((b"", b",x=1", b",i=4096"))
             state, data = headers[header]
-            if rules.binds_channel:
+            if rules.channels.binds_channel:
                 is_named = is_accepted = fits and data != b""
             else:
                 is_named = state < 7
                 is_accepted = state == 1 or (state == 3 and rules.accept_cbind_flag_y != 0)
-            if extension == b",i=4096" and (rules.strict or rules.binds_channel):
+            if extension == b",i=4096" and (rules.strict or rules.channels.binds_channel):
                 is_named = is_accepted = False
             message = header + b"n=user,r=nonce" + extension
             name = self.ask(claimed, (rules,), rules, message, len(message), room=256)
@@ -2640,8 +2678,8 @@ class RandomStructs(Case):
             proof = exclusive_or(client_key, mac(record.version, stored, b",".join(parts)))
             message = said + b",p=" + base64_of(proof)
             data_of_state = dict(headers.values()).get(state, b"")
-            is_accepted = fits and state in concluded and (state > 6) == bool(rules.binds_channel)
-            if (state > 6 and not data_of_state) or (extension == b",i=4096" and (rules.strict or rules.binds_channel)):
+            is_accepted = fits and state in concluded and (state > 6) == bool(rules.channels.binds_channel)
+            if (state > 6 and not data_of_state) or (extension == b",i=4096" and (rules.strict or rules.channels.binds_channel)):
                 is_accepted = False
             other, marred = fe2o3_sasl._ScramServerStruct.from_buffer_copy(server), self.marred(message)
             self.ask(final, (other, rules, record), rules, record, other, marred, len(marred), room=90)

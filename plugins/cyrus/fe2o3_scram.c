@@ -365,16 +365,16 @@ static int accept_channel(const struct exchange *one, const sasl_server_params_t
     kind = known_kind(one, params->utils, binding);
     if (!kind)
         return SASL_BADPARAM;
-    rules->binds_channel = 1;
+    rules->channels.binds_channel = 1;
     if (kind == FE2O3_TLS_UNIQUE) {
-        rules->tls_unique_len = (uint32_t)binding->len;
-        memcpy(rules->tls_unique, binding->data, binding->len);
+        rules->channels.tls_unique_len = (uint32_t)binding->len;
+        memcpy(rules->channels.tls_unique, binding->data, binding->len);
     } else if (kind == FE2O3_TLS_SERVER_END_POINT) {
-        rules->tls_server_end_point_len = (uint32_t)binding->len;
-        memcpy(rules->tls_server_end_point, binding->data, binding->len);
+        rules->channels.tls_server_end_point_len = (uint32_t)binding->len;
+        memcpy(rules->channels.tls_server_end_point, binding->data, binding->len);
     } else {
-        rules->tls_exporter_len = (uint32_t)binding->len;
-        memcpy(rules->tls_exporter, binding->data, binding->len);
+        rules->channels.tls_exporter_len = (uint32_t)binding->len;
+        memcpy(rules->channels.tls_exporter, binding->data, binding->len);
     }
     return SASL_OK;
 }

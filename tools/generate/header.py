@@ -35,7 +35,7 @@ SECTIONS = [  # in the order of use: a title, the structs, and the functions aft
     ("Keys, which a client can cache in place of a password", "ScramKeys", "scram_keys_make scram_keys_of_salted"),
     ("A SCRAM client, over messages", "Login ScramClient",
      "scram_client_first scram_client_final scram_client_verify scram_client_get_keys"),
-    ("A SCRAM server, over messages", "ScramServer ScramRules",
+    ("A SCRAM server, over messages", "ScramServer ServerChannels ScramRules",
      "scram_server_claimed_user scram_server_first scram_server_first_with_cbind_flag_y scram_server_final"
      " scram_server_claimed_user_with_rules scram_server_first_with_rules scram_server_final_with_rules"
      " scram_server_authenticated_user"),

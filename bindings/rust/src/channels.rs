@@ -150,10 +150,8 @@ impl ClientChannel {
     }
 }
 
-/// The rules of a server that accepts the GS2 header `n,,` only, and is not strict.
-pub(crate) const NO_RULES: sys::ScramRules = sys::ScramRules {
-    accept_cbind_flag_y: 0,
-    strict: 0,
+/// The channels of a server that binds none.
+pub(crate) const NO_CHANNELS: sys::ServerChannels = sys::ServerChannels {
     binds_channel: 0,
     tls_unique_len: 0,
     tls_unique: [0; MAX_DATA_LEN],
@@ -163,18 +161,21 @@ pub(crate) const NO_RULES: sys::ScramRules = sys::ScramRules {
     tls_exporter: [0; MAX_DATA_LEN],
 };
 
-/// Makes rules those of a server that binds these channels and no other.
-pub(crate) fn bind(rules: sys::ScramRules, channels: impl IntoIterator<Item = Channel>) -> sys::ScramRules {
-    let sys::ScramRules { accept_cbind_flag_y, strict, .. } = rules;
-    let mut rules = sys::ScramRules { accept_cbind_flag_y, strict, binds_channel: 1, ..NO_RULES };
+/// The rules of a server that accepts the GS2 header `n,,` only, and is not strict.
+pub(crate) const NO_RULES: sys::ScramRules =
+    sys::ScramRules { accept_cbind_flag_y: 0, strict: 0, channels: NO_CHANNELS };
+
+/// Returns the channels of a server that binds these and no other.
+pub(crate) fn bound(channels: impl IntoIterator<Item = Channel>) -> sys::ServerChannels {
+    let mut bound = sys::ServerChannels { binds_channel: 1, ..NO_CHANNELS };
     for Channel { kind, data, len } in channels {
         match kind {
-            ChannelKind::TlsUnique => (rules.tls_unique, rules.tls_unique_len) = (data, len),
+            ChannelKind::TlsUnique => (bound.tls_unique, bound.tls_unique_len) = (data, len),
             ChannelKind::TlsServerEndPoint => {
-                (rules.tls_server_end_point, rules.tls_server_end_point_len) = (data, len);
+                (bound.tls_server_end_point, bound.tls_server_end_point_len) = (data, len);
             }
-            ChannelKind::TlsExporter => (rules.tls_exporter, rules.tls_exporter_len) = (data, len),
+            ChannelKind::TlsExporter => (bound.tls_exporter, bound.tls_exporter_len) = (data, len),
         }
     }
-    rules
+    bound
 }

@@ -1,7 +1,7 @@
 //! The server's side of an exchange.
 
 use crate::calls::filled;
-use crate::channels::{bind, NO_RULES};
+use crate::channels::{bound, NO_RULES};
 use crate::{
     generate_nonce, sys, Channel, ScramRecord, ScramVersion, ServerScramErrorKind, StoredPassword, UserRecords,
     DEFAULT_SCRAM_ITERATIONS,
@@ -194,7 +194,7 @@ impl<C: ScramCredentialProvider + Clone> ScramAuthenticator<C> {
     /// these channels. Pass a channel for each kind that you accept; of two channels of one kind the last one counts.
     /// Without a channel the server accepts no client. Set them before the client-first message.
     pub fn with_channels(mut self, channels: impl IntoIterator<Item = Channel>) -> Self {
-        self.rules = bind(self.rules, channels);
+        self.rules.channels = bound(channels);
         self
     }
 

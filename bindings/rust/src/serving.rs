@@ -2,12 +2,13 @@
 
 use crate::attempts::claim;
 use crate::calls::filled;
+use crate::channels::{bound, NO_CHANNELS};
 use crate::connection::{progress_of, Progress, Received, FRESH};
 use crate::frames::view_frame;
 use crate::peeks::{end_of_input, foreign_header, nonce_for, peek_body, wants_nonce};
 use crate::records::ScramRecord;
 use crate::server::{authenticated_user, MockSettings, NO_CHALLENGE};
-use crate::{sys, ConnectionError, Frame, LoginAttempt, ScramVersion, DEFAULT_SCRAM_ITERATIONS};
+use crate::{sys, Channel, ConnectionError, Frame, LoginAttempt, ScramVersion, DEFAULT_SCRAM_ITERATIONS};
 use std::collections::HashMap;
 use std::fmt;
 use std::marker::PhantomData;
@@ -90,6 +91,7 @@ pub struct PasswordServer<R: UserRecords + Clone> {
     mock: Option<MockSettings>,
     mechanisms: u32,
     external_authcid: String,
+    channels: sys::ServerChannels,
 }
 
 /// A configuration for the library, whose pointers point to what is borrowed for `'a`.
@@ -102,7 +104,7 @@ impl<R: UserRecords + Clone> PasswordServer<R> {
     /// Returns a server over these records.
     pub fn new(records: R) -> Self {
         let mechanisms = sys::OFFER_SCRAM_SHA_512 + sys::OFFER_SCRAM_SHA_256;
-        Self { records, mock: None, mechanisms, external_authcid: String::new() }
+        Self { records, mock: None, mechanisms, external_authcid: String::new(), channels: NO_CHANNELS }
     }
 
     /// Adds this value of enum fe2o3_offer to the offer, or removes it.
@@ -151,8 +153,15 @@ impl<R: UserRecords + Clone> PasswordServer<R> {
         Self { external_authcid: authcid.into(), ..server }
     }
 
+    /// Makes the server bind the channel of the connection (RFC 5802, section 6): SCRAM is also offered with `-PLUS`, by
+    /// the same hashes. Pass the channel once for each kind that the server accepts; without any, SCRAM with `-PLUS` accepts
+    /// no client. Clients that support no channel binding still log in without `-PLUS`.
+    pub fn channels(self, channels: impl IntoIterator<Item = Channel>) -> Self {
+        Self { channels: bound(channels), ..self }
+    }
+
     /// Makes SCRAM also accept the GS2 header `y,,`: the client supports channel binding, and was offered no mechanism
-    /// with `-PLUS` (RFC 5802, section 6). Only for a server that offers none.
+    /// with `-PLUS` (RFC 5802, section 6). It has no effect beside [`PasswordServer::channels`].
     pub fn accept_cbind_flag_y(self) -> Self {
         self.with(sys::ACCEPT_CBIND_FLAG_Y, true)
     }
@@ -203,6 +212,7 @@ impl<R: UserRecords + Clone> PasswordServer<R> {
             records_count: records.len(),
             external_authcid: self.external_authcid.as_ptr(),
             external_authcid_len: self.external_authcid.len(),
+            channels: self.channels,
         };
         LentConfig { config, from: PhantomData }
     }

@@ -648,21 +648,13 @@ pub struct ScramServer {
     pub first: [u8; 1024],
 }
 
-/// What a SCRAM server accepts, where RFC 5802 leaves it a choice. You lend the struct to each call of an exchange,
-/// always with the same values.
+/// What identifies the channel of a server (RFC 5802, section 6). All zeros is a server that binds no channel.
 #[repr(C)]
 #[derive(Clone, Copy)]
-pub struct ScramRules {
-    /// Whether the GS2 header may be `y,,` too: the client supports channel binding, and was offered no mechanism with
-    /// `-PLUS` (RFC 5802, section 6). 0 is no, any other value yes. Only for a server that offers no such mechanism. It
-    /// has no effect if the server binds channels.
-    pub accept_cbind_flag_y: u32,
-    /// Whether an attribute that RFC 5802, section 5.1, defines is rejected in the place of an extension, by
-    /// SERVER_MISPLACED_ATTRIBUTE. 0 is no, any other value yes. A server that binds channels is always strict.
-    pub strict: u32,
-    /// Whether the server binds channels: it is of the mechanism with `-PLUS`, and accepts only clients that bind the
-    /// channel, by a kind of which the struct has data (RFC 5802, section 6). 0 is no, and the data are then not used.
-    /// Any other value is yes. Without data of any kind such a server accepts no client.
+pub struct ServerChannels {
+    /// Whether the server binds channels: by a mechanism with `-PLUS` it accepts only clients that bind the channel, by
+    /// a kind of which the struct has data (RFC 5802, section 6). 0 is no, and the data are then not used. Any other
+    /// value is yes. Without data of any kind such a mechanism accepts no client.
     pub binds_channel: u32,
     /// The number of bytes of `tls_unique` in use, at most 64, or 0 if the server does not accept this kind.
     pub tls_unique_len: u32,
@@ -678,6 +670,22 @@ pub struct ScramRules {
     /// The data of `tls-exporter` (RFC 9266): 32 bytes of exported keying material. For TLS 1.3, and for TLS 1.2 with
     /// the extended master secret.
     pub tls_exporter: [u8; 64],
+}
+
+/// What a SCRAM server accepts, where RFC 5802 leaves it a choice. You lend the struct to each call of an exchange,
+/// always with the same values.
+#[repr(C)]
+#[derive(Clone, Copy)]
+pub struct ScramRules {
+    /// Whether the GS2 header may be `y,,` too: the client supports channel binding, and was offered no mechanism with
+    /// `-PLUS` (RFC 5802, section 6). 0 is no, any other value yes. Only for a server that offers no such mechanism. It
+    /// has no effect if the server binds channels.
+    pub accept_cbind_flag_y: u32,
+    /// Whether an attribute that RFC 5802, section 5.1, defines is rejected in the place of an extension, by
+    /// SERVER_MISPLACED_ATTRIBUTE. 0 is no, any other value yes. A server that binds channels is always strict.
+    pub strict: u32,
+    /// The server's channel, if it is of the mechanism with `-PLUS`.
+    pub channels: ServerChannels,
 }
 
 /// One side of a connection between calls. All zeros is a connection that has received nothing.
@@ -754,6 +762,10 @@ pub struct SaslServerConfig {
     /// If empty, EXTERNAL is not offered, and an init for it fails with REFUSED_AUTH.
     pub external_authcid: *const u8,
     pub external_authcid_len: usize,
+    /// The server's channel. If it binds channels, SCRAM is also offered with `-PLUS`, by the same hashes, and before
+    /// the other mechanisms. SCRAM without `-PLUS` then accepts no client that has seen no such mechanism (`y,,`; RFC
+    /// 5802, section 6), whatever ACCEPT_CBIND_FLAG_Y says.
+    pub channels: ServerChannels,
 }
 
 /// The server's side of a connection between calls. All zeros is a connection that has received nothing.

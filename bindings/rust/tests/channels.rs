@@ -360,3 +360,45 @@ fn all_of_it_may_go_to_another_thread() {
     may::<ScramClient>();
     may::<Server>();
 }
+
+/// Runs a login over frame bodies. Returns the mechanism and how the server ends.
+fn log_in_over_frames(client: &ScramClient, server: PasswordServer<SingleScramCredential>) -> (String, Progress) {
+    let (mut client, mut server) = (ClientSteps::new(client.clone(), None), ServerSteps::new(server));
+    let mut body = server.sasl_mechanisms().unwrap();
+    while let Ok(sent) = client.on_frame(&body) {
+        if sent.body.is_empty() {
+            break;
+        }
+        body = server.on_frame(&sent.body).unwrap().body;
+    }
+    (client.mechanism().unwrap().to_owned(), server.progress())
+}
+
+#[test]
+fn servers_on_connections() {
+    let rejected = Progress::Failed(ConnectionError::RefusedAuth);
+    for version in VERSIONS {
+        let (plus, name) = (format!("{}-PLUS", version.mechanism()), version.mechanism());
+        let credential = SingleScramCredential::new("user", "pencil", version).unwrap();
+        let server = || PasswordServer::new(credential.clone()).hashes(&[version]);
+        for kind in &KINDS {
+            let (own, bound) = (channel(kind), client(version).with_channel(channel(kind)));
+            let others: Vec<Channel> = all().into_iter().filter(|other| other.kind() != own.kind()).collect();
+            let other_data = Channel::new(own.kind(), b"other").unwrap();
+            for (server, progress) in [
+                (server().channels([own]), Progress::Authenticated),
+                (server().channels(all()), Progress::Authenticated),
+                (server().channels(others), rejected),
+                (server().channels([other_data]), rejected),
+                (server().channels([]), rejected),
+            ] {
+                assert_eq!(log_in_over_frames(&bound, server), (plus.clone(), progress));
+            }
+            // Without a channel, and with one but without -PLUS in the offer that arrives.
+            let unaware = log_in_over_frames(&client(version), server().channels([own]));
+            assert_eq!(unaware, (name.to_owned(), Progress::Authenticated));
+            let told_none = log_in_over_frames(&bound.channel_not_offered(), server().channels([own]).accept_cbind_flag_y());
+            assert_eq!(told_none, (name.to_owned(), rejected));
+        }
+    }
+}

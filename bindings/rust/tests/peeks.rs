@@ -205,6 +205,8 @@ fn what_an_init_claims() {
     let scram = &b"n,,n=us=2Cer,r=nonce"[..];
     for (mechanism, response, claimed) in [
         ("SCRAM-SHA-256", Some(scram), Some("us,er")),
+        ("SCRAM-SHA-256-PLUS", Some(b"p=tls-exporter,,n=us=2Cer,r=nonce"), Some("us,er")),
+        ("SCRAM-SHA-256-PLUS", Some(scram), None),
         ("PLAIN", Some(b"\0user\0pencils"), Some("user")),
         ("ANONYMOUS", Some(b"trace"), None),
         ("OTHER", None, None),

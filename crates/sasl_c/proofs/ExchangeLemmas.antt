@@ -6,12 +6,13 @@ use Rattle.std.proofs.lemmas.List.{length-take}
 use Rattle.std.proofs.lemmas.Str.{IsUtf8-from_ascii}
 use Rattle.std.proofs.Math.Seq.{take-append_seam}
 use Rattle.fe2o3_scram.specs.Hmac.{zero_filled}
+use Rattle.fe2o3_scram.specs.declared.channel_binding.ChannelKind.TheVariants.{TlsUnique, TlsServerEndPoint, TlsExporter}
 use Rattle.fe2o3_scram.specs.declared.hmac.ScramVersion.{ScramVersion}
 use Rattle.fe2o3_scram.specs.declared.scram_messages.channel_binding_flag.ChannelBindingFlag.{ChannelBindingFlag}
 use Rattle.fe2o3_scram.specs.declared.scram_messages.channel_binding_flag.ChannelBindingFlag.TheVariants.{NotSupported, ClientSupports, Required}
 use Rattle.fe2o3_scram.specs.ServerFirst.{ServerChallenge}
 use Rattle.sasl_c.specs.declared.server.ScramServer.{ScramServer as ScramStruct}
-use Rattle.sasl_c.specs.Server.{KeptExchange, NothingKept, ChallengeOpen, SignatureSent, InitialResponseAsked, PendingInit, AsksHostname, AsksInAscii, HasAsked, HasRoomForInit, HasRoomUnbound, HasSigned, IsOpenUnbound, IsUnbound, ShowsExchange, asked_number, asked_struct, open_number, or_empty}
+use Rattle.sasl_c.specs.Server.{KeptExchange, NothingKept, ChallengeOpen, SignatureSent, InitialResponseAsked, PendingInit, AsksHostname, AsksInAscii, HasAsked, HasRoomForInit, ChallengeHasRoom, HasSigned, IsOpen, ShowsExchange, asked_number, asked_struct, open_number, or_empty}
 use Rattle.sasl_c.specs.Status.{version_number}
 use Rattle.sasl_c.proofs.StatusLemmas.{carried}
 
@@ -22,23 +23,21 @@ short n most array text same few =
     omega (arith, ap length same, long, few)
 
 -- a challenge that a struct shows has room in it
-open_room : (scram : ScramStruct) (challenge : ServerChallenge) → IsOpenUnbound scram challenge
-    → HasRoomUnbound challenge
-open_room scram challenge (is, unbound) = let lengths = is.1 in (
-  (
-    short scram.user_len 256 scram.user challenge.user (ap (λ (c : ServerChallenge). c.user) is.2) lengths.0,
-    short scram.bare_len 1024 scram.bare challenge.bare (ap (λ (c : ServerChallenge). c.bare) is.2) lengths.1,
-    short scram.nonce_len 512 scram.nonce challenge.nonce (ap (λ (c : ServerChallenge). c.nonce) is.2) lengths.2,
-    short scram.first_len 1024 scram.first challenge.first (ap (λ (c : ServerChallenge). c.first) is.2) lengths.3,
-  ),
-  unbound,
+open_room : (scram : ScramStruct) (challenge : ServerChallenge) → IsOpen scram challenge → ChallengeHasRoom challenge
+open_room scram challenge is = let lengths = is.1 in (
+  short scram.user_len 256 scram.user challenge.user (ap (λ (c : ServerChallenge). c.user) is.2) lengths.0,
+  short scram.bare_len 1024 scram.bare challenge.bare (ap (λ (c : ServerChallenge). c.bare) is.2) lengths.1,
+  short scram.nonce_len 512 scram.nonce challenge.nonce (ap (λ (c : ServerChallenge). c.nonce) is.2) lengths.2,
+  short scram.first_len 1024 scram.first challenge.first (ap (λ (c : ServerChallenge). c.first) is.2) lengths.3,
 )
 
 -- no number of an open challenge is 0
-never_zero : (header : ChannelBindingFlag) → IsUnbound header → 0 ≡ open_number header → ⊥
-never_zero NotSupported unbound same = omega (arith, same)
-never_zero ClientSupports unbound same = omega (arith, same)
-never_zero (Required kind) unbound same = unbound
+never_zero : (header : ChannelBindingFlag) → 0 ≡ open_number header → ⊥
+never_zero NotSupported same = omega (arith, same)
+never_zero ClientSupports same = omega (arith, same)
+never_zero (Required TlsUnique) same = omega (arith, same)
+never_zero (Required TlsServerEndPoint) same = omega (arith, same)
+never_zero (Required TlsExporter) same = omega (arith, same)
 
 -- and no number of an init that was asked
 never_asked : (scram : ScramStruct) (hostname : Option (List ℕ)) → scram.state ≡ 0 → AsksHostname scram hostname → ⊥
@@ -50,19 +49,19 @@ never_asked scram (Some hostname) fresh asks = absurd (omega (arith, fresh, asks
 pub keeps_nothing : (scram : ScramStruct) (exchange : KeptExchange) → exchange ≡ NothingKept → scram.state ≡ 0
     → ShowsExchange scram exchange
 keeps_nothing scram exchange is fresh = carried (ShowsExchange scram) NothingKept exchange (sym is) (
-  (λ version challenge shown. never_zero challenge.header shown.1.1 (sym fresh ∙ shown.1.0.0)),
+  (λ version challenge shown. never_zero challenge.header (sym fresh ∙ shown.1.0)),
   (λ user shown. absurd (omega (arith, fresh, shown.0))),
   λ init shown. never_asked scram init.hostname fresh shown.0,
 )
 
 pub keeps_challenge : (scram : ScramStruct) (exchange : KeptExchange) (version : ScramVersion)
-    (challenge : ServerChallenge) → exchange ≡ ChallengeOpen version challenge → scram.version ≡ version_number version → IsOpenUnbound scram challenge
+    (challenge : ServerChallenge) → exchange ≡ ChallengeOpen version challenge → scram.version ≡ version_number version → IsOpen scram challenge
     → ShowsExchange scram exchange
 keeps_challenge scram exchange version challenge is hash shown =
     carried (ShowsExchange scram) (ChallengeOpen version challenge) exchange (sym is) (sym hash, shown)
 
 pub no_challenge_room : (exchange : KeptExchange) (version : ScramVersion) (challenge : ServerChallenge)
-    → exchange ≡ ChallengeOpen version challenge → ¬ HasRoomUnbound challenge → (scram : ScramStruct)
+    → exchange ≡ ChallengeOpen version challenge → ¬ ChallengeHasRoom challenge → (scram : ScramStruct)
     → ¬ ShowsExchange scram exchange
 no_challenge_room exchange version challenge is wide scram shown =
     wide (open_room scram challenge (carried (ShowsExchange scram) exchange (ChallengeOpen version challenge) is shown).1)

@@ -8,7 +8,7 @@ use Rattle.fe2o3_scram.specs.declared.scram_messages.channel_binding_flag.Channe
 use Rattle.fe2o3_scram.specs.declared.scram_messages.channel_binding_flag.ChannelBindingFlag.TheVariants.{NotSupported, ClientSupports, Required}
 use Rattle.fe2o3_scram.specs.declared.scram_messages.server_rules.ServerRules.{ServerRules}
 use Rattle.sasl_c.specs.declared.server.ScramServer.{ScramServer as Struct}
-use Rattle.sasl_c.specs.Server.{IsOpen, IsOpenFor, IsOpenUnbound, IsUnbound, open_number}
+use Rattle.sasl_c.specs.Server.{IsOpen, IsOpenFor, open_number}
 use Rattle.sasl_c.proofs.StatusLemmas.{carried}
 
 -- no other number is that of an open challenge
@@ -43,11 +43,6 @@ one_header server challenge other shown too =
     let same : Some other.header ≡ Some challenge.header = sym (read_again other.header)
     ∙ ap header_of (sym too.0 ∙ shown.0) ∙ read_again challenge.header in
     cc
-
-pub never_unbound : (server : Struct) (challenge : ServerChallenge) → IsOpen server challenge
-    → ¬ IsUnbound challenge.header → (other : ServerChallenge) → ¬ IsOpenUnbound server other
-never_unbound server challenge shown bound other too =
-    bound (carried IsUnbound other.header challenge.header (one_header server challenge other shown too.0) too.1)
 
 pub never_for : (rules : ServerRules) (server : Struct) (challenge : ServerChallenge) → IsOpen server challenge
     → ¬ TakesFlag rules.channels true challenge.header → (other : ServerChallenge) → ¬ IsOpenFor rules server other

@@ -28,13 +28,13 @@ pub ruleset data_of = (no_data, some_data)
 
 -- rules of zeros are those of a server without options
 pub zeros : (rules : ScramRules) (answer : Result ServerRules Status) → ShowsRules rules answer
-    → rules.accept_cbind_flag_y ≡ 0 → rules.strict ≡ 0 → rules.binds_channel ≡ 0 → answer ≡ Ok default_rules
+    → rules.accept_cbind_flag_y ≡ 0 → rules.strict ≡ 0 → rules.channels.binds_channel ≡ 0 → answer ≡ Ok default_rules
 zeros rules (Ok shown) (same, short) flag strict binds =
     let means : ℕ → ℕ → ℕ → ServerRules = λ f s b. record {
       accept_cbind_flag_y = is_set f;
       strict = is_set s;
-      channels = if is_set b then Some (channels_in rules) else None;
+      channels = if is_set b then Some (channels_in rules.channels) else None;
     } in
-    ap Ok (same ∙ ap (λ f. means f rules.strict rules.binds_channel) flag ∙ ap (λ s. means 0 s rules.binds_channel) strict
+    ap Ok (same ∙ ap (λ f. means f rules.strict rules.channels.binds_channel) flag ∙ ap (λ s. means 0 s rules.channels.binds_channel) strict
     ∙ ap (λ b. means 0 0 b) binds)
 zeros rules (Err status) (is, long) flag strict binds = absurd (long.0 binds)

@@ -5,13 +5,14 @@ use Rattle.std.specs.Str.{IsUtf8}
 use Rattle.std.proofs.lemmas.List.{append-nil, append_assoc}
 use Rattle.fe2o3_scram.specs.declared.hmac.ScramVersion.{ScramVersion}
 use Rattle.fe2o3_scram.specs.declared.hmac.ScramVersion.TheVariants as versions
-use Rattle.fe2o3_scram.specs.Credentials.{VersionedRecord}
+use Rattle.fe2o3_scram.specs.ChannelBinding.{is_required}
+use Rattle.fe2o3_scram.specs.Credentials.{Record, VersionedRecord}
 use Rattle.fe2o3_scram.specs.Mixed.{MultiRecords}
 use Rattle.fe2o3_scram.specs.ClientFinal.{ClientFinal, ReadsClientFinal, Server}
 use Rattle.fe2o3_scram.specs.Hmac.{digest_len}
 use Rattle.fe2o3_scram.proofs.lemmas.hashes.DigestLemmas.{length-digest}
 use Rattle.fe2o3_scram.specs.Readings.{NoneHolds}
-use Rattle.fe2o3_scram.specs.ScramServer.{ServerState, ServerFinalSent, server_against}
+use Rattle.fe2o3_scram.specs.ScramServer.{ServerState, ServerFinalSent, ServerFirstSent, server_against}
 use Rattle.fe2o3_scram.specs.ServerFirst.{ServerChallenge}
 use Rattle.fe2o3_sasl_core.specs.declared.any_mechanism.Selected.TheVariants.{First}
 use Rattle.fe2o3_sasl_core.specs.declared.plain_server.passwords.PlainPasswords.{PlainPasswords}
@@ -29,13 +30,14 @@ use Rattle.sasl_c.specs.declared.server.ScramServer.{ScramServer as ScramStruct}
 use Rattle.sasl_c.specs.declared.status.Status.{Status}
 use Rattle.sasl_c.specs.declared.status.Status.TheVariants as statuses
 use Rattle.sasl_c.specs.Records.{ShowsRecord, SpellsStruct}
-use Rattle.sasl_c.specs.SaslServer.{AddsRecord, HasNoServerWords, HasNone, HasNoStruct, HasRecords, IsNoConfig, IsOf, IsServer, NoRecordIsUnmet, ServerIsReached, ShowRecords, ShowsBy, ShowsProgress, ShowsSide, ShowsState, Stands, State, config_tests, extra_for, kept_exchange, mechanisms_sum, version_of_first, no_record as record_without_keys, one_where, passwords_number, saved_for, settings_for, side_in, side_struct, state_of, state_struct, struct_by, sum_of}
+use Rattle.sasl_c.specs.Rules.{HasLongData}
+use Rattle.sasl_c.specs.SaslServer.{AddsRecord, AreFresh, HasNoServerWords, HasNone, HasNoStruct, HasRecords, IsNoConfig, IsOf, IsServer, NoRecordIsUnmet, ServerIsReached, ShowRecords, ShowsBy, ShowsProgress, ShowsSide, ShowsState, Stands, State, config_tests, extra_for, kept_exchange, mechanisms_sum, version_of_first, no_record as record_without_keys, one_where, passwords_number, record_for, saved_for, settings_for, side_in, side_struct, state_of, state_struct, struct_by, sum_of}
 use Rattle.fe2o3_sasl_core.specs.ExtraChallenges.{Phase}
 use Rattle.fe2o3_sasl_core.specs.declared.extra_challenges.ExtraChallenges.{ExtraChallenges}
 use Rattle.fe2o3_sasl_core.specs.declared.extra_challenges.WithExtraChallenges.{WithExtraChallenges}
-use Rattle.fe2o3_sasl_core.specs.PasswordServer.{PasswordState, SavedExchange, asked_of, first_asked, opened, password_names, password_server, password_server_in, password_user, second_asked}
+use Rattle.fe2o3_sasl_core.specs.PasswordServer.{PasswordState, SavedExchange, ScramsAt, exchange_with, part_asked, password_names, password_open, password_server, password_server_in, password_user, scrams_at}
 use Rattle.fe2o3_sasl_core.specs.declared.password_server.PasswordServer.{PasswordServer}
-use Rattle.sasl_c.specs.Server.{KeptExchange, NothingKept, ChallengeOpen, SignatureSent, InitialResponseAsked, IsAuthenticated, IsPhaseOf, ShowsExchange, phase_for, signed_exchange}
+use Rattle.sasl_c.specs.Server.{KeptExchange, NothingKept, ChallengeOpen, SignatureSent, InitialResponseAsked, IsAuthenticated, IsPhaseOf, ShowsExchange, open_exchange, phase_for, signed_exchange}
 use Rattle.sasl_c.specs.Status.{version_number}
 use Rattle.sasl_c.proofs.ExchangeLemmas.{short}
 use Rattle.sasl_c.proofs.StatusLemmas.{carried}
@@ -240,7 +242,7 @@ never_met challenge version rules text message next ((final, read, sent), then) 
 -- the library's server which continues what a struct keeps
 module _ (config : Config) (choice : Choice) (records : MultiRecords) (signed : ScramVersion) where
   abbrev saved : KeptExchange → Option SavedExchange
-  saved exchange = saved_for records signed exchange
+  saved exchange = saved_for records signed false exchange
 
   abbrev served : KeptExchange → PasswordState
   served exchange = password_server (settings_for config choice records (saved exchange))
@@ -249,39 +251,62 @@ module _ (config : Config) (choice : Choice) (records : MultiRecords) (signed : 
   abbrev extended : KeptExchange → State
   extended exchange = record { inner = served exchange; extra = extra_for choice; phase = phase_for exchange }
 
-  abbrev StandsSo : Option SavedExchange → Type 0
-  StandsSo exchange = Stands exchange (opened exchange) (first_asked (asked_of exchange)) (second_asked (asked_of exchange))
+  -- SCRAM in an exchange, with -PLUS or without it
+  abbrev scrams_for : Bool → Option SavedExchange → ScramsAt
+  scrams_for plus exchange = scrams_at (exchange_with plus exchange)
 
-  stands_at : (version : ScramVersion) (state : ServerState) → StandsSo (Some (record { version = version; state = state }))
-  stands_at versions.Sha1 state = (refl, (refl, refl))
-  stands_at versions.Sha256 state = (refl, (refl, refl))
-  stands_at versions.Sha512 state = (refl, refl)
+  abbrev StandsSo : Option SavedExchange → Type 0
+  StandsSo exchange = Stands exchange (scrams_for true exchange) (scrams_for false exchange) (part_asked exchange)
+
+  fresh : AreFresh (scrams_at None)
+  fresh = ((λ version. refl), refl, refl)
+
+  stands_at : (version : ScramVersion) (plus : Bool) (state : ServerState)
+      → StandsSo (Some (record { version = version; plus = plus; state = state }))
+  stands_at versions.Sha1 true state = ((refl, (refl, refl)), refl)
+  stands_at versions.Sha256 true state = ((refl, (refl, refl)), refl)
+  stands_at versions.Sha512 true state = ((refl, refl), refl)
+  stands_at versions.Sha1 false state = ((refl, (refl, refl)), refl)
+  stands_at versions.Sha256 false state = ((refl, (refl, refl)), refl)
+  stands_at versions.Sha512 false state = ((refl, refl), refl)
 
   stands : (exchange : KeptExchange) → StandsSo (saved exchange)
-  stands NothingKept = ((λ version. refl), refl, refl)
-  stands (ChallengeOpen version challenge) = stands_at version _
-  stands (SignatureSent user) = stands_at signed _
-  stands (InitialResponseAsked init) = ((λ version. refl), refl, refl)
+  stands NothingKept = (fresh, fresh, refl)
+  stands (ChallengeOpen version challenge) = stands_at version (is_required challenge.header) _
+  stands (SignatureSent user) = stands_at signed false _
+  stands (InitialResponseAsked init) = (fresh, fresh, refl)
 
   served_in : (exchange : KeptExchange) → served exchange
-      ≡ password_server_in (settings_for config choice records None) (opened (saved exchange))
-      (option_map (λ (one : SavedExchange). First) (saved exchange)) (first_asked (asked_of (saved exchange)))
-      (second_asked (asked_of (saved exchange)))
+      ≡ password_server_in (settings_for config choice records None) (scrams_for true (saved exchange))
+      (scrams_for false (saved exchange)) (part_asked (saved exchange))
+      (option_map (λ (one : SavedExchange). First) (saved exchange))
   served_in NothingKept = refl
   served_in (ChallengeOpen version challenge) = refl
   served_in (SignatureSent user) = refl
   served_in (InitialResponseAsked init) = refl
 
   -- it keeps just this
+  keeps_at : (version : ScramVersion) (plus : Bool) (challenge : ServerChallenge) (stored : Record)
+      → open_exchange (password_open (password_server (settings_for config choice records (Some (record {
+        version = version;
+        plus = plus;
+        state = ServerFirstSent challenge stored;
+      }))))) ≡ ChallengeOpen version challenge
+  keeps_at versions.Sha1 true challenge stored = refl
+  keeps_at versions.Sha256 true challenge stored = refl
+  keeps_at versions.Sha512 true challenge stored = refl
+  keeps_at versions.Sha1 false challenge stored = refl
+  keeps_at versions.Sha256 false challenge stored = refl
+  keeps_at versions.Sha512 false challenge stored = refl
+
   keeps_open : (version : ScramVersion) (challenge : ServerChallenge)
       → kept_exchange (extended (ChallengeOpen version challenge)) ≡ ChallengeOpen version challenge
-  keeps_open versions.Sha1 challenge = refl
-  keeps_open versions.Sha256 challenge = refl
-  keeps_open versions.Sha512 challenge = refl
+  keeps_open version challenge =
+      keeps_at version (is_required challenge.header) challenge (record_for records version challenge.user)
 
   keeps_user : (version : ScramVersion) (user : List ℕ)
       → signed_exchange (password_user (password_server (settings_for config choice records
-      (Some (record { version = version; state = ServerFinalSent user }))))) ≡ SignatureSent user
+      (Some (record { version = version; plus = false; state = ServerFinalSent user }))))) ≡ SignatureSent user
   keeps_user versions.Sha1 user = refl
   keeps_user versions.Sha256 user = refl
   keeps_user versions.Sha512 user = refl
@@ -305,9 +330,10 @@ module _ (config : Config) (choice : Choice) (records : MultiRecords) (signed : 
     choice,
     records,
     signed,
-    opened (saved exchange),
-    first_asked (asked_of (saved exchange)),
-    second_asked (asked_of (saved exchange)),
+    false,
+    scrams_for true (saved exchange),
+    scrams_for false (saved exchange),
+    part_asked (saved exchange),
     sum,
     has,
     stands exchange,
@@ -351,13 +377,19 @@ no_words config choice status sum (is, inl wrong) = inl (inr ((λ none. none cho
 no_words config choice status sum (is, inr (name, wrong)) =
     inl (inr ((λ none. none choice sum), inr ((λ other. other name), inl (wrong, is))))
 
+pub no_channels : (config : Config) (choice : Choice) → sum_of choice ≡ config.mechanisms → IsUtf8 config.username.now
+    → IsUtf8 config.external_authcid.now → HasLongData config.channels → IsNoConfig config statuses.ChannelDataLength
+unfolding IsNoConfig
+no_channels config choice sum name peer long = inl
+    (inr ((λ none. none choice sum), inr ((λ wrong. wrong name), inr ((λ wrong. wrong peer), inl (long, refl)))))
+
 pub no_offer : (config : Config) (choice : Choice) (records : MultiRecords) (signed : ScramVersion)
     (exchange : KeptExchange) → sum_of choice ≡ config.mechanisms → HasRecords config records
-    → IsUtf8 config.username.now → IsUtf8 config.external_authcid.now
+    → IsUtf8 config.username.now → IsUtf8 config.external_authcid.now → ¬ HasLongData config.channels
     → password_names (served config choice records signed exchange) ≡ [] → IsNoConfig config statuses.NoSuchMechanism
 unfolding IsNoConfig
-no_offer config choice records signed exchange sum has name peer nothing = inr (
-  ((λ none. none choice sum), ((λ wrong. wrong name), ((λ wrong. wrong peer), tt))),
+no_offer config choice records signed exchange sum has name peer short nothing = inr (
+  ((λ none. none choice sum), ((λ wrong. wrong name), ((λ wrong. wrong peer), (short, tt)))),
   refl,
   (
     exchange,
@@ -368,11 +400,11 @@ no_offer config choice records signed exchange sum has name peer nothing = inr (
 )
 
 pub no_test : (config : Config) (choice : Choice) → sum_of choice ≡ config.mechanisms → IsUtf8 config.username.now
-    → IsUtf8 config.external_authcid.now → NoneHolds (config_tests config)
-no_test config choice sum name peer =
-    ((λ none. none choice sum), ((λ wrong. wrong name), ((λ wrong. wrong peer), tt)))
+    → IsUtf8 config.external_authcid.now → ¬ HasLongData config.channels → NoneHolds (config_tests config)
+no_test config choice sum name peer short =
+    ((λ none. none choice sum), ((λ wrong. wrong name), ((λ wrong. wrong peer), (short, tt))))
 
-pub ruleset acceptor = (no_choice, no_words, no_test)
+pub ruleset acceptor = (no_choice, no_words, no_channels, no_test)
 
 -- ---- what the struct of SCRAM shows
 

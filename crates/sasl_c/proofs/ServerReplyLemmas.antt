@@ -7,7 +7,12 @@ use Rattle.fe2o3_sasl_wire.specs.SaslFrames as frames
 use Rattle.fe2o3_sasl_wire.specs.SaslFrames.{SaslFrame}
 use Rattle.fe2o3_scram.specs.declared.hmac.ScramVersion.{ScramVersion}
 use Rattle.fe2o3_scram.specs.declared.hmac.ScramVersion.TheVariants as versions
+use Rattle.fe2o3_scram.specs.declared.scram_messages.channel_binding_flag.ChannelBindingFlag.{ChannelBindingFlag}
+use Rattle.fe2o3_scram.specs.declared.scram_messages.channel_binding_flag.ChannelBindingFlag.TheVariants.{NotSupported, ClientSupports, Required}
 use Rattle.fe2o3_scram.specs.declared.scram_messages.error.ServerScramErrorKind.{ServerScramErrorKind}
+use Rattle.fe2o3_scram.specs.declared.scram_messages.server_rules.ServerRules.{ServerRules}
+use Rattle.fe2o3_scram.specs.ChannelBinding.{TakesHeader, is_required}
+use Rattle.fe2o3_scram.specs.ClientFirst.{ClientFirst, ReadsClientFirst}
 use Rattle.fe2o3_scram.specs.Credentials.{Provider, Record}
 use Rattle.fe2o3_scram.specs.Mixed.{MultiRecords}
 use Rattle.fe2o3_scram.specs.ScramServer.{ChallengesFrom, ConcludesFrom, ServerState, Initial, ServerFinalSent, ServerFirstSent}
@@ -24,9 +29,9 @@ use Rattle.fe2o3_sasl_core.specs.SaslAcceptor.{Acceptor, ScramAcceptor, Anonymou
 use Rattle.fe2o3_sasl_negotiation.specs.declared.progress.Progress.TheVariants.{InProgress}
 use Rattle.sasl_c.specs.declared.sasl_server.Choice.{Choice}
 use Rattle.sasl_c.specs.declared.sasl_server.SaslServerConfig.{SaslServerConfig as Config}
-use Rattle.sasl_c.specs.SaslServer.{Asked, HasRecords, IsOf, ServerIsReached, Stands, State, extra_for, or_no_record, record_for, saved_for, server_machine, settings_for, sum_of}
+use Rattle.sasl_c.specs.SaslServer.{AreIn, Asked, HasRecords, IsOf, ServerIsReached, Stands, State, extra_for, or_no_record, record_for, saved_for, scrams_with, server_machine, settings_for, sum_of}
 use Rattle.sasl_c.specs.Server.{KeptExchange, NothingKept, ChallengeOpen, SignatureSent, InitialResponseAsked, PendingInit, IsAsking, IsPhaseOf}
-use Rattle.fe2o3_sasl_core.specs.PasswordServer.{OtherStates, SavedExchange, PasswordParts, PasswordSettings, PasswordState, ScramStates, external_names, last_machine, last_names, names_for, others_machine, others_names, others_of, parts_machine, parts_names, password_machine, password_names, password_server_in, plain_names, scram_provider, scrams_in, scrams_machine, scrams_names, weaker_machine, weaker_names}
+use Rattle.fe2o3_sasl_core.specs.PasswordServer.{AllScramStates, OtherStates, SavedExchange, ScramsAt, PasswordParts, PasswordSettings, PasswordState, ScramStates, all_scrams_in, all_scrams_machine, all_scrams_names, external_names, last_machine, last_names, names_for, others_machine, others_names, others_of, part_where, parts_machine, parts_names, password_machine, password_names, password_server_in, plain_names, scram_provider, scram_rules, scrams_in, scrams_machine, scrams_names, weaker_machine, weaker_names}
 use Rattle.sasl_c.proofs.StatusLemmas.{carried}
 
 -- ---- a reply ends the login, or SCRAM opens a challenge or logs a user in
@@ -89,227 +94,285 @@ with_state versions.Sha256 state states versions.Sha256 = state
 with_state versions.Sha512 state states versions.Sha512 = state
 with_state version state states other = states other
 
+-- a client's header binds a channel exactly at a server with -PLUS
+binds_with : (plus : Bool) (rules : ServerRules) (header : ChannelBindingFlag)
+    → TakesHeader (scram_rules plus rules) header → is_required header ≡ plus
+binds_with true rules NotSupported takes = absurd takes
+binds_with true rules ClientSupports takes = absurd takes
+binds_with true rules (Required kind) takes = refl
+binds_with false rules NotSupported takes = refl
+binds_with false rules ClientSupports takes = refl
+binds_with false rules (Required kind) takes = absurd takes
+
+read_with : (plus : Bool) (rules : ServerRules) (text : List ℕ) (client : ClientFirst)
+    → ReadsClientFirst (scram_rules plus rules) text (Ok client) → is_required client.header ≡ plus
+unfolding ReadsClientFirst
+read_with plus rules text client (none, names) = binds_with plus rules client.header names.header
+
 module _ (config : Config) (choice : Choice) (records : MultiRecords) where
   abbrev settings : PasswordSettings
   settings = settings_for config choice records None
 
-  abbrev provider : ScramVersion → Provider
-  provider version = scram_provider settings version
+  abbrev provider : Bool → ScramVersion → Provider
+  provider plus version = scram_provider plus settings version
 
-  -- the state of SCRAM by a hash after a reply: an open challenge, or the login of a user
-  abbrev Reaches : ScramVersion → SaslFrame → ServerState → Type 0
-  Reaches version reply state =
+  -- the state of SCRAM by a hash, with -PLUS or without it, after a reply: an open challenge, or the login of a user
+  abbrev Reaches : Bool → ScramVersion → SaslFrame → ServerState → Type 0
+  Reaches plus version reply state =
       ((challenge : ServerChallenge) × (text : List ℕ) × (reply ≡ frames.Challenge text)
-      × (state ≡ ServerFirstSent challenge (record_for records version challenge.user)))
+      × (state ≡ ServerFirstSent challenge (record_for records version challenge.user))
+      × (is_required challenge.header ≡ plus))
       ⊎ ((user text : List ℕ) × (reply ≡ frames.Outcome outcomes.Ok (Some text)) × (state ≡ ServerFinalSent user))
 
-  abbrev ReachesBy : ScramVersion → SaslFrame → Acceptor → Type 0
-  ReachesBy version reply next = (state : ServerState) × Reaches version reply state
-      × (next ≡ ScramAcceptor (provider version) state)
+  abbrev ReachesBy : Bool → ScramVersion → SaslFrame → Acceptor → Type 0
+  ReachesBy plus version reply next = (state : ServerState) × Reaches plus version reply state
+      × (next ≡ ScramAcceptor (provider plus version) state)
 
-  -- SCRAM, or all, in such a state
-  abbrev ScramsReach : SaslFrame → ScramStates → Type 0
-  ScramsReach reply next = (version : ScramVersion) × (state : ServerState) × (states : ScramVersion → ServerState)
-      × (selected weaker : Option Selected) × Reaches version reply state × (states version ≡ state)
-      × Asked version selected weaker × (next ≡ scrams_in settings states selected weaker)
+  -- SCRAM by three hashes, all of SCRAM, or the server in such a state
+  abbrev ScramsReach : Bool → SaslFrame → ScramStates → Type 0
+  ScramsReach plus reply next = (version : ScramVersion) × (state : ServerState) × (at : ScramsAt)
+      × Reaches plus version reply state × AreIn (record { version = version; plus = plus; state = state }) at
+      × (next ≡ scrams_in plus settings at)
+
+  abbrev AllReach : SaslFrame → AllScramStates → Type 0
+  AllReach reply next = (version : ScramVersion) × (plus : Bool) × (state : ServerState) × (bound plain : ScramsAt)
+      × Reaches plus version reply state
+      × AreIn (record { version = version; plus = plus; state = state }) (scrams_with plus bound plain)
+      × (next ≡ all_scrams_in settings bound plain (Some (part_where plus)))
 
   abbrev Then : SaslFrame → PasswordState → Type 0
-  Then reply next = Ends reply ⊎ ((version : ScramVersion) × (state : ServerState) × (states : ScramVersion → ServerState)
-      × (selected weaker : Option Selected) × Reaches version reply state × (states version ≡ state)
-      × Asked version selected weaker × (next ≡ password_server_in settings states (Some First) selected weaker))
+  Then reply next = Ends reply ⊎ ((version : ScramVersion) × (plus : Bool) × (state : ServerState)
+      × (bound plain : ScramsAt) × Reaches plus version reply state
+      × AreIn (record { version = version; plus = plus; state = state }) (scrams_with plus bound plain)
+      × (next ≡ password_server_in settings bound plain (Some (part_where plus)) (Some First)))
 
-  challenged : (version : ScramVersion) (state after : ServerState) (nonce text : List ℕ)
+  challenged : (plus : Bool) (version : ScramVersion) (state after : ServerState) (nonce text : List ℕ)
       (answer : Result (Option (List ℕ)) ServerScramErrorKind) (reply : SaslFrame) (next : Acceptor)
-      → ChallengesFrom state (provider version) nonce text answer after
-      → reply ≡ server_frame (λ message. frames.Challenge message) answer → next ≡ ScramAcceptor (provider version) after
-      → Ends reply ⊎ ReachesBy version reply next
-  challenged version state after nonce text (Ok (Some message)) reply next
-      (challenge, given, sent, (stored, found, then)) same is =
-      inr (after, inl (challenge, message, same, then ∙ ap (opened challenge) (sym (ap or_no_record found))), is)
+      → ChallengesFrom state (provider plus version) nonce text answer after
+      → reply ≡ server_frame (λ message. frames.Challenge message) answer
+      → next ≡ ScramAcceptor (provider plus version) after → Ends reply ⊎ ReachesBy plus version reply next
+  challenged plus version state after nonce text (Ok (Some message)) reply next
+      (challenge, (client, known, read, held, made), sent, (stored, found, then)) same is = inr (
+        after,
+        inl (
+          challenge,
+          message,
+          same,
+          then ∙ ap (opened challenge) (sym (ap or_no_record found)),
+          ap (λ (c : ServerChallenge). is_required c.header) made ∙ read_with plus settings.rules text client read,
+        ),
+        is,
+      )
     where
       opened : ServerChallenge → Record → ServerState
       opened made stored = ServerFirstSent made stored
-  challenged version state after nonce text (Ok None) reply next held same is = inl (ends_so reply outcomes.Auth same)
-  challenged version state after nonce text (Err fault) reply next held same is = inl (ends_so reply outcomes.Auth same)
+  challenged plus version state after nonce text (Ok None) reply next held same is =
+      inl (ends_so reply outcomes.Auth same)
+  challenged plus version state after nonce text (Err fault) reply next held same is =
+      inl (ends_so reply outcomes.Auth same)
 
-  concluded : (version hash : ScramVersion) (state after : ServerState) (text : List ℕ)
+  concluded : (plus : Bool) (version hash : ScramVersion) (state after : ServerState) (text : List ℕ)
       (answer : Result (Option (List ℕ)) ServerScramErrorKind) (reply : SaslFrame) (next : Acceptor)
-      → ConcludesFrom state hash settings.rules text answer after
+      → ConcludesFrom state hash (scram_rules plus settings.rules) text answer after
       → reply ≡ server_frame (λ message. frames.Outcome outcomes.Ok (Some message)) answer
-      → next ≡ ScramAcceptor (provider version) after → Ends reply ⊎ ReachesBy version reply next
-  concluded version hash (ServerFirstSent challenge stored) after text (Ok (Some message)) reply next held same is =
+      → next ≡ ScramAcceptor (provider plus version) after → Ends reply ⊎ ReachesBy plus version reply next
+  concluded plus version hash (ServerFirstSent challenge stored) after text (Ok (Some message)) reply next held same is =
       inr (after, inr (challenge.user, message, same, held.1), is)
-  concluded version hash (ServerFirstSent challenge stored) after text (Ok None) reply next held same is =
+  concluded plus version hash (ServerFirstSent challenge stored) after text (Ok None) reply next held same is =
       inl (ends_so reply outcomes.Auth same)
-  concluded version hash (ServerFirstSent challenge stored) after text (Err fault) reply next held same is =
+  concluded plus version hash (ServerFirstSent challenge stored) after text (Err fault) reply next held same is =
       inl (ends_so reply outcomes.Auth same)
-  concluded version hash Initial after text (Ok message) reply next held same is = absurd held
-  concluded version hash Initial after text (Err fault) reply next held same is = inl (ends_so reply outcomes.Auth same)
-  concluded version hash (ServerFinalSent user) after text (Ok message) reply next held same is = absurd held
-  concluded version hash (ServerFinalSent user) after text (Err fault) reply next held same is =
+  concluded plus version hash Initial after text (Ok message) reply next held same is = absurd held
+  concluded plus version hash Initial after text (Err fault) reply next held same is =
+      inl (ends_so reply outcomes.Auth same)
+  concluded plus version hash (ServerFinalSent user) after text (Ok message) reply next held same is = absurd held
+  concluded plus version hash (ServerFinalSent user) after text (Err fault) reply next held same is =
       inl (ends_so reply outcomes.Auth same)
 
-  scram_goes : (version : ScramVersion) (state : ServerState) (nonce : List ℕ) (frame reply : SaslFrame)
-      (next : Acceptor) → acceptor_machine (ScramAcceptor (provider version) state) nonce frame reply next
-      → Ends reply ⊎ ReachesBy version reply next
-  scram_goes version state nonce (frames.Init mechanism None hostname) reply next is =
+  scram_goes : (plus : Bool) (version : ScramVersion) (state : ServerState) (nonce : List ℕ) (frame reply : SaslFrame)
+      (next : Acceptor) → acceptor_machine (ScramAcceptor (provider plus version) state) nonce frame reply next
+      → Ends reply ⊎ ReachesBy plus version reply next
+  scram_goes plus version state nonce (frames.Init mechanism None hostname) reply next is =
       inl (ends_so reply outcomes.Auth is.0)
-  scram_goes version state nonce (frames.Init mechanism (Some text) hostname) reply next (inl (other, same, then)) =
+  scram_goes plus version state nonce (frames.Init mechanism (Some text) hostname) reply next (inl (other, same, then)) =
       inl (ends_so reply outcomes.Auth same)
-  scram_goes version state nonce (frames.Init mechanism (Some text) hostname) reply next
+  scram_goes plus version state nonce (frames.Init mechanism (Some text) hostname) reply next
       (inr (is, (answer, after, held, same, then))) =
-      challenged version state after nonce text answer reply next held same then
-  scram_goes version state nonce (frames.Response text) reply next (answer, after, held, same, then) =
-      concluded version (provider version).version state after text answer reply next held same then
-  scram_goes version state nonce (frames.Mechanisms names) reply next is = absurd is
-  scram_goes version state nonce (frames.Challenge text) reply next is = absurd is
-  scram_goes version state nonce (frames.Outcome code more) reply next is = absurd is
+      challenged plus version state after nonce text answer reply next held same then
+  scram_goes plus version state nonce (frames.Response text) reply next (answer, after, held, same, then) =
+      concluded plus version (provider plus version).version state after text answer reply next held same then
+  scram_goes plus version state nonce (frames.Mechanisms names) reply next is = absurd is
+  scram_goes plus version state nonce (frames.Challenge text) reply next is = absurd is
+  scram_goes plus version state nonce (frames.Outcome code more) reply next is = absurd is
 
-  weaker_goes : (states : ScramVersion → ServerState) (selected weaker part : Option Selected) (nonce : List ℕ)
-      (frame reply : SaslFrame) (moved : BothStates Acceptor Acceptor) (next : ScramStates)
-      → PartReplies acceptor_machine acceptor_machine (scrams_in settings states selected weaker).second part nonce frame reply
-      moved
-      → next ≡ record { first = (scrams_in settings states selected weaker).first; second = moved; selected = Some Second }
-      → Ends reply ⊎ ScramsReach reply next
-  weaker_goes states selected weaker None nonce frame reply moved next (same, then) is =
-      inl (ends_so reply outcomes.Auth same)
-  weaker_goes states selected weaker (Some First) nonce frame reply moved next (acceptor, held, then) is =
-      go (scram_goes versions.Sha256 (states versions.Sha256) nonce frame reply acceptor held)
+  weaker_goes : (plus : Bool) (at : ScramsAt) (part : Option Selected) (nonce : List ℕ) (frame reply : SaslFrame)
+      (moved : BothStates Acceptor Acceptor) (next : ScramStates)
+      → PartReplies acceptor_machine acceptor_machine (scrams_in plus settings at).second part nonce frame reply moved
+      → next ≡ record { first = (scrams_in plus settings at).first; second = moved; selected = Some Second }
+      → Ends reply ⊎ ScramsReach plus reply next
+  weaker_goes plus at None nonce frame reply moved next (same, then) is = inl (ends_so reply outcomes.Auth same)
+  weaker_goes plus at (Some First) nonce frame reply moved next (acceptor, held, then) is =
+      go (scram_goes plus versions.Sha256 (at.states versions.Sha256) nonce frame reply acceptor held)
     where
       with_acceptor : Acceptor → ScramStates
       with_acceptor a = record {
-        first = (scrams_in settings states selected weaker).first;
-        second = record { first = a; second = (scrams_in settings states selected weaker).second.second; selected = Some First };
+        first = (scrams_in plus settings at).first;
+        second = record { first = a; second = (scrams_in plus settings at).second.second; selected = Some First };
         selected = Some Second;
       }
 
       with_moved : BothStates Acceptor Acceptor → ScramStates
-      with_moved m =
-          record { first = (scrams_in settings states selected weaker).first; second = m; selected = Some Second }
+      with_moved m = record { first = (scrams_in plus settings at).first; second = m; selected = Some Second }
 
-      go : Ends reply ⊎ ReachesBy versions.Sha256 reply acceptor → Ends reply ⊎ ScramsReach reply next
+      go : Ends reply ⊎ ReachesBy plus versions.Sha256 reply acceptor → Ends reply ⊎ ScramsReach plus reply next
       go (inl ends) = inl ends
       go (inr (state, reaches, same)) = inr (
         versions.Sha256,
         state,
-        with_state versions.Sha256 state states,
-        Some Second,
-        Some First,
+        record {
+          states = with_state versions.Sha256 state at.states;
+          selected = Some Second;
+          weaker = Some First;
+        },
         reaches,
-        refl,
-        (refl, refl),
+        (refl, (refl, refl)),
         is ∙ (ap with_moved then ∙ ap with_acceptor same),
       )
-  weaker_goes states selected weaker (Some Second) nonce frame reply moved next (acceptor, held, then) is =
-      go (scram_goes versions.Sha1 (states versions.Sha1) nonce frame reply acceptor held)
+  weaker_goes plus at (Some Second) nonce frame reply moved next (acceptor, held, then) is =
+      go (scram_goes plus versions.Sha1 (at.states versions.Sha1) nonce frame reply acceptor held)
     where
       with_acceptor : Acceptor → ScramStates
       with_acceptor a = record {
-        first = (scrams_in settings states selected weaker).first;
-        second = record { first = (scrams_in settings states selected weaker).second.first; second = a; selected = Some Second };
+        first = (scrams_in plus settings at).first;
+        second = record { first = (scrams_in plus settings at).second.first; second = a; selected = Some Second };
         selected = Some Second;
       }
 
       with_moved : BothStates Acceptor Acceptor → ScramStates
-      with_moved m =
-          record { first = (scrams_in settings states selected weaker).first; second = m; selected = Some Second }
+      with_moved m = record { first = (scrams_in plus settings at).first; second = m; selected = Some Second }
 
-      go : Ends reply ⊎ ReachesBy versions.Sha1 reply acceptor → Ends reply ⊎ ScramsReach reply next
+      go : Ends reply ⊎ ReachesBy plus versions.Sha1 reply acceptor → Ends reply ⊎ ScramsReach plus reply next
       go (inl ends) = inl ends
       go (inr (state, reaches, same)) = inr (
         versions.Sha1,
         state,
-        with_state versions.Sha1 state states,
-        Some Second,
-        Some Second,
+        record {
+          states = with_state versions.Sha1 state at.states;
+          selected = Some Second;
+          weaker = Some Second;
+        },
         reaches,
-        refl,
-        (refl, refl),
+        (refl, (refl, refl)),
         is ∙ (ap with_moved then ∙ ap with_acceptor same),
       )
 
-  scrams_go : (states : ScramVersion → ServerState) (selected weaker part : Option Selected) (nonce : List ℕ)
-      (frame reply : SaslFrame) (next : ScramStates)
-      → PartReplies acceptor_machine weaker_machine (scrams_in settings states selected weaker) part nonce frame reply next
-      → Ends reply ⊎ ScramsReach reply next
-  scrams_go states selected weaker None nonce frame reply next (same, then) = inl (ends_so reply outcomes.Auth same)
-  scrams_go states selected weaker (Some First) nonce frame reply next (acceptor, held, then) =
-      go (scram_goes versions.Sha512 (states versions.Sha512) nonce frame reply acceptor held)
+  scrams_go : (plus : Bool) (at : ScramsAt) (part : Option Selected) (nonce : List ℕ) (frame reply : SaslFrame)
+      (next : ScramStates)
+      → PartReplies acceptor_machine weaker_machine (scrams_in plus settings at) part nonce frame reply next
+      → Ends reply ⊎ ScramsReach plus reply next
+  scrams_go plus at None nonce frame reply next (same, then) = inl (ends_so reply outcomes.Auth same)
+  scrams_go plus at (Some First) nonce frame reply next (acceptor, held, then) =
+      go (scram_goes plus versions.Sha512 (at.states versions.Sha512) nonce frame reply acceptor held)
     where
       with_acceptor : Acceptor → ScramStates
-      with_acceptor a =
-          record { first = a; second = (scrams_in settings states selected weaker).second; selected = Some First }
+      with_acceptor a = record { first = a; second = (scrams_in plus settings at).second; selected = Some First }
 
-      go : Ends reply ⊎ ReachesBy versions.Sha512 reply acceptor → Ends reply ⊎ ScramsReach reply next
+      go : Ends reply ⊎ ReachesBy plus versions.Sha512 reply acceptor → Ends reply ⊎ ScramsReach plus reply next
       go (inl ends) = inl ends
       go (inr (state, reaches, same)) = inr (
         versions.Sha512,
         state,
-        with_state versions.Sha512 state states,
-        Some First,
-        weaker,
+        record {
+          states = with_state versions.Sha512 state at.states;
+          selected = Some First;
+          weaker = at.weaker;
+        },
         reaches,
-        refl,
-        refl,
+        (refl, refl),
         then ∙ ap with_acceptor same,
       )
-  scrams_go states selected weaker (Some Second) nonce frame reply next (moved, held, then) =
-      weaker_goes states selected weaker
-      (part_for acceptor_names acceptor_names (scrams_in settings states selected weaker).second frame) nonce frame reply
-      moved next held then
+  scrams_go plus at (Some Second) nonce frame reply next (moved, held, then) = weaker_goes plus at
+      (part_for acceptor_names acceptor_names (scrams_in plus settings at).second frame) nonce frame reply moved next held
+      then
 
-  part_goes : (states : ScramVersion → ServerState) (at selected weaker part : Option Selected) (nonce : List ℕ)
-      (frame reply : SaslFrame) (all : PasswordParts) (next : PasswordState)
-      → PartReplies scrams_machine others_machine (password_server_in settings states at selected weaker).inner part nonce
-      frame reply all
-      → next ≡ record (password_server_in settings states at selected weaker) { inner = all } → Then reply next
-  part_goes states at selected weaker None nonce frame reply all next (same, then) is =
+  all_go : (bound plain : ScramsAt) (selected part : Option Selected) (nonce : List ℕ) (frame reply : SaslFrame)
+      (next : AllScramStates)
+      → PartReplies scrams_machine scrams_machine (all_scrams_in settings bound plain selected) part nonce frame reply next
+      → Ends reply ⊎ AllReach reply next
+  all_go bound plain selected None nonce frame reply next (same, then) = inl (ends_so reply outcomes.Auth same)
+  all_go bound plain selected (Some First) nonce frame reply next (moved, held, then) =
+      go (scrams_go true bound (part_for acceptor_names weaker_names (scrams_in true settings bound) frame) nonce frame
+      reply moved held)
+    where
+      with_moved : ScramStates → AllScramStates
+      with_moved m = record { first = m; second = scrams_in false settings plain; selected = Some First }
+
+      go : Ends reply ⊎ ScramsReach true reply moved → Ends reply ⊎ AllReach reply next
+      go (inl ends) = inl ends
+      go (inr (version, state, at, reaches, in_it, same)) =
+          inr (version, true, state, at, plain, reaches, in_it, then ∙ ap with_moved same)
+  all_go bound plain selected (Some Second) nonce frame reply next (moved, held, then) =
+      go (scrams_go false plain (part_for acceptor_names weaker_names (scrams_in false settings plain) frame) nonce frame
+      reply moved held)
+    where
+      with_moved : ScramStates → AllScramStates
+      with_moved m = record { first = scrams_in true settings bound; second = m; selected = Some Second }
+
+      go : Ends reply ⊎ ScramsReach false reply moved → Ends reply ⊎ AllReach reply next
+      go (inl ends) = inl ends
+      go (inr (version, state, at, reaches, in_it, same)) =
+          inr (version, false, state, bound, at, reaches, in_it, then ∙ ap with_moved same)
+
+  part_goes : (bound plain : ScramsAt) (selected at part : Option Selected) (nonce : List ℕ) (frame reply : SaslFrame)
+      (all : PasswordParts) (next : PasswordState)
+      → PartReplies all_scrams_machine others_machine (password_server_in settings bound plain selected at).inner part
+      nonce frame reply all
+      → next ≡ record (password_server_in settings bound plain selected at) { inner = all } → Then reply next
+  part_goes bound plain selected at None nonce frame reply all next (same, then) is =
       inl (ends_so reply outcomes.Auth same)
-  part_goes states at selected weaker (Some First) nonce frame reply all next (moved, held, then) is =
-      go (scrams_go states selected weaker
-      (part_for acceptor_names weaker_names (scrams_in settings states selected weaker) frame) nonce frame reply moved held)
+  part_goes bound plain selected at (Some First) nonce frame reply all next (moved, held, then) is =
+      go (all_go bound plain selected
+      (part_for scrams_names scrams_names (all_scrams_in settings bound plain selected) frame) nonce frame reply moved held)
     where
       with_all : PasswordParts → PasswordState
       with_all a = record { inner = a; allowed = names_for settings }
 
-      with_scrams : ScramStates → PasswordParts
+      with_scrams : AllScramStates → PasswordParts
       with_scrams s = record { first = s; second = others_of settings; selected = Some First }
 
-      go : Ends reply ⊎ ScramsReach reply moved → Then reply next
+      go : Ends reply ⊎ AllReach reply moved → Then reply next
       go (inl ends) = inl ends
-      go (inr (version, state, others, part, last, reaches, at_hash, asked, same)) = inr (
+      go (inr (version, plus, state, by, without, reaches, in_it, same)) = inr (
         version,
+        plus,
         state,
-        others,
-        part,
-        last,
+        by,
+        without,
         reaches,
-        at_hash,
-        asked,
+        in_it,
         is ∙ ap with_all (then ∙ ap with_scrams same),
       )
-  part_goes states at selected weaker (Some Second) nonce frame reply all next (moved, held, then) is =
+  part_goes bound plain selected at (Some Second) nonce frame reply all next (moved, held, then) is =
       inl (others_end (others_of settings) moved (part_for plain_names last_names (others_of settings) frame) nonce frame
       reply refl held)
 
-  offered_goes : (states : ScramVersion → ServerState) (at selected weaker : Option Selected) (passed : Bool)
-      (nonce : List ℕ) (frame reply : SaslFrame) (next : PasswordState)
-      → OfferingReplies parts_machine (password_server_in settings states at selected weaker) passed nonce frame reply next
+  offered_goes : (bound plain : ScramsAt) (selected at : Option Selected) (passed : Bool) (nonce : List ℕ)
+      (frame reply : SaslFrame) (next : PasswordState)
+      → OfferingReplies parts_machine (password_server_in settings bound plain selected at) passed nonce frame reply next
       → Then reply next
-  offered_goes states at selected weaker false nonce frame reply next (same, then) =
+  offered_goes bound plain selected at false nonce frame reply next (same, then) =
       inl (ends_so reply outcomes.Auth same)
-  offered_goes states at selected weaker true nonce frame reply next (moved, held, then) =
-      part_goes states at selected weaker
-      (part_for scrams_names others_names (password_server_in settings states at selected weaker).inner frame) nonce frame
-      reply moved next held then
+  offered_goes bound plain selected at true nonce frame reply next (moved, held, then) =
+      part_goes bound plain selected at
+      (part_for all_scrams_names others_names (password_server_in settings bound plain selected at).inner frame) nonce
+      frame reply moved next held then
 
-  password_goes : (states : ScramVersion → ServerState) (at selected weaker : Option Selected) (nonce : List ℕ)
-      (frame reply : SaslFrame) (server next : PasswordState)
-      → server ≡ password_server_in settings states at selected weaker → password_machine server nonce frame reply next
-      → Then reply next
-  password_goes states at selected weaker nonce frame reply server next is held =
-      offered_goes states at selected weaker
-      (is_passed_on parts_names (password_server_in settings states at selected weaker) frame) nonce frame reply next
+  password_goes : (bound plain : ScramsAt) (selected at : Option Selected) (nonce : List ℕ) (frame reply : SaslFrame)
+      (server next : PasswordState) → server ≡ password_server_in settings bound plain selected at
+      → password_machine server nonce frame reply next → Then reply next
+  password_goes bound plain selected at nonce frame reply server next is held =
+      offered_goes bound plain selected at
+      (is_passed_on parts_names (password_server_in settings bound plain selected at) frame) nonce frame reply next
       (carried (λ (s : PasswordState). password_machine s nonce frame reply next) server _ is held)
 
 -- ---- what the machine makes of the server of a configuration
@@ -354,88 +417,95 @@ phase_behind false Signing text = inr (inl refl)
 phase_behind false Unconfirmed text = inr (inl refl)
 
 -- an inner server in this state, after a reply
-record Behind (config : Config) (choice : Choice) (records : MultiRecords) (version : ScramVersion) (state : ServerState)
-    (moved : PasswordState) : Type 0 where
-  states : ScramVersion → ServerState
-  selected : Option Selected
-  weaker : Option Selected
-  at_hash : states version ≡ state
-  asked : Asked version selected weaker
-  is : moved ≡ password_server_in (settings_for config choice records None) states (Some First) selected weaker
+record Behind (config : Config) (choice : Choice) (records : MultiRecords) (version : ScramVersion) (plus : Bool)
+    (state : ServerState) (moved : PasswordState) : Type 0 where
+  bound : ScramsAt
+  plain : ScramsAt
+  in_it : AreIn (record { version = version; plus = plus; state = state }) (scrams_with plus bound plain)
+  is : moved ≡ password_server_in (settings_for config choice records None) bound plain (Some (part_where plus)) (Some First)
 
 module _ (config : Config) (choice : Choice) (records : MultiRecords) (sum : sum_of choice ≡ config.mechanisms)
     (has : HasRecords config records) where
   abbrev moved_to : PasswordState → Phase → State
   moved_to moved phase = record { inner = moved; extra = extra_for choice; phase = phase }
 
-  reached_open : (version : ScramVersion) (challenge : ServerChallenge) (state : ServerState) (moved : PasswordState)
-      (phase : Phase) → state ≡ ServerFirstSent challenge (record_for records version challenge.user)
-      → OfChallenge phase → Behind config choice records version state moved
+  -- the server is in this exchange
+  abbrev InExchange : SavedExchange → PasswordState → Type 0
+  InExchange saved moved = (bound plain : ScramsAt) × (selected : Option Selected) × Stands (Some saved) bound plain selected
+      × (moved ≡ password_server_in (settings_for config choice records None) bound plain selected (Some First))
+
+  in_exchange : (version : ScramVersion) (plus : Bool) (state : ServerState) (moved : PasswordState)
+      (saved : SavedExchange) → Behind config choice records version plus state moved
+      → record { version = version; plus = plus; state = state } ≡ saved → InExchange saved moved
+  in_exchange version plus state moved saved behind same =
+      carried (λ (s : SavedExchange). InExchange s moved) _ saved same
+      (behind.bound, behind.plain, Some (part_where plus), (behind.in_it, refl), behind.is)
+
+  saved_so : (version : ScramVersion) (plus other : Bool) (state after : ServerState) → plus ≡ other → state ≡ after
+      → ◌≡◌ {A = SavedExchange} (record { version = version; plus = plus; state = state })
+      (record { version = version; plus = other; state = after })
+  saved_so version plus other state after same then =
+      ap (λ (b : Bool). with_parts b state) same ∙ ap (λ (s : ServerState). with_parts other s) then
+    where
+      with_parts : Bool → ServerState → SavedExchange
+      with_parts b s = record { version = version; plus = b; state = s }
+
+  reached_open : (version : ScramVersion) (plus : Bool) (challenge : ServerChallenge) (state : ServerState)
+      (moved : PasswordState) (phase : Phase)
+      → state ≡ ServerFirstSent challenge (record_for records version challenge.user)
+      → is_required challenge.header ≡ plus → OfChallenge phase → Behind config choice records version plus state moved
       → ServerIsReached config InProgress (moved_to moved phase)
   unfolding IsOf
-  reached_open version challenge state moved phase same in_phase behind = (
-    ChallengeOpen version challenge,
-    (
-      choice,
-      records,
-      version,
-      behind.states,
-      behind.selected,
-      behind.weaker,
-      sum,
-      has,
-      (behind.at_hash ∙ same, behind.asked),
-      in_phase,
-      refl,
-      behind.is,
-    ),
-  )
+  reached_open version plus challenge state moved phase same binds in_phase behind =
+      go (in_exchange version plus state moved _ behind (saved_so version plus _ state _ (sym binds) same))
+    where
+      go : InExchange (record {
+        version = version;
+        plus = is_required challenge.header;
+        state = ServerFirstSent challenge (record_for records version challenge.user);
+      }) moved → ServerIsReached config InProgress (moved_to moved phase)
+      go (bound, plain, selected, stands, is) = (
+        ChallengeOpen version challenge,
+        (choice, records, version, plus, bound, plain, selected, sum, has, stands, in_phase, refl, is),
+      )
 
-  reached_signed : (version : ScramVersion) (user : List ℕ) (state : ServerState) (moved : PasswordState)
-      → state ≡ ServerFinalSent user → Behind config choice records version state moved
+  reached_signed : (version : ScramVersion) (plus : Bool) (user : List ℕ) (state : ServerState) (moved : PasswordState)
+      → state ≡ ServerFinalSent user → Behind config choice records version plus state moved
       → ServerIsReached config InProgress (moved_to moved Signing)
   unfolding IsOf
-  reached_signed version user state moved same behind = (
-    SignatureSent user,
-    (
-      choice,
-      records,
-      version,
-      behind.states,
-      behind.selected,
-      behind.weaker,
-      sum,
-      has,
-      (behind.at_hash ∙ same, behind.asked),
-      inl refl,
-      refl,
-      behind.is,
-    ),
-  )
+  reached_signed version plus user state moved same behind =
+      go (in_exchange version plus state moved _ behind (saved_so version plus plus state _ refl same))
+    where
+      go : InExchange (record { version = version; plus = plus; state = ServerFinalSent user }) moved
+          → ServerIsReached config InProgress (moved_to moved Signing)
+      go (bound, plain, selected, stands, is) = (
+        SignatureSent user,
+        (choice, records, version, plus, bound, plain, selected, sum, has, stands, inl refl, refl, is),
+      )
 
   -- the reply of the inner server is sent
-  sends : (signature : Bool) (version : ScramVersion) (state : ServerState) (answer reply : SaslFrame)
-      (moved : PasswordState) (phase : Phase) → Reaches config choice records version answer state
-      → Behind config choice records version state moved → reply ≡ sent_for signature answer
+  sends : (signature : Bool) (version : ScramVersion) (plus : Bool) (state : ServerState) (answer reply : SaslFrame)
+      (moved : PasswordState) (phase : Phase) → Reaches config choice records plus version answer state
+      → Behind config choice records version plus state moved → reply ≡ sent_for signature answer
       → Goes config reply (moved_to moved (phase_after signature phase answer))
-  sends signature version state answer reply moved phase (inl (challenge, text, same, is)) behind sent = inr
+  sends signature version plus state answer reply moved phase (inl (challenge, text, same, is, binds)) behind sent = inr
       (carried (λ (a : SaslFrame). ServerIsReached config InProgress (moved_to moved (phase_after signature phase a)))
       (frames.Challenge text) answer (sym same)
-      (reached_open version challenge state moved (phase_after signature phase (frames.Challenge text)) is
+      (reached_open version plus challenge state moved (phase_after signature phase (frames.Challenge text)) is binds
       (phase_behind signature phase text) behind))
-  sends true version state answer reply moved phase (inr (user, text, same, is)) behind sent = inr
+  sends true version plus state answer reply moved phase (inr (user, text, same, is)) behind sent = inr
       (carried (λ (a : SaslFrame). ServerIsReached config InProgress (moved_to moved (phase_after true phase a)))
       (frames.Outcome outcomes.Ok (Some text)) answer (sym same)
-      (reached_signed version user state moved is behind))
-  sends false version state answer reply moved phase (inr (user, text, same, is)) behind sent =
+      (reached_signed version plus user state moved is behind))
+  sends false version plus state answer reply moved phase (inr (user, text, same, is)) behind sent =
       inl (outcomes.Ok, Some text, sent ∙ ap (sent_for false) same)
 
-  passes : (server next : State) (states : ScramVersion → ServerState) (at selected weaker : Option Selected)
-      (nonce : List ℕ) (frame reply : SaslFrame) → server.extra ≡ extra_for choice
-      → server.inner ≡ password_server_in (settings_for config choice records None) states at selected weaker
+  passes : (server next : State) (bound plain : ScramsAt) (selected at : Option Selected) (nonce : List ℕ)
+      (frame reply : SaslFrame) → server.extra ≡ extra_for choice
+      → server.inner ≡ password_server_in (settings_for config choice records None) bound plain selected at
       → PassesFrame password_machine server nonce frame reply next → Goes config reply next
-  passes server next states at selected weaker nonce frame reply extra inner (answer, moved, held, sent, then) =
-      go (password_goes config choice records states at selected weaker nonce frame answer server.inner moved inner held)
+  passes server next bound plain selected at nonce frame reply extra inner (answer, moved, held, sent, then) =
+      go (password_goes config choice records bound plain selected at nonce frame answer server.inner moved inner held)
     where
       signature : Bool
       signature = choice.signature_by_challenge
@@ -453,71 +523,70 @@ module _ (config : Config) (choice : Choice) (records : MultiRecords) (sum : sum
       go : Then config choice records answer moved → Goes config reply next
       go (inl (code, ends)) = inl
           (closes_so reply code (sent_so ∙ (ap (sent_for signature) ends ∙ sent_end signature code)))
-      go (inr (version, state, others, part, last, reaches, at_hash, asked, is)) =
-          carried (Goes config reply) _ next (sym then_so)
-          (sends signature version state answer reply moved server.phase reaches (record {
-            states = others;
-            selected = part;
-            weaker = last;
-            at_hash = at_hash;
-            asked = asked;
+      go (inr (version, plus, state, by, without, reaches, in_it, is)) = carried (Goes config reply) _ next (sym then_so)
+          (sends signature version plus state answer reply moved server.phase reaches (record {
+            bound = by;
+            plain = without;
+            in_it = in_it;
             is = is;
           }) sent_so)
 
   -- a server that keeps this of SCRAM is reached in each phase that fits
-  reached_in : (exchange : KeptExchange) (signed : ScramVersion) (states : ScramVersion → ServerState)
-      (selected weaker : Option Selected) (server : State) (phase : Phase)
-      → Stands (saved_for records signed exchange) states selected weaker → IsPhaseOf exchange phase
+  reached_in : (exchange : KeptExchange) (signed : ScramVersion) (by : Bool) (bound plain : ScramsAt)
+      (selected : Option Selected) (server : State) (phase : Phase)
+      → Stands (saved_for records signed by exchange) bound plain selected → IsPhaseOf exchange phase
       → server.extra ≡ extra_for choice
-      → server.inner ≡ password_server_in (settings_for config choice records None) states
-      (option_map (λ (saved : SavedExchange). First) (saved_for records signed exchange)) selected weaker
+      → server.inner ≡ password_server_in (settings_for config choice records None) bound plain selected
+      (option_map (λ (saved : SavedExchange). First) (saved_for records signed by exchange))
       → ServerIsReached config InProgress (record server { phase = phase })
   unfolding IsOf
-  reached_in exchange signed states selected weaker server phase stands in_phase extra inner = (
+  reached_in exchange signed by bound plain selected server phase stands in_phase extra inner = (
     exchange,
-    (choice, records, signed, states, selected, weaker, sum, has, stands, in_phase, extra, inner),
+    (choice, records, signed, by, bound, plain, selected, sum, has, stands, in_phase, extra, inner),
   )
 
   -- where an init is asked, what is kept of SCRAM stays
-  reached_asking : (exchange : KeptExchange) (signed : ScramVersion) (states : ScramVersion → ServerState)
-      (selected weaker : Option Selected) (server : State) (init : PendingInit)
-      → Stands (saved_for records signed exchange) states selected weaker → server.extra ≡ extra_for choice
-      → server.inner ≡ password_server_in (settings_for config choice records None) states
-      (option_map (λ (saved : SavedExchange). First) (saved_for records signed exchange)) selected weaker
+  reached_asking : (exchange : KeptExchange) (signed : ScramVersion) (by : Bool) (bound plain : ScramsAt)
+      (selected : Option Selected) (server : State) (init : PendingInit)
+      → Stands (saved_for records signed by exchange) bound plain selected → server.extra ≡ extra_for choice
+      → server.inner ≡ password_server_in (settings_for config choice records None) bound plain selected
+      (option_map (λ (saved : SavedExchange). First) (saved_for records signed by exchange))
       → ServerIsReached config InProgress (record server { phase = Asking init.mechanism init.hostname init.nonce })
-  reached_asking NothingKept signed states selected weaker server init stands extra inner =
-      reached_in NothingKept signed states selected weaker server _ stands (inr (inr (init, refl))) extra inner
-  reached_asking (ChallengeOpen version challenge) signed states selected weaker server init stands extra inner =
-      reached_in (ChallengeOpen version challenge) signed states selected weaker server _ stands
+  reached_asking NothingKept signed by bound plain selected server init stands extra inner =
+      reached_in NothingKept signed by bound plain selected server _ stands (inr (inr (init, refl))) extra inner
+  reached_asking (ChallengeOpen version challenge) signed by bound plain selected server init stands extra inner =
+      reached_in (ChallengeOpen version challenge) signed by bound plain selected server _ stands
       (inr (inr (init, refl))) extra inner
-  reached_asking (SignatureSent user) signed states selected weaker server init stands extra inner =
-      reached_in (SignatureSent user) signed states selected weaker server _ stands (inr (init, refl)) extra inner
-  reached_asking (InitialResponseAsked other) signed states selected weaker server init stands extra inner =
-      reached_in (InitialResponseAsked init) signed states selected weaker server _ stands refl extra inner
+  reached_asking (SignatureSent user) signed by bound plain selected server init stands extra inner =
+      reached_in (SignatureSent user) signed by bound plain selected server _ stands (inr (init, refl)) extra inner
+  reached_asking (InitialResponseAsked other) signed by bound plain selected server init stands extra inner =
+      reached_in (InitialResponseAsked init) signed by bound plain selected server _ stands refl extra inner
 
-  asks_or_passes : (exchange : KeptExchange) (signed : ScramVersion) (states : ScramVersion → ServerState)
-      (selected weaker : Option Selected) (server next : State) (asked : Bool) (nonce : List ℕ) (frame reply : SaslFrame)
-      → Stands (saved_for records signed exchange) states selected weaker → server.extra ≡ extra_for choice
-      → server.inner ≡ password_server_in (settings_for config choice records None) states
-      (option_map (λ (saved : SavedExchange). First) (saved_for records signed exchange)) selected weaker
+  asks_or_passes : (exchange : KeptExchange) (signed : ScramVersion) (by : Bool) (bound plain : ScramsAt)
+      (selected : Option Selected) (server next : State) (asked : Bool) (nonce : List ℕ) (frame reply : SaslFrame)
+      → Stands (saved_for records signed by exchange) bound plain selected → server.extra ≡ extra_for choice
+      → server.inner ≡ password_server_in (settings_for config choice records None) bound plain selected
+      (option_map (λ (saved : SavedExchange). First) (saved_for records signed by exchange))
       → AsksOrPasses password_machine server asked nonce frame reply next → Goes config reply next
-  asks_or_passes exchange signed states selected weaker server next true nonce
+  asks_or_passes exchange signed by bound plain selected server next true nonce
       (frames.Init mechanism response hostname) reply stands extra inner (same, then) = inr
       (carried (ServerIsReached config InProgress) _ next (sym then)
-      (reached_asking exchange signed states selected weaker server
+      (reached_asking exchange signed by bound plain selected server
       (record { mechanism = mechanism; hostname = hostname; nonce = nonce }) stands extra inner))
-  asks_or_passes exchange signed states selected weaker server next true nonce (frames.Response text) reply stands
-      extra inner held = passes server next states _ selected weaker nonce (frames.Response text) reply extra inner held
-  asks_or_passes exchange signed states selected weaker server next true nonce (frames.Mechanisms names) reply stands
+  asks_or_passes exchange signed by bound plain selected server next true nonce (frames.Response text) reply stands
       extra inner held =
-      passes server next states _ selected weaker nonce (frames.Mechanisms names) reply extra inner held
-  asks_or_passes exchange signed states selected weaker server next true nonce (frames.Challenge text) reply stands
-      extra inner held = passes server next states _ selected weaker nonce (frames.Challenge text) reply extra inner held
-  asks_or_passes exchange signed states selected weaker server next true nonce (frames.Outcome code more) reply stands
+      passes server next bound plain selected _ nonce (frames.Response text) reply extra inner held
+  asks_or_passes exchange signed by bound plain selected server next true nonce (frames.Mechanisms names) reply stands
       extra inner held =
-      passes server next states _ selected weaker nonce (frames.Outcome code more) reply extra inner held
-  asks_or_passes exchange signed states selected weaker server next false nonce frame reply stands extra inner held =
-      passes server next states _ selected weaker nonce frame reply extra inner held
+      passes server next bound plain selected _ nonce (frames.Mechanisms names) reply extra inner held
+  asks_or_passes exchange signed by bound plain selected server next true nonce (frames.Challenge text) reply stands
+      extra inner held =
+      passes server next bound plain selected _ nonce (frames.Challenge text) reply extra inner held
+  asks_or_passes exchange signed by bound plain selected server next true nonce (frames.Outcome code more) reply stands
+      extra inner held =
+      passes server next bound plain selected _ nonce (frames.Outcome code more) reply extra inner held
+  asks_or_passes exchange signed by bound plain selected server next false nonce frame reply stands extra inner held =
+      passes server next bound plain selected _ nonce frame reply extra inner held
 
 confirms : (config : Config) (server next : State) (text : List ℕ) (reply : SaslFrame)
     → Confirms server text reply next → Goes config reply next
@@ -528,19 +597,19 @@ pub comes_goes : (config : Config) (server next : State) (nonce : List ℕ) (fra
     → ServerIsReached config InProgress server → server_machine server nonce frame reply next → Goes config reply next
 unfolding IsOf
 comes_goes config server next nonce frame reply
-    (exchange, (choice, records, signed, states, selected, weaker, sum, has, stands, in_phase, extra, inner))
+    (exchange, (choice, records, signed, by, bound, plain, selected, sum, has, stands, in_phase, extra, inner))
     held = go server.phase frame held
   where
     goes_on : (given : SaslFrame)
         → AsksOrPasses password_machine server (is_asked password_names server given) nonce given reply next
         → Goes config reply next
-    goes_on given then = asks_or_passes config choice records sum has exchange signed states selected weaker server next
+    goes_on given then = asks_or_passes config choice records sum has exchange signed by bound plain selected server next
         (is_asked password_names server given) nonce given reply stands extra inner then
 
     go : (phase : Phase) (given : SaslFrame)
         → RepliesIn password_names password_machine server phase nonce given reply next → Goes config reply next
     go (Asking mechanism hostname kept) (frames.Response text) then = passes config choice records sum has server next
-        states _ selected weaker kept (frames.Init mechanism (Some text) hostname) reply extra inner then
+        bound plain selected _ kept (frames.Init mechanism (Some text) hostname) reply extra inner then
     go (Asking mechanism hostname kept) (frames.Init other response name) then =
         inl (closes_so reply outcomes.Auth then.0)
     go (Asking mechanism hostname kept) (frames.Mechanisms names) then = inl (closes_so reply outcomes.Auth then.0)

@@ -4,6 +4,7 @@ use Rattle.std.specs.Prelude.{IfOk, MatchOption, Option, Some, None, Result, Ok,
 use Rattle.fe2o3_sasl_wire.specs.declared.sasl_frames.error.Error.{Error}
 use Rattle.fe2o3_sasl_wire.specs.SaslFrames as frames
 use Rattle.fe2o3_sasl_wire.specs.SaslFrames.{SaslFrame, ReadsBody}
+use Rattle.fe2o3_scram.specs.declared.channel_binding.ChannelKind.TheVariants.{TlsUnique, TlsServerEndPoint, TlsExporter}
 use Rattle.fe2o3_scram.specs.declared.scram_messages.channel_binding_flag.ChannelBindingFlag.{ChannelBindingFlag}
 use Rattle.fe2o3_scram.specs.declared.scram_messages.channel_binding_flag.ChannelBindingFlag.TheVariants.{NotSupported, ClientSupports, Required}
 use Rattle.fe2o3_scram.specs.ServerFirst.{ServerChallenge}
@@ -24,7 +25,7 @@ use Rattle.sasl_c.specs.declared.status.Status.TheVariants as statuses
 use Rattle.sasl_c.specs.Connection.{Keeps, side_tests}
 use Rattle.sasl_c.specs.SaslServer.{AnswerNeedsMemory, AnswerNames, BodyAsks, BodyNames, BodyNamesNoUser, FrameAsks, FrameNames, Named, NotNamed, ResponseAsks}
 use Rattle.sasl_c.specs.Peeks.{AwaitsFrame}
-use Rattle.sasl_c.specs.Server.{AsksHostname, HasAsked, IsOpenUnbound, IsUnbound, PendingInit, open_number}
+use Rattle.sasl_c.specs.Server.{AsksHostname, HasAsked, IsOpen, PendingInit, open_number}
 use Rattle.sasl_c.proofs.PeekLemmas.{awaits}
 use Rattle.sasl_c.proofs.ServerCallLemmas.{keeps_no_part, none_holds}
 use Rattle.sasl_c.proofs.StatusLemmas.{carried}
@@ -52,17 +53,22 @@ pub ruleset response_user = (response_claims, response_claims_none, response_ask
 -- ---- a response
 
 -- a struct in which a challenge is open shows no init that was asked
-other_states : (scram : ScramStruct) (challenge : ServerChallenge) (init : PendingInit) → IsOpenUnbound scram challenge
+other_states : (scram : ScramStruct) (challenge : ServerChallenge) (init : PendingInit) → IsOpen scram challenge
     → HasAsked scram init → ⊥
-other_states scram challenge init shows asked = differ challenge.header init.hostname shows.1 shows.0.0 asked.0
+other_states scram challenge init shows asked = differ challenge.header init.hostname shows.0 asked.0
   where
-    differ : (header : ChannelBindingFlag) (hostname : Option (List ℕ)) → IsUnbound header
-        → scram.state ≡ open_number header → AsksHostname scram hostname → ⊥
-    differ NotSupported None unbound is asks = absurd (omega (arith, is, asks))
-    differ ClientSupports None unbound is asks = absurd (omega (arith, is, asks))
-    differ NotSupported (Some name) unbound is asks = absurd (omega (arith, is, asks.0))
-    differ ClientSupports (Some name) unbound is asks = absurd (omega (arith, is, asks.0))
-    differ (Required kind) hostname unbound is asks = unbound
+    differ : (header : ChannelBindingFlag) (hostname : Option (List ℕ)) → scram.state ≡ open_number header
+        → AsksHostname scram hostname → ⊥
+    differ NotSupported None is asks = absurd (omega (arith, is, asks))
+    differ ClientSupports None is asks = absurd (omega (arith, is, asks))
+    differ (Required TlsUnique) None is asks = absurd (omega (arith, is, asks))
+    differ (Required TlsServerEndPoint) None is asks = absurd (omega (arith, is, asks))
+    differ (Required TlsExporter) None is asks = absurd (omega (arith, is, asks))
+    differ NotSupported (Some name) is asks = absurd (omega (arith, is, asks.0))
+    differ ClientSupports (Some name) is asks = absurd (omega (arith, is, asks.0))
+    differ (Required TlsUnique) (Some name) is asks = absurd (omega (arith, is, asks.0))
+    differ (Required TlsServerEndPoint) (Some name) is asks = absurd (omega (arith, is, asks.0))
+    differ (Required TlsExporter) (Some name) is asks = absurd (omega (arith, is, asks.0))
 
 -- a struct shows one init
 one_init : (scram : ScramStruct) (init other : PendingInit) → HasAsked scram init → HasAsked scram other
@@ -87,16 +93,16 @@ pub completing_asks : (scram : ScramStruct) (init : PendingInit) (text : List �
 completing_asks scram init text asked asks = inr (init, asked, asks)
 
 -- or it answers the open challenge
-pub answer_opens : (scram : ScramStruct) (challenge : ServerChallenge) (text name : List ℕ) → IsOpenUnbound scram challenge
+pub answer_opens : (scram : ScramStruct) (challenge : ServerChallenge) (text name : List ℕ) → IsOpen scram challenge
     → name ≡ challenge.user → AnswerNames scram text name
 answer_opens scram challenge text name shows same = inl (challenge, shows, same)
 
 pub opens_no_user : (scram : ScramStruct) (text : List ℕ) → ((init : PendingInit) → ¬ HasAsked scram init)
-    → ((challenge : ServerChallenge) → ¬ IsOpenUnbound scram challenge) → (name : List ℕ) → ¬ AnswerNames scram text name
+    → ((challenge : ServerChallenge) → ¬ IsOpen scram challenge) → (name : List ℕ) → ¬ AnswerNames scram text name
 opens_no_user scram text none closed name (inl (challenge, shows, same)) = closed challenge shows
 opens_no_user scram text none closed name (inr (init, asked, names)) = none init asked
 
-pub opening_asks : (scram : ScramStruct) (text : List ℕ) → ((challenge : ServerChallenge) × IsOpenUnbound scram challenge)
+pub opening_asks : (scram : ScramStruct) (text : List ℕ) → ((challenge : ServerChallenge) × IsOpen scram challenge)
     → AnswerNeedsMemory scram text
 opening_asks scram text shows = inl shows
 

@@ -5,6 +5,7 @@ use Rattle.fe2o3_sasl_wire.specs.declared.sasl_frames.error.Error.{Error}
 use Rattle.fe2o3_sasl_wire.specs.SaslFrames.{SaslFrame}
 use Rattle.fe2o3_sasl_wire.specs.SaslFrames as frames
 use Rattle.fe2o3_scram.specs.declared.hmac.ScramVersion.{ScramVersion}
+use Rattle.fe2o3_scram.specs.ChannelBinding.{is_required}
 use Rattle.fe2o3_scram.specs.Credentials.{Record, VersionedRecord, record_at}
 use Rattle.fe2o3_scram.specs.declared.hmac.ScramVersion.TheVariants.{Sha1, Sha256, Sha512}
 use Rattle.fe2o3_sasl_core.specs.declared.any_mechanism.Selected.{Selected}
@@ -19,7 +20,7 @@ use Rattle.fe2o3_sasl_core.specs.LoginAttempts.{ClaimAllocates, ClaimIn, ClaimsU
 use Rattle.fe2o3_sasl_core.specs.ExtraChallenges.{Extended, extended_machine, extended_of, extended_user}
 use Rattle.fe2o3_sasl_core.specs.declared.extra_challenges.ExtraChallenges.{ExtraChallenges}
 use Rattle.fe2o3_sasl_core.specs.declared.extra_challenges.WithExtraChallenges.{WithExtraChallenges}
-use Rattle.fe2o3_sasl_core.specs.PasswordServer.{PasswordSettings, PasswordState, SavedExchange, name_where, password_machine, password_names, password_open, password_server_in, password_state, password_user}
+use Rattle.fe2o3_sasl_core.specs.PasswordServer.{PasswordSettings, PasswordState, SavedExchange, ScramsAt, name_where, part_where, password_machine, password_names, password_open, password_server_in, password_state, password_user}
 use Rattle.fe2o3_sasl_core.specs.declared.password_server.PasswordServer.{PasswordServer}
 use Rattle.fe2o3_sasl_core.specs.declared.plain_server.passwords.PlainPasswords.{PlainPasswords}
 use Rattle.fe2o3_sasl_core.specs.declared.plain_server.passwords.PlainPasswords.TheVariants as forms
@@ -40,8 +41,9 @@ use Rattle.sasl_c.specs.declared.status.Status.TheVariants as statuses
 use Rattle.sasl_c.specs.Connection.{IsSideOf, Keeps, KeepsNoPart, side_tests, connection_struct, KeepsNoPartOf}
 use Rattle.sasl_c.specs.Peeks.{AnySide}
 use Rattle.sasl_c.specs.Records.{ShowsRecord}
+use Rattle.sasl_c.specs.Rules.{HasLongData, channels_of}
 use Rattle.sasl_c.specs.declared.records.ScramRecord.{ScramRecord as Kept}
-use Rattle.sasl_c.specs.Server.{KeptExchange, NothingKept, ChallengeOpen, SignatureSent, InitialResponseAsked, PendingInit, HasAsked, IsAuthenticated, IsOpenUnbound, IsPhaseOf, ShowsExchange, authenticated_struct, exchange_in, exchange_struct, fresh_server_struct}
+use Rattle.sasl_c.specs.Server.{KeptExchange, NothingKept, ChallengeOpen, SignatureSent, InitialResponseAsked, PendingInit, HasAsked, IsAuthenticated, IsOpen, IsPhaseOf, ShowsExchange, authenticated_struct, exchange_in, exchange_struct, fresh_server_struct}
 
 -- ---- the server of a configuration
 
@@ -126,7 +128,7 @@ settings_for config choice records restored = record {
   records = records;
   mock = None;
   hashes = record { sha_512 = choice.sha_512; sha_256 = choice.sha_256; sha_1 = choice.sha_1 };
-  rules = record { accept_cbind_flag_y = choice.cbind_flag_y; strict = choice.strict; channels = None };
+  rules = record { accept_cbind_flag_y = choice.cbind_flag_y; strict = choice.strict; channels = channels_of config.channels };
   plain = choice.plain;
   plain_version = version_of_first records;
   plain_count = Some config.iterations;
@@ -155,16 +157,22 @@ or_no_record (Some stored) = stored
 abbrev pub record_for : MultiRecords → ScramVersion → List ℕ → Record
 record_for records version user = or_no_record (record_at (provider_for version records).records user)
 
--- what SCRAM continues for what a server keeps: an open challenge, with the record of its user for its hash; the login
--- of a user, by this hash; or nothing, as for an init that was asked, which begins an exchange of its own
-abbrev pub saved_for : MultiRecords → ScramVersion → KeptExchange → Option SavedExchange
-saved_for records signed NothingKept = None
-saved_for records signed (ChallengeOpen version challenge) = Some (record {
+-- what SCRAM continues for what a server keeps: an open challenge, with the record of its user for its hash, by a mechanism
+-- with -PLUS if the client binds a channel; the login of a user, by this hash, with -PLUS or without it; or nothing, as for
+-- an init that was asked, which begins an exchange of its own
+abbrev pub saved_for : MultiRecords → ScramVersion → Bool → KeptExchange → Option SavedExchange
+saved_for records signed bound NothingKept = None
+saved_for records signed bound (ChallengeOpen version challenge) = Some (record {
   version = version;
+  plus = is_required challenge.header;
   state = ServerFirstSent challenge (record_for records version challenge.user);
 })
-saved_for records signed (InitialResponseAsked init) = None
-saved_for records signed (SignatureSent user) = Some (record { version = signed; state = ServerFinalSent user })
+saved_for records signed bound (InitialResponseAsked init) = None
+saved_for records signed bound (SignatureSent user) = Some (record {
+  version = signed;
+  plus = bound;
+  state = ServerFinalSent user;
+})
 
 -- the last init was of this hash, by the parts of SCRAM that are selected
 abbrev pub Asked : ScramVersion → Option Selected → Option Selected → Type 0
@@ -172,22 +180,36 @@ Asked Sha512 selected weaker = selected ≡ Some First
 Asked Sha256 selected weaker = (selected ≡ Some Second) × (weaker ≡ Some First)
 Asked Sha1 selected weaker = (selected ≡ Some Second) × (weaker ≡ Some Second)
 
--- the states of SCRAM: where no exchange is continued each is that before a login, and otherwise that of its hash is
--- the one of the exchange, and the last init was of this hash. The states of the other hashes play no part then: a response
--- goes to the hash of the last init, and an init begins an exchange of its own
-abbrev pub Stands : Option SavedExchange → (ScramVersion → ServerState) → Option Selected → Option Selected → Type 0
-Stands None states selected weaker =
-    ((version : ScramVersion) → states version ≡ Initial) × (selected ≡ None) × (weaker ≡ None)
-Stands (Some saved) states selected weaker = (states saved.version ≡ saved.state) × Asked saved.version selected weaker
+-- SCRAM by three hashes is before any login
+abbrev pub AreFresh : ScramsAt → Type 0
+AreFresh at = ((version : ScramVersion) → at.states version ≡ Initial) × (at.selected ≡ None) × (at.weaker ≡ None)
 
--- the server is that of a configuration, and keeps this. By which hash a signature was sent plays no part
+-- SCRAM by three hashes is in this exchange: that is the state of its hash, and the last init was of this hash. The
+-- states of the other hashes play no part then: a response goes to the hash of the last init, and an init begins an
+-- exchange of its own
+abbrev pub AreIn : SavedExchange → ScramsAt → Type 0
+AreIn saved at = (at.states saved.version ≡ saved.state) × Asked saved.version at.selected at.weaker
+
+-- of SCRAM with -PLUS and without it, the one with -PLUS or the other
+abbrev pub scrams_with : Bool → ScramsAt → ScramsAt → ScramsAt
+scrams_with true plus plain = plus
+scrams_with false plus plain = plain
+
+-- SCRAM with -PLUS and without it: where no exchange is continued both are before any login, and otherwise one of them is in
+-- the exchange, and the last init went to it
+abbrev pub Stands : Option SavedExchange → ScramsAt → ScramsAt → Option Selected → Type 0
+Stands None plus plain selected = AreFresh plus × AreFresh plain × (selected ≡ None)
+Stands (Some saved) plus plain selected = AreIn saved (scrams_with saved.plus plus plain)
+    × (selected ≡ Some (part_where saved.plus))
+
+-- the server is that of a configuration, and keeps this. By which mechanism a signature was sent plays no part
 unfoldable pub IsOf : Config → KeptExchange → State → Type 0
-IsOf config exchange server = (choice : Choice) × (records : MultiRecords) × (signed : ScramVersion)
-    × (states : ScramVersion → ServerState) × (selected weaker : Option Selected) × (sum_of choice ≡ config.mechanisms)
-    × HasRecords config records × Stands (saved_for records signed exchange) states selected weaker
+IsOf config exchange server = (choice : Choice) × (records : MultiRecords) × (signed : ScramVersion) × (bound : Bool)
+    × (plus plain : ScramsAt) × (selected : Option Selected) × (sum_of choice ≡ config.mechanisms)
+    × HasRecords config records × Stands (saved_for records signed bound exchange) plus plain selected
     × IsPhaseOf exchange server.phase × (server.extra ≡ extra_for choice)
-    × (server.inner ≡ password_server_in (settings_for config choice records None) states
-    (option_map (λ (saved : SavedExchange). First) (saved_for records signed exchange)) selected weaker)
+    × (server.inner ≡ password_server_in (settings_for config choice records None) plus plain selected
+    (option_map (λ (saved : SavedExchange). First) (saved_for records signed bound exchange)))
 
 -- the servers that a configuration can reach while more bytes are expected: before the init, with an open challenge,
 -- and after the signature
@@ -269,7 +291,8 @@ HasNoServerWords config status = (status ≡ statuses.NotUtf8)
 -- the tests of a configuration, in their order
 abbrev pub config_tests : Config → List (Status × Type 0)
 config_tests config = (statuses.NoSuchMechanism, (choice : Choice) → sum_of choice ≢ config.mechanisms)
-    ∷ (statuses.NotUtf8, ¬ IsUtf8 config.username.now) ∷ (statuses.NotUtf8, ¬ IsUtf8 config.external_authcid.now) ∷ []
+    ∷ (statuses.NotUtf8, ¬ IsUtf8 config.username.now) ∷ (statuses.NotUtf8, ¬ IsUtf8 config.external_authcid.now)
+    ∷ (statuses.ChannelDataLength, HasLongData config.channels) ∷ []
 
 -- why a configuration has no server: a test that holds, or a server that would offer nothing, in place of which ANONYMOUS were
 -- offered (part 5, section 5.3.3.1)
@@ -310,7 +333,7 @@ ReceivesAsServer config bytes nonce before after taken (Err status) = NotReceive
 -- a response names this user: that of the challenge that is open, or, where an init was asked for its initial response,
 -- the user that the initial response names
 abbrev pub AnswerNames : ScramStruct → List ℕ → List ℕ → Type 0
-AnswerNames scram text name = ((challenge : ServerChallenge) × IsOpenUnbound scram challenge × (name ≡ challenge.user))
+AnswerNames scram text name = ((challenge : ServerChallenge) × IsOpen scram challenge × (name ≡ challenge.user))
     ⊎ ((init : PendingInit) × HasAsked scram init × ClaimsUser init.mechanism text name)
 
 -- a frame in turn names this user: an init, or a response
@@ -335,7 +358,7 @@ ResponseAsks mechanism None = ⊥
 
 -- and for a response: where a challenge is open, or for an initial response
 abbrev pub AnswerNeedsMemory : ScramStruct → List ℕ → Type 0
-AnswerNeedsMemory scram text = ((challenge : ServerChallenge) × IsOpenUnbound scram challenge)
+AnswerNeedsMemory scram text = ((challenge : ServerChallenge) × IsOpen scram challenge)
     ⊎ ((init : PendingInit) × HasAsked scram init × ClaimAllocates init.mechanism text)
 
 -- and for a frame in turn: an init, or a response

@@ -35,20 +35,10 @@ use Rattle.sasl_c.specs.Status.{Lacks, Room, server_status, version_number, with
 abbrev pub one_user : List ℕ → VersionedRecord → Store
 one_user user shown = record { version = shown.version; records = (user, shown.stored) ∷ [] }
 
--- a client with this GS2 header binds no channel (RFC 5802, section 6)
-abbrev pub IsUnbound : ChannelBindingFlag → Type 0
-IsUnbound NotSupported = Unit {0}
-IsUnbound ClientSupports = Unit {0}
-IsUnbound (Required kind) = ⊥
-
 -- a challenge that has room in a struct
 abbrev pub ChallengeHasRoom : ServerChallenge → Type 0
 ChallengeHasRoom challenge = (length challenge.user ≤ 256) × (length challenge.bare ≤ 1024) × (length challenge.nonce ≤ 512)
     × (length challenge.first ≤ 1024)
-
--- one that has room in a struct of a connection, whose server binds no channel
-abbrev pub HasRoomUnbound : ServerChallenge → Type 0
-HasRoomUnbound challenge = ChallengeHasRoom challenge × IsUnbound challenge.header
 
 -- no length above that of its array
 abbrev pub AreLengths : Struct → Type 0
@@ -84,13 +74,9 @@ IsOpen server challenge = (server.state ≡ open_number challenge.header) × Are
 abbrev pub IsOpenFor : ServerRules → Struct → ServerChallenge → Type 0
 IsOpenFor rules server challenge = IsOpen server challenge × TakesFlag rules.channels true challenge.header
 
--- the struct's open challenge is one of a connection, whose server binds no channel
-abbrev pub IsOpenUnbound : Struct → ServerChallenge → Type 0
-IsOpenUnbound server challenge = IsOpen server challenge × IsUnbound challenge.header
-
 -- with this hash
 abbrev pub IsOpenBy : Struct → ScramVersion → ServerChallenge → Type 0
-IsOpenBy server version challenge = IsVersion server.version version × IsOpenUnbound server challenge
+IsOpenBy server version challenge = IsVersion server.version version × IsOpen server challenge
 
 -- the struct is that of a server that has authenticated this user
 abbrev pub IsAuthenticated : Struct → List ℕ → Type 0

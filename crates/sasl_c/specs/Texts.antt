@@ -125,11 +125,14 @@ sasl_login_size = (word + 4) + slice + login_size
 abbrev pub view_size : ℕ
 view_size = 4 * word + 8 + 8 + slice + slice + slice
 
+abbrev pub channels_size : ℕ
+channels_size = 4 * word + 3 * 64
+
 abbrev pub config_size : ℕ
-config_size = 2 * word + slice + slice + slice
+config_size = 2 * word + slice + slice + slice + channels_size
 
 abbrev pub rules_size : ℕ
-rules_size = 6 * word + 3 * 64
+rules_size = 2 * word + channels_size
 
 -- the sizes by the numbers of `fe2o3_size`, and 0 of every other number
 abbrev pub struct_sizes : List (ℕ × ℕ)

@@ -3,7 +3,7 @@
 ghost use Rattle.std.specs.Prelude.{true, ◌≡◌, ◌<◌, ◌≤◌, ◌↔◌, IsTrue, MatchResult, Ok};
 ghost use Rattle.fe2o3_scram.specs.ChannelBinding.{TakesBound, TakesFlag, TakesUnbound};
 ghost use Rattle.fe2o3_scram.specs.ClientFirst.{default_rules};
-ghost use Rattle.sasl_c.specs.Rules.{HasLongKind, ShowsRules, channels_in, data_in, with_cbind_flag_y};
+ghost use Rattle.sasl_c.specs.Rules.{HasLongKind, ShowsChannels, ShowsRules, channels_in, data_in, with_cbind_flag_y};
 ghost use Rattle.sasl_c.specs.declared.status.Status.TheVariants.{ChannelDataLength as StatusChannelDataLength};
 
 use crate::arrays::cleared;
@@ -11,23 +11,13 @@ use crate::flags::is_set;
 use crate::status::Status;
 use fe2o3_scram::{ChannelBindingFlag, ChannelBindings, ChannelData, ServerRules};
 
-/// What a SCRAM server accepts, where RFC 5802 leaves it a choice. You lend the struct to each call of an exchange,
-/// always with the same values.
+/// What identifies the channel of a server (RFC 5802, section 6). All zeros is a server that binds no channel.
 #[repr(C)]
 #[derive(Drop)]
-pub struct ScramRules {
-    /// Whether the GS2 header may be `y,,` too: the client supports channel binding, and was offered no mechanism with
-    /// `-PLUS` (RFC 5802, section 6). 0 is no, any other value yes. Only for a server that offers no such mechanism. It
-    /// has no effect if the server binds channels.
-    pub accept_cbind_flag_y: u32,
-
-    /// Whether an attribute that RFC 5802, section 5.1, defines is rejected in the place of an extension, by
-    /// FE2O3_SERVER_MISPLACED_ATTRIBUTE. 0 is no, any other value yes. A server that binds channels is always strict.
-    pub strict: u32,
-
-    /// Whether the server binds channels: it is of the mechanism with `-PLUS`, and accepts only clients that bind the
-    /// channel, by a kind of which the struct has data (RFC 5802, section 6). 0 is no, and the data are then not used. Any
-    /// other value is yes. Without data of any kind such a server accepts no client.
+pub struct ServerChannels {
+    /// Whether the server binds channels: by a mechanism with `-PLUS` it accepts only clients that bind the channel, by a
+    /// kind of which the struct has data (RFC 5802, section 6). 0 is no, and the data are then not used. Any other value
+    /// is yes. Without data of any kind such a mechanism accepts no client.
     pub binds_channel: u32,
 
     /// The number of bytes of `tls_unique` in use, at most 64, or 0 if the server does not accept this kind.
@@ -51,6 +41,24 @@ pub struct ScramRules {
     pub tls_exporter: [u8; 64],
 }
 
+/// What a SCRAM server accepts, where RFC 5802 leaves it a choice. You lend the struct to each call of an exchange,
+/// always with the same values.
+#[repr(C)]
+#[derive(Drop)]
+pub struct ScramRules {
+    /// Whether the GS2 header may be `y,,` too: the client supports channel binding, and was offered no mechanism with
+    /// `-PLUS` (RFC 5802, section 6). 0 is no, any other value yes. Only for a server that offers no such mechanism. It
+    /// has no effect if the server binds channels.
+    pub accept_cbind_flag_y: u32,
+
+    /// Whether an attribute that RFC 5802, section 5.1, defines is rejected in the place of an extension, by
+    /// FE2O3_SERVER_MISPLACED_ATTRIBUTE. 0 is no, any other value yes. A server that binds channels is always strict.
+    pub strict: u32,
+
+    /// The server's channel, if it is of the mechanism with `-PLUS`.
+    pub channels: ServerChannels,
+}
+
 /// Returns the data of a kind of channel: the first bytes of an array, or no data if there are none.
 #[tactic(auto, using(crate::proofs::RulesLemmas::data_of))]
 fn data_of(array: &[u8; 64], len: u32) -> Result<Option<ChannelData>, Status>
@@ -69,9 +77,9 @@ fn data_of(array: &[u8; 64], len: u32) -> Result<Option<ChannelData>, Status>
     }))
 }
 
-impl ScramRules {
+impl ServerChannels {
     /// Returns the data of each kind.
-    fn channels(&self) -> Result<ChannelBindings, Status>
+    fn data(&self) -> Result<ChannelBindings, Status>
         ensures { MatchResult result (λ channels. (channels ≡ channels_in self.now) × ¬ HasLongKind self.now)
             (λ status. (status ≡ StatusChannelDataLength) × HasLongKind self.now) }
     {
@@ -85,11 +93,23 @@ impl ScramRules {
         })
     }
 
+    /// Returns the channels that the struct means, if the server binds any.
+    pub fn shown(&self) -> Result<Option<ChannelBindings>, Status>
+        ensures { ShowsChannels self.now result }
+    {
+        match self.binds_channel {
+            0 => Ok(None),
+            _ => Ok(Some(self.data()?)),
+        }
+    }
+}
+
+impl ScramRules {
     /// Returns the rules that the struct means. Those of zeros are the rules of a server without options.
     #[tactic(auto, using(crate::proofs::RulesLemmas::zeros))]
     pub fn shown(&self) -> Result<ServerRules, Status>
         ensures shows { ShowsRules self.now result }
-        ensures zeros { self.now.accept_cbind_flag_y ≡ 0 → self.now.strict ≡ 0 → self.now.binds_channel ≡ 0
+        ensures zeros { self.now.accept_cbind_flag_y ≡ 0 → self.now.strict ≡ 0 → self.now.channels.binds_channel ≡ 0
             → result ≡ Ok default_rules }
     {
         self.read()
@@ -100,14 +120,10 @@ impl ScramRules {
     fn read(&self) -> Result<ServerRules, Status>
         ensures { ShowsRules self.now result }
     {
-        let channels = match self.binds_channel {
-            0 => None,
-            _ => Some(self.channels()?),
-        };
         Ok(ServerRules {
             accept_cbind_flag_y: is_set(self.accept_cbind_flag_y),
             strict: is_set(self.strict),
-            channels,
+            channels: self.channels.shown()?,
         })
     }
 }

@@ -1,6 +1,6 @@
 //! The server's side of a connection, as a struct between its calls.
 
-ghost use Rattle.std.specs.Prelude.{[], ◌≡◌, ◌≢◌, ◌<◌, ◌≤◌, ◌⊎◌, ◌+◌, ◌^◌, ℕ, List, Option, length, option_map, IfOk, IfErr, IfSome, OnErr, OnOk, MatchOption, MatchResult};
+ghost use Rattle.std.specs.Prelude.{[], false, ◌≡◌, ◌≢◌, ◌<◌, ◌≤◌, ◌⊎◌, ◌+◌, ◌^◌, ℕ, List, Option, length, option_map, IfOk, IfErr, IfSome, OnErr, OnOk, MatchOption, MatchResult};
 ghost use Rattle.std.specs.Str.{IsUtf8};
 ghost use Rattle.fe2o3_scram.specs.Credentials.{kept};
 ghost use Rattle.fe2o3_scram.specs.Mixed.{MultiRecords};
@@ -12,6 +12,7 @@ ghost use Rattle.fe2o3_sasl_negotiation.specs.declared.progress.Progress.TheVari
 ghost use Rattle.fe2o3_sasl_negotiation.specs.ServerNegotiation.{ServerReceives};
 ghost use Rattle.fe2o3_sasl_negotiation.specs.Snapshot.{IsServerKept, side_of};
 ghost use Rattle.fe2o3_sasl_negotiation.specs.Sides.{ServerConnectionSide, server_side};
+ghost use Rattle.sasl_c.specs.Rules.{channels_of};
 ghost use Rattle.sasl_c.specs.SaslServer.{AddsRecord, HasNoServerWords, HasNone, IsNoConfig, NoRecordIsUnmet, NotReceived, Received, ReceivesAsServer, ServerIsReached, ShowRecords, ShowsBy, ShowsState, config_tests, extra_for, one_where, passwords_number, record_for, saved_for, settings_for, state_of, struct_by, sum_of, version_of_first};
 ghost use Rattle.sasl_c.specs.Server.{exchange_shown, phase_for};
 ghost use Rattle.sasl_c.specs.declared.sasl_server.Choice.{Choice as Choices};
@@ -24,6 +25,7 @@ use crate::arrays::put;
 use crate::connection::Connection;
 use crate::exchange::ScramExchange;
 use crate::records::ScramRecord;
+use crate::rules::ServerChannels;
 use crate::server::ScramServer;
 use crate::shows::Shows;
 use crate::status::{Status, WriteError, text, text_number};
@@ -33,7 +35,9 @@ use fe2o3_sasl_core::{
     PasswordServerBuilder, PlainPasswords, ScramHashes, WithExtraChallenges,
 };
 use fe2o3_sasl_negotiation::{RestoreError, ServerNegotiation, Snapshot};
-use fe2o3_scram::{Meter, MultiRecordStore, ScramCredentialProvider, ScramVersion, StoredPassword};
+use fe2o3_scram::{
+    ChannelBindings, Meter, MultiRecordStore, ScramCredentialProvider, ScramVersion, StoredPassword,
+};
 use std::alloc::Global;
 
 /// What a server offers, and the records of one user. You lend the struct to each call.
@@ -63,6 +67,11 @@ pub struct SaslServerConfig<'a> {
     /// The name of the client that the transport has authenticated, for instance by a certificate. EXTERNAL accepts
     /// it. If empty, EXTERNAL is not offered, and an init for it fails with FE2O3_REFUSED_AUTH.
     pub external_authcid: &'a [u8],
+
+    /// The server's channel. If it binds channels, SCRAM is also offered with `-PLUS`, by the same hashes, and before
+    /// the other mechanisms. SCRAM without `-PLUS` then accepts no client that has seen no such mechanism (`y,,`; RFC
+    /// 5802, section 6), whatever FE2O3_ACCEPT_CBIND_FLAG_Y says.
+    pub channels: ServerChannels,
 }
 
 /// The server's side of a connection between calls. All zeros is a connection that has received nothing.
@@ -275,21 +284,24 @@ impl SaslServerConfig<'_> {
         store: &MultiRecordStore,
         version: ScramVersion,
         external: &str,
+        channels: Option<ChannelBindings>,
         exchange: &ScramExchange<'_>,
     ) -> Result<PasswordServer, BuildError>
+        requires channels { channels ≡ channels_of self.now.channels }
         requires version { version ≡ version_of_first store.now }
         requires external { external.now ≡ self.now.external_authcid.now }
         ensures ok { IfOk result (λ server. password_state server
-            ≡ password_server (settings_for self.now choice store.now (saved_for store.now version (exchange_shown exchange.now)))) }
+            ≡ password_server (settings_for self.now choice store.now (saved_for store.now version false (exchange_shown exchange.now)))) }
         ensures none { IfErr result (λ error. error ≡ BuildNoMechanism
             → password_names (password_server (settings_for self.now choice store.now
-            (saved_for store.now version (exchange_shown exchange.now)))) ≡ []) }
+            (saved_for store.now version false (exchange_shown exchange.now)))) ≡ []) }
         ensures salts { IfErr result (λ error. error ≢ BuildSaltTooLong) }
     {
         let builder = PasswordServerBuilder::new(store)
             .hashes(choice.hashes())
             .accept_cbind_flag_y(choice.cbind_flag_y)
             .strict(choice.strict)
+            .channels(channels)
             .plain_under_tls(choice.plain)
             .plain_records(version, self.iterations)
             .plain_passwords(choice.passwords)
@@ -337,6 +349,10 @@ impl SaslServerConfig<'_> {
             Ok(words) => words,
             Err(status) => return Err(status),
         };
+        let channels = match self.channels.shown() {
+            Ok(channels) => channels,
+            Err(status) => return Err(status),
+        };
         let store = match self.store(alloc, username) {
             Ok(store) => store,
             Err(status) => return Err(status),
@@ -344,7 +360,9 @@ impl SaslServerConfig<'_> {
         let version = self.first_version();
         let exchange = scram.kept_exchange();
         let phase = exchange.phase(alloc)?;
-        match self.server(alloc, choice, &store, version, external, &exchange) {
+        match self.server(
+            alloc, choice, &store, version, external, channels, &exchange,
+        ) {
             Ok(server) => Ok(WithExtraChallenges::with_phase(server, choice.extra(), phase)),
             Err(BuildError::NoMechanism) => Err(Status::NoSuchMechanism),
             Err(BuildError::SaltTooLong) => unreachable!(),

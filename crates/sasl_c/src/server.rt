@@ -5,7 +5,7 @@ ghost use Rattle.fe2o3_scram.specs.ServerFirst.{ServerChallenge};
 ghost use Rattle.fe2o3_scram.specs.declared.hmac.ScramVersion.{ScramVersion as ScramVersions};
 ghost use Rattle.fe2o3_scram.specs.ScramServer.{challenge_kept};
 ghost use Rattle.fe2o3_scram.specs.declared.scram_messages.channel_binding_flag.ChannelBindingFlag.{ChannelBindingFlag as HeaderOf};
-ghost use Rattle.sasl_c.specs.Server.{ChallengeHasRoom, HasRoomUnbound, IsAuthenticated, IsOpen, IsOpenBy, IsOpenFor, IsOpenUnbound, IsUnbound, authenticated_struct, fresh_server_struct, open_number, open_struct, user_struct};
+ghost use Rattle.sasl_c.specs.Server.{ChallengeHasRoom, IsAuthenticated, IsOpen, IsOpenBy, IsOpenFor, authenticated_struct, fresh_server_struct, open_number, open_struct, user_struct};
 
 use crate::arrays::{cleared, fill, head, padded};
 use crate::rules::takes;
@@ -108,14 +108,14 @@ impl ScramServer {
     }
 
     /// Returns the struct of a server with this open challenge, by the hash of this number, or `None` if a text of the
-    /// challenge does not fit, or if its client binds a channel.
+    /// challenge does not fit.
     pub fn of(version: u32, challenge: &OpenChallenge<'_>) -> Option<ScramServer>
-        ensures open { MatchOption result (¬ HasRoomUnbound (challenge_kept challenge.now))
-            (λ server. HasRoomUnbound (challenge_kept challenge.now) × (server.version ≡ version)
-            × IsOpenUnbound server (challenge_kept challenge.now)) }
+        ensures open { MatchOption result (¬ ChallengeHasRoom (challenge_kept challenge.now))
+            (λ server. ChallengeHasRoom (challenge_kept challenge.now) × (server.version ≡ version)
+            × IsOpen server (challenge_kept challenge.now)) }
         ensures writes { IfSome result (λ server. server ≡ open_struct version (challenge_kept challenge.now)) }
     {
-        if !fits_unbound(challenge) {
+        if !fits(challenge) {
             return None;
         }
         let mut server = ScramServer::fresh();
@@ -152,23 +152,6 @@ pub fn fits(challenge: &OpenChallenge<'_>) -> bool
         && challenge.server_first_message.len() <= 1024
 }
 
-/// Returns whether the texts of a challenge fit into the struct, and its client binds no channel.
-fn fits_unbound(challenge: &OpenChallenge<'_>) -> bool
-    ensures { IsTrue result ↔ HasRoomUnbound (challenge_kept challenge.now) }
-{
-    fits(challenge) && is_unbound(challenge.header)
-}
-
-/// Returns whether a client with this GS2 header binds no channel.
-fn is_unbound(header: ChannelBindingFlag) -> bool
-    ensures { IsTrue result ↔ IsUnbound header }
-{
-    match header {
-        ChannelBindingFlag::NotSupported | ChannelBindingFlag::ClientSupports => true,
-        ChannelBindingFlag::Required(_) => false,
-    }
-}
-
 /// Returns the state of a struct with an open challenge to a client with this GS2 header.
 fn open_number(header: ChannelBindingFlag) -> u32
     ensures { result ≡ open_number header }
@@ -199,27 +182,14 @@ fn open_header(state: u32) -> Option<ChannelBindingFlag>
 }
 
 impl ScramServer {
-    /// Returns the open challenge with its hash, if the struct holds both, and its client binds no channel.
+    /// Returns the open challenge with its hash, if the struct holds both.
     pub fn exchange(&self) -> Option<(ScramVersion, OpenChallenge<'_>)>
         ensures { MatchOption result ((version : ScramVersions) (challenge : ServerChallenge) → ¬ IsOpenBy self.now version challenge)
             (λ shown. IsOpenBy self.now shown.0 (challenge_kept shown.1)) }
     {
         let version = version_of(self.version)?;
-        let challenge = self.unbound_challenge()?;
-        Some((version, challenge))
-    }
-
-    /// Returns the open challenge, if the struct holds one to a client that binds no channel.
-    #[tactic(auto, using(crate::proofs::OpenLemmas::never_unbound))]
-    pub fn unbound_challenge(&self) -> Option<OpenChallenge<'_>>
-        ensures { MatchOption result ((challenge : ServerChallenge) → ¬ IsOpenUnbound self.now challenge)
-            (λ challenge. IsOpenUnbound self.now (challenge_kept challenge)) }
-    {
         let challenge = self.challenge()?;
-        if !is_unbound(challenge.header) {
-            return None;
-        }
-        Some(challenge)
+        Some((version, challenge))
     }
 
     /// Returns the open challenge, if the struct holds one for a server with these rules.
@@ -236,7 +206,7 @@ impl ScramServer {
     }
 
     /// Returns the open challenge, if the struct holds one.
-    fn challenge(&self) -> Option<OpenChallenge<'_>>
+    pub fn challenge(&self) -> Option<OpenChallenge<'_>>
         ensures { MatchOption result ((challenge : ServerChallenge) → ¬ IsOpen self.now challenge)
             (λ challenge. IsOpen self.now (challenge_kept challenge)) }
     {

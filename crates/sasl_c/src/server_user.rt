@@ -6,7 +6,7 @@ ghost use Rattle.fe2o3_sasl_wire.specs.FrameView.{shown, viewed_frame};
 ghost use Rattle.fe2o3_sasl_core.specs.LoginAttempts.{ClaimIn};
 ghost use Rattle.fe2o3_scram.specs.ServerFirst.{ServerChallenge};
 ghost use Rattle.sasl_c.specs.Peeks.{AwaitsFrame};
-ghost use Rattle.sasl_c.specs.Server.{IsOpenUnbound};
+ghost use Rattle.sasl_c.specs.Server.{IsOpen};
 ghost use Rattle.sasl_c.specs.Status.{AnswersText, AsksText, AsksWhere, Fills};
 ghost use Rattle.sasl_c.specs.declared.status.Status.TheVariants.{OutOfMemory as StatusOutOfMemory};
 
@@ -42,14 +42,14 @@ fn response_user(
     }
 }
 
-/// Returns the user name of the open challenge, or `None` if none is open to a client that binds no channel. `OutOfMemory` is the only error.
+/// Returns the user name of the open challenge, or `None` if none is open. `OutOfMemory` is the only error.
 fn open_user(alloc: Global, scram: &ScramServer) -> Result<Option<String>, Status>
-    ensures ok { IfOk result (λ user. MatchOption user ((challenge : ServerChallenge) → ¬ IsOpenUnbound scram.now challenge)
-        (λ user. (challenge : ServerChallenge) × IsOpenUnbound scram.now challenge × (string_bytes user ≡ challenge.user))) }
+    ensures ok { IfOk result (λ user. MatchOption user ((challenge : ServerChallenge) → ¬ IsOpen scram.now challenge)
+        (λ user. (challenge : ServerChallenge) × IsOpen scram.now challenge × (string_bytes user ≡ challenge.user))) }
     ensures err { IfErr result (λ status. status ≡ StatusOutOfMemory) }
-    ensures memory { OnErr result ((challenge : ServerChallenge) × IsOpenUnbound scram.now challenge) }
+    ensures memory { OnErr result ((challenge : ServerChallenge) × IsOpen scram.now challenge) }
 {
-    match scram.unbound_challenge() {
+    match scram.challenge() {
         Some(challenge) => Ok(Some(challenge.username.to_string(alloc)?)),
         None => Ok(None),
     }
