@@ -21,8 +21,7 @@ use std::alloc::{AllocError, Global};
 /// Both.
 type Joined = AnyMechanism<Scrams, Scrams>;
 
-/// SCRAM with `-PLUS`, then SCRAM without it (RFC 5802, section 6). It is on the heap, since a server is moved often, and
-/// the six acceptors have some 3 KB.
+/// SCRAM with `-PLUS`, then SCRAM without it (RFC 5802, section 6). It is on the heap, since a server is moved often.
 #[derive(Drop)]
 pub struct AllScrams {
     joined: Boxed<Joined>,
