@@ -1,17 +1,16 @@
 -- What an exchange of texts means to both of its sides, in the words of the headline (RFC 5802, section 5). The law is
 -- the clause `agreement` of `laws::accepted_messages`.
 use Rattle.std.specs.Prelude.{ℕ, List, ◌≡◌, ◌≢◌, ◌⊎◌, T, Some, Ok, length}
-use Rattle.fe2o3_scram.specs.declared.scram_messages.client_channel.ClientChannel.{ClientChannel}
 use Rattle.fe2o3_scram.specs.ClientFinal.{ClientFinal, ReadsClientFinal, keys_for, without_proof_with}
 use Rattle.fe2o3_scram.specs.ClientFirst.{ClientFirst, ReadsClientFirst, client_first_bare}
 use Rattle.fe2o3_scram.specs.ClientKeys.{ClientKeys}
 use Rattle.fe2o3_scram.specs.Credentials.{Provider, Record}
-use Rattle.fe2o3_scram.specs.ChannelBinding.{HoldsChannelBytes, cbind_data, expected_channel, flag_of, is_strict}
+use Rattle.fe2o3_scram.specs.ChannelBinding.{ClientHeader, HoldsHeaderBytes, cbind_data, expected_header, header_of, is_strict}
 use Rattle.fe2o3_scram.specs.Extensions.{NoneMisplaced}
 use Rattle.fe2o3_scram.specs.Hmac.{hmac_of}
 use Rattle.fe2o3_scram.specs.Keys.{auth_message}
 use Rattle.fe2o3_scram.specs.Laws.{HoldsBytes}
-use Rattle.fe2o3_scram.specs.ScramClient.{ClientSide, AnswersIn, VerifiesIn, holding, is_strict_client, started}
+use Rattle.fe2o3_scram.specs.ScramClient.{ClientSide, AnswersIn, VerifiesIn, header_in, holding, is_strict_client, started}
 use Rattle.fe2o3_scram.specs.ScramServer.{ServerState, ChallengesFrom, ConcludesFrom, server_against}
 use Rattle.fe2o3_scram.specs.ServerFirst.{ServerChallenge, ServerFirst, ReadsServerFirst, challenge_of}
 use Rattle.fe2o3_scram.specs.Texts.{Part, Parts, base64_text}
@@ -58,7 +57,7 @@ keys_known {side} client = keys_for side.version side.secret client.first
 -- AuthMessage of the messages as the client has them (RFC 5802, section 3)
 abbrev pub client_auth_message : {side : ClientSide} {nonce text : List ℕ} → ClientKnows side nonce text → List ℕ
 client_auth_message {side} {nonce} {text} client =
-    auth_message (client_first_bare side.user (base64_text nonce)) text (without_proof_with side.channel client.first.nonce)
+    auth_message (client_first_bare side.user (base64_text nonce)) text (without_proof_with (header_in side) client.first.nonce)
 
 -- the challenge that the server sent
 abbrev pub challenge_known : {provider : Provider} {nonce init response : List ℕ}
@@ -83,10 +82,10 @@ abbrev pub NoneMisplacedInTexts : {side : ClientSide} {provider : Provider} {own
     → ClientKnows side own text → ServerKnows provider its init response → Type 0
 NoneMisplacedInTexts {text} client server = NoneMisplaced text server.client.bare server.final.without
 
--- the channel that the server expected
-abbrev pub channel_known : {provider : Provider} {nonce init response : List ℕ}
-    → ServerKnows provider nonce init response → ClientChannel
-channel_known {provider} server = expected_channel provider.rules.channels server.client.header
+-- the header that the server expected
+abbrev pub header_known : {provider : Provider} {nonce init response : List ℕ}
+    → ServerKnows provider nonce init response → ClientHeader
+header_known {provider} server = expected_header provider.rules.channels server.client.header
 
 -- both sides mean one login: one version of keys, user name and client nonce. Where the client-first message was plain,
 -- or one side received no misplaced attribute, also one nonce of both sides, salt and count; in the second case also one
@@ -94,10 +93,10 @@ channel_known {provider} server = expected_channel provider.rules.channels serve
 pub record TextsAgree {side : ClientSide} {provider : Provider} {own text its init response : List ℕ}
     (client : ClientKnows side own text) (server : ServerKnows provider its init response) : Type 0 where
   pub version : (keys_known client).version ≡ provider.version
-  pub header : HoldsChannelBytes side.channel → NoneMisplacedInTexts client server
-      → flag_of side.channel ≡ server.client.header
-  pub channel : HoldsChannelBytes side.channel → NoneMisplacedInTexts client server
-      → cbind_data side.channel ≡ cbind_data (channel_known server)
+  pub header : HoldsHeaderBytes (header_in side) → NoneMisplacedInTexts client server
+      → header_of (header_in side) ≡ server.client.header
+  pub channel : HoldsHeaderBytes (header_in side) → NoneMisplacedInTexts client server
+      → cbind_data side.channel ≡ cbind_data (header_known server).channel
   pub user : side.user ≡ server.client.user
   pub nonce : base64_text own ≡ server.client.nonce
   pub full_nonce : IsPlain server.client.bare ⊎ NoneMisplacedInTexts client server

@@ -2,7 +2,7 @@
 -- in by its proof (RFC 5802, section 6). Each law is a clause of `laws::bound_channels`.
 use Rattle.std.specs.Prelude.{ℕ, List, ◌≡◌, ◌≢◌, ◌⊎◌, Some, T}
 use Rattle.fe2o3_scram.specs.Agreement.{AcceptedTexts, ClientKnows, Collide, ServerKnows, TextsAgree, Verified, client_auth_message, keys_known, server_auth_message}
-use Rattle.fe2o3_scram.specs.ChannelBinding.{HoldsChannelBytes, TakesHeader, data_bytes, data_of_kind, is_strict}
+use Rattle.fe2o3_scram.specs.ChannelBinding.{AcceptsFlag, HoldsHeaderBytes, data_bytes, data_of_kind, is_strict}
 use Rattle.fe2o3_scram.specs.ClientKeys.{AreSized}
 use Rattle.fe2o3_scram.specs.Credentials.{Provider}
 use Rattle.fe2o3_scram.specs.declared.channel_binding.ChannelBinding.{ChannelBinding}
@@ -13,7 +13,7 @@ use Rattle.fe2o3_scram.specs.declared.scram_messages.channel_binding_flag.Channe
 use Rattle.fe2o3_scram.specs.Hmac.{digest, hmac_of}
 use Rattle.fe2o3_scram.specs.Keys.{client_proof, recovered_client_key}
 use Rattle.fe2o3_scram.specs.Laws.{HoldsBytes}
-use Rattle.fe2o3_scram.specs.ScramClient.{ClientSide, is_strict_client}
+use Rattle.fe2o3_scram.specs.ScramClient.{ClientSide, header_in, is_strict_client}
 use Rattle.fe2o3_scram.specs.Texts.{Part}
 
 -- one of the sides is strict; each that binds a channel is
@@ -38,10 +38,10 @@ BindOneChannel side provider =
 abbrev pub VerifiedTextsBindOneChannel : Type 0
 VerifiedTextsBindOneChannel = (side : ClientSide) (provider : Provider)
     (own text last its init response verifier : List ℕ)
-    → side.channel ≢ Absent → ¬ TakesHeader provider.rules ClientSupports → OneIsStrict side provider
+    → side.channel ≢ Absent → ¬ AcceptsFlag provider.rules ClientSupports → OneIsStrict side provider
     → Verified side own text last → AcceptedTexts provider its init response verifier → Part last 0 verifier
     → (client : ClientKnows side own text) × (server : ServerKnows provider its init response)
-    × (HoldsBytes (server.client.user, server.stored) → HoldsChannelBytes side.channel
+    × (HoldsBytes (server.client.user, server.stored) → HoldsHeaderBytes (header_in side)
     → (client_auth_message client ≡ server_auth_message server → BindOneChannel side provider)
     × (client_auth_message client ≢ server_auth_message server → Collide client server))
 
@@ -83,10 +83,10 @@ ShownTextsAgree = (side : ClientSide) (provider : Provider) (own text its init r
 abbrev pub ShownTextsBindOneChannel : Type 0
 ShownTextsBindOneChannel = (side : ClientSide) (provider : Provider) (own text its init response verifier : List ℕ)
     (client : ClientKnows side own text)
-    → side.channel ≢ Absent → ¬ TakesHeader provider.rules ClientSupports → OneIsStrict side provider
+    → side.channel ≢ Absent → ¬ AcceptsFlag provider.rules ClientSupports → OneIsStrict side provider
     → AcceptedTexts provider its init response verifier
     → (server : ServerKnows provider its init response)
-    × (HoldsBytes (server.client.user, server.stored) → HoldsChannelBytes side.channel → AreSized (keys_known client)
+    × (HoldsBytes (server.client.user, server.stored) → HoldsHeaderBytes (header_in side) → AreSized (keys_known client)
     → digest (keys_known client).version (keys_known client).client_key ≡ server.stored.stored_key
     → proof_known client ≡ server.final.proof → ProofAgrees client server
     × (client_auth_message client ≡ server_auth_message server → BindOneChannel side provider))

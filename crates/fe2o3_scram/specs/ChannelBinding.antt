@@ -13,6 +13,7 @@ use Rattle.fe2o3_scram.specs.declared.hmac.ScramVersion.{ScramVersion}
 use Rattle.fe2o3_scram.specs.declared.scram_messages.channel_binding_flag.ChannelBindingFlag.{ChannelBindingFlag}
 use Rattle.fe2o3_scram.specs.declared.scram_messages.channel_binding_flag.ChannelBindingFlag.TheVariants.{NotSupported, ClientSupports, Required}
 use Rattle.fe2o3_scram.specs.declared.scram_messages.server_rules.ServerRules.{ServerRules}
+use Rattle.fe2o3_scram.specs.Escape.{escaped}
 use Rattle.fe2o3_scram.specs.Hmac.{mechanism_name}
 
 -- the registered name of a kind of channel binding (RFC 5929, sections 3 and 4; RFC 9266, section 2)
@@ -25,14 +26,33 @@ kind_name TlsExporter = codes "tls-exporter"
 abbrev pub data_bytes : ChannelData → List ℕ
 data_bytes known = take known.len known.bytes
 
--- the GS2 header of a client that acts for itself (RFC 5802, sections 6 and 7): the client does not support channel
--- binding, or it does and assumes that the server does not, or it requires it, by this kind
-abbrev pub header_text : ChannelBindingFlag → List ℕ
-header_text NotSupported = codes "n,,"
-header_text ClientSupports = codes "y,,"
-header_text (Required TlsUnique) = codes "p=tls-unique,,"
-header_text (Required TlsServerEndPoint) = codes "p=tls-server-end-point,,"
-header_text (Required TlsExporter) = codes "p=tls-exporter,,"
+-- what a GS2 header says of channel binding (RFC 5802, sections 6 and 7, `gs2-cbind-flag`): the client does not support it,
+-- or it does and assumes that the server does not, or it requires it, by this kind
+abbrev pub flag_text : ChannelBindingFlag → List ℕ
+flag_text NotSupported = codes "n"
+flag_text ClientSupports = codes "y"
+flag_text (Required TlsUnique) = codes "p=tls-unique"
+flag_text (Required TlsServerEndPoint) = codes "p=tls-server-end-point"
+flag_text (Required TlsExporter) = codes "p=tls-exporter"
+
+-- whom a GS2 header names as the one to act for (RFC 5802, section 7, `authzid`), if the client does not act for itself
+abbrev pub authzid_text : Option (List ℕ) → List ℕ
+authzid_text None = []
+authzid_text (Some name) = codes "a=" ++ escaped name
+
+-- what a GS2 header says (RFC 5802, section 7): the flag of channel binding, and whom the client acts for, or none if it
+-- acts for itself
+pub record Gs2Header : Type 0 where
+  pub flag : ChannelBindingFlag
+  pub acts_for : Option (List ℕ)
+
+-- the GS2 header (RFC 5802, section 7, `gs2-header`)
+abbrev pub header_text : Gs2Header → List ℕ
+header_text header = flag_text header.flag ++ (codes "," ++ (authzid_text header.acts_for ++ codes ","))
+
+-- the header of a client that acts for itself
+abbrev pub own_header : ChannelBindingFlag → Gs2Header
+own_header flag = record { flag = flag; acts_for = None }
 
 -- ---- the client
 
@@ -54,13 +74,32 @@ cbind_data Absent = []
 cbind_data NotOffered = []
 cbind_data (Bound binding) = data_bytes binding.cbind_data
 
--- cbind-input (RFC 5802, section 7): the GS2 header, and the data of the channel
-abbrev pub cbind_input : ClientChannel → List ℕ
-cbind_input channel = header_text (flag_of channel) ++ cbind_data channel
+-- what a client puts before its name, and repeats under its proof (RFC 5802, section 6): what it says of its channel, with
+-- the channel's data, and whom it acts for
+pub record ClientHeader : Type 0 where
+  pub channel : ClientChannel
+  pub acts_for : Option (List ℕ)
 
--- what the code holds of a channel: its data are bytes
-abbrev pub HoldsChannelBytes : ClientChannel → Type 0
-HoldsChannelBytes channel = IsBytes (cbind_data channel)
+-- a client that binds no channel and acts for itself
+abbrev pub plain_header : ClientHeader
+plain_header = record { channel = Absent; acts_for = None }
+
+-- the GS2 header of a client
+abbrev pub header_of : ClientHeader → Gs2Header
+header_of client = record { flag = flag_of client.channel; acts_for = client.acts_for }
+
+-- cbind-input (RFC 5802, section 7): the GS2 header, and the data of the channel
+abbrev pub cbind_input : ClientHeader → List ℕ
+cbind_input client = header_text (header_of client) ++ cbind_data client.channel
+
+-- a side has to be strict that binds a channel or names an identity, since someone on the way can move both from one message
+-- to another if neither side is strict
+abbrev pub needs_strict : ClientHeader → Bool
+needs_strict client = is_bound client.channel || is_some client.acts_for
+
+-- what the code holds of a header: the data of the channel and the identity are bytes
+abbrev pub HoldsHeaderBytes : ClientHeader → Type 0
+HoldsHeaderBytes client = IsBytes (cbind_data client.channel) × IsBytes (authzid_text client.acts_for)
 
 -- the client requires channel binding (RFC 5802, section 7: the flag `p=`)
 abbrev pub is_required : ChannelBindingFlag → Bool
@@ -105,9 +144,13 @@ abbrev pub TakesFlag : Option ChannelBindings → Bool → ChannelBindingFlag �
 TakesFlag None accept_y flag = TakesUnbound accept_y flag
 TakesFlag (Some channels) accept_y flag = TakesBound channels flag
 
--- a server accepts the header
-abbrev pub TakesHeader : ServerRules → ChannelBindingFlag → Type 0
-TakesHeader rules flag = TakesFlag rules.channels rules.accept_cbind_flag_y flag
+-- a server accepts what the header says of channel binding
+abbrev pub AcceptsFlag : ServerRules → ChannelBindingFlag → Type 0
+AcceptsFlag rules flag = TakesFlag rules.channels rules.accept_cbind_flag_y flag
+
+-- a server accepts the header: that of a client that acts for itself
+abbrev pub TakesHeader : ServerRules → Gs2Header → Type 0
+TakesHeader rules header = AcceptsFlag rules header.flag × (header.acts_for ≡ None)
 
 -- the data of a kind that a server has, if it binds channels
 abbrev pub data_of_server : Option ChannelBindings → ChannelKind → Option ChannelData
@@ -126,7 +169,12 @@ expected_channel channels ClientSupports = NotOffered
 expected_channel channels (Required kind) =
     Bound (record { kind = kind; cbind_data = known_data (data_of_server channels kind) })
 
--- a side is strict if it binds a channel, or is set to
+-- what a server expects of a client with this header: its channel, and whom it acts for
+abbrev pub expected_header : Option ChannelBindings → Gs2Header → ClientHeader
+expected_header channels header =
+    record { channel = expected_channel channels header.flag; acts_for = header.acts_for }
+
+-- a server is strict if it binds a channel, or is set to
 abbrev pub is_strict : ServerRules → Bool
 is_strict rules = is_some rules.channels || rules.strict
 

@@ -6,11 +6,10 @@ use Rattle.fe2o3_scram.specs.declared.scram_messages.error.ServerScramErrorKind.
 use Rattle.fe2o3_scram.specs.declared.scram_messages.error.ServerScramErrorKind.TheVariants.{Utf8Error, CannotParseGs2Header, CannotParseUsername, CannotParseClientNonce, MisplacedAttribute}
 use Rattle.fe2o3_scram.specs.declared.scram_messages.server_rules.ServerRules.{ServerRules}
 use Rattle.fe2o3_scram.specs.declared.scram_messages.client_first_reading.ClientFirst.{ClientFirst as CodeClientFirst}
-use Rattle.fe2o3_scram.specs.declared.scram_messages.channel_binding_flag.ChannelBindingFlag.{ChannelBindingFlag}
 use Rattle.fe2o3_scram.specs.declared.scram_messages.channel_binding_flag.ChannelBindingFlag.TheVariants.{NotSupported}
-use Rattle.fe2o3_scram.specs.ChannelBinding.{TakesHeader, header_text, is_strict}
+use Rattle.fe2o3_scram.specs.ChannelBinding.{Gs2Header, TakesHeader, header_text, is_strict, own_header}
 use Rattle.fe2o3_scram.specs.Escape.{escaped, NoEquals}
-use Rattle.fe2o3_scram.specs.Extensions.{HasAttributeFrom}
+use Rattle.fe2o3_scram.specs.Grammar.{HasMisplacedFrom, is_nonce, is_value}
 use Rattle.fe2o3_scram.specs.Readings.{Reads}
 use Rattle.fe2o3_scram.specs.Texts.{joined, Part, StartsWith}
 
@@ -27,17 +26,17 @@ abbrev pub either_header : ServerRules
 either_header = record { accept_cbind_flag_y = true; strict = false; channels = None }
 
 -- client-first-message with a GS2 header (RFC 5802, section 7)
-abbrev pub client_first_with : ChannelBindingFlag → List ℕ → List ℕ → List ℕ
+abbrev pub client_first_with : Gs2Header → List ℕ → List ℕ → List ℕ
 client_first_with header username nonce = header_text header ++ client_first_bare username nonce
 
 -- client-first-message of a client that cannot bind a channel (RFC 5802, section 7)
 abbrev pub client_first : List ℕ → List ℕ → List ℕ
-client_first username nonce = client_first_with NotSupported username nonce
+client_first username nonce = client_first_with (own_header NotSupported) username nonce
 
 -- what a client-first message names (RFC 5802, section 7): its GS2 header, the user, the client's nonce, and the
 -- message without its GS2 header
 pub record ClientFirst : Type 0 where
-  pub header : ChannelBindingFlag
+  pub header : Gs2Header
   pub user : List ℕ
   pub nonce : List ℕ
   pub bare : List ℕ
@@ -45,7 +44,7 @@ pub record ClientFirst : Type 0 where
 -- the values that the code's value holds
 abbrev pub client_first_values : CodeClientFirst → ClientFirst
 client_first_values first = record {
-  header = first.header;
+  header = own_header first.header;
   user = cow_str_bytes first.username;
   nonce = first.client_nonce.now;
   bare =
@@ -54,7 +53,7 @@ client_first_values first = record {
 
 -- after a GS2 header that is accepted, the message has this part at place k (RFC 5802, section 7)
 abbrev pub BarePart : ServerRules → List ℕ → ℕ → List ℕ → Type 0
-BarePart rules text k part = (header : ChannelBindingFlag) × (bare : List ℕ) × TakesHeader rules header
+BarePart rules text k part = (header : Gs2Header) × (bare : List ℕ) × TakesHeader rules header
     × (text ≡ header_text header ++ bare) × Part bare k part
 
 -- the message names these values (RFC 5802, section 5.1)
@@ -64,19 +63,30 @@ pub record NamesClientFirst (rules : ServerRules) (text : List ℕ) (first : Cli
   pub user : Part first.bare 0 (codes "n=" ++ escaped first.user)
   pub nonce : Part first.bare 1 (codes "r=" ++ first.nonce)
 
--- after a GS2 header that is accepted, the message has an attribute that RFC 5802 defines in the place of an extension:
--- after the nonce (RFC 5802, section 7)
+-- after a GS2 header that is accepted, the message has in the place of an extension a part that is none: after the nonce
+-- (RFC 5802, section 7)
 abbrev pub HasMisplacedAfterNonce : ServerRules → List ℕ → Type 0
-HasMisplacedAfterNonce rules text = (header : ChannelBindingFlag) × (bare : List ℕ) × TakesHeader rules header
-    × (text ≡ header_text header ++ bare) × HasAttributeFrom 2 bare
+HasMisplacedAfterNonce rules text = (header : Gs2Header) × (bare : List ℕ) × TakesHeader rules header
+    × (text ≡ header_text header ++ bare) × HasMisplacedFrom 2 bare
 
--- the server's tests, in order (RFC 5802, section 5.1; UTF-8: RFC 3629, section 3)
+-- the message names a user whose name is empty or has NUL (RFC 5802, section 7, `saslname`)
+abbrev pub NamesNoValue : ServerRules → List ℕ → Type 0
+NamesNoValue rules text = (user : List ℕ) × BarePart rules text 0 (codes "n=" ++ escaped user) × (is_value user ≡ false)
+
+-- the message names a nonce that is empty or not printable (RFC 5802, section 7, `c-nonce`)
+abbrev pub NamesNoNonce : ServerRules → List ℕ → Type 0
+NamesNoNonce rules text = (nonce : List ℕ) × BarePart rules text 1 (codes "r=" ++ nonce) × (is_nonce nonce ≡ false)
+
+-- the server's tests, in order (RFC 5802, section 5.1; UTF-8: RFC 3629, section 3); the last three are those of a strict
+-- server, and the last also of one that binds channels
 abbrev pub client_first_tests : ServerRules → List ℕ → List (ServerScramErrorKind × Type 0)
 client_first_tests rules text =
     (Utf8Error, ¬ IsUtf8 text)
-    ∷ (CannotParseGs2Header, (header : ChannelBindingFlag) → TakesHeader rules header → ¬ StartsWith text (header_text header))
+    ∷ (CannotParseGs2Header, (header : Gs2Header) → TakesHeader rules header → ¬ StartsWith text (header_text header))
     ∷ (CannotParseUsername, (user : List ℕ) → ¬ BarePart rules text 0 (codes "n=" ++ escaped user))
     ∷ (CannotParseClientNonce, (nonce : List ℕ) → ¬ BarePart rules text 1 (codes "r=" ++ nonce))
+    ∷ (CannotParseUsername, T rules.strict × NamesNoValue rules text)
+    ∷ (CannotParseClientNonce, T rules.strict × NamesNoNonce rules text)
     ∷ (MisplacedAttribute, T (is_strict rules) × HasMisplacedAfterNonce rules text)
     ∷ []
 

@@ -1,18 +1,18 @@
 -- An exchange of the four messages (RFC 5802, section 5) in which each arrives as it was sent.
-use Rattle.std.specs.Prelude.{ℕ, List, [], ◌∷◌, codes, Bool, ◌++◌, ◌≡◌, ◌≢◌, ◌⊎◌, ◌≤◌, ◌<◌, ◌^◌, Ok}
+use Rattle.std.specs.Prelude.{ℕ, List, [], ◌∷◌, codes, Bool, ◌++◌, ◌≡◌, ◌≢◌, ◌⊎◌, ◌≤◌, ◌<◌, ◌^◌, Ok, T, true}
 use Rattle.std.specs.Str.{IsUtf8}
 use Rattle.base64.specs.GeneralPurpose.{IsBytes}
 use Rattle.fe2o3_scram.specs.declared.hmac.ScramVersion.{ScramVersion}
 use Rattle.fe2o3_scram.specs.declared.scram_messages.server_rules.ServerRules.{ServerRules}
 use Rattle.fe2o3_scram.specs.ServerFirst.{server_first_of, Client, ServerFirst, ReadsServerFirst, client_of}
 use Rattle.fe2o3_scram.specs.ClientFinal.{Answer, answer_by, keys_for, Server, server_of, ClientFinal, ReadsClientFinal, without_proof_with}
-use Rattle.fe2o3_scram.specs.declared.scram_messages.client_channel.ClientChannel.{ClientChannel}
 use Rattle.fe2o3_scram.specs.ClientFirst.{client_first_bare, client_first_with, ReadsClientFirst}
-use Rattle.fe2o3_scram.specs.ChannelBinding.{HoldsChannelBytes, TakesHeader, cbind_input, expected_channel, flag_of, is_strict}
+use Rattle.fe2o3_scram.specs.ChannelBinding.{ClientHeader, HoldsHeaderBytes, TakesHeader, authzid_text, cbind_input, expected_header, header_of, is_strict}
 use Rattle.fe2o3_scram.specs.ClientKeys.{keys_of}
 use Rattle.fe2o3_scram.specs.ClientSecret.{Secret, Password, Keys, Both}
 use Rattle.fe2o3_scram.specs.declared.client_secret.IterationLimits.{IterationLimits}
 use Rattle.fe2o3_scram.specs.Credentials.{Record, record_of}
+use Rattle.fe2o3_scram.specs.Grammar.{is_nonce, is_value}
 use Rattle.fe2o3_scram.specs.Keys.{auth_message, client_key, client_proof}
 use Rattle.fe2o3_scram.specs.Pbkdf2Hi.{salted_of}
 use Rattle.fe2o3_scram.specs.ServerFinal.{server_final_of, ReadsServerFinal}
@@ -29,11 +29,11 @@ OpensRecord version (Both own keys) password salt count =
     (keys ≡ keys_of version password salt count)
     ⊎ (((salt ≢ keys.salt) ⊎ (count ≢ keys.count)) × (password_bytes own ≡ password) × IsNormal own)
 
--- the start of an exchange (RFC 5802, section 5): what the client says of its channel, its user, secret and limits, whether
+-- the start of an exchange (RFC 5802, section 5): the client's header, its user, secret and limits, whether
 -- it is set to be strict, what the server accepts, the password, the salt and the count of the record, and the nonces
 pub record Exchange : Type 0 where
   pub version : ScramVersion
-  pub channel : ClientChannel
+  pub header : ClientHeader
   pub rules : ServerRules
   pub user : List ℕ
   pub secret : Secret
@@ -45,16 +45,16 @@ pub record Exchange : Type 0 where
   pub client_nonce : List ℕ
   pub server_nonce : List ℕ
 
--- the channel binding that the server expects after the client's flag
-abbrev pub channel_expected : Exchange → List ℕ
-channel_expected x = cbind_input (expected_channel x.rules.channels (flag_of x.channel))
+-- the channel binding that the server expects after the client's header
+abbrev pub binding_expected : Exchange → List ℕ
+binding_expected x = cbind_input (expected_header x.rules.channels (header_of x.header))
 
 -- the server accepts the header, the secret opens the record, the client accepts the count, and names, nonces and salts
--- are what the code holds
+-- are what the code holds; a strict side receives a name and nonces that the grammar allows (RFC 5802, section 7)
 pub record IsSound (x : Exchange) : Type 0 where
-  pub header : TakesHeader x.rules (flag_of x.channel)
-  pub channel : channel_expected x ≡ cbind_input x.channel
-  pub bytes : HoldsChannelBytes x.channel
+  pub header : TakesHeader x.rules (header_of x.header)
+  pub channel : binding_expected x ≡ cbind_input x.header
+  pub bytes : HoldsHeaderBytes x.header
   pub opens : OpensRecord x.version x.secret x.password x.salt x.count
   pub some : 1 ≤ x.count
   pub least : x.limits.min_iterations ≤ x.count
@@ -62,10 +62,14 @@ pub record IsSound (x : Exchange) : Type 0 where
   pub limit : x.limits.max_iterations < 2 ^ 32
   pub salt : IsBytes x.salt
   pub user : IsUtf8 x.user
+  pub identity : IsUtf8 (authzid_text x.header.acts_for)
   pub client_text : IsUtf8 x.client_nonce
   pub server_text : IsUtf8 x.server_nonce
   pub client_plain : NoComma x.client_nonce
   pub server_plain : NoComma x.server_nonce
+  pub name : T x.rules.strict → is_value x.user ≡ true
+  pub client_printable : T x.rules.strict → is_nonce x.client_nonce ≡ true
+  pub server_printable : T x.strict → is_nonce x.server_nonce ≡ true
 
 -- the nonce of both sides
 abbrev pub nonce_in : Exchange → List ℕ
@@ -85,7 +89,7 @@ first_in x = server_first_of (nonce_in x) (record_in x)
 
 -- what the client knows when it reads the server-first message
 abbrev pub client_in : Exchange → Client
-client_in x = client_of x.client_nonce x.secret x.limits x.channel x.strict
+client_in x = client_of x.client_nonce x.secret x.limits x.header x.strict
 
 -- the values that the server-first message names
 abbrev pub named_in : Exchange → ServerFirst
@@ -94,26 +98,26 @@ named_in x = record { nonce = nonce_in x; salt = x.salt; count = x.count }
 -- the client-final message, and the signature that the client waits for
 abbrev pub answer_in : Exchange → Answer
 answer_in x = answer_by (keys_for x.version x.secret (named_in x)) (bare_in x) (first_in x)
-    (without_proof_with x.channel (nonce_in x))
+    (without_proof_with x.header (nonce_in x))
 
 -- what the server knows when it reads the client-final message
 abbrev pub server_in : Exchange → Server
-server_in x = server_of x.version (expected_channel x.rules.channels (flag_of x.channel)) (is_strict x.rules) (bare_in x)
+server_in x = server_of x.version (expected_header x.rules.channels (header_of x.header)) (is_strict x.rules) (bare_in x)
     (first_in x) (nonce_in x) (record_in x)
 
 -- the values that the client-final message names
 abbrev pub final_in : Exchange → ClientFinal
 final_in x = record {
-  without = without_proof_with x.channel (nonce_in x);
+  without = without_proof_with x.header (nonce_in x);
   proof =
       client_proof x.version (client_key x.version (salted_of x.version x.password x.salt x.count))
-      (auth_message (bare_in x) (first_in x) (without_proof_with x.channel (nonce_in x)));
+      (auth_message (bare_in x) (first_in x) (without_proof_with x.header (nonce_in x)));
 }
 
 -- each side accepts what the other wrote (RFC 5802, section 5)
 pub record Succeeds (x : Exchange) : Type 0 where
-  pub client_first : ReadsClientFirst x.rules (client_first_with (flag_of x.channel) x.user x.client_nonce)
-      (Ok (record { header = flag_of x.channel; user = x.user; nonce = x.client_nonce; bare = bare_in x }))
+  pub client_first : ReadsClientFirst x.rules (client_first_with (header_of x.header) x.user x.client_nonce)
+      (Ok (record { header = header_of x.header; user = x.user; nonce = x.client_nonce; bare = bare_in x }))
   pub server_first : ReadsServerFirst (client_in x) (first_in x) (Ok (named_in x))
   pub client_final : ReadsClientFinal (server_in x) (answer_in x).message (Ok (final_in x))
-  pub server_final : ReadsServerFinal (answer_in x).signature (server_final_of (server_in x) (final_in x)) (Ok tt)
+  pub server_final : ReadsServerFinal (client_in x).strict (answer_in x).signature (server_final_of (server_in x) (final_in x)) (Ok tt)

@@ -3,7 +3,6 @@ use Rattle.std.specs.Prelude.{ℕ, List, Bool, ◌≡◌, ◌≤◌, ◌<◌, �
 use Rattle.base64.specs.Engines.{standard}
 use Rattle.base64.specs.GeneralPurpose.{IsBytes, decode_of}
 use Rattle.fe2o3_scram.specs.declared.hmac.ScramVersion.{ScramVersion}
-use Rattle.fe2o3_scram.specs.declared.scram_messages.client_channel.ClientChannel.{ClientChannel}
 use Rattle.fe2o3_scram.specs.declared.scram_messages.error.ScramErrorKind.{ScramErrorKind}
 use Rattle.fe2o3_scram.specs.declared.scram_messages.server_rules.ServerRules.{ServerRules}
 use Rattle.fe2o3_scram.specs.Texts.{base64_text, IsBase64, NoComma, Parts}
@@ -34,6 +33,7 @@ use Rattle.fe2o3_scram.specs.ServerFinal.{ReadsSignature, ReadsServerFinal}
 use Rattle.fe2o3_scram.specs.ServerErrors.{NamesServerError, error_message}
 use Rattle.fe2o3_scram.specs.declared.scram_messages.server_error.ServerError.{ServerError}
 use Rattle.fe2o3_scram.specs.ServerFirst.{Client, ServerFirst, ReadsServerFirst, client_of}
+use Rattle.fe2o3_scram.specs.ChannelBinding.{ClientHeader}
 
 -- no two versions have one name
 abbrev pub OneVersion : Type 0
@@ -94,19 +94,19 @@ OneClientFinal = (server : Server) (text : List ℕ) (answer other : Result Clie
 
 -- a client-final message has at most one reading of its text (before the keys are tested)
 abbrev pub OneFinalText : Type 0
-OneFinalText = (channel : ClientChannel) (strict : Bool) (nonce text : List ℕ)
+OneFinalText = (header : ClientHeader) (strict : Bool) (nonce text : List ℕ)
     (answer other : Result ClientFinal ServerScramErrorKind)
-    → ReadsFinalText channel strict nonce text answer → ReadsFinalText channel strict nonce text other → answer ≡ other
+    → ReadsFinalText header strict nonce text answer → ReadsFinalText header strict nonce text other → answer ≡ other
 
 -- a server-final message has at most one answer
 abbrev pub OneServerFinal : Type 0
-OneServerFinal = (signature text : List ℕ) (answer other : Result (Unit {0}) ScramErrorKind)
-    → ReadsServerFinal signature text answer → ReadsServerFinal signature text other → answer ≡ other
+OneServerFinal = (strict : Bool) (signature text : List ℕ) (answer other : Result (Unit {0}) ScramErrorKind)
+    → ReadsServerFinal strict signature text answer → ReadsServerFinal strict signature text other → answer ≡ other
 
 -- a server-final message has at most one reading of its text (before the signature is compared)
 abbrev pub OneSignature : Type 0
-OneSignature = (text : List ℕ) (answer other : Result (List ℕ) ScramErrorKind) → ReadsSignature text answer
-    → ReadsSignature text other → answer ≡ other
+OneSignature = (strict : Bool) (text : List ℕ) (answer other : Result (List ℕ) ScramErrorKind)
+    → ReadsSignature strict text answer → ReadsSignature strict text other → answer ≡ other
 
 -- the message of a server error is read as that error
 abbrev pub ServerErrorsAreReadAgain : Type 0
@@ -119,8 +119,8 @@ OneServerError = (text : List ℕ) (error other : ServerError) → NamesServerEr
 
 -- a client that waits for a signature rejects a server error in its place, like a wrong signature
 abbrev pub ServerErrorsAreNoSignature : Type 0
-ServerErrorsAreNoSignature = (signature text : List ℕ) (error : ServerError) → NamesServerError text error
-    → ReadsServerFinal signature text (Err ServerSignatureMismatch)
+ServerErrorsAreNoSignature = (strict : Bool) (signature text : List ℕ) (error : ServerError) → NamesServerError text error
+    → ReadsServerFinal strict signature text (Err ServerSignatureMismatch)
 
 -- in an exchange whose messages arrive as they were sent, each side accepts what the other wrote
 abbrev pub UnalteredExchangesSucceed : Type 0
@@ -143,8 +143,8 @@ SomeClientFinal = (server : Server) (text : List ℕ)
 
 -- a server-final message has an answer
 abbrev pub SomeServerFinal : Type 0
-SomeServerFinal = (signature text : List ℕ)
-    → (answer : Result (Unit {0}) ScramErrorKind) × ReadsServerFinal signature text answer
+SomeServerFinal = (strict : Bool) (signature text : List ℕ)
+    → (answer : Result (Unit {0}) ScramErrorKind) × ReadsServerFinal strict signature text answer
 
 -- a record is read again from its text if it has a count and its keys are as long as a digest
 abbrev pub RecordsAreReadAgain : Type 0
@@ -176,28 +176,28 @@ AreKeysOf keys password = keys ≡ keys_of keys.version password keys.salt keys.
 -- what is answered by the keys of a password is answered by the password
 abbrev pub KeysStandForPassword : Type 0
 KeysStandForPassword = (keys : ClientKeys) (password : PasswordText) (nonce bare text : List ℕ)
-    (limits : IterationLimits) (channel : ClientChannel) (strict : Bool) (answer : Result Answer ScramErrorKind) → IsNormal password
+    (limits : IterationLimits) (header : ClientHeader) (strict : Bool) (answer : Result Answer ScramErrorKind) → IsNormal password
     → AreKeysOf keys (password_bytes password)
     → answer ≢ Err StaleKeys
-    → AnswersServerFirst keys.version (client_of nonce (Keys keys) limits channel strict) bare text answer
-    → AnswersServerFirst keys.version (client_of nonce (Password password) limits channel strict) bare text answer
+    → AnswersServerFirst keys.version (client_of nonce (Keys keys) limits header strict) bare text answer
+    → AnswersServerFirst keys.version (client_of nonce (Password password) limits header strict) bare text answer
 
 -- what is answered by the password is answered by its keys, unless they are of another salt or another count
 abbrev pub KeysAnswerAsPassword : Type 0
 KeysAnswerAsPassword = (keys : ClientKeys) (password : PasswordText) (nonce bare text : List ℕ)
-    (limits : IterationLimits) (channel : ClientChannel) (strict : Bool) (answer : Result Answer ScramErrorKind) → IsNormal password
+    (limits : IterationLimits) (header : ClientHeader) (strict : Bool) (answer : Result Answer ScramErrorKind) → IsNormal password
     → AreKeysOf keys (password_bytes password)
-    → AnswersServerFirst keys.version (client_of nonce (Password password) limits channel strict) bare text answer
-    → AnswersServerFirst keys.version (client_of nonce (Keys keys) limits channel strict) bare text answer
-    ⊎ AnswersServerFirst keys.version (client_of nonce (Keys keys) limits channel strict) bare text (Err StaleKeys)
+    → AnswersServerFirst keys.version (client_of nonce (Password password) limits header strict) bare text answer
+    → AnswersServerFirst keys.version (client_of nonce (Keys keys) limits header strict) bare text answer
+    ⊎ AnswersServerFirst keys.version (client_of nonce (Keys keys) limits header strict) bare text (Err StaleKeys)
 
 -- a client with both answers like the one with the password, if its keys are those of the password
 abbrev pub BothAnswerAsPassword : Type 0
 BothAnswerAsPassword = (keys : ClientKeys) (password : PasswordText) (nonce bare text : List ℕ)
-    (limits : IterationLimits) (channel : ClientChannel) (strict : Bool) (answer : Result Answer ScramErrorKind) → IsNormal password
+    (limits : IterationLimits) (header : ClientHeader) (strict : Bool) (answer : Result Answer ScramErrorKind) → IsNormal password
     → AreKeysOf keys (password_bytes password)
-    → AnswersServerFirst keys.version (client_of nonce (Both password keys) limits channel strict) bare text answer
-    ↔ AnswersServerFirst keys.version (client_of nonce (Password password) limits channel strict) bare text answer
+    → AnswersServerFirst keys.version (client_of nonce (Both password keys) limits header strict) bare text answer
+    ↔ AnswersServerFirst keys.version (client_of nonce (Password password) limits header strict) bare text answer
 
 -- a password of printable ASCII gives one record, whether it is passed as typed or prepared
 abbrev pub OneRecordOfPassword : Type 0
@@ -208,9 +208,9 @@ OneRecordOfPassword = (version : ScramVersion) (text salt : List ℕ) (count : �
 -- a client with a typed password of printable ASCII answers like one with it prepared
 abbrev pub OneAnswerOfPassword : Type 0
 OneAnswerOfPassword = (version : ScramVersion) (password nonce bare text : List ℕ) (limits : IterationLimits)
-    (channel : ClientChannel) (strict : Bool) (answer : Result Answer ScramErrorKind) → IsPrintable password
-    → AnswersServerFirst version (client_of nonce (Password (Prepared password)) limits channel strict) bare text answer
-    ↔ AnswersServerFirst version (client_of nonce (Password (Typed password)) limits channel strict) bare text answer
+    (header : ClientHeader) (strict : Bool) (answer : Result Answer ScramErrorKind) → IsPrintable password
+    → AnswersServerFirst version (client_of nonce (Password (Prepared password)) limits header strict) bare text answer
+    ↔ AnswersServerFirst version (client_of nonce (Password (Typed password)) limits header strict) bare text answer
 
 -- what the code holds of a user: the count has 32 bits, and salt and keys are bytes
 abbrev pub HoldsBytes : List ℕ × Record → Type 0

@@ -1,4 +1,5 @@
 pub mod Texts
+pub mod Grammar
 pub mod Extensions
 pub mod Escape
 pub mod SaslprepAscii

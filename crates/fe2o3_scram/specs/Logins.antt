@@ -1,12 +1,12 @@
 -- The meaning of an accepted message, in the words of the headline (RFC 5802, section 5). Each law is the contract of a
 -- clause of `laws::accepted_messages`.
-use Rattle.std.specs.Prelude.{◌≡◌, ℕ, Option, List, Ok}
+use Rattle.std.specs.Prelude.{◌≡◌, ℕ, Bool, Option, List, Ok}
 use Rattle.fe2o3_scram.specs.ClientFinal.{ClientFinal, ReadsClientFinal}
 use Rattle.fe2o3_scram.specs.ClientKeys.{ClientKeys}
 use Rattle.fe2o3_scram.specs.Credentials.{Record}
 use Rattle.fe2o3_scram.specs.declared.hmac.ScramVersion.{ScramVersion}
 use Rattle.fe2o3_scram.specs.declared.scram_messages.server_rules.ServerRules.{ServerRules}
-use Rattle.fe2o3_scram.specs.ScramClient.{ClientSide, ClientState, ClientFinalSent, VerifiesIn}
+use Rattle.fe2o3_scram.specs.ScramClient.{ClientSide, ClientState, ClientFinalSent, VerifiesIn, is_strict_client}
 use Rattle.fe2o3_scram.specs.ScramServer.{ServerState, ServerFirstSent, ServerFinalSent, ConcludesFrom, server_against}
 use Rattle.fe2o3_scram.specs.ServerFinal.{ReadsServerFinal}
 use Rattle.fe2o3_scram.specs.ServerFirst.{ServerChallenge}
@@ -30,13 +30,13 @@ AcceptedTextsLogIn = (state next : ServerState) (version : ScramVersion) (rules 
 
 -- the text shows the signature that a client waits for: the client has answered a challenge, and the first part of the
 -- text is the signature of that answer
-pub record IsSigned (state : ClientState) (text : List ℕ) : Type 0 where
+pub record IsSigned (strict : Bool) (state : ClientState) (text : List ℕ) : Type 0 where
   pub signature : List ℕ
   pub keys : Option ClientKeys
   pub waits : state ≡ ClientFinalSent signature keys
-  pub reads : ReadsServerFinal signature text (Ok tt)
+  pub reads : ReadsServerFinal strict signature text (Ok tt)
 
 -- a client accepts only a text that shows the signature that it waits for
 abbrev pub VerifiedTextsAreSigned : Type 0
 VerifiedTextsAreSigned = (side next : ClientSide) (text : List ℕ) → VerifiesIn side.state side text (Ok tt) next
-    → IsSigned side.state text
+    → IsSigned (is_strict_client side) side.state text

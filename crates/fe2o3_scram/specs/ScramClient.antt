@@ -8,7 +8,7 @@ use Rattle.fe2o3_scram.specs.declared.scram_messages.error.ScramErrorKind.{Scram
 use Rattle.fe2o3_scram.specs.declared.scram_messages.error.ScramErrorKind.TheVariants.{IllegalClientState, ServerSignatureMismatch}
 use Rattle.fe2o3_scram.specs.declared.scram_messages.client_channel.ClientChannel.{ClientChannel}
 use Rattle.fe2o3_scram.specs.declared.scram_messages.client_channel.ClientChannel.TheVariants.{Absent}
-use Rattle.fe2o3_scram.specs.ChannelBinding.{is_bound}
+use Rattle.fe2o3_scram.specs.ChannelBinding.{ClientHeader, needs_strict}
 use Rattle.fe2o3_scram.specs.Texts.{base64_text}
 use Rattle.fe2o3_scram.specs.ClientFinal.{Answer}
 use Rattle.fe2o3_scram.specs.ClientKeys.{ClientKeys}
@@ -28,7 +28,7 @@ pub data ClientState : Type 0 where
   Complete : (keys : Option ClientKeys) → ClientState
 
 -- a client (RFC 5802, section 5): its user and its secret, its version, the counts that it accepts, what it says of its
--- channel, whether it rejects an attribute that RFC 5802 defines in the place of an extension without a channel too,
+-- channel, whom it acts for, or none if it acts for itself, whether it rejects an attribute that RFC 5802 defines in the place of an extension without a channel too,
 -- whether it accepts the server's signature in a challenge too (RFC 4422, section 5), and its state
 pub record ClientSide : Type 0 where
   pub user : List ℕ
@@ -36,6 +36,7 @@ pub record ClientSide : Type 0 where
   pub version : ScramVersion
   pub limits : IterationLimits
   pub channel : ClientChannel
+  pub acts_for : Option (List ℕ)
   pub strict : Bool
   pub signature_by_challenge : Bool
   pub state : ClientState
@@ -48,6 +49,7 @@ fresh_client user version secret = record {
   version = version;
   limits = up_to no_limit;
   channel = Absent;
+  acts_for = None;
   strict = false;
   signature_by_challenge = false;
   state = ClientInitial;
@@ -61,6 +63,7 @@ with_state side state = record {
   version = side.version;
   limits = side.limits;
   channel = side.channel;
+  acts_for = side.acts_for;
   strict = side.strict;
   signature_by_challenge = side.signature_by_challenge;
   state = state;
@@ -74,6 +77,7 @@ with_limits side limits = record {
   version = side.version;
   limits = limits;
   channel = side.channel;
+  acts_for = side.acts_for;
   strict = side.strict;
   signature_by_challenge = side.signature_by_challenge;
   state = side.state;
@@ -87,6 +91,7 @@ with_channel side channel = record {
   version = side.version;
   limits = side.limits;
   channel = channel;
+  acts_for = side.acts_for;
   strict = side.strict;
   signature_by_challenge = side.signature_by_challenge;
   state = side.state;
@@ -100,6 +105,7 @@ with_strict side strict = record {
   version = side.version;
   limits = side.limits;
   channel = side.channel;
+  acts_for = side.acts_for;
   strict = strict;
   signature_by_challenge = side.signature_by_challenge;
   state = side.state;
@@ -113,23 +119,42 @@ with_signature_by_challenge side accept = record {
   version = side.version;
   limits = side.limits;
   channel = side.channel;
+  acts_for = side.acts_for;
   strict = side.strict;
   signature_by_challenge = accept;
   state = side.state;
 }
+
+-- a client that acts for this identity, or for itself
+abbrev pub acting_for : ClientSide → Option (List ℕ) → ClientSide
+acting_for side acts_for = record {
+  user = side.user;
+  secret = side.secret;
+  version = side.version;
+  limits = side.limits;
+  channel = side.channel;
+  acts_for = acts_for;
+  strict = side.strict;
+  signature_by_challenge = side.signature_by_challenge;
+  state = side.state;
+}
+
+-- the header of a client (RFC 5802, section 7)
+abbrev pub header_in : ClientSide → ClientHeader
+header_in side = record { channel = side.channel; acts_for = side.acts_for }
 
 -- a client after its first message, with this nonce
 abbrev pub started : ClientSide → List ℕ → ClientSide
 started side nonce = with_state side (ClientFirstSent (base64_text nonce)
     (client_first_bare side.user (base64_text nonce)))
 
--- a client is strict if it binds a channel, or is set to
+-- a client is strict if it binds a channel or acts for somebody else, or is set to
 abbrev pub is_strict_client : ClientSide → Bool
-is_strict_client side = is_bound side.channel || side.strict
+is_strict_client side = needs_strict (header_in side) || side.strict
 
 -- what a client knows when it reads a server-first message
 abbrev pub holding : ClientSide → List ℕ → Client
-holding side nonce = client_of nonce side.secret side.limits side.channel side.strict
+holding side nonce = client_of nonce side.secret side.limits (header_in side) side.strict
 
 -- what a client in this state answers to a server-first message (RFC 5802, section 5), and the client after it: one
 -- that has sent its first message answers it, any other rejects it unread, and an error changes nothing
@@ -159,9 +184,9 @@ AnswerCostsIn state side text result before after = after ≡ before
 -- that has answered tests it, any other rejects it unread, and an error changes nothing
 abbrev pub VerifiesIn : ClientState → ClientSide → List ℕ → Result (Unit {0}) ScramErrorKind → ClientSide → Type 0
 VerifiesIn (ClientFinalSent signature keys) side text (Ok verified) next =
-    ReadsServerFinal signature text (Ok verified) × (next ≡ with_state side (Complete keys))
+    ReadsServerFinal (is_strict_client side) signature text (Ok verified) × (next ≡ with_state side (Complete keys))
 VerifiesIn (ClientFinalSent signature keys) side text (Err fault) next =
-    ReadsServerFinal signature text (Err fault) × (next ≡ side)
+    ReadsServerFinal (is_strict_client side) signature text (Err fault) × (next ≡ side)
 VerifiesIn state side text (Ok verified) next = ⊥
 VerifiesIn state side text (Err fault) next = (fault ≡ IllegalClientState) × (next ≡ side)
 
@@ -179,9 +204,9 @@ expects_signature side = side.signature_by_challenge && is_unsigned side.state
 -- changes nothing
 abbrev pub ChecksSignatureIn : ClientState → ClientSide → List ℕ → Result (Unit {0}) ScramErrorKind → ClientSide → Type 0
 ChecksSignatureIn (ClientFinalSent signature keys) side text (Ok verified) next =
-    ReadsServerFinal signature text (Ok verified) × (next ≡ with_state side (SignatureVerified keys))
+    ReadsServerFinal (is_strict_client side) signature text (Ok verified) × (next ≡ with_state side (SignatureVerified keys))
 ChecksSignatureIn (ClientFinalSent signature keys) side text (Err fault) next =
-    ReadsServerFinal signature text (Err fault) × (next ≡ side)
+    ReadsServerFinal (is_strict_client side) signature text (Err fault) × (next ≡ side)
 ChecksSignatureIn state side text (Ok verified) next = ⊥
 ChecksSignatureIn state side text (Err fault) next = (fault ≡ IllegalClientState) × (next ≡ side)
 

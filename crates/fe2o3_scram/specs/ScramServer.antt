@@ -7,7 +7,7 @@ use Rattle.fe2o3_scram.specs.declared.hmac.ScramVersion.{ScramVersion}
 use Rattle.fe2o3_scram.specs.declared.scram_messages.server_rules.ServerRules.{ServerRules}
 use Rattle.fe2o3_scram.specs.declared.scram_server.ScramAuthenticatorState.{ScramAuthenticatorState}
 use Rattle.fe2o3_scram.specs.declared.scram_server.ScramAuthenticatorState.TheVariants.{Initial as CodeInitial, ServerFirstSent as CodeServerFirstSent, ServerFinalSent as CodeServerFinalSent}
-use Rattle.fe2o3_scram.specs.ChannelBinding.{expected_channel, is_strict}
+use Rattle.fe2o3_scram.specs.ChannelBinding.{expected_header, is_strict, own_header}
 use Rattle.fe2o3_scram.specs.Texts.{base64_text}
 use Rattle.fe2o3_scram.specs.ClientFirst.{ReadsClientFirst}
 use Rattle.fe2o3_scram.specs.ServerFirst.{ServerChallenge, AnswersClientFirst}
@@ -69,7 +69,7 @@ FirstCosts provider text (Err fault) before after = after ≡ before
 
 -- what a server knows when it reads a client-final message, from an open challenge and the record that it was made with
 abbrev pub server_against : ScramVersion → ServerRules → ServerChallenge → Record → Server
-server_against version rules challenge stored = server_of version (expected_channel rules.channels challenge.header)
+server_against version rules challenge stored = server_of version (expected_header rules.channels challenge.header)
     (is_strict rules) challenge.bare challenge.first challenge.nonce stored
 
 -- what a server answers to a client-final message (RFC 5802, section 5), and its state after it: an accepted one closes
@@ -90,7 +90,7 @@ ConcludesFrom state version rules text (Err fault) next = (fault ≡ IllegalAuth
 -- challenge it does if it reaches a base64 text, and otherwise never
 abbrev pub ReachesBase64In : ServerState → ServerRules → List ℕ → Type 0
 ReachesBase64In (ServerFirstSent challenge stored) rules text =
-    ReachesBase64 (expected_channel rules.channels challenge.header) challenge.nonce text
+    ReachesBase64 (expected_header rules.channels challenge.header) challenge.nonce text
 ReachesBase64In state rules text = ⊥
 
 -- the HMAC values of a server's answer to a client-final message (RFC 5802, section 3), as a meter shows them before
@@ -105,14 +105,14 @@ FinalCostsFrom state version rules text result before after = after ≡ before
 abbrev pub server_state_of : ScramAuthenticatorState → ServerState
 server_state_of CodeInitial = Initial
 server_state_of (CodeServerFirstSent user header bare nonce first stored) = ServerFirstSent
-    (record { user = string_bytes user; header = header; bare = bare; first = first; nonce = nonce }) stored
+    (record { user = string_bytes user; header = own_header header; bare = bare; first = first; nonce = nonce }) stored
 server_state_of (CodeServerFinalSent user) = ServerFinalSent (string_bytes user)
 
 -- the challenge with these plain texts
 abbrev pub challenge_kept : OpenChallenge → ServerChallenge
 challenge_kept kept = record {
   user = kept.username.now;
-  header = kept.header;
+  header = own_header kept.header;
   bare = kept.client_first_message_bare.now;
   first = kept.server_first_message.now;
   nonce = kept.client_server_nonce.now;

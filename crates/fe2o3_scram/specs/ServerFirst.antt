@@ -1,20 +1,18 @@
 -- The server-first message (RFC 5802, section 7), as the client reads it and as the server writes it.
-use Rattle.std.specs.Prelude.{ℕ, List, [], ◌∷◌, ◌++◌, ◌<◌, codes, Result, ◌≡◌, ◌⊎◌, Option, Some, None, Ok, Err, Bool, ◌||◌, T}
+use Rattle.std.specs.Prelude.{ℕ, List, [], ◌∷◌, ◌++◌, ◌<◌, codes, Result, ◌≡◌, ◌⊎◌, Option, Some, None, Ok, Err, Bool, false, ◌||◌, T}
 use Rattle.fe2o3_scram.specs.declared.scram_messages.error.ScramErrorKind.{ScramErrorKind}
 use Rattle.fe2o3_scram.specs.declared.scram_messages.error.ScramErrorKind.TheVariants.{InsufficientParts, ExtensionNotSupported, NonceNotFound, ClientNonceMismatch, SaltNotFound, Base64DecodeError, IterationCountNotFound, IterationCountParseError, IterationCountTooSmall, IterationCountTooLarge, NormalizeError, StaleKeys, MisplacedAttribute}
 use Rattle.fe2o3_scram.specs.declared.scram_messages.server_first.ServerFirstMessage.{ServerFirstMessage}
 use Rattle.fe2o3_scram.specs.declared.scram_messages.server_first_reading.ServerFirst.{ServerFirst as CodeServerFirst}
 use Rattle.std.specs.Cow.{cow_str_bytes}
-use Rattle.fe2o3_scram.specs.Texts.{base64_text, IsCount, Part, joined, HasBase64}
+use Rattle.fe2o3_scram.specs.Texts.{base64_text, IsCount, IsPlainCount, Part, joined, HasBase64}
 use Rattle.fe2o3_scram.specs.Readings.{NoneHolds, Reads}
 use Rattle.fe2o3_scram.specs.Passwords.{IsNormal}
 use Rattle.std.specs.Fmt.{decimal}
 use Rattle.fe2o3_scram.specs.declared.scram_messages.error.ServerScramErrorKind.{ServerScramErrorKind}
-use Rattle.fe2o3_scram.specs.declared.scram_messages.client_channel.ClientChannel.{ClientChannel}
-use Rattle.fe2o3_scram.specs.ChannelBinding.{is_bound}
-use Rattle.fe2o3_scram.specs.Extensions.{HasAttributeFrom}
+use Rattle.fe2o3_scram.specs.ChannelBinding.{ClientHeader, Gs2Header, needs_strict, own_header}
+use Rattle.fe2o3_scram.specs.Grammar.{HasMisplacedFrom, is_nonce}
 use Rattle.fe2o3_scram.specs.ClientFirst.{ClientFirst, ReadsClientFirst, HasEscapes}
-use Rattle.fe2o3_scram.specs.declared.scram_messages.channel_binding_flag.ChannelBindingFlag.{ChannelBindingFlag}
 use Rattle.fe2o3_scram.specs.Credentials.{Record, Provider}
 use Rattle.fe2o3_scram.specs.declared.client_secret.IterationLimits.{IterationLimits}
 use Rattle.fe2o3_scram.specs.ClientKeys.{ClientKeys}
@@ -40,23 +38,31 @@ pub record NamesServerFirst (text : List ℕ) (first : ServerFirst) : Type 0 whe
   pub salt : HasBase64 text 1 (codes "s=") first.salt
   pub count : HasCount text first.count
 
--- what a client knows when it reads a server-first message (RFC 5802, section 5), what it says of its channel, and whether
--- it is strict: it rejects an attribute that RFC 5802 defines in the place of an extension
+-- the third part is this count, without a sign or leading zeros (RFC 5802, section 7, `posit-number`)
+abbrev pub HasPlainCount : List ℕ → ℕ → Type 0
+HasPlainCount text count = (digits : List ℕ) × Part text 2 (codes "i=" ++ digits) × IsPlainCount digits count
+
+-- what a client knows when it reads a server-first message (RFC 5802, section 5), its header, whether it
+-- rejects what is no extension in the place of one, and whether it reads by the whole grammar of section 7
 pub record Client : Type 0 where
   pub nonce : List ℕ
   pub secret : Secret
   pub limits : IterationLimits
-  pub channel : ClientChannel
+  pub header : ClientHeader
   pub strict : Bool
+  pub grammar : Bool
 
--- a client with these values; one that binds a channel is strict
-abbrev pub client_of : List ℕ → Secret → IterationLimits → ClientChannel → Bool → Client
-client_of nonce secret limits channel strict = record {
+-- a client with these values; one that is set to be strict reads by the whole grammar, and one that binds a channel or
+-- names an identity rejects
+-- what is no extension in any case
+abbrev pub client_of : List ℕ → Secret → IterationLimits → ClientHeader → Bool → Client
+client_of nonce secret limits header strict = record {
   nonce = nonce;
   secret = secret;
   limits = limits;
-  channel = channel;
-  strict = is_bound channel || strict;
+  header = header;
+  strict = needs_strict header || strict;
+  grammar = strict;
 }
 
 -- the client's tests of the nonce, in order (RFC 5802, section 5.1)
@@ -79,8 +85,22 @@ secret_tests (Password password) text = (NormalizeError, ¬ IsNormal password) �
 secret_tests (Keys keys) text = (StaleKeys, NamesOther keys text) ∷ []
 secret_tests (Both password keys) text = (NormalizeError, NamesOther keys text × ¬ IsNormal password) ∷ []
 
--- all tests of the client, in order: of the nonce, the salt and the iteration count (RFC 5802, section 5.1), of
--- attributes after the count (RFC 5802, section 7), and of its secret
+-- what follows the client's nonce in that of both sides is empty or not printable (RFC 5802, section 7, `s-nonce`)
+abbrev pub AddsNoNonce : List ℕ → List ℕ → Type 0
+AddsNoNonce client_nonce text =
+    (added : List ℕ) × Part text 0 (codes "r=" ++ (client_nonce ++ added)) × (is_nonce added ≡ false)
+
+-- the client's tests of the grammar, in order (RFC 5802, section 7): of the server's part of the nonce, of how the count is
+-- spelled, and of the parts after the count
+abbrev pub grammar_tests : Client → List ℕ → List (ScramErrorKind × Type 0)
+grammar_tests client text =
+    (ClientNonceMismatch, T client.grammar × AddsNoNonce client.nonce text)
+    ∷ (IterationCountParseError, T client.grammar × ((count : ℕ) → ¬ HasPlainCount text count))
+    ∷ (MisplacedAttribute, T client.strict × HasMisplacedFrom 3 text)
+    ∷ []
+
+-- all tests of the client, in order: of the nonce, the salt and the iteration count (RFC 5802, section 5.1), of the
+-- grammar (RFC 5802, section 7), and of its secret
 abbrev pub server_first_tests : Client → List ℕ → List (ScramErrorKind × Type 0)
 server_first_tests client text = nonce_tests client.nonce text ++
     ((SaltNotFound, (rest : List ℕ) → ¬ Part text 1 (codes "s=" ++ rest))
@@ -89,8 +109,7 @@ server_first_tests client text = nonce_tests client.nonce text ++
     ∷ (IterationCountParseError, (count : ℕ) → ¬ HasCount text count)
     ∷ (IterationCountTooSmall, (count : ℕ) × HasCount text count × (count < client.limits.min_iterations))
     ∷ (IterationCountTooLarge, (count : ℕ) × HasCount text count × (client.limits.max_iterations < count))
-    ∷ (MisplacedAttribute, T client.strict × HasAttributeFrom 3 text)
-    ∷ secret_tests client.secret text)
+    ∷ (grammar_tests client text ++ secret_tests client.secret text))
 
 -- the client reaches the salt, for which it allocates: the nonce has passed its tests, and the second part is a salt
 -- (RFC 5802, section 5.1)
@@ -113,7 +132,7 @@ server_first_of nonce stored =
 -- nonce of both sides
 pub record ServerChallenge : Type 0 where
   pub user : List ℕ
-  pub header : ChannelBindingFlag
+  pub header : Gs2Header
   pub bare : List ℕ
   pub first : List ℕ
   pub nonce : List ℕ
@@ -122,7 +141,7 @@ pub record ServerChallenge : Type 0 where
 abbrev pub challenge_values : ServerFirstMessage → ServerChallenge
 challenge_values message = record {
   user = cow_str_bytes message.username;
-  header = message.header;
+  header = own_header message.header;
   bare = message.client_first_message_bare.now;
   first = message.message;
   nonce = message.client_server_nonce;

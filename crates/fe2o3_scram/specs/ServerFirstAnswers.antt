@@ -12,7 +12,7 @@ use Rattle.fe2o3_scram.specs.ServerFirst.{Client, ServerFirst, ReadsServerFirst}
 abbrev pub AnswersServerFirst : ScramVersion → Client → List ℕ → List ℕ → Result Answer ScramErrorKind → Type 0
 AnswersServerFirst version client bare text (Ok answer) =
     (first : ServerFirst) × ReadsServerFirst client text (Ok first)
-    × (answer ≡ answer_of version client.secret client.channel bare text first)
+    × (answer ≡ answer_of version client.secret client.header bare text first)
 AnswersServerFirst version client bare text (Err fault) =
     ReadsServerFirst client text (Err fault)
 

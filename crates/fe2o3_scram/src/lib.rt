@@ -47,9 +47,9 @@ pub use crate::provider::{ScramCredentialProvider, StoredPassword};
 pub use crate::saslprep_ascii::{NormalizeError, saslprep};
 pub use crate::scram_client::ScramClient;
 pub use crate::scram_messages::{
-    ChannelBindingFlag, ClientAnswer, ClientChannel, ClientFinal, ClientFirst, ScramErrorKind,
-    ServerError, ServerFinal, ServerFirst, ServerFirstMessage, ServerRules, ServerScramErrorKind,
-    UnescapeError, escape_username, unescape_username,
+    ChannelBindingFlag, ClientAnswer, ClientChannel, ClientFinal, ClientFirst, ClientHeader,
+    ScramErrorKind, ServerError, ServerFinal, ServerFirst, ServerFirstMessage, ServerRules,
+    ServerScramErrorKind, UnescapeError, escape_username, unescape_username,
 };
 pub use crate::scram_server::open_challenge::OpenChallenge;
 pub use crate::scram_server::{SaltTooLong, ScramAuthenticator};

@@ -1,14 +1,14 @@
 //! The SCRAM client as a state machine over messages (RFC 5802, section 5).
 
-ghost use Rattle.std.specs.Prelude.{◌≡◌, ◌≢◌, ◌≤◌, ◌^◌, ◌↔◌, ℕ, List, Option, Some, IfOk, OnOk, OnErr, MatchOption};
+ghost use Rattle.std.specs.Prelude.{◌≡◌, ◌≢◌, ◌≤◌, ◌^◌, ◌↔◌, ℕ, List, Option, Some, IfOk, OnOk, OnErr, MatchOption, option_map};
 ghost use Rattle.std.specs.String.{string_bytes};
 ghost use Rattle.fe2o3_scram.specs.Texts.{base64_text};
-ghost use Rattle.fe2o3_scram.specs.ChannelBinding.{flag_of, is_bound, mechanism_of};
+ghost use Rattle.fe2o3_scram.specs.ChannelBinding.{header_of, is_bound, mechanism_of};
 ghost use Rattle.fe2o3_scram.specs.ClientFirst.{client_first_with};
 ghost use Rattle.fe2o3_scram.specs.ClientKeys.{ClientKeys};
 ghost use Rattle.fe2o3_scram.specs.ClientSecret.{Password as ByPassword, IsOfVersion, kept_secret, secret_of};
 ghost use Rattle.fe2o3_scram.specs.Passwords.{Typed};
-ghost use Rattle.fe2o3_scram.specs.ScramClient.{ClientFirstSent, ClientFinalSent, SignatureVerified, AnswersIn, AnswerCostsIn, ChecksSignatureIn, ConcludesIn, VerifiesIn, ReachesSaltIn, ReachesVerifierIn, expects_signature, fresh_client, started, client_state_of, answer_keys, is_complete, is_signature_verified, login_keys, with_channel, with_signature_by_challenge, with_state, with_limits, with_strict};
+ghost use Rattle.fe2o3_scram.specs.ScramClient.{ClientFirstSent, ClientFinalSent, SignatureVerified, AnswersIn, AnswerCostsIn, ChecksSignatureIn, ConcludesIn, VerifiesIn, ReachesSaltIn, ReachesVerifierIn, expects_signature, fresh_client, acting_for, header_in, started, client_state_of, answer_keys, is_complete, is_signature_verified, login_keys, with_channel, with_signature_by_challenge, with_state, with_limits, with_strict};
 ghost use Rattle.fe2o3_scram.specs.Readings.{Gives};
 
 use crate::OutOfMemory;
@@ -17,8 +17,8 @@ use crate::client_secret::{
 };
 use crate::hmac::{Meter, ScramVersion};
 use crate::keys::CachedKeys;
-use crate::scram_messages::ClientChannel;
 use crate::scram_messages::error::ScramErrorKind;
+use crate::scram_messages::{ClientChannel, ClientHeader};
 use crate::secrets::SecretText;
 use crate::texts::base64_of_nonce;
 use bytes::Bytes;
@@ -77,6 +77,7 @@ pub struct ScramClient {
     scram: ScramVersion,
     limits: IterationLimits,
     channel: ClientChannel,
+    acts_for: Option<String>,
     strict: bool,
     signature_by_challenge: bool,
     state: ScramClientState,
@@ -86,6 +87,7 @@ pub struct ScramClient {
 }
 
 impl Model for ScramClient {
+    ghost use Rattle.std.specs.Prelude.{option_map};
     ghost use Rattle.std.specs.String.{string_bytes};
     ghost use Rattle.fe2o3_scram.specs.ClientSecret.{kept_secret};
     ghost use Rattle.fe2o3_scram.specs.ScramClient.{ClientSide, client_state_of};
@@ -98,6 +100,7 @@ impl Model for ScramClient {
       version = client.scram;
       limits = client.limits;
       channel = client.channel;
+      acts_for = option_map (λ name. string_bytes name) client.acts_for;
       strict = client.strict;
       signature_by_challenge = client.signature_by_challenge;
       state = client_state_of client.state client.keys;
@@ -157,6 +160,7 @@ impl ScramClient {
             scram,
             limits: IterationLimits::none(),
             channel: ClientChannel::Absent,
+            acts_for: None,
             strict: false,
             signature_by_challenge: false,
             state: ScramClientState::Initial,
@@ -199,6 +203,7 @@ impl ScramClient {
             scram: self.scram,
             limits,
             channel: self.channel,
+            acts_for: self.acts_for,
             strict: self.strict,
             signature_by_challenge: self.signature_by_challenge,
             state: self.state,
@@ -208,7 +213,7 @@ impl ScramClient {
 
     /// Returns this client, but it says this of its channel (RFC 5802, section 6), in its next client-first message. Set
     /// it before that message is sent. With [`ClientChannel::Bound`] the client selects the mechanism with `-PLUS`, and
-    /// is always strict.
+    /// tests extensions like a strict one.
     pub fn with_channel(self, channel: ClientChannel) -> Self
         ensures { result ≡ with_channel self channel }
     {
@@ -218,6 +223,7 @@ impl ScramClient {
             scram: self.scram,
             limits: self.limits,
             channel,
+            acts_for: self.acts_for,
             strict: self.strict,
             signature_by_challenge: self.signature_by_challenge,
             state: self.state,
@@ -232,10 +238,53 @@ impl ScramClient {
         self.channel
     }
 
-    /// Returns this client, but with this option: whether it is strict. A client that binds a channel is strict in any
-    /// case. A strict client rejects an attribute that RFC 5802 defines in the place of an extension of the server-first message, by `MisplacedAttribute`. If it verifies
-    /// the signature, both agree on the whole login, collisions of HMAC values aside (`laws::accepted_messages`),
-    /// whether the server is strict or not. Servers that follow RFC 5802 send no such attribute.
+    /// Returns this client, but it acts for this identity (RFC 5802, section 5.1, `a=`), or for itself if there is none. Set
+    /// it before the client-first message is sent. The server has to accept that its user acts for the identity. A client
+    /// that names one tests extensions like a strict one, so that nobody on the way can change it.
+    pub fn acting_for(self, acts_for: Option<String>) -> Self
+        ensures { result ≡ acting_for self (option_map (λ name. string_bytes name) acts_for) }
+    {
+        Self {
+            username: self.username,
+            secret: self.secret,
+            scram: self.scram,
+            limits: self.limits,
+            channel: self.channel,
+            acts_for,
+            strict: self.strict,
+            signature_by_challenge: self.signature_by_challenge,
+            state: self.state,
+            keys: self.keys,
+        }
+    }
+
+    /// Returns the identity that the client acts for, or `None` if it acts for itself.
+    pub fn acts_for(&self) -> Option<&str>
+        ensures { option_map (λ name. name.now) result ≡ self.now.acts_for }
+    {
+        match &self.acts_for {
+            Some(name) => Some(name.as_str()),
+            None => None,
+        }
+    }
+
+    /// Returns the header of the client's messages.
+    fn header(&self) -> ClientHeader<'_>
+        ensures { result ≡ header_in self.now }
+    {
+        ClientHeader::new(self.channel, self.acts_for())
+    }
+
+    /// Returns this client, but with this option: whether it is strict. A strict client reads messages by the grammar of
+    /// RFC 5802, section 7, after its other tests of a text:
+    ///
+    /// - the server's part of the nonce has to be printable and not empty (`ClientNonceMismatch`);
+    /// - the iteration count has to be without a sign or leading zeros (`IterationCountParseError`);
+    /// - what follows the count, or the signature, has to be an extension (`MisplacedAttribute`), also if the client binds a
+    ///   channel or acts for somebody else.
+    ///
+    /// If it verifies a server's signature, both agree on the whole login, collisions of HMAC values aside
+    /// (`laws::accepted_messages`), whether the server is strict or not.
     pub fn strict(self, strict: bool) -> Self
         ensures { result ≡ with_strict self strict }
     {
@@ -245,6 +294,7 @@ impl ScramClient {
             scram: self.scram,
             limits: self.limits,
             channel: self.channel,
+            acts_for: self.acts_for,
             strict,
             signature_by_challenge: self.signature_by_challenge,
             state: self.state,
@@ -264,6 +314,7 @@ impl ScramClient {
             scram: self.scram,
             limits: self.limits,
             channel: self.channel,
+            acts_for: self.acts_for,
             strict: self.strict,
             signature_by_challenge: accept,
             state: self.state,
@@ -303,7 +354,7 @@ impl ScramClient {
         nonce: &[u8; 32],
     ) -> Result<Bytes, OutOfMemory>
         ensures message { IfOk result (λ message. message
-            ≡ client_first_with (flag_of self.old.channel) self.old.user (base64_text nonce.now)) }
+            ≡ client_first_with (header_of (header_in self.old)) self.old.user (base64_text nonce.now)) }
         ensures started { OnOk result (self.new ≡ started self.old nonce.now) }
         ensures err { OnErr result (self.new ≡ self.old) }
     {
@@ -313,7 +364,7 @@ impl ScramClient {
             .scram
             .client_first_message_with(
                 alloc,
-                self.channel.flag(),
+                &self.header(),
                 self.username.as_bytes(),
                 client_nonce.as_bytes(),
             )?;
@@ -372,7 +423,7 @@ impl ScramClient {
                     server_first,
                     client_first_message_bare,
                     self.limits,
-                    &self.channel,
+                    &self.header(),
                     self.strict,
                     meter,
                 )?;
@@ -390,6 +441,7 @@ impl ScramClient {
     ///
     /// The errors are, in this order: `IllegalClientState` if the client has not sent the client-final message last;
     /// `Utf8Error`; `ServerSignatureMismatch` if the first part does not begin with `v=`; `Base64DecodeError`;
+    /// `MisplacedAttribute` of a client that is strict, binds a channel or acts for somebody else if a part after the signature is no extension;
     /// `ServerSignatureMismatch` for another signature. `OutOfMemory` is returned only if none of the first three
     /// errors applies. After `ServerSignatureMismatch`, `ServerError::parse` says whether the message is an error of the
     /// server.
@@ -405,8 +457,13 @@ impl ScramClient {
     {
         match &self.state {
             ScramClientState::ClientFinalSent { server_signature } => {
-                self.scram
-                    .validate_server_final(alloc, server_final, server_signature)?;
+                self.scram.validate_server_final_with_header(
+                    alloc,
+                    &self.header(),
+                    self.strict,
+                    server_final,
+                    server_signature,
+                )?;
                 self.state = ScramClientState::Complete;
                 Ok(())
             }
@@ -438,8 +495,13 @@ impl ScramClient {
     {
         match &self.state {
             ScramClientState::ClientFinalSent { server_signature } => {
-                self.scram
-                    .validate_server_final(alloc, server_final, server_signature)?;
+                self.scram.validate_server_final_with_header(
+                    alloc,
+                    &self.header(),
+                    self.strict,
+                    server_final,
+                    server_signature,
+                )?;
                 self.state = ScramClientState::SignatureVerified;
                 Ok(())
             }
@@ -551,6 +613,7 @@ impl ScramClient {
             scram: self.scram,
             limits: self.limits,
             channel: self.channel,
+            acts_for: self.acts_for,
             strict: self.strict,
             signature_by_challenge: self.signature_by_challenge,
             state: ScramClientState::ClientFinalSent { server_signature },
@@ -569,6 +632,7 @@ impl ScramClient {
             scram: self.scram,
             limits: self.limits,
             channel: self.channel,
+            acts_for: self.acts_for,
             strict: self.strict,
             signature_by_challenge: self.signature_by_challenge,
             state: ScramClientState::SignatureVerified,
@@ -598,6 +662,7 @@ impl Clone for ScramClient {
             scram: self.scram,
             limits: self.limits,
             channel: self.channel,
+            acts_for: self.acts_for.clone()?,
             strict: self.strict,
             signature_by_challenge: self.signature_by_challenge,
             state: self.state.copy()?,

@@ -18,7 +18,7 @@ use crate::hmac::Meter;
 use crate::provider::{ScramCredentialProvider, StoredPassword};
 use crate::scram_messages::error::ServerScramErrorKind;
 use crate::scram_messages::{
-    ChannelBindingFlag, ClientFirst, ServerFirstMessage, ServerRules, challenge_to,
+    ChannelBindingFlag, ClientFirst, ClientHeader, ServerFirstMessage, ServerRules, challenge_to,
 };
 use crate::scram_server::kept_record::KeptRecord;
 pub use crate::scram_server::mock_users::SaltTooLong;
@@ -126,19 +126,17 @@ fn opened(
         message,
     } = server_first;
     let username = username.into_owned(alloc)?;
-    let (client_first_message_bare, stored) = KeptRecord::behind(
-        alloc,
-        client_first_message_bare.as_bytes(),
-        stored,
-    )?;
     let answer = message.to_vec(alloc)?;
     let state = ScramAuthenticatorState::ServerFirstSent {
         username,
         header,
-        client_first_message_bare,
+        client_first_message_bare: Bytes::copy_from_slice(
+            alloc,
+            client_first_message_bare.as_bytes(),
+        )?,
         client_server_nonce,
         server_first_message: message,
-        stored,
+        stored: KeptRecord::of(alloc, stored)?,
     };
     Ok((answer, state))
 }
@@ -192,11 +190,15 @@ impl<C: ScramCredentialProvider> ScramAuthenticator<C> {
         self.with_rules(rules)
     }
 
-    /// Returns this server, but with this option: whether it is strict. A server that binds channels is strict in any
-    /// case. A strict server rejects an attribute that RFC 5802 defines in the place of an extension, by `MisplacedAttribute`, as the last of the errors of the text. If a
-    /// client verifies its signature, both agree on the whole login, collisions of HMAC values aside
-    /// (`laws::accepted_messages`), whether the client is strict or not. Clients that follow RFC 5802 send no such
-    /// attribute.
+    /// Returns this server, but with this option: whether it is strict. A strict server reads messages by the grammar of
+    /// RFC 5802, section 7, after its other tests of a text:
+    ///
+    /// - the user name has to be of one or more characters and without NUL (`CannotParseUsername`);
+    /// - the client's nonce has to be printable and not empty (`CannotParseClientNonce`);
+    /// - what follows the nonce has to be an extension (`MisplacedAttribute`), also with `with_channels`.
+    ///
+    /// If a client verifies its signature, both agree on the whole login, collisions of HMAC values aside
+    /// (`laws::accepted_messages`), whether the client is strict or not. libpq sends an empty user name.
     pub fn strict(self, strict: bool) -> Self
         ensures provider { provider_in result ≡ provider_in self }
         ensures rules { rules_in result ≡ record (rules_in self) { strict = strict } }
@@ -211,9 +213,9 @@ impl<C: ScramCredentialProvider> ScramAuthenticator<C> {
     }
 
     /// Returns this server, but it is one of the mechanism with `-PLUS` (RFC 5802, section 6): it accepts only clients
-    /// that bind this channel, by a kind of which it has the data, and is always strict. Offer it beside a server without
-    /// channel binding that does not accept `y,,`: a client that has a channel then cannot be talked out of binding it
-    /// (`laws::bound_channels`).
+    /// that bind this channel, by a kind of which it has the data, and tests extensions like a strict one. Offer it
+    /// beside a server without channel binding that does not accept `y,,`: a client that has a channel then cannot be
+    /// talked out of binding it (`laws::bound_channels`).
     pub fn with_channels(self, channels: ChannelBindings) -> Self
         ensures provider { provider_in result ≡ provider_in self }
         ensures rules { rules_in result ≡ record (rules_in self) { channels = Some channels } }
@@ -398,9 +400,9 @@ impl<C: ScramCredentialProvider> ScramAuthenticator<C> {
                 let server_final_message = self
                     .credentials
                     .scram_version()
-                    .compute_server_final_message_with_channel(
+                    .compute_server_final_message_with_header(
                         alloc,
-                        &self.rules.expected_channel(*header),
+                        &ClientHeader::new(self.rules.expected_channel(*header), None),
                         self.rules.is_strict(),
                         client_final_message,
                         client_server_nonce,

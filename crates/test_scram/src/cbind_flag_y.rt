@@ -7,7 +7,7 @@ use crate::published::VERSION;
 use fe2o3_scram::hmac::Meter;
 use fe2o3_scram::provider::{ScramCredentialProvider, StoredPassword};
 use fe2o3_scram::scram_messages::{
-    ChannelBindingFlag, ClientFinal, ClientFirst, ServerFirstMessage, ServerRules,
+    ChannelBindingFlag, ClientFinal, ClientFirst, ClientHeader, ServerFirstMessage, ServerRules,
     ServerScramErrorKind,
 };
 use fe2o3_scram::{ScramAuthenticator, SingleScramCredential};
@@ -127,9 +127,9 @@ fn the_readings_take_a_header(rt: HostRuntime) {
     let first = first.expect(&rt, "a message");
     let header = first.header;
     assert!(rt; first.username.as_str() == "user" && header.text() == "y,,");
-    let last = ClientFinal::parse_with_channel(
+    let last = ClientFinal::parse_with_header(
         rt.alloc(),
-        &RULES.expected_channel(header),
+        &ClientHeader::new(RULES.expected_channel(header), None),
         false,
         BOTH_NONCES,
         CLIENT_FINAL,
@@ -140,9 +140,9 @@ fn the_readings_take_a_header(rt: HostRuntime) {
 
 /// Returns whether the last message is answered after this first one.
 fn ends(alloc: Global, first: &ServerFirstMessage<'_>, kept: &StoredPassword<'_>) -> bool {
-    let last = VERSION.compute_server_final_message_with_channel(
+    let last = VERSION.compute_server_final_message_with_header(
         alloc,
-        &RULES.expected_channel(first.header),
+        &ClientHeader::new(RULES.expected_channel(first.header), None),
         false,
         CLIENT_FINAL,
         &first.client_server_nonce,

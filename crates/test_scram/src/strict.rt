@@ -1,4 +1,4 @@
-//! Strict sides, which reject an attribute that RFC 5802 defines in the place of an extension. Keys, proofs and
+//! Strict sides, which reject what is no extension in the place of one. Keys, proofs and
 //! signatures are those of Python's `hashlib` and `hmac`, for the password `pencil`, a salt of 32 bytes 03, a client's
 //! nonce of 32 bytes 01 and a server's of 32 bytes 02.
 
@@ -17,15 +17,15 @@ use std::process::Abort;
 const WITHOUT_PROOF: &str = "c=biws,r=AQEBAQEBAQEBAQEBAQEBAQEBAQEBAQEBAQEBAQEBAQE=\
     AgICAgICAgICAgICAgICAgICAgICAgICAgICAgICAgI=";
 
-/// Texts in the place of extensions, and whether they have an attribute that RFC 5802 defines.
+/// Texts in the place of extensions, and whether one of their parts is none (RFC 5802, section 7, `attr-val`).
 static EXTENSIONS: [(&str, bool); 20] = [
     ("", false),
-    (",", false),
+    (",", true),
     (",x=1", false),
-    (",i", false),
+    (",i", true),
     (",I=1", false),
-    (",xi=1", false),
-    (",x=1,y=i=1,,z", false),
+    (",xi=1", true),
+    (",x=1,y=i=1,,z", true),
     (",a=admin", true),
     (",n=user", true),
     (",m=x", true),

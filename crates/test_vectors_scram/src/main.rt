@@ -10,6 +10,7 @@ mod odd_records;
 mod prepared;
 mod records;
 mod rows;
+mod strict;
 
 use crate::logins::{Sides, credential, credentials};
 use crate::rows::{Answers, Row};
@@ -36,6 +37,7 @@ enum Table {
     ClientFinal,
     ServerFinal,
     ServerErrors,
+    StrictMessages,
     Records,
     RecordFaults,
     RecordLines,
@@ -47,7 +49,7 @@ enum Table {
 }
 
 /// The tables, and the file of each.
-static TABLES: [(Table, &str); 24] = [
+static TABLES: [(Table, &str); 25] = [
     (Table::Digests, "digests.txt"),
     (Table::Hmac, "hmac.txt"),
     (Table::SaltedPasswords, "salted-passwords.txt"),
@@ -61,6 +63,7 @@ static TABLES: [(Table, &str); 24] = [
     (Table::ClientFinal, "client-final.txt"),
     (Table::ServerFinal, "server-final.txt"),
     (Table::ServerErrors, "server-errors.txt"),
+    (Table::StrictMessages, "strict-messages.txt"),
     (Table::Records, "records.txt"),
     (Table::RecordFaults, "record-faults.txt"),
     (Table::RecordLines, "record-lines.txt"),
@@ -90,6 +93,7 @@ impl Answers for Table {
             Table::ClientFinal => messages::client_final(row),
             Table::ServerFinal => messages::server_final(row),
             Table::ServerErrors => messages::server_error(row),
+            Table::StrictMessages => strict::message(row),
             Table::Records => records::record(row),
             Table::RecordFaults => records::record_fault(row),
             Table::RecordLines => records::record_lines(row),

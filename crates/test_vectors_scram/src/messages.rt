@@ -6,7 +6,7 @@ use fe2o3_scram::client_secret::{ClientSecret, IterationLimits};
 use fe2o3_scram::credentials::{RecordStore, StoredPassword};
 use fe2o3_scram::hmac::Meter;
 use fe2o3_scram::passwords::Password;
-use fe2o3_scram::scram_messages::{ClientChannel, ServerError};
+use fe2o3_scram::scram_messages::{ClientHeader, ServerError};
 
 /// Says the answer of a server with these lines of users: `VERSION LINES SERVER-NONCE MESSAGE`.
 pub fn client_first(row: &mut Row<'_>) {
@@ -88,7 +88,7 @@ pub fn client_secret(row: &mut Row<'_>) {
         message,
         bare,
         limits,
-        &ClientChannel::Absent,
+        &ClientHeader::plain(),
         false,
         &mut meter,
     );

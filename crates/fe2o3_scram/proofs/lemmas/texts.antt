@@ -1,7 +1,6 @@
 pub mod AsciiLemmas
-pub mod AttributeTestLemmas
+pub mod GrammarLemmas
 pub mod Base64Lemmas
-pub mod BlockLemmas
 pub mod CountLemmas
 pub mod CutLemmas
 pub mod DecisionLemmas

@@ -12,6 +12,7 @@ use Rattle.fe2o3_scram.specs.RecordText.{ReachesValues}
 use Rattle.fe2o3_scram.specs.ScramClient.{ClientFinalSent, ReachesSaltIn, ReachesVerifierIn}
 use Rattle.fe2o3_scram.specs.ScramServer.{ServerFirstSent, ReachesBase64In}
 use Rattle.fe2o3_scram.specs.ServerFirst.{ServerChallenge, ReachesChallenge}
+use Rattle.fe2o3_scram.specs.ChannelBinding.{own_header}
 
 -- a server-final message that is an error (RFC 5802, section 7), to a client that has answered
 abbrev pub ErrorsTakeNone : Type 0
@@ -31,7 +32,7 @@ UnknownUsersTakeNone = (version : ScramVersion) (rules : ServerRules)
 -- the challenge with the nonce abc, to any user
 abbrev pub challenge_abc : List ℕ → List ℕ → List ℕ → ServerChallenge
 challenge_abc user bare first =
-    record { user = user; header = NotSupported; bare = bare; first = first; nonce = codes "abc" }
+    record { user = user; header = own_header NotSupported; bare = bare; first = first; nonce = codes "abc" }
 
 -- a client-final message with the nonce of another exchange (RFC 5802, section 5.1)
 abbrev pub OtherNoncesTakeNone : Type 0

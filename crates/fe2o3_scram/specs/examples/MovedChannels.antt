@@ -4,37 +4,37 @@
 use Rattle.std.specs.Prelude.{ℕ, List, [], ◌∷◌, ◌≡◌, ◌≤◌, ◌<◌, ◌^◌, Ok, false, T}
 use Rattle.std.specs.Str.{IsUtf8}
 use Rattle.base64.specs.GeneralPurpose.{IsBytes}
-use Rattle.fe2o3_scram.specs.ChannelBinding.{HoldsChannelBytes}
+use Rattle.fe2o3_scram.specs.ChannelBinding.{ClientHeader, HoldsHeaderBytes}
 use Rattle.fe2o3_scram.specs.ClientFinal.{ReadsFinalText, client_final_of, without_proof_with}
 use Rattle.fe2o3_scram.specs.ClientSecret.{Password, no_limit, up_to}
 use Rattle.fe2o3_scram.specs.Credentials.{Record}
-use Rattle.fe2o3_scram.specs.declared.scram_messages.client_channel.ClientChannel.{ClientChannel}
 use Rattle.fe2o3_scram.specs.Keys.{auth_message}
 use Rattle.fe2o3_scram.specs.Passwords.{PasswordText, IsNormal}
 use Rattle.fe2o3_scram.specs.ServerFirst.{Client, ReadsServerFirst, server_first_of}
 use Rattle.fe2o3_scram.specs.Texts.{NoComma, StartsWith, joined}
 
 -- the server's message as the client receives it
-abbrev pub moved_first : List ℕ → ClientChannel → List ℕ → List ℕ
+abbrev pub moved_first : List ℕ → ClientHeader → List ℕ → List ℕ
 moved_first first theirs both = joined (first ∷ without_proof_with theirs both ∷ [])
 
 -- the text before the proof as the server receives it
-abbrev pub moved_without : ClientChannel → ClientChannel → List ℕ → List ℕ
+abbrev pub moved_without : ClientHeader → ClientHeader → List ℕ → List ℕ
 moved_without ours theirs both = joined (without_proof_with theirs both ∷ without_proof_with ours both ∷ [])
 
 -- a client that binds its channel and is not strict, which no client of this library is
-abbrev pub lax_client : PasswordText → List ℕ → ClientChannel → Client
+abbrev pub lax_client : PasswordText → List ℕ → ClientHeader → Client
 lax_client password own ours = record {
   nonce = own;
   secret = Password password;
   limits = up_to no_limit;
-  channel = ours;
+  header = ours;
   strict = false;
+  grammar = false;
 }
 
 -- the client reads the one as the server's own, a server that is not strict reads the other with the channel that it
 -- expects, whatever the client's is, and both have one AuthMessage
-pub record Passes (password : PasswordText) (own both bare : List ℕ) (ours theirs : ClientChannel) (proof : List ℕ)
+pub record Passes (password : PasswordText) (own both bare : List ℕ) (ours theirs : ClientHeader) (proof : List ℕ)
     (stored : Record) : Type 0 where
   pub client : ReadsServerFirst (lax_client password own ours) (moved_first (server_first_of both stored) theirs both)
       (Ok (record { nonce = both; salt = stored.salt; count = stored.count }))
@@ -43,9 +43,9 @@ pub record Passes (password : PasswordText) (own both bare : List ℕ) (ours the
   pub one : auth_message bare (moved_first (server_first_of both stored) theirs both) (without_proof_with ours both)
       ≡ auth_message bare (server_first_of both stored) (moved_without ours theirs both)
 
--- of every two channels, whatever they are, these texts pass
+-- of every two headers, whatever they are, these texts pass
 abbrev pub MovedChannelsPass : Type 0
-MovedChannelsPass = (password : PasswordText) (own both bare : List ℕ) (ours theirs : ClientChannel) (proof : List ℕ)
+MovedChannelsPass = (password : PasswordText) (own both bare : List ℕ) (ours theirs : ClientHeader) (proof : List ℕ)
     (stored : Record) → IsNormal password → StartsWith both own → NoComma both → IsUtf8 both
-    → HoldsChannelBytes theirs → IsBytes proof → IsBytes stored.salt → 1 ≤ stored.count → stored.count < 2 ^ 32
+    → HoldsHeaderBytes theirs → IsBytes proof → IsBytes stored.salt → 1 ≤ stored.count → stored.count < 2 ^ 32
     → Passes password own both bare ours theirs proof stored

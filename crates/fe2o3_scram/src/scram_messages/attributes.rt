@@ -21,6 +21,9 @@ pub(crate) const SERVER_END_POINT_GS2_HEADER: &str = "p=tls-server-end-point,,";
 /// The GS2 header of a client that binds its channel by `tls-exporter`.
 pub(crate) const EXPORTER_GS2_HEADER: &str = "p=tls-exporter,,";
 
+/// The identity that a client acts for.
+pub(crate) const AUTHZID_KEY: &str = "a=";
+
 /// The user name.
 pub(crate) const USERNAME_KEY: &str = "n=";
 

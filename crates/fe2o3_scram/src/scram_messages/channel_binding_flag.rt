@@ -1,7 +1,7 @@
-//! The GS2 header of a client that acts for itself (RFC 5802, sections 6 and 7).
+//! What a GS2 header says of channel binding (RFC 5802, sections 6 and 7).
 
 ghost use Rattle.std.specs.Prelude.{◌≡◌, ◌++◌, IsTrue, MatchOption};
-ghost use Rattle.fe2o3_scram.specs.ChannelBinding.{TakesBound, TakesHeader, TakesUnbound, header_text, is_required};
+ghost use Rattle.fe2o3_scram.specs.ChannelBinding.{Gs2Header, TakesBound, TakesHeader, TakesUnbound, flag_text, header_text, is_required, own_header};
 ghost use Rattle.fe2o3_scram.specs.declared.channel_binding.ChannelKind.{ChannelKind as KindOf};
 ghost use Rattle.fe2o3_scram.specs.Texts.{StartsWith};
 
@@ -13,13 +13,13 @@ use crate::scram_messages::attributes::{
 use crate::scram_messages::server_rules::ServerRules;
 use crate::texts::after;
 
-/// The GS2 header of a client that acts for itself: what it says of channel binding (RFC 5802, sections 6 and 7).
+/// What a GS2 header says of channel binding (RFC 5802, sections 6 and 7, `gs2-cbind-flag`).
 #[derive(Debug, Clone, Copy, PartialEq, Eq)]
 pub enum ChannelBindingFlag {
-    /// `n,,`: the client does not support channel binding.
+    /// `n`: the client does not support channel binding.
     NotSupported,
 
-    /// `y,,`: the client supports it, and assumes that the server does not, which offered no mechanism with `-PLUS`.
+    /// `y`: the client supports it, and assumes that the server does not, which offered no mechanism with `-PLUS`.
     ClientSupports,
 
     /// `p=` and a kind: the client requires channel binding of this kind.
@@ -27,9 +27,24 @@ pub enum ChannelBindingFlag {
 }
 
 impl ChannelBindingFlag {
-    /// Returns the header as the prefix of a client-first message.
+    /// Returns the flag as it is written (RFC 5802, section 7, `gs2-cbind-flag`).
+    pub fn name(self) -> &'static str
+        ensures { result.now ≡ flag_text self }
+    {
+        match self {
+            ChannelBindingFlag::NotSupported => "n",
+            ChannelBindingFlag::ClientSupports => "y",
+            ChannelBindingFlag::Required(ChannelKind::TlsUnique) => "p=tls-unique",
+            ChannelBindingFlag::Required(ChannelKind::TlsServerEndPoint) => {
+                "p=tls-server-end-point"
+            }
+            ChannelBindingFlag::Required(ChannelKind::TlsExporter) => "p=tls-exporter",
+        }
+    }
+
+    /// Returns the GS2 header with this flag of a client that acts for itself.
     pub fn text(self) -> &'static str
-        ensures { result.now ≡ header_text self }
+        ensures { result.now ≡ header_text (own_header self) }
     {
         match self {
             ChannelBindingFlag::NotSupported => GS2_HEADER,
@@ -53,8 +68,8 @@ impl ChannelBindingFlag {
 /// Splits the header off a client-first message, if the rules accept it.
 pub(crate) fn cut_header(text: &str, rules: ServerRules) -> Option<(ChannelBindingFlag, &str)>
     ensures { MatchOption result
-        ((header : ChannelBindingFlag) → TakesHeader rules header → ¬ StartsWith text.now (header_text header))
-        (λ cut. TakesHeader rules cut.0 × (text.now ≡ header_text cut.0 ++ cut.1.now)) }
+        ((header : Gs2Header) → TakesHeader rules header → ¬ StartsWith text.now (header_text header))
+        (λ cut. TakesHeader rules (own_header cut.0) × (text.now ≡ header_text (own_header cut.0) ++ cut.1.now)) }
 {
     match rules.channels {
         Some(channels) => cut_bound(text, channels),
@@ -65,8 +80,8 @@ pub(crate) fn cut_header(text: &str, rules: ServerRules) -> Option<(ChannelBindi
 /// Splits off the header of a client that binds no channel: `n,,`, or `y,,` if that is accepted.
 fn cut_unbound(text: &str, accept_y: bool) -> Option<(ChannelBindingFlag, &str)>
     ensures { MatchOption result
-        ((header : ChannelBindingFlag) → TakesUnbound accept_y header → ¬ StartsWith text.now (header_text header))
-        (λ cut. TakesUnbound accept_y cut.0 × (text.now ≡ header_text cut.0 ++ cut.1.now)) }
+        ((flag : ChannelBindingFlag) → TakesUnbound accept_y flag → ¬ StartsWith text.now (header_text (own_header flag)))
+        (λ cut. TakesUnbound accept_y cut.0 × (text.now ≡ header_text (own_header cut.0) ++ cut.1.now)) }
 {
     if let Some(bare) = after(text, GS2_HEADER) {
         return Some((ChannelBindingFlag::NotSupported, bare));
@@ -81,8 +96,8 @@ fn cut_unbound(text: &str, accept_y: bool) -> Option<(ChannelBindingFlag, &str)>
 /// Splits off the header of a client that binds a channel, if the server has the data of its kind.
 fn cut_bound(text: &str, channels: ChannelBindings) -> Option<(ChannelBindingFlag, &str)>
     ensures { MatchOption result
-        ((header : ChannelBindingFlag) → TakesBound channels header → ¬ StartsWith text.now (header_text header))
-        (λ cut. TakesBound channels cut.0 × (text.now ≡ header_text cut.0 ++ cut.1.now)) }
+        ((flag : ChannelBindingFlag) → TakesBound channels flag → ¬ StartsWith text.now (header_text (own_header flag)))
+        (λ cut. TakesBound channels cut.0 × (text.now ≡ header_text (own_header cut.0) ++ cut.1.now)) }
 {
     let (kind, bare) = cut_kind(text)?;
     let _ = channels.data(kind)?;
@@ -92,8 +107,8 @@ fn cut_bound(text: &str, channels: ChannelBindings) -> Option<(ChannelBindingFla
 /// Splits off the header of a client that binds a channel, of any kind.
 fn cut_kind(text: &str) -> Option<(ChannelKind, &str)>
     ensures { MatchOption result
-        ((kind : KindOf) → ¬ StartsWith text.now (header_text (ChannelBindingFlag.Required kind)))
-        (λ cut. text.now ≡ header_text (ChannelBindingFlag.Required cut.0) ++ cut.1.now) }
+        ((kind : KindOf) → ¬ StartsWith text.now (header_text (own_header (ChannelBindingFlag.Required kind))))
+        (λ cut. text.now ≡ header_text (own_header (ChannelBindingFlag.Required cut.0)) ++ cut.1.now) }
 {
     if let Some(bare) = after(text, UNIQUE_GS2_HEADER) {
         return Some((ChannelKind::TlsUnique, bare));

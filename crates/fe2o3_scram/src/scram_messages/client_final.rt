@@ -1,6 +1,7 @@
 //! The client-final message, which answers a server-first message.
 
 ghost use Rattle.std.specs.Prelude.{◌≡◌, ◌≤◌, ◌<◌, ◌+◌, ◌^◌, IfOk, IfErr, OnOk, OnErr, false, string_bytes};
+ghost use Rattle.fe2o3_scram.specs.ChannelBinding.{plain_header};
 ghost use Rattle.fe2o3_scram.specs.ClientFinal.{answer_by, answer_values, client_final_of, keys_for, without_proof, without_proof_with};
 ghost use Rattle.fe2o3_scram.specs.ClientKeys.{keys_of};
 ghost use Rattle.fe2o3_scram.specs.ClientSecret.{Password as ByPassword, no_limit, secret_of, up_to};
@@ -17,7 +18,7 @@ use crate::hmac::{Meter, ScramVersion};
 use crate::keys::{CachedKeys, auth_message, auth_pieces};
 use crate::passwords::Password;
 use crate::scram_messages::attributes::{CHANNEL_BINDING_KEY, NONCE_KEY, PROOF_KEY};
-use crate::scram_messages::client_channel::ClientChannel;
+use crate::scram_messages::client_header::ClientHeader;
 use crate::scram_messages::error::ScramErrorKind;
 use crate::scram_messages::server_first_reading::ServerFirst;
 use crate::texts::{base64_len, push_base64};
@@ -59,7 +60,7 @@ impl ScramVersion {
         client_first_message_bare: &[u8],
     ) -> Result<(Vec<u8>, Vec<u8>), ScramErrorKind>
         ensures { Gives ScramErrorKind.OutOfMemory (ReachesSalt client_nonce.now server_first.now) pair_values result
-            (SendsServerFirst self.now (client_of client_nonce.now (ByPassword (Typed password.now)) (up_to no_limit) ClientChannel.Absent false)
+            (SendsServerFirst self.now (client_of client_nonce.now (ByPassword (Typed password.now)) (up_to no_limit) plain_header false)
             client_first_message_bare.now server_first.now) }
     {
         self.compute_client_final_message_metered(
@@ -85,9 +86,9 @@ impl ScramVersion {
         requires { meter.old ≤ 2 ^ 63 }
         ensures answer { Gives ScramErrorKind.OutOfMemory (ReachesSalt client_nonce.now server_first.now)
             pair_values result
-            (SendsServerFirst self.now (client_of client_nonce.now (ByPassword (Typed password.now)) (up_to no_limit) ClientChannel.Absent false)
+            (SendsServerFirst self.now (client_of client_nonce.now (ByPassword (Typed password.now)) (up_to no_limit) plain_header false)
             client_first_message_bare.now server_first.now) }
-        ensures cost { AnswerCosts (client_of client_nonce.now (ByPassword (Typed password.now)) (up_to no_limit) ClientChannel.Absent false)
+        ensures cost { AnswerCosts (client_of client_nonce.now (ByPassword (Typed password.now)) (up_to no_limit) plain_header false)
             server_first.now result meter.old meter.new }
     {
         self.compute_client_final_message_limited(
@@ -116,9 +117,9 @@ impl ScramVersion {
         requires { meter.old ≤ 2 ^ 63 }
         ensures answer { Gives ScramErrorKind.OutOfMemory (ReachesSalt client_nonce.now server_first.now)
             pair_values result
-            (SendsServerFirst self.now (client_of client_nonce.now (ByPassword (Typed password.now)) (up_to limit) ClientChannel.Absent false)
+            (SendsServerFirst self.now (client_of client_nonce.now (ByPassword (Typed password.now)) (up_to limit) plain_header false)
             client_first_message_bare.now server_first.now) }
-        ensures cost { AnswerCosts (client_of client_nonce.now (ByPassword (Typed password.now)) (up_to limit) ClientChannel.Absent false)
+        ensures cost { AnswerCosts (client_of client_nonce.now (ByPassword (Typed password.now)) (up_to limit) plain_header false)
             server_first.now result meter.old meter.new }
     {
         let answer = self.answer_server_first(
@@ -128,23 +129,19 @@ impl ScramVersion {
             server_first,
             client_first_message_bare,
             IterationLimits::up_to(limit),
-            &ClientChannel::Absent,
+            &ClientHeader::plain(),
             false,
             meter,
         )?;
         Ok((answer.message, answer.signature))
     }
 
-    /// Answers a server-first message by a secret, if its iteration count is within the limits. The channel is what the
-    /// client-first message said of it, in its GS2 header. The other arguments are
-    /// those of `compute_client_final_message`. The version is that of an answer by the password; an answer by keys has
+    /// Answers a server-first message by a secret, if its iteration count is within the limits. The header is
+    /// that of the client-first message. The other arguments are those of `compute_client_final_message`. The version is that of an answer by the password; an answer by keys has
     /// theirs.
     ///
-    /// The errors are, in this order: those of `ServerFirst::parse` up to `IterationCountParseError`;
-    /// `IterationCountTooSmall` and `IterationCountTooLarge`; `MisplacedAttribute` if the client is `strict` or binds a
-    /// channel, and a part after the count is an attribute that RFC 5802 defines; `NormalizeError` if a typed password is needed and is not
-    /// printable ASCII, or `StaleKeys` if the secret is only keys and the message names another salt or count than
-    /// theirs. `OutOfMemory` is returned only if no error before `Base64DecodeError` applies.
+    /// The errors are those of `ServerFirst::parse_with_header`, in its order. `OutOfMemory` is returned only if no error
+    /// before `Base64DecodeError` applies.
     ///
     /// The meter, of at most 2^63, counts the HMAC values: two by keys, by the password four more than the iterations,
     /// and none for an error.
@@ -156,16 +153,16 @@ impl ScramVersion {
         server_first: &str,
         client_first_message_bare: &[u8],
         limits: IterationLimits,
-        channel: &ClientChannel,
+        header: &ClientHeader<'_>,
         strict: bool,
         meter: &mut Meter,
     ) -> Result<ClientAnswer, ScramErrorKind>
         requires { meter.old ≤ 2 ^ 63 }
         ensures answer { Gives ScramErrorKind.OutOfMemory (ReachesSalt client_nonce.now server_first.now)
             answer_values result
-            (AnswersServerFirst self.now (client_of client_nonce.now (secret_of secret.entry) limits channel.now strict)
+            (AnswersServerFirst self.now (client_of client_nonce.now (secret_of secret.entry) limits header.now strict)
             client_first_message_bare.now server_first.now) }
-        ensures cost { AnswerCosts (client_of client_nonce.now (secret_of secret.entry) limits channel.now strict)
+        ensures cost { AnswerCosts (client_of client_nonce.now (secret_of secret.entry) limits header.now strict)
             server_first.now result meter.old meter.new }
     {
         let first = ServerFirst::read(
@@ -173,11 +170,11 @@ impl ScramVersion {
             client_nonce,
             secret,
             limits,
-            channel,
+            header,
             strict,
             server_first,
         )?;
-        let message = without_proof(alloc, channel, first.nonce, self.digest_len())?;
+        let message = without_proof(alloc, header, first.nonce, self.digest_len())?;
         let keys = self.keys_for(secret, first, meter);
         let answer = keys.answer(
             alloc,
@@ -295,7 +292,7 @@ impl ServerFirst<'_> {
         ensures { IfOk result (λ text. text.items ≡ auth_message client_first_message_bare.now
             server_first_message.now (without_proof self.now.nonce.now)) }
     {
-        let without_proof = without_proof(alloc, &ClientChannel::Absent, self.nonce, 0)?;
+        let without_proof = without_proof(alloc, &ClientHeader::plain(), self.nonce, 0)?;
         auth_message(
             alloc,
             client_first_message_bare,
@@ -309,19 +306,19 @@ impl ServerFirst<'_> {
 /// proof of this length.
 fn without_proof(
     alloc: Global,
-    channel: &ClientChannel,
+    header: &ClientHeader<'_>,
     client_server_nonce: &str,
     proof_len: usize,
 ) -> Result<String, OutOfMemory>
-    ensures { IfOk result (λ text. string_bytes text ≡ without_proof_with channel.now client_server_nonce.now) }
+    ensures { IfOk result (λ text. string_bytes text ≡ without_proof_with header.now client_server_nonce.now) }
 {
     let room = FIXED_LEN
-        .saturating_add(base64_len(channel.cbind_input_len()))
+        .saturating_add(base64_len(header.cbind_input_len()))
         .saturating_add(client_server_nonce.len())
         .saturating_add(base64_len(proof_len));
     let mut text = String::with_capacity(alloc, room)?;
     text.push_str(CHANNEL_BINDING_KEY)?;
-    channel.push_cbind_input(alloc, &mut text)?;
+    header.push_cbind_input(alloc, &mut text)?;
     text.push_str(",")?;
     text.push_str(NONCE_KEY)?;
     text.push_str(client_server_nonce)?;

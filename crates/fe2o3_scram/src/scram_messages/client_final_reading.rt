@@ -4,15 +4,13 @@ ghost use Rattle.std.specs.Prelude.{◌≡◌, ◌≢◌, ◌++◌, true, false,
 ghost use Rattle.fe2o3_scram.specs.private.Tests.{binding_tests, final_nonce_tests, spelling_tests};
 ghost use Rattle.fe2o3_scram.specs.Readings.{Gives, IsFirst, NoneHolds};
 ghost use Rattle.fe2o3_scram.specs.ClientFinal.{HasProof, ReachesBase64, ReachesBinding, ReadsFinalText, client_final_values};
-ghost use Rattle.fe2o3_scram.specs.ChannelBinding.{cbind_input, is_bound};
+ghost use Rattle.fe2o3_scram.specs.ChannelBinding.{cbind_input, needs_strict, plain_header};
 ghost use Rattle.fe2o3_scram.specs.Texts.{Part, LastPart, HasBase64, base64_text};
 
-use crate::scram_messages::attributes::{
-    CHANNEL_BINDING_KEY, GS2_HEADER_BASE64, NONCE_KEY, PROOF_KEY, UNOFFERED_GS2_HEADER_BASE64,
-};
-use crate::scram_messages::client_channel::ClientChannel;
+use crate::scram_messages::attributes::{CHANNEL_BINDING_KEY, NONCE_KEY, PROOF_KEY};
+use crate::scram_messages::client_header::ClientHeader;
 use crate::scram_messages::error::ServerScramErrorKind;
-use crate::scram_messages::extensions::is_misplaced;
+use crate::scram_messages::grammar::is_misplaced;
 use crate::texts::{after, attribute, bytes_of, last_part};
 use std::alloc::Global;
 
@@ -41,91 +39,80 @@ impl<'a> ClientFinal<'a> {
         text: &'a [u8],
     ) -> Result<Self, ServerScramErrorKind>
         ensures { Gives ServerScramErrorKind.OutOfMemory
-            (ReachesBase64 ClientChannel.Absent client_server_nonce.now text.now) client_final_values result
-            (ReadsFinalText ClientChannel.Absent false client_server_nonce.now text.now) }
+            (ReachesBase64 plain_header client_server_nonce.now text.now) client_final_values result
+            (ReadsFinalText plain_header false client_server_nonce.now text.now) }
     {
-        ClientFinal::parse_with_channel(
+        ClientFinal::parse_with_header(
             alloc,
-            &ClientChannel::Absent,
+            &ClientHeader::plain(),
             false,
             client_server_nonce,
             text,
         )
     }
 
-    /// Like `parse`, of a client that has to say this of its channel: its channel binding has to be its GS2 header and
-    /// the data of the channel, in base64, instead of `biws` (`ServerRules::expected_channel`). After the other errors a
-    /// `strict` server returns `MisplacedAttribute` if a part between the nonce and the proof is an attribute that RFC
-    /// 5802 defines. If a channel is expected, `OutOfMemory` may be returned for any channel binding.
-    pub fn parse_with_channel(
+    /// Like `parse`, of a client with this header: its channel binding has to be the GS2 header and the data of the
+    /// channel, in base64, instead of `biws` (`ServerRules::expected_channel`). After the other errors a
+    /// `strict` server returns `MisplacedAttribute` if a part between the nonce and the proof is no extension (RFC 5802,
+    /// section 7). If a channel or an identity is expected, `OutOfMemory` may be returned for any channel binding.
+    pub fn parse_with_header(
         alloc: Global,
-        channel: &ClientChannel,
+        header: &ClientHeader<'_>,
         strict: bool,
         client_server_nonce: &[u8],
         text: &'a [u8],
     ) -> Result<Self, ServerScramErrorKind>
-        ensures { Gives ServerScramErrorKind.OutOfMemory (ReachesBase64 channel.now client_server_nonce.now text.now)
-            client_final_values result (ReadsFinalText channel.now strict client_server_nonce.now text.now) }
+        ensures { Gives ServerScramErrorKind.OutOfMemory (ReachesBase64 header.now client_server_nonce.now text.now)
+            client_final_values result (ReadsFinalText header.now strict client_server_nonce.now text.now) }
     {
         let Ok(client_final) = str::from_utf8(text) else {
             return Err(ServerScramErrorKind::Utf8Error);
         };
-        test_binding(alloc, channel, client_final)?;
+        test_binding(alloc, header, client_final)?;
         test_nonce(client_server_nonce, client_final)?;
         read_proof(alloc, strict, client_final)
     }
 }
 
-/// Tests that the client has the channel that the server expects, and repeats its GS2 header.
+/// Tests that the client repeats its GS2 header, and has the channel that the server expects.
 fn test_binding(
     alloc: Global,
-    channel: &ClientChannel,
+    header: &ClientHeader<'_>,
     client_final: &str,
 ) -> Result<(), ServerScramErrorKind>
-    ensures tested { OnOk result (NoneHolds (binding_tests channel.now client_final.now)) }
-    ensures bound { OnOk result (HasBase64 client_final.now 0 (codes "c=") (cbind_input channel.now)) }
+    ensures tested { OnOk result (NoneHolds (binding_tests header.now client_final.now)) }
+    ensures bound { OnOk result (HasBase64 client_final.now 0 (codes "c=") (cbind_input header.now)) }
     ensures memory { IfErr result (λ kind. kind ≡ ServerScramErrorKind.OutOfMemory
-        → ReachesBinding channel.now client_final.now) }
+        → ReachesBinding header.now client_final.now) }
     ensures err { IfErr result (λ kind. kind ≢ ServerScramErrorKind.OutOfMemory
-        → IsFirst (binding_tests channel.now client_final.now) kind) }
+        → IsFirst (binding_tests header.now client_final.now) kind) }
 {
     let Some(base64_binding) = attribute(client_final, 0, CHANNEL_BINDING_KEY) else {
         return Err(ServerScramErrorKind::CannotParseClientFinalMessage);
     };
-    if is_header_alone(channel, base64_binding) {
+    if is_header_alone(header, base64_binding) {
         return Ok(());
     }
     let Some(binding) = bytes_of(alloc, base64_binding)? else {
         return Err(ServerScramErrorKind::Base64DecodeError);
     };
-    if !channel.is_cbind_input(&binding) {
+    let is_expected = header.is_cbind_input(alloc, &binding)?;
+    if !is_expected {
         return Err(ServerScramErrorKind::InvalidChannelBinding);
     }
     Ok(())
 }
 
-/// Returns whether the text is the GS2 header in base64 of a client that binds no channel, and no channel is expected.
-fn is_header_alone(channel: &ClientChannel, base64_binding: &str) -> bool
-    ensures same { result ≡ true → base64_binding.now ≡ base64_text (cbind_input channel.now) }
-    ensures unbound { result ≡ true → is_bound channel.now ≡ false }
-    ensures other { result ≡ false → is_bound channel.now ≡ false
-        → base64_binding.now ≢ base64_text (cbind_input channel.now) }
+/// Returns whether the text is the expected GS2 header in base64, and neither a channel nor an identity is expected.
+fn is_header_alone(header: &ClientHeader<'_>, base64_binding: &str) -> bool
+    ensures same { result ≡ true → base64_binding.now ≡ base64_text (cbind_input header.now) }
+    ensures unbound { result ≡ true → needs_strict header.now ≡ false }
+    ensures other { result ≡ false → needs_strict header.now ≡ false
+        → base64_binding.now ≢ base64_text (cbind_input header.now) }
 {
-    match header_base64(channel) {
+    match header.plain_base64() {
         Some(own) => base64_binding == own,
         None => false,
-    }
-}
-
-/// Returns the GS2 header in base64 of a client that binds no channel.
-fn header_base64(channel: &ClientChannel) -> Option<&'static str>
-    ensures { MatchOption result (is_bound channel.now ≡ true)
-        (λ text. (is_bound channel.now ≡ false) × (text.now ≡ base64_text (cbind_input channel.now))) }
-{
-    match channel {
-        ClientChannel::Absent => Some(GS2_HEADER_BASE64),
-        ClientChannel::NotOffered => Some(UNOFFERED_GS2_HEADER_BASE64),
-        ClientChannel::Bound(_) => None,
     }
 }
 
@@ -144,7 +131,7 @@ fn test_nonce(client_server_nonce: &[u8], client_final: &str) -> Result<(), Serv
     Ok(())
 }
 
-/// Returns the proof, and the text before it, which has no misplaced attribute if the server is `strict`.
+/// Returns the proof, and the text before it, which has only extensions after the nonce if the server is `strict`.
 fn read_proof(
     alloc: Global,
     strict: bool,

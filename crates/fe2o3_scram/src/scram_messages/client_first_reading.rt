@@ -1,15 +1,16 @@
 //! Reads the client-first message.
 
-ghost use Rattle.std.specs.Prelude.{IfOk};
+ghost use Rattle.std.specs.Prelude.{IfOk, MatchResult};
 ghost use Rattle.std.specs.Cow.{IsBorrowedStr};
 ghost use Rattle.fe2o3_scram.specs.ClientFirst.{HasEscapes, ReadsClientFirst, client_first_values, default_rules};
-ghost use Rattle.fe2o3_scram.specs.Readings.{Gives};
+ghost use Rattle.fe2o3_scram.specs.Readings.{Gives, IsFirst, NoneHolds};
+ghost use Rattle.fe2o3_scram.specs.private.Tests.{bare_grammar_tests};
 
 use crate::scram_messages::attributes::{NONCE_KEY, USERNAME_KEY};
 use crate::scram_messages::channel_binding_flag::{ChannelBindingFlag, cut_header};
 use crate::scram_messages::error::ServerScramErrorKind;
 use crate::scram_messages::escape::{UnescapeError, unescape_username};
-use crate::scram_messages::extensions::is_misplaced;
+use crate::scram_messages::grammar::{is_misplaced, is_nonce, is_value};
 use crate::scram_messages::server_rules::ServerRules;
 use crate::texts::attribute;
 use std::alloc::Global;
@@ -47,8 +48,11 @@ impl<'a> ClientFirst<'a> {
         ClientFirst::parse_with_rules(alloc, text, ServerRules::new())
     }
 
-    /// Like `parse`, but by these rules: the GS2 header may be `y,,` too, or has to bind a channel, and after the other errors a strict server
-    /// returns `MisplacedAttribute` if a part after the nonce is an attribute that RFC 5802 defines.
+    /// Like `parse`, but by these rules: the GS2 header may be `y,,` too, or has to bind a channel.
+    ///
+    /// After the other errors, a strict server returns `CannotParseUsername` if the name is empty or has NUL, and
+    /// `CannotParseClientNonce` if the nonce is empty or not printable. Last, a server that is strict or binds channels
+    /// returns `MisplacedAttribute` if a part after the nonce is no extension (RFC 5802, section 7).
     pub fn parse_with_rules(
         alloc: Global,
         text: &'a [u8],
@@ -76,14 +80,30 @@ impl<'a> ClientFirst<'a> {
         let Some(client_nonce) = attribute(client_first_message_bare, 1, NONCE_KEY) else {
             return Err(ServerScramErrorKind::CannotParseClientNonce);
         };
-        if is_misplaced(rules.is_strict(), client_first_message_bare, 2) {
-            return Err(ServerScramErrorKind::MisplacedAttribute);
-        }
-        Ok(ClientFirst {
+        let first = ClientFirst {
             header,
             username,
             client_nonce,
             client_first_message_bare,
-        })
+        };
+        test_grammar(rules, &first)?;
+        Ok(first)
     }
+}
+
+/// Tests what a strict server tests besides: the user name, the nonce, and the parts after it.
+fn test_grammar(rules: ServerRules, first: &ClientFirst<'_>) -> Result<(), ServerScramErrorKind>
+    ensures { MatchResult result (λ _. NoneHolds (bare_grammar_tests rules (client_first_values first.now)))
+        (IsFirst (bare_grammar_tests rules (client_first_values first.now))) }
+{
+    if rules.strict && !is_value(first.username.as_bytes()) {
+        return Err(ServerScramErrorKind::CannotParseUsername);
+    }
+    if rules.strict && !is_nonce(first.client_nonce.as_bytes()) {
+        return Err(ServerScramErrorKind::CannotParseClientNonce);
+    }
+    if is_misplaced(rules.is_strict(), first.client_first_message_bare, 2) {
+        return Err(ServerScramErrorKind::MisplacedAttribute);
+    }
+    Ok(())
 }

@@ -57,7 +57,8 @@ pub enum ScramErrorKind {
     #[error("Iteration count too large")]
     IterationCountTooLarge,
 
-    /// A strict client received an attribute that RFC 5802 defines in the place of an extension: after the iteration count.
+    /// A part in the place of an extension is none (RFC 5802, section 7): after the iteration count, or after the
+    /// signature. Only a client that is strict or binds a channel returns it.
     #[error("Attribute in the place of an extension")]
     MisplacedAttribute,
 
@@ -160,8 +161,9 @@ pub enum ServerScramErrorKind {
     #[error("Client final message doesnt' have a proof")]
     ProofNotFoundInClientFinal,
 
-    /// A strict server received an attribute that RFC 5802 defines in the place of an extension: after the nonce of the
-    /// client-first message, or between the nonce and the proof of the client-final message.
+    /// A part in the place of an extension is none (RFC 5802, section 7): after the nonce of the client-first message, or
+    /// between the nonce and the proof of the client-final message. Only a server that is strict or binds channels returns
+    /// it.
     #[error("Attribute in the place of an extension")]
     MisplacedAttribute,
 

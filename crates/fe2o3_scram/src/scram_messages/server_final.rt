@@ -1,7 +1,7 @@
 //! The server-final message, which answers a client-final message.
 
 ghost use Rattle.std.specs.Prelude.{◌≡◌, ◌≤◌, ◌<◌, ◌+◌, ◌++◌, ◌^◌, Bool, ℕ, List, length, IfOk, codes, false};
-ghost use Rattle.fe2o3_scram.specs.declared.scram_messages.client_channel.ClientChannel.{ClientChannel as ClientChannelOf};
+ghost use Rattle.fe2o3_scram.specs.ChannelBinding.{ClientHeader as HeaderOf, plain_header};
 ghost use Rattle.fe2o3_scram.specs.Texts.{base64_text};
 ghost use Rattle.fe2o3_scram.specs.Hmac.{digest_len};
 ghost use Rattle.fe2o3_scram.specs.Keys.{server_signature};
@@ -17,8 +17,8 @@ use crate::hmac::{Meter, ScramVersion};
 use crate::keys::auth_pieces;
 use crate::provider::StoredPassword;
 use crate::scram_messages::attributes::VERIFIER_KEY;
-use crate::scram_messages::client_channel::ClientChannel;
 use crate::scram_messages::client_final_reading::ClientFinal;
+use crate::scram_messages::client_header::ClientHeader;
 use crate::scram_messages::error::ServerScramErrorKind;
 use crate::texts::{base64_len, push_base64};
 use std::alloc::Global;
@@ -45,9 +45,9 @@ impl ScramVersion {
         stored_password: &StoredPassword<'_>,
     ) -> Result<Vec<u8>, ServerScramErrorKind>
         ensures { Gives ServerScramErrorKind.OutOfMemory
-            (ReachesBase64 ClientChannel.Absent client_server_nonce.now client_final.now)
+            (ReachesBase64 plain_header client_server_nonce.now client_final.now)
             (λ message. message.items) result
-            (AnswersClientFinal (server_of self.now ClientChannel.Absent false client_first_message_bare.now
+            (AnswersClientFinal (server_of self.now plain_header false client_first_message_bare.now
             server_first_message.now client_server_nonce.now (kept stored_password.now)) client_final.now) }
     {
         self.compute_server_final_message_metered(
@@ -74,17 +74,17 @@ impl ScramVersion {
     ) -> Result<Vec<u8>, ServerScramErrorKind>
         requires { meter.old ≤ 2 ^ 63 }
         ensures answer { Gives ServerScramErrorKind.OutOfMemory
-            (ReachesBase64 ClientChannel.Absent client_server_nonce.now client_final.now)
+            (ReachesBase64 plain_header client_server_nonce.now client_final.now)
             (λ message. message.items) result
-            (AnswersClientFinal (server_of self.now ClientChannel.Absent false client_first_message_bare.now
+            (AnswersClientFinal (server_of self.now plain_header false client_first_message_bare.now
             server_first_message.now client_server_nonce.now (kept stored_password.now)) client_final.now) }
-        ensures cost { FinalCosts (server_of self.now ClientChannel.Absent false client_first_message_bare.now
+        ensures cost { FinalCosts (server_of self.now plain_header false client_first_message_bare.now
             server_first_message.now client_server_nonce.now (kept stored_password.now)) client_final.now result
             meter.old meter.new }
     {
-        self.compute_server_final_message_with_channel(
+        self.compute_server_final_message_with_header(
             alloc,
-            &ClientChannel::Absent,
+            &ClientHeader::plain(),
             false,
             client_final,
             client_server_nonce,
@@ -95,12 +95,12 @@ impl ScramVersion {
         )
     }
 
-    /// Like `compute_server_final_message_metered`, to a client that has to say this of its channel, of a server that is
-    /// `strict` or not (`ClientFinal::parse_with_channel`). A server that expects a channel is strict in any case.
-    pub fn compute_server_final_message_with_channel(
+    /// Like `compute_server_final_message_metered`, to a client with this header, of a server that is `strict` or not
+    /// (`ClientFinal::parse_with_header`). A server that expects a channel or an identity is strict in any case.
+    pub fn compute_server_final_message_with_header(
         &self,
         alloc: Global,
-        channel: &ClientChannel,
+        header: &ClientHeader<'_>,
         strict: bool,
         client_final: &[u8],
         client_server_nonce: &[u8],
@@ -111,17 +111,17 @@ impl ScramVersion {
     ) -> Result<Vec<u8>, ServerScramErrorKind>
         requires { meter.old ≤ 2 ^ 63 }
         ensures answer { Gives ServerScramErrorKind.OutOfMemory
-            (ReachesBase64 channel.now client_server_nonce.now client_final.now) (λ message. message.items) result
-            (AnswersClientFinal (server_of self.now channel.now strict client_first_message_bare.now
+            (ReachesBase64 header.now client_server_nonce.now client_final.now) (λ message. message.items) result
+            (AnswersClientFinal (server_of self.now header.now strict client_first_message_bare.now
             server_first_message.now client_server_nonce.now (kept stored_password.now)) client_final.now) }
-        ensures cost { FinalCosts (server_of self.now channel.now strict client_first_message_bare.now
+        ensures cost { FinalCosts (server_of self.now header.now strict client_first_message_bare.now
             server_first_message.now client_server_nonce.now (kept stored_password.now)) client_final.now result
             meter.old meter.new }
     {
-        let strict = channel.is_strict(strict);
-        let client_final = ClientFinal::parse_with_channel(
+        let strict = header.is_strict(strict);
+        let client_final = ClientFinal::parse_with_header(
             alloc,
-            channel,
+            header,
             strict,
             client_server_nonce,
             client_final,
@@ -147,8 +147,8 @@ impl ScramVersion {
         meter: &mut Meter,
     ) -> Result<Vec<u8>, ServerScramErrorKind>
         requires { meter.old ≤ 2 ^ 63 }
-        ensures answer { (channel : ClientChannelOf) (strict : Bool) (nonce : List ℕ) →
-            let server = server_of self.now channel strict client_first_message_bare.now server_first_message.now nonce
+        ensures answer { (header : HeaderOf) (strict : Bool) (nonce : List ℕ) →
+            let server = server_of self.now header strict client_first_message_bare.now server_first_message.now nonce
             (kept stored_password.now) in
             Gives ServerScramErrorKind.OutOfMemory (IsMet server (client_final_values client_final.now))
             (λ message. message.items) result (AnswersProof server (client_final_values client_final.now)) }

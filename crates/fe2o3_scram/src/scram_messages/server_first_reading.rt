@@ -1,9 +1,10 @@
 //! Reads the server-first message.
 
-ghost use Rattle.std.specs.Prelude.{◌≡◌, ◌≢◌, ◌≤◌, ◌++◌, ℕ, List, IfOk, IfErr, MatchResult, codes, false};
-ghost use Rattle.fe2o3_scram.specs.private.Tests.{salt_tests, count_tests};
+ghost use Rattle.std.specs.Prelude.{◌≡◌, ◌≢◌, ◌≤◌, ◌↔◌, ◌++◌, ℕ, List, IfOk, IfErr, IsTrue, MatchResult, T, codes, false};
+ghost use Rattle.fe2o3_scram.specs.private.Tests.{salt_tests, count_tests, text_grammar_tests};
 ghost use Rattle.fe2o3_scram.specs.Readings.{Gives, IsFirst, NoneHolds};
-ghost use Rattle.fe2o3_scram.specs.ServerFirst.{ReachesSalt, ReadsServerFirst, client_of, server_first_values, HasCount, nonce_tests};
+ghost use Rattle.fe2o3_scram.specs.ServerFirst.{ReachesSalt, ReadsServerFirst, client_of, server_first_values, AddsNoNonce, HasCount, HasPlainCount, nonce_tests};
+ghost use Rattle.fe2o3_scram.specs.ChannelBinding.{plain_header};
 ghost use Rattle.fe2o3_scram.specs.ClientSecret.{Password as ByPassword, secret_of, up_to};
 ghost use Rattle.fe2o3_scram.specs.Passwords.{IsNormal, Typed, password_of};
 ghost use Rattle.fe2o3_scram.specs.Texts.{Part, HasBase64};
@@ -12,10 +13,10 @@ ghost use Rattle.fe2o3_scram.specs.private.Serving.{Serves, ServesNot};
 use crate::client_secret::{ClientSecret, IterationLimits};
 use crate::passwords::Password;
 use crate::scram_messages::attributes::{ITERATION_COUNT_KEY, NONCE_KEY, RESERVED_MEXT, SALT_KEY};
-use crate::scram_messages::client_channel::ClientChannel;
+use crate::scram_messages::client_header::ClientHeader;
 use crate::scram_messages::error::ScramErrorKind;
-use crate::scram_messages::extensions::is_misplaced;
-use crate::texts::{after, attribute, bytes_of, count_of, part};
+use crate::scram_messages::grammar::{is_misplaced, is_nonce};
+use crate::texts::{after, attribute, bytes_of, count_of, part, plain_count_of};
 use std::alloc::Global;
 
 /// What a server-first message names (RFC 5802, section 7).
@@ -50,7 +51,7 @@ impl<'a> ServerFirst<'a> {
     ) -> Result<Self, ScramErrorKind>
         ensures reads { Gives ScramErrorKind.OutOfMemory (ReachesSalt client_nonce.now text.now)
             server_first_values result
-            (ReadsServerFirst (client_of client_nonce.now (ByPassword (Typed password.now)) (up_to limit) ClientChannel.Absent false) text.now) }
+            (ReadsServerFirst (client_of client_nonce.now (ByPassword (Typed password.now)) (up_to limit) plain_header false) text.now) }
         ensures count { IfOk result (λ first. (1 ≤ first.iterations) × (first.iterations ≤ limit)) }
     {
         let limits = IterationLimits::up_to(limit);
@@ -59,24 +60,26 @@ impl<'a> ServerFirst<'a> {
             client_nonce,
             ClientSecret::Password(Password::Typed(password)),
             limits,
-            &ClientChannel::Absent,
+            &ClientHeader::plain(),
             false,
             text,
         )?;
         Ok(first)
     }
 
-    /// Reads a server-first message like `parse`, for a client that says this of its channel, has this secret, and
-    /// accepts the counts within these limits. A client that binds a channel is strict.
+    /// Reads a server-first message like `parse`, for a client with this header and this secret, which accepts the counts
+    /// within these limits. A client that binds a channel or acts for somebody else is strict.
     ///
     /// The errors are, in this order: those of `parse` up to `IterationCountParseError`; `IterationCountTooSmall` and
-    /// `IterationCountTooLarge`; `MisplacedAttribute` of a strict client if a part after the count is an attribute that
-    /// RFC 5802 defines; `NormalizeError` if a typed password is needed and is not printable ASCII, or `StaleKeys` if the
-    /// secret is only keys and the message names another salt or count than theirs. Only the salt is allocated:
-    /// `OutOfMemory` is returned only if none of the first five errors applies.
-    pub fn parse_with_channel(
+    /// `IterationCountTooLarge`; of a strict client `ClientNonceMismatch` if the server's part of the nonce is empty or
+    /// not printable, and `IterationCountParseError` if the count has a sign or leading zeros; `MisplacedAttribute` of a
+    /// client that is strict, binds a channel or acts for somebody else if a part after the count is no extension (RFC 5802, section 7);
+    /// `NormalizeError` if a typed password is needed and is not printable ASCII, or `StaleKeys` if the secret is only keys
+    /// and the message names another salt or count than theirs. Only the salt is allocated: `OutOfMemory` is returned
+    /// only if none of the first five errors applies.
+    pub fn parse_with_header(
         alloc: Global,
-        channel: &ClientChannel,
+        header: &ClientHeader<'_>,
         strict: bool,
         client_nonce: &str,
         secret: ClientSecret<'_>,
@@ -85,35 +88,33 @@ impl<'a> ServerFirst<'a> {
     ) -> Result<Self, ScramErrorKind>
         ensures reads { Gives ScramErrorKind.OutOfMemory (ReachesSalt client_nonce.now text.now)
             server_first_values result
-            (ReadsServerFirst (client_of client_nonce.now (secret_of secret.entry) limits channel.now strict) text.now) }
+            (ReadsServerFirst (client_of client_nonce.now (secret_of secret.entry) limits header.now strict) text.now) }
         ensures count { IfOk result (λ first. (1 ≤ first.iterations) × (first.iterations ≤ limits.max_iterations)) }
     {
-        let first = ServerFirst::read(alloc, client_nonce, secret, limits, channel, strict, text)?;
+        let first = ServerFirst::read(alloc, client_nonce, secret, limits, header, strict, text)?;
         Ok(first)
     }
 
-    /// Reads a server-first message like `parse_with_channel`, and states that its values serve the secret.
+    /// Reads a server-first message like `parse_with_header`, and states that its values serve the secret.
     pub(super) fn read(
         alloc: Global,
         client_nonce: &str,
         secret: ClientSecret<'_>,
         limits: IterationLimits,
-        channel: &ClientChannel,
+        header: &ClientHeader<'_>,
         strict: bool,
         text: &'a str,
     ) -> Result<Self, ScramErrorKind>
         ensures reads { Gives ScramErrorKind.OutOfMemory (ReachesSalt client_nonce.now text.now)
             server_first_values result
-            (ReadsServerFirst (client_of client_nonce.now (secret_of secret.entry) limits channel.now strict) text.now) }
+            (ReadsServerFirst (client_of client_nonce.now (secret_of secret.entry) limits header.now strict) text.now) }
         ensures count { IfOk result (λ first. (1 ≤ first.iterations) × (first.iterations ≤ limits.max_iterations)) }
         ensures serves { IfOk result (λ first. Serves (secret_of secret.entry) (server_first_values first)) }
     {
         let nonce = read_nonce(client_nonce, text)?;
         let salt = read_salt(alloc, text)?;
         let iterations = read_count(limits, text)?;
-        if is_misplaced(channel.is_strict(strict), text, 3) {
-            return Err(ScramErrorKind::MisplacedAttribute);
-        }
+        test_grammar(strict, header.is_strict(strict), client_nonce, text)?;
         let first = ServerFirst {
             nonce,
             salt,
@@ -186,6 +187,65 @@ fn read_count(limits: IterationLimits, server_first: &str) -> Result<u32, ScramE
         return Err(ScramErrorKind::IterationCountTooLarge);
     }
     Ok(iterations)
+}
+
+/// Tests what the grammar says: if the client is `strict`, of the server's part of the nonce and of how the count is
+/// spelled, and if it `rejects_misplaced` of the parts after the count.
+fn test_grammar(
+    strict: bool,
+    rejects_misplaced: bool,
+    client_nonce: &str,
+    server_first: &str,
+) -> Result<(), ScramErrorKind>
+    ensures { MatchResult result
+        (λ _. NoneHolds (text_grammar_tests strict rejects_misplaced client_nonce.now server_first.now))
+        (IsFirst (text_grammar_tests strict rejects_misplaced client_nonce.now server_first.now)) }
+{
+    if breaks_nonce(strict, client_nonce, server_first) {
+        return Err(ScramErrorKind::ClientNonceMismatch);
+    }
+    if breaks_count(strict, server_first) {
+        return Err(ScramErrorKind::IterationCountParseError);
+    }
+    if is_misplaced(rejects_misplaced, server_first, 3) {
+        return Err(ScramErrorKind::MisplacedAttribute);
+    }
+    Ok(())
+}
+
+/// Returns whether a `strict` client rejects the message, since what follows the client's nonce is empty or not printable.
+fn breaks_nonce(strict: bool, client_nonce: &str, server_first: &str) -> bool
+    ensures { IsTrue result ↔ (T strict × AddsNoNonce client_nonce.now server_first.now) }
+{
+    strict && adds_no_nonce(client_nonce, server_first)
+}
+
+fn adds_no_nonce(client_nonce: &str, server_first: &str) -> bool
+    ensures { IsTrue result ↔ AddsNoNonce client_nonce.now server_first.now }
+{
+    let Some(nonce) = attribute(server_first, 0, NONCE_KEY) else {
+        return false;
+    };
+    let Some(added) = after(nonce, client_nonce) else {
+        return false;
+    };
+    !is_nonce(added.as_bytes())
+}
+
+/// Returns whether a `strict` client rejects the message, since its iteration count has a sign or leading zeros.
+fn breaks_count(strict: bool, server_first: &str) -> bool
+    ensures { IsTrue result ↔ (T strict × ((count : ℕ) → ¬ HasPlainCount server_first.now count)) }
+{
+    strict && has_no_plain_count(server_first)
+}
+
+fn has_no_plain_count(server_first: &str) -> bool
+    ensures { IsTrue result ↔ ((count : ℕ) → ¬ HasPlainCount server_first.now count) }
+{
+    let Some(digits) = attribute(server_first, 2, ITERATION_COUNT_KEY) else {
+        return true;
+    };
+    plain_count_of(digits).is_none()
 }
 
 /// Tests the secret against the message's values: a password that is needed, or keys without a password.

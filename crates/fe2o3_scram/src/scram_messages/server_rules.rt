@@ -16,9 +16,9 @@ pub struct ServerRules {
     /// a mechanism must not accept that client. It has no effect if the server binds channels.
     pub accept_cbind_flag_y: bool,
 
-    /// Whether an attribute that RFC 5802 defines is rejected in the place of an extension, by `MisplacedAttribute`.
-    /// Attributes that it does not define are ignored there in any case (RFC 5802, section 7). A server that binds
-    /// channels is always strict.
+    /// Whether messages are read by the grammar of RFC 5802, section 7: a user name has to be of one or more characters
+    /// and without NUL, a nonce printable and not empty, and what follows the nonce an extension. Extensions are ignored in
+    /// any case. A server that binds channels tests them in any case.
     pub strict: bool,
 
     /// The channel, if the server is of a mechanism with `-PLUS` (RFC 5802, section 6). It then accepts only clients
@@ -38,7 +38,7 @@ impl ServerRules {
         }
     }
 
-    /// Returns whether the server is strict: it binds channels, or is set to.
+    /// Returns whether the server rejects what is no extension in the place of one: it is strict, or binds channels.
     pub fn is_strict(&self) -> bool
         ensures { result ≡ is_strict self.now }
     {

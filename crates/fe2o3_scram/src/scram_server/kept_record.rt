@@ -5,17 +5,17 @@ ghost use Rattle.fe2o3_scram.specs.Credentials.{kept};
 
 use crate::OutOfMemory;
 use crate::provider::StoredPassword;
-use bytes::Bytes;
+use crate::secrets::SecretBytes;
 use std::alloc::{AllocError, Global};
 use std::marker::Model;
 
-/// An owned copy of a record. Its parts are slices of one block, so that a clone copies no byte.
+/// An owned copy of a record. Its keys are overwritten with zeros before their memory is freed.
 #[derive(Drop)]
 pub(crate) struct KeptRecord {
-    salt: Bytes,
+    salt: Vec<u8>,
     iterations: u32,
-    stored_key: Bytes,
-    server_key: Bytes,
+    stored_key: SecretBytes,
+    server_key: SecretBytes,
 }
 
 impl Model for KeptRecord {
@@ -24,7 +24,7 @@ impl Model for KeptRecord {
     ghost Value = { Record };
 
     ghost view = { λ copied. record {
-      salt = copied.salt;
+      salt = copied.salt.items;
       count = copied.iterations;
       stored_key = copied.stored_key;
       server_key = copied.server_key;
@@ -32,37 +32,16 @@ impl Model for KeptRecord {
 }
 
 impl KeptRecord {
-    /// Copies a client-first message and the record of its user into one block, with as many allocations as the message
-    /// by itself.
-    pub(crate) fn behind(
-        alloc: Global,
-        client_first_message_bare: &[u8],
-        stored: &StoredPassword<'_>,
-    ) -> Result<(Bytes, KeptRecord), OutOfMemory>
-        ensures message { IfOk result (λ both. both.0 ≡ client_first_message_bare.now) }
-        ensures stored { IfOk result (λ both. both.1 ≡ kept stored.now) }
+    /// Copies a record.
+    pub(crate) fn of(alloc: Global, stored: &StoredPassword<'_>) -> Result<Self, OutOfMemory>
+        ensures { IfOk result (λ copied. copied ≡ kept stored.now) }
     {
-        let room = client_first_message_bare
-            .len()
-            .saturating_add(stored.salt.len())
-            .saturating_add(stored.stored_key.len())
-            .saturating_add(stored.server_key.len());
-        let mut block = Vec::with_capacity(alloc, room)?;
-        block.extend_from_slice(client_first_message_bare)?;
-        block.extend_from_slice(stored.salt)?;
-        block.extend_from_slice(stored.stored_key)?;
-        block.extend_from_slice(stored.server_key)?;
-        let mut rest = Bytes::from_vec(block)?;
-        let message = rest.split_to(client_first_message_bare.len())?;
-        let salt = rest.split_to(stored.salt.len())?;
-        let stored_key = rest.split_to(stored.stored_key.len())?;
-        let copied = KeptRecord {
-            salt,
+        Ok(Self {
+            salt: stored.salt.to_vec(alloc)?,
             iterations: stored.iterations,
-            stored_key,
-            server_key: rest,
-        };
-        Ok((message, copied))
+            stored_key: SecretBytes::from_slice(alloc, stored.stored_key)?,
+            server_key: SecretBytes::from_slice(alloc, stored.server_key)?,
+        })
     }
 
     /// Returns the record.
@@ -72,8 +51,8 @@ impl KeptRecord {
         StoredPassword {
             salt: &self.salt,
             iterations: self.iterations,
-            stored_key: &self.stored_key,
-            server_key: &self.server_key,
+            stored_key: self.stored_key.as_slice(),
+            server_key: self.server_key.as_slice(),
         }
     }
 }

@@ -81,11 +81,6 @@ impl<C: ScramCredentialProvider> ScramAuthenticator<C> {
         ensures state { IfOk result (λ server. state_in server
             ≡ ServerFirstSent (challenge_kept challenge.now) (kept stored.now)) }
     {
-        let (client_first_message_bare, stored) = KeptRecord::behind(
-            alloc,
-            challenge.client_first_message_bare,
-            stored,
-        )?;
         Ok(Self {
             credentials: self.credentials,
             rules: self.rules,
@@ -93,13 +88,16 @@ impl<C: ScramCredentialProvider> ScramAuthenticator<C> {
             state: ScramAuthenticatorState::ServerFirstSent {
                 username: challenge.username.to_string(alloc)?,
                 header: challenge.header,
-                client_first_message_bare,
+                client_first_message_bare: Bytes::copy_from_slice(
+                    alloc,
+                    challenge.client_first_message_bare,
+                )?,
                 client_server_nonce: Bytes::copy_from_slice(alloc, challenge.client_server_nonce)?,
                 server_first_message: Bytes::copy_from_slice(
                     alloc,
                     challenge.server_first_message,
                 )?,
-                stored,
+                stored: KeptRecord::of(alloc, stored)?,
             },
         })
     }

@@ -9,7 +9,9 @@ use fe2o3_scram::client_secret::{ClientSecret, IterationLimits};
 use fe2o3_scram::hmac::Meter;
 use fe2o3_scram::passwords::Password;
 use fe2o3_scram::scram_client::ScramClient;
-use fe2o3_scram::scram_messages::{ClientChannel, ScramErrorKind};
+use fe2o3_scram::scram_messages::{
+    ClientChannel, ClientFirst, ClientHeader, ScramErrorKind, ServerScramErrorKind,
+};
 use std::process::Abort;
 
 /// The login of a client that was offered no mechanism with `-PLUS`, except for its channel.
@@ -21,6 +23,17 @@ const NOT_OFFERED: Row = Row {
         r=AQEBAQEBAQEBAQEBAQEBAQEBAQEBAQEBAQEBAQEBAQE=AgICAgICAgICAgICAgICAgICAgICAgICAgICAgICAgI=,\
         p=C1CwLTk/bU0t8UtgJLJ6MNE5Zmct4WhpsmftTqpIFeo=",
     server_final: b"v=Kvirjct/nXdXyX/mrBd1MWQvbo2zHXO3Sr2OjJqQ7ys=",
+};
+
+/// The login of a client that acts for `the,admin=1`. Computed with Python's `hashlib` and `hmac`.
+const ACTING: Row = Row {
+    kind: ChannelKind::TlsExporter,
+    cbind_data: &[],
+    client_first: "n,a=the=2Cadmin=3D1,n=user,r=AQEBAQEBAQEBAQEBAQEBAQEBAQEBAQEBAQEBAQEBAQE=",
+    client_final: "c=bixhPXRoZT0yQ2FkbWluPTNEMSw=,\
+        r=AQEBAQEBAQEBAQEBAQEBAQEBAQEBAQEBAQEBAQEBAQE=AgICAgICAgICAgICAgICAgICAgICAgICAgICAgICAgI=,\
+        p=XgtQHulqoem/CBXj6F4mXF9+cFchLQY3ESjo8J/NFsw=",
+    server_final: b"v=ES5GcWombTRP9gBwiTyIRa82wzf6gQqMwihKj517nyo=",
 };
 
 /// Returns whether a client sends the two messages of the row, and accepts the server's last.
@@ -56,7 +69,8 @@ const CLIENT_NONCE: &str = "AQEBAQEBAQEBAQEBAQEBAQEBAQEBAQEBAQEBAQEBAQE=";
 fn writes<R: Abort + AllocGlobal>(rt: &R, row: &Row) -> bool {
     let (alloc, channel) = (rt.alloc(), bound(rt, row.kind, row.cbind_data));
     let nonce = CLIENT_NONCE.as_bytes();
-    let sent = VERSION.client_first_message_with(alloc, channel.flag(), b"user", nonce);
+    let header = ClientHeader::new(channel, None);
+    let sent = VERSION.client_first_message_with(alloc, &header, b"user", nonce);
     let (first, bare) = sent.expect(rt, "memory");
     let answer = VERSION.answer_server_first(
         alloc,
@@ -65,7 +79,7 @@ fn writes<R: Abort + AllocGlobal>(rt: &R, row: &Row) -> bool {
         SERVER_FIRST,
         &bare,
         IterationLimits::up_to(4096),
-        &channel,
+        &header,
         false,
         &mut Meter::new(),
     );
@@ -138,4 +152,34 @@ fn a_client_that_binds_a_channel_is_strict(rt: HostRuntime) {
         let mut set = first.strict(false);
         assert!(rt; refusal(&rt, &mut set, ",c=biws") == wanted, "{channel:?}");
     }
+}
+
+/// Returns the identity that the client of `ACTING` acts for.
+fn identity<R: Abort + AllocGlobal>(rt: &R) -> Option<String> {
+    Some("the,admin=1".to_string(rt.alloc()).expect(rt, "memory"))
+}
+
+#[test]
+fn a_client_names_whom_it_acts_for(rt: HostRuntime) {
+    for &secret in &[Secret::Password, Secret::Keys] {
+        let mut client = client(&rt, secret).acting_for(identity(&rt));
+        assert!(rt;
+            client.acts_for() == Some("the,admin=1") && client.mechanism() == "SCRAM-SHA-256"
+        );
+        assert!(rt; logs_in(&rt, &mut client, &ACTING), "{secret:?}");
+    }
+}
+
+#[test]
+fn a_client_that_acts_for_somebody_else_is_strict(rt: HostRuntime) {
+    let mut client = client(&rt, Secret::Keys).acting_for(identity(&rt));
+    let misplaced = (Some(ScramErrorKind::MisplacedAttribute), 0);
+    assert!(rt; refusal(&rt, &mut client, ",c=biws") == misplaced);
+    assert!(rt; refusal(&rt, &mut client, ",x=1") == (None, 2));
+}
+
+#[test]
+fn no_server_accepts_an_identity(rt: HostRuntime) {
+    let read = ClientFirst::parse(rt.alloc(), ACTING.client_first.as_bytes());
+    assert!(rt; read.err() == Some(ServerScramErrorKind::CannotParseGs2Header));
 }

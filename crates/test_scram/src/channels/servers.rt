@@ -8,7 +8,9 @@ use crate::strict::{Server, plain_server, text_of};
 use crate::values::spells;
 use fe2o3_scram::channel_binding::ChannelKind;
 use fe2o3_scram::hmac::Meter;
-use fe2o3_scram::scram_messages::{ClientFinal, ClientFirst, ServerRules, ServerScramErrorKind};
+use fe2o3_scram::scram_messages::{
+    ClientFinal, ClientFirst, ClientHeader, ServerRules, ServerScramErrorKind,
+};
 use std::alloc::Global;
 use std::process::Abort;
 
@@ -197,7 +199,13 @@ fn the_rules_name_the_channel_that_is_expected(rt: HostRuntime) {
         let channel = rules.expected_channel(first.header);
         assert!(rt; channel == bound(&rt, row.kind, row.cbind_data));
         let (nonce, text) = (BOTH_NONCES.as_bytes(), row.client_final.as_bytes());
-        let last = ClientFinal::parse_with_channel(alloc, &channel, true, nonce, text);
+        let last = ClientFinal::parse_with_header(
+            alloc,
+            &ClientHeader::new(channel, None),
+            true,
+            nonce,
+            text,
+        );
         let last = last.expect(&rt, "a message");
         assert!(rt; proves(alloc, row, &last), "{:?}", row.kind);
     }

@@ -5,7 +5,7 @@ use Rattle.fe2o3_scram.specs.declared.scram_messages.server_rules.ServerRules.{S
 use Rattle.fe2o3_scram.specs.declared.hmac.ScramVersion.{ScramVersion}
 use Rattle.fe2o3_scram.specs.declared.hmac.ScramVersion.TheVariants.{Sha1, Sha256, Sha512}
 use Rattle.fe2o3_scram.specs.ClientFinal.{ReachesBinding, ReachesProof, client_final_of, without_proof}
-use Rattle.fe2o3_scram.specs.declared.scram_messages.client_channel.ClientChannel.TheVariants.{Absent}
+use Rattle.fe2o3_scram.specs.ChannelBinding.{own_header, plain_header}
 use Rattle.fe2o3_scram.specs.declared.scram_messages.channel_binding_flag.ChannelBindingFlag.TheVariants.{NotSupported}
 use Rattle.fe2o3_scram.specs.ClientFirst.{HasEscapes}
 use Rattle.fe2o3_scram.specs.Escape.{escaped, NoEquals}
@@ -48,7 +48,7 @@ no_escapes rules has =
     let bare = has.1.1 in
     let spelling = escaped has.1.0 in
     let behind : bare.1 ≡ codes "n=user,r=abc" =
-    (one_header bare.0 NotSupported (codes "n,,n=user,r=abc") bare.1 (codes "n=user,r=abc") bare.3 refl).1 in
+    (one_header bare.0 (own_header NotSupported) (codes "n,,n=user,r=abc") bare.1 (codes "n=user,r=abc") bare.3 refl).1 in
     let part = subst (λ (text : List ℕ). Part text 0 (codes "n=" ++ spelling)) behind bare.4 in
     let same = one_part (codes "n=user,r=abc") 0 (codes "n=user") (codes "n=" ++ spelling)
     (_, user_parts, refl) part in
@@ -72,8 +72,8 @@ cbind_flag_y rest has =
 pub unbound_texts_take_none : UnboundTextsTakeNone
 unbound_texts_take_none rules stored user bare first has = go has.1
   where
-    go : ReachesBinding Absent (codes "r=abc,p=AA==")
-        ⊎ ReachesProof Absent (codes "abc") (codes "r=abc,p=AA==") → ⊥
+    go : ReachesBinding plain_header (codes "r=abc,p=AA==")
+        ⊎ ReachesProof plain_header (codes "abc") (codes "r=abc,p=AA==") → ⊥
     go (inl reaches) = cbind_flag_y reaches.0.0 reaches.0.1
     go (inr reaches) = reaches.0.1.0 cbind_flag_y
 
@@ -104,8 +104,8 @@ other_nonces_take_none rules stored user bare first has = go has.1
     bound : HasBase64 other_text 0 (codes "c=") (codes "n,,")
     bound = (IsBytes-literal (codes "n,,") refl, (_, other_parts, refl))
 
-    go : ReachesBinding Absent other_text ⊎ ReachesProof Absent (codes "abc") other_text → ⊥
-    go (inl reaches) = reaches.1 bound
+    go : ReachesBinding plain_header other_text ⊎ ReachesProof plain_header (codes "abc") other_text → ⊥
+    go (inl reaches) = reaches.1 refl bound
     go (inr reaches) = reaches.0.1.1.1.1.1.0 other_nonce
 
 -- ---- records and lines

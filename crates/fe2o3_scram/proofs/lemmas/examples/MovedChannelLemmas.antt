@@ -3,10 +3,9 @@ use Rattle.std.proofs.Common.{◌≡◌, ◌≤◌, ◌<◌, ◌^◌, ℕ, false
 use Rattle.std.specs.Fmt.{decimal}
 use Rattle.std.specs.Str.{IsUtf8}
 use Rattle.std.proofs.lemmas.Str.{IsUtf8-append}
-use Rattle.fe2o3_scram.specs.ChannelBinding.{cbind_input}
+use Rattle.fe2o3_scram.specs.ChannelBinding.{ClientHeader, cbind_input}
 use Rattle.fe2o3_scram.specs.ClientFinal.{ClientFinal, NamesClientFinal, ReadsFinalText, client_final_of, without_proof_with}
 use Rattle.fe2o3_scram.specs.ClientSecret.{Password, no_limit}
-use Rattle.fe2o3_scram.specs.declared.scram_messages.client_channel.ClientChannel.{ClientChannel}
 use Rattle.fe2o3_scram.specs.examples.MovedChannels.{MovedChannelsPass, lax_client, moved_first, moved_without}
 use Rattle.fe2o3_scram.specs.ServerFirst.{HasCount, NamesServerFirst, ServerFirst, server_first_of}
 use Rattle.fe2o3_scram.specs.Texts.{HasBase64, NoComma, Part, Parts, base64_text}
@@ -18,23 +17,23 @@ use Rattle.fe2o3_scram.proofs.lemmas.texts.AsciiLemmas.{IsUtf8-base64_text, utf8
 use Rattle.fe2o3_scram.proofs.lemmas.texts.Base64Lemmas.{no_comma-base64_text}
 use Rattle.fe2o3_scram.proofs.lemmas.texts.JoinedTextLemmas.{three_joined, two_joined}
 
-plain_binding : (channel : ClientChannel) → NoComma (codes "c=" ++ base64_text (cbind_input channel))
-plain_binding channel = part_of (codes "c=") (base64_text (cbind_input channel)) refl (no_comma-base64_text (cbind_input channel))
+plain_binding : (header : ClientHeader) → NoComma (codes "c=" ++ base64_text (cbind_input header))
+plain_binding header = part_of (codes "c=") (base64_text (cbind_input header)) refl (no_comma-base64_text (cbind_input header))
 
-without_parts : (channel : ClientChannel) (both : List ℕ) → NoComma both → Parts (without_proof_with channel both)
-    ((codes "c=" ++ base64_text (cbind_input channel)) ∷ (codes "r=" ++ both) ∷ [])
-without_parts channel both plain = two_parts (codes "c=" ++ base64_text (cbind_input channel)) (codes "r=" ++ both)
-    (plain_binding channel) (part_of (codes "r=") both refl plain)
+without_parts : (header : ClientHeader) (both : List ℕ) → NoComma both → Parts (without_proof_with header both)
+    ((codes "c=" ++ base64_text (cbind_input header)) ∷ (codes "r=" ++ both) ∷ [])
+without_parts header both plain = two_parts (codes "c=" ++ base64_text (cbind_input header)) (codes "r=" ++ both)
+    (plain_binding header) (part_of (codes "r=") both refl plain)
 
-without_utf8 : (channel : ClientChannel) (both : List ℕ) → IsUtf8 both → IsUtf8 (without_proof_with channel both)
-without_utf8 channel both utf8 = IsUtf8-append (codes "c=" ++ base64_text (cbind_input channel)) (codes ",r=" ++ both)
-    (utf8_behind (codes "c=") (base64_text (cbind_input channel)) refl (IsUtf8-base64_text (cbind_input channel)))
+without_utf8 : (header : ClientHeader) (both : List ℕ) → IsUtf8 both → IsUtf8 (without_proof_with header both)
+without_utf8 header both utf8 = IsUtf8-append (codes "c=" ++ base64_text (cbind_input header)) (codes ",r=" ++ both)
+    (utf8_behind (codes "c=") (base64_text (cbind_input header)) refl (IsUtf8-base64_text (cbind_input header)))
     (utf8_behind (codes ",r=") both refl utf8)
 
 -- a message that names its values is read by a server that is not strict
-read : (channel : ClientChannel) (nonce text : List ℕ) (final : ClientFinal) → IsUtf8 text
-    → NamesClientFinal channel nonce text final → ReadsFinalText channel false nonce text (Ok final)
-read channel nonce text final utf8 names = text_read channel false nonce text utf8 final
+read : (header : ClientHeader) (nonce text : List ℕ) (final : ClientFinal) → IsUtf8 text
+    → NamesClientFinal header nonce text final → ReadsFinalText header false nonce text (Ok final)
+read header nonce text final utf8 names = text_read header false nonce text utf8 final
     (λ none. none _ names.binding.1, (λ none. none _ names.binding, (λ other. other names.binding, tt)))
     (λ none. none _ names.nonce, (λ other. other names.nonce, tt))
     (λ none. none _ _ names.proof.1, (λ none. none final names.proof, (λ wrong. wrong.0, tt))) names
@@ -89,7 +88,7 @@ moved_channels_pass password own both bare ours theirs proof stored normal begin
               ),
             ),
           )
-          (λ wrong. wrong.0) (secret_holds (Password password) text named names normal) names;
+          (λ wrong. wrong.0, (λ wrong. wrong.0, (λ wrong. wrong.0, tt))) (secret_holds (Password password) text named names normal) names;
       server = read theirs both response final response_utf8 (record {
         binding = (IsBytes-cbind_input theirs bytes, (_, all, refl));
         nonce = (_, all, refl);

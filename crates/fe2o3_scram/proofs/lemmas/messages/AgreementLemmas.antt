@@ -6,21 +6,20 @@ use Rattle.std.proofs.lemmas.Option.{same_Some}
 use Rattle.fe2o3_scram.specs.declared.hmac.ScramVersion.{ScramVersion}
 use Rattle.fe2o3_scram.specs.declared.scram_messages.server_rules.ServerRules.{ServerRules}
 use Rattle.fe2o3_scram.specs.declared.hmac.ScramVersion.TheVariants.{Sha1, Sha256, Sha512}
-use Rattle.fe2o3_scram.specs.declared.scram_messages.client_channel.ClientChannel.{ClientChannel}
 use Rattle.fe2o3_scram.specs.declared.scram_messages.channel_binding_flag.ChannelBindingFlag.{ChannelBindingFlag}
 use Rattle.fe2o3_scram.specs.declared.scram_messages.channel_binding_flag.ChannelBindingFlag.TheVariants.{NotSupported, ClientSupports, Required}
 use Rattle.base64.specs.GeneralPurpose.{IsBytes}
 use Rattle.fe2o3_scram.specs.Agreement.{AcceptedTexts, TextsAgree, VerifiedTextsAgree, ClientKnows, InParts, IsPlain, ServerKnows, challenge_known, client_auth_message, keys_known, server_auth_message}
 use Rattle.fe2o3_scram.specs.ClientFinal.{Answer, ClientFinal, answer_of, without_proof_with}
 use Rattle.fe2o3_scram.specs.ClientFirst.{ClientFirst, NamesClientFirst, client_first_bare}
-use Rattle.fe2o3_scram.specs.ChannelBinding.{HoldsChannelBytes, cbind_data, cbind_input, expected_channel, flag_of}
+use Rattle.fe2o3_scram.specs.ChannelBinding.{ClientHeader, Gs2Header, HoldsHeaderBytes, cbind_data, cbind_input, expected_channel, expected_header, flag_of, header_of}
 use Rattle.fe2o3_scram.specs.Credentials.{Provider, Record}
 use Rattle.fe2o3_scram.specs.Escape.{escaped}
 use Rattle.fe2o3_scram.specs.Extensions.{NoneMisplaced}
 use Rattle.fe2o3_scram.specs.Hmac.{digest_len, hmac_of}
 use Rattle.fe2o3_scram.specs.Keys.{auth_message}
 use Rattle.fe2o3_scram.specs.Laws.{HoldsBytes}
-use Rattle.fe2o3_scram.specs.ScramClient.{ClientSide, ClientFinalSent, VerifiesIn, holding, with_state}
+use Rattle.fe2o3_scram.specs.ScramClient.{is_strict_client, ClientSide, ClientFinalSent, VerifiesIn, holding, header_in, with_state}
 use Rattle.fe2o3_scram.specs.ScramServer.{ServerState, ServerFirstSent, ConcludesFrom, server_against}
 use Rattle.fe2o3_scram.specs.ServerFinal.{AnswersClientFinal, server_final_of}
 use Rattle.fe2o3_scram.specs.ServerFirst.{ServerChallenge, NamesServerFirst, ServerFirst, challenge_of}
@@ -31,6 +30,7 @@ use Rattle.fe2o3_scram.proofs.lemmas.messages.ClientFinalLemmas.{NamesAcceptedFi
 use Rattle.fe2o3_scram.proofs.lemmas.hashes.DigestLemmas.{IsBytes-literal}
 use Rattle.fe2o3_scram.proofs.lemmas.messages.ExchangeLemmas.{no_comma-decimal, part_of, only_part}
 use Rattle.fe2o3_scram.proofs.lemmas.messages.OneValueLemmas.{names_client_first, names_server_final, names_server_first}
+use Rattle.fe2o3_scram.proofs.lemmas.texts.GrammarLemmas.{attribute_is_misplaced}
 use Rattle.fe2o3_scram.proofs.lemmas.texts.Base64Lemmas.{no_comma-append, no_comma-base64_text, one_spelled}
 use Rattle.fe2o3_scram.proofs.lemmas.texts.CountLemmas.{count_of_decimal}
 use Rattle.fe2o3_scram.proofs.lemmas.texts.EscapingLemmas.{no_comma-escaped, one_escaped}
@@ -40,9 +40,9 @@ use Rattle.fe2o3_scram.proofs.lemmas.texts.PartsLemmas.{pieces, Parts-pieces, on
 
 -- ---- the parts of the two AuthMessages
 
-binding_plain : (channel : ClientChannel) → NoComma (codes "c=" ++ base64_text (cbind_input channel))
-binding_plain channel =
-    part_of (codes "c=") (base64_text (cbind_input channel)) refl (no_comma-base64_text (cbind_input channel))
+binding_plain : (header : ClientHeader) → NoComma (codes "c=" ++ base64_text (cbind_input header))
+binding_plain header =
+    part_of (codes "c=") (base64_text (cbind_input header)) refl (no_comma-base64_text (cbind_input header))
 
 -- what a client has of an exchange: with this nonce it answered a message that names these values
 pub record ClientHas (own text : List ℕ) (first : ServerFirst) : Type 0 where
@@ -50,30 +50,30 @@ pub record ClientHas (own text : List ℕ) (first : ServerFirst) : Type 0 where
   pub names : NamesServerFirst text first
 
 -- its parts: two of its first message, three and more of the challenge, two of its answer
-client_parts : (channel : ClientChannel) (name own text : List ℕ) (first : ServerFirst) → (has : ClientHas own text first)
+client_parts : (header : ClientHeader) (name own text : List ℕ) (first : ServerFirst) → (has : ClientHas own text first)
     → (more : List (List ℕ)) × Parts text ((codes "r=" ++ first.nonce) ∷ (codes "s=" ++ base64_text first.salt)
     ∷ (codes "i=" ++ has.names.count.0) ∷ more) × Parts (auth_message (client_first_bare name own) text
-    (without_proof_with channel first.nonce))
+    (without_proof_with header first.nonce))
     (((codes "n=" ++ escaped name) ∷ (codes "r=" ++ own) ∷ [])
     ++ (((codes "r=" ++ first.nonce) ∷ (codes "s=" ++ base64_text first.salt)
     ∷ (codes "i=" ++ has.names.count.0) ∷ more)
-    ++ ((codes "c=" ++ base64_text (cbind_input channel)) ∷ (codes "r=" ++ first.nonce) ∷ [])))
-client_parts channel name own text first has =
+    ++ ((codes "c=" ++ base64_text (cbind_input header)) ∷ (codes "r=" ++ first.nonce) ∷ [])))
+client_parts header name own text first has =
     let names = has.names in
     let user = codes "n=" ++ escaped name in
     let nonce = codes "r=" ++ own in
     let full = codes "r=" ++ first.nonce in
-    let binding = codes "c=" ++ base64_text (cbind_input channel) in
+    let binding = codes "c=" ++ base64_text (cbind_input header) in
     let bare = two_joined user nonce (user ∷ []) (nonce ∷ [])
     (only_part user (part_of (codes "n=") (escaped name) refl (no_comma-escaped name)))
     (only_part nonce (part_of (codes "r=") own refl has.plain)) in
     let named = first_three text full (codes "s=" ++ base64_text first.salt) (codes "i=" ++ names.count.0) names.nonce
     names.salt.1 names.count.1 in
-    let rest = two_joined binding full (binding ∷ []) (full ∷ []) (only_part binding (binding_plain channel))
+    let rest = two_joined binding full (binding ∷ []) (full ∷ []) (only_part binding (binding_plain header))
     (only_part full (no_comma-part text 0 full names.nonce)) in (
       named.0,
       named.1,
-      three_joined (client_first_bare name own) text (without_proof_with channel first.nonce)
+      three_joined (client_first_bare name own) text (without_proof_with header first.nonce)
           (user ∷ nonce ∷ []) _ (binding ∷ full ∷ []) bare named.1 rest,
     )
 
@@ -117,7 +117,7 @@ pub record ServerHas (version : ScramVersion) (rules : ServerRules) (client : Cl
 
 -- the channel binding that a server expects
 abbrev expected : ServerRules → ClientFirst → List ℕ
-expected rules client = cbind_input (expected_channel rules.channels client.header)
+expected rules client = cbind_input (expected_header rules.channels client.header)
 
 -- its parts: two and more of the client-first message, three of its challenge, two and more of the response
 record ServerParts (rules : ServerRules) (client : ClientFirst) (its : List ℕ) (stored : Record) (without : List ℕ)
@@ -223,11 +223,11 @@ two_extra text p q extra are has none = go extra (ap length (one_list_of_parts t
 -- equal AuthMessages mean one user and client nonce. Where the client-first message was plain, or one side received no
 -- misplaced attribute, they mean one nonce of both sides, salt and count, and in the second case one header. The
 -- client-first message had not three parts and not four
-pub record SameLogin (own_channel : ClientChannel) (rules : ServerRules) (name own text : List ℕ) (first : ServerFirst) (client : ClientFirst) (its : List ℕ)
+pub record SameLogin (its_header : ClientHeader) (rules : ServerRules) (name own text : List ℕ) (first : ServerFirst) (client : ClientFirst) (its : List ℕ)
     (stored : Record) (without : List ℕ) : Type 0 where
-  pub header : HoldsChannelBytes own_channel → NoneMisplaced text client.bare without → flag_of own_channel ≡ client.header
-  pub channel : HoldsChannelBytes own_channel → NoneMisplaced text client.bare without
-      → cbind_data own_channel ≡ cbind_data (expected_channel rules.channels client.header)
+  pub header : HoldsHeaderBytes its_header → NoneMisplaced text client.bare without → header_of its_header ≡ client.header
+  pub channel : HoldsHeaderBytes its_header → NoneMisplaced text client.bare without
+      → cbind_data its_header.channel ≡ cbind_data (expected_header rules.channels client.header).channel
   pub user : name ≡ client.user
   pub nonce : own ≡ client.nonce
   pub full_nonce : IsPlain client.bare ⊎ NoneMisplaced text client.bare without
@@ -260,48 +260,51 @@ flag_expected rules NotSupported = refl
 flag_expected rules ClientSupports = refl
 flag_expected rules (Required kind) = refl
 
+header_expected : (rules : ServerRules) (header : Gs2Header) → header_of (expected_header rules.channels header) ≡ header
+header_expected rules header = λ i. record { flag = flag_expected rules header.flag i; acts_for = header.acts_for }
+
 -- channel bindings that are spelled alike are one
-same_binding : (channel : ClientChannel) (rules : ServerRules) (client : ClientFirst) → HoldsChannelBytes channel
-    → IsBytes (expected rules client) → base64_text (cbind_input channel) ≡ base64_text (expected rules client)
-    → (flag_of channel ≡ client.header)
-    × (cbind_data channel ≡ cbind_data (expected_channel rules.channels client.header))
-same_binding channel rules client bytes its same =
-    let one = one_binding channel (expected_channel rules.channels client.header)
-    (one_spelled (base64_text (cbind_input channel)) (cbind_input channel) (expected rules client)
-    (IsBytes-cbind_input channel bytes, refl) (its, same)) in (
-      one.0 ∙ flag_expected rules client.header,
+same_binding : (header : ClientHeader) (rules : ServerRules) (client : ClientFirst) → HoldsHeaderBytes header
+    → IsBytes (expected rules client) → base64_text (cbind_input header) ≡ base64_text (expected rules client)
+    → (header_of header ≡ client.header)
+    × (cbind_data header.channel ≡ cbind_data (expected_header rules.channels client.header).channel)
+same_binding header rules client bytes its same =
+    let one = one_binding header (expected_header rules.channels client.header)
+    (one_spelled (base64_text (cbind_input header)) (cbind_input header) (expected rules client)
+    (IsBytes-cbind_input header bytes, refl) (its, same)) in (
+      one.0 ∙ header_expected rules client.header,
       one.1,
     )
 
-pub same_login : (channel : ClientChannel) (rules : ServerRules) (name own text : List ℕ) (first : ServerFirst)
+pub same_login : (header : ClientHeader) (rules : ServerRules) (name own text : List ℕ) (first : ServerFirst)
     (version : ScramVersion) (client : ClientFirst) (its : List ℕ) (stored : Record) (final : ClientFinal)
     → HoldsBytes (client.user, stored)
     → ClientHas own text first → ServerHas version rules client its stored final
-    → auth_message (client_first_bare name own) text (without_proof_with channel first.nonce)
+    → auth_message (client_first_bare name own) text (without_proof_with header first.nonce)
     ≡ auth_message client.bare (challenge_of client its stored).first final.without
-    → SameLogin channel rules name own text first client its stored final.without
-same_login channel rules name own text first version client its stored final holds ours theirs same =
+    → SameLogin header rules name own text first client its stored final.without
+same_login header rules name own text first version client its stored final holds ours theirs same =
     let small : stored.count < 2 ^ 32 = holds.0 in
     let wide : stored.count < 2 ^ 64 = omega (arith, small) in
     let full = (challenge_of client its stored).nonce in
     let names = ours.names in
-    let left = client_parts channel name own text first ours in
+    let left = client_parts header name own text first ours in
     let right = server_parts version rules client its stored final small theirs in
-    let parts = same_parts (auth_message (client_first_bare name own) text (without_proof_with channel first.nonce))
+    let parts = same_parts (auth_message (client_first_bare name own) text (without_proof_with header first.nonce))
     (auth_message client.bare (challenge_of client its stored).first final.without) _ _ same left.2 right.message in
     let fields = same_fields (escaped name) own (escaped client.user) client.nonce first.nonce (base64_text first.salt)
-    names.count.0 full (base64_text stored.salt) (decimal stored.count) (base64_text (cbind_input channel))
+    names.count.0 full (base64_text stored.salt) (decimal stored.count) (base64_text (cbind_input header))
     (base64_text (expected rules client)) full right.extra left.0 right.middle parts in
     let none : NoneMisplaced text client.bare final.without → AreNone left.0 right.extra right.middle = λ apart.
     are_none text client.bare final.without first.nonce (base64_text first.salt) names.count.0
-    (base64_text (cbind_input channel)) full (base64_text stored.salt) (decimal stored.count)
+    (base64_text (cbind_input header)) full (base64_text stored.salt) (decimal stored.count)
     (base64_text (expected rules client)) left.0 right.extra right.middle _ _ left.1 right.bare right.rest apart
     (ap (λ (z : List (List ℕ)). drop 2 z) parts) in
     let only : IsPlain client.bare ⊎ NoneMisplaced text client.bare final.without → right.extra ≡ [] = λ either.
     plain_or_none client.bare _ _ right.extra left.0 right.middle right.bare
     (NoneMisplaced text client.bare final.without) none either in
-    let binding = λ (bytes : HoldsChannelBytes channel) (apart : NoneMisplaced text client.bare final.without).
-    same_binding channel rules client bytes theirs.names.binding.0 (fields.binding (none apart).1 (none apart).0) in
+    let binding = λ (bytes : HoldsHeaderBytes header) (apart : NoneMisplaced text client.bare final.without).
+    same_binding header rules client bytes theirs.names.binding.0 (fields.binding (none apart).1 (none apart).0) in
     record {
       header = λ bytes apart. (binding bytes apart).0;
       channel = λ bytes apart. (binding bytes apart).1;
@@ -318,9 +321,9 @@ same_login channel rules name own text first version client its stored final hol
 
 -- where the client-first message was plain: one nonce of both sides, salt and count, and one header where the
 -- server-first message had three parts
-pub record SameValues (channel : ClientChannel) (name own text : List ℕ) (first : ServerFirst) (client : ClientFirst) (its : List ℕ)
+pub record SameValues (its_header : ClientHeader) (name own text : List ℕ) (first : ServerFirst) (client : ClientFirst) (its : List ℕ)
     (stored : Record) : Type 0 where
-  pub header : HoldsChannelBytes channel → IsPlain client.bare → InParts 3 text → flag_of channel ≡ client.header
+  pub header : HoldsHeaderBytes its_header → IsPlain client.bare → InParts 3 text → header_of its_header ≡ client.header
   pub user : name ≡ client.user
   pub nonce : own ≡ client.nonce
   pub full_nonce : IsPlain client.bare → first.nonce ≡ (challenge_of client its stored).nonce
@@ -330,18 +333,19 @@ pub record SameValues (channel : ClientChannel) (name own text : List ℕ) (firs
   pub not_four : ¬ InParts 4 client.bare
 
 -- the law over frames cites it
-pub same_values : (channel : ClientChannel) (rules : ServerRules) (name own text : List ℕ) (first : ServerFirst)
+pub same_values : (header : ClientHeader) (rules : ServerRules) (name own text : List ℕ) (first : ServerFirst)
     (version : ScramVersion) (client : ClientFirst) (its : List ℕ) (stored : Record) (final : ClientFinal)
     → HoldsBytes (client.user, stored)
     → ClientHas own text first → ServerHas version rules client its stored final
-    → auth_message (client_first_bare name own) text (without_proof_with channel first.nonce)
+    → auth_message (client_first_bare name own) text (without_proof_with header first.nonce)
     ≡ auth_message client.bare (challenge_of client its stored).first final.without
-    → SameValues channel name own text first client its stored
-same_values channel rules name own text first version client its stored final holds ours theirs same =
-    let login = same_login channel rules name own text first version client its stored final holds ours theirs
+    → SameValues header name own text first client its stored
+same_values header rules name own text first version client its stored final holds ours theirs same =
+    let login = same_login header rules name own text first version client its stored final holds ours theirs
     same in
     record {
-      header = λ bytes plain three. login.header bytes (inl (none_after_all 3 text three.0 three.1 three.2));
+      header = λ bytes plain three. login.header bytes (inl (λ has. none_after_all 3 text three.0 three.1 three.2
+          (attribute_is_misplaced 3 text has)));
       user = login.user;
       nonce = login.nonce;
       full_nonce = λ plain. login.full_nonce (inl plain);
@@ -412,7 +416,7 @@ pub agree : (side : ClientSide) (provider : Provider) (own text its init respons
     → (keys_known client).version ≡ provider.version → client_auth_message client ≡ server_auth_message server
     → TextsAgree client server
 agree side provider own text its init response client server holds version same =
-    let values = same_login side.channel provider.rules side.user (base64_text own) text client.first provider.version
+    let values = same_login (header_in side) provider.rules side.user (base64_text own) text client.first provider.version
     server.client (base64_text its) server.stored server.final holds (client_has side own text client)
     (server_has provider its init response server) same in
     record {
@@ -433,7 +437,7 @@ shown : (side waiting done : ClientSide) (answer own : Answer) (last : List ℕ)
 shown side waiting done answer own last same is verifies =
     let reads = subst (λ (at : ClientSide). VerifiesIn at.state at last (Ok tt) done) is verifies in
     subst (λ (made : Answer). HasBase64 last 0 (codes "v=") made.signature) same
-    (names_server_final answer.signature last tt reads.0)
+    (names_server_final (is_strict_client side) answer.signature last tt reads.0)
 
 -- what a server accepted it read against its challenge
 concluded : (provider : Provider) (waiting done : ServerState) (challenge : ServerChallenge) (client : ClientFirst)
@@ -477,7 +481,7 @@ verified_texts_agree side provider own text last its init response verifier veri
     let known = server_knows provider its init response verifier accepted in
     let server = known.0 in
     let has = shown side verified.waiting verified.done verified.answers.0
-    (answer_of side.version side.secret side.channel (client_first_bare side.user (base64_text own)) text answer.0) last
+    (answer_of side.version side.secret (header_in side) (client_first_bare side.user (base64_text own)) text answer.0) last
     answer.2 verified.answers.3 verified.verifies in
     let one = one_signature (keys_known client).version provider.version (keys_known client).server_key
     server.stored.server_key (client_auth_message client) (server_auth_message server) last has

@@ -2,7 +2,7 @@
 use Rattle.std.proofs.Common.{◌≡◌, ◌≢◌, Bool, ℕ, List, Option, Some, None, length, refl, sym, ap, ◌∙◌, subst, Ok}
 use Rattle.fe2o3_scram.specs.Agreement.{ClientKnows, ServerKnows, challenge_known, client_auth_message, keys_known, server_auth_message}
 use Rattle.fe2o3_scram.specs.BoundChannels.{OneIsStrict, ShownTextsAgree, ShownTextsBindOneChannel, VerifiedTextsBindOneChannel, proof_known}
-use Rattle.fe2o3_scram.specs.ChannelBinding.{TakesFlag, cbind_data, data_bytes, data_of_kind, expected_channel, flag_of, known_data}
+use Rattle.fe2o3_scram.specs.ChannelBinding.{Gs2Header, TakesFlag, cbind_data, data_bytes, data_of_kind, expected_channel, flag_of, known_data}
 use Rattle.fe2o3_scram.specs.ClientFinal.{ClientFinal, Meets, ReadsClientFinal, Server}
 use Rattle.fe2o3_scram.specs.declared.channel_binding.ChannelBinding.{ChannelBinding}
 use Rattle.fe2o3_scram.specs.declared.channel_binding.ChannelBindings.{ChannelBindings}
@@ -104,8 +104,8 @@ verified_texts_bind_one_channel side provider own text last its init response ve
         λ same.
             let agrees = (both.2 holds).0 same in
             let found = one_channel side.channel provider.rules.channels provider.rules.accept_cbind_flag_y
-            server.client.header has refuses (agrees.header bytes apart)
-            (names_client_first provider.rules init server.client server.reads_init).header
+            server.client.header.flag has refuses (ap (λ (header : Gs2Header). header.flag) (agrees.header bytes apart))
+            (names_client_first provider.rules init server.client server.reads_init).header.0
             (agrees.channel bytes apart) in (
               found.0,
               found.1,
@@ -132,8 +132,8 @@ shown_texts_bind_one_channel side provider own text its init response verifier c
             agrees,
             λ same.
                 let found = one_channel side.channel provider.rules.channels provider.rules.accept_cbind_flag_y
-                server.client.header has refuses ((agrees.agrees same).header bytes apart)
-                (names_client_first provider.rules init server.client server.reads_init).header
+                server.client.header.flag has refuses (ap (λ (header : Gs2Header). header.flag) ((agrees.agrees same).header bytes apart))
+                (names_client_first provider.rules init server.client server.reads_init).header.0
                 ((agrees.agrees same).channel bytes apart) in (
                   found.0,
                   found.1,

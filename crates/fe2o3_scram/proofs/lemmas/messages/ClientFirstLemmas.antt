@@ -1,14 +1,15 @@
 -- The reading of a client-first message.
-use Rattle.std.proofs.Common.{◌≡◌, arith, ap, get_or, ◌≢◌, ◌⊎◌, ℕ, List, ◌++◌, Result, Ok, Err, refl, sym, ◌∙◌, subst, codes, inl, inr}
+use Rattle.std.proofs.Common.{◌≡◌, arith, ap, get_or, ◌≢◌, ◌⊎◌, false, ℕ, List, [], ◌∷◌, ◌++◌, Result, Ok, Err, refl, sym, ◌∙◌, subst, codes, inl, inr}
 use Rattle.std.specs.Str.{IsUtf8}
 use Rattle.fe2o3_scram.specs.declared.scram_messages.error.ServerScramErrorKind.{ServerScramErrorKind}
-use Rattle.fe2o3_scram.specs.declared.scram_messages.error.ServerScramErrorKind.TheVariants.{Utf8Error, CannotParseGs2Header, CannotParseUsername, CannotParseClientNonce, MisplacedAttribute}
+use Rattle.fe2o3_scram.specs.declared.scram_messages.error.ServerScramErrorKind.TheVariants.{Utf8Error, CannotParseGs2Header, CannotParseUsername, CannotParseClientNonce, MisplacedAttribute, OutOfMemory}
 use Rattle.fe2o3_scram.specs.declared.scram_messages.server_rules.ServerRules.{ServerRules}
 use Rattle.std.specs.Prelude.{T}
-use Rattle.fe2o3_scram.specs.Extensions.{HasAttributeFrom}
-use Rattle.fe2o3_scram.specs.declared.scram_messages.channel_binding_flag.ChannelBindingFlag.{ChannelBindingFlag}
-use Rattle.fe2o3_scram.specs.ClientFirst.{HasEscapes, HasMisplacedAfterNonce, ClientFirst, BarePart, NamesClientFirst, ReadsClientFirst, client_first_tests}
-use Rattle.fe2o3_scram.specs.ChannelBinding.{TakesHeader, header_text, is_strict}
+use Rattle.fe2o3_scram.specs.Grammar.{HasMisplacedFrom, is_nonce, is_value}
+use Rattle.fe2o3_scram.specs.Readings.{IsFirst, NoneHolds}
+use Rattle.fe2o3_scram.specs.private.Tests.{bare_grammar_tests}
+use Rattle.fe2o3_scram.specs.ClientFirst.{HasEscapes, HasMisplacedAfterNonce, ClientFirst, BarePart, NamesClientFirst, NamesNoNonce, NamesNoValue, ReadsClientFirst, client_first_tests}
+use Rattle.fe2o3_scram.specs.ChannelBinding.{Gs2Header, TakesHeader, header_text, is_strict}
 use Rattle.fe2o3_scram.specs.declared.scram_messages.escape.UnescapeError.{UnescapeError}
 use Rattle.fe2o3_scram.specs.declared.scram_messages.escape.UnescapeError.TheVariants.{Invalid, OutOfMemory as UnescapeOutOfMemory}
 use Rattle.fe2o3_scram.specs.Escape.{NoEquals, escaped}
@@ -16,17 +17,34 @@ use Rattle.fe2o3_scram.specs.Texts.{Part, StartsWith}
 use Rattle.fe2o3_scram.proofs.lemmas.texts.EscapingLemmas.{one_escaped}
 use Rattle.fe2o3_scram.proofs.lemmas.texts.PartsLemmas.{one_behind}
 use Rattle.fe2o3_scram.proofs.lemmas.messages.HeaderLemmas.{one_header}
-use Rattle.fe2o3_scram.proofs.lemmas.messages.TestListLemmas.{one_reading}
+use Rattle.fe2o3_scram.proofs.lemmas.messages.TestListLemmas.{not_first, one_reading}
 
-part_of_bare : (rules : ServerRules) (header : ChannelBindingFlag) (text bare part : List ℕ) (k : ℕ)
+part_of_bare : (rules : ServerRules) (header : Gs2Header) (text bare part : List ℕ) (k : ℕ)
     → text ≡ header_text header ++ bare → BarePart rules text k part → Part bare k part
 part_of_bare rules header text bare part k is has = subst (λ (behind : List ℕ). Part behind k part)
     (one_header has.0 header text has.1 bare has.3 is).1 has.4
 
--- an attribute after the nonce is one of the text after the header
-pub after_nonce : (rules : ServerRules) (header : ChannelBindingFlag) (text bare : List ℕ)
-    → text ≡ header_text header ++ bare → HasMisplacedAfterNonce rules text → HasAttributeFrom 2 bare
-after_nonce rules header text bare is has = subst (λ (behind : List ℕ). HasAttributeFrom 2 behind)
+-- the user whom the message names is the one whose name this is
+pub name_of_bare : (rules : ServerRules) (header : Gs2Header) (text bare user : List ℕ)
+    → text ≡ header_text header ++ bare → Part bare 0 (codes "n=" ++ escaped user) → NamesNoValue rules text
+    → is_value user ≡ false
+name_of_bare rules header text bare user is part has =
+    let spelt = one_behind bare 0 (codes "n=") (escaped has.0) (escaped user)
+    (part_of_bare rules header text bare (codes "n=" ++ escaped has.0) 0 is has.1) part in
+    subst (λ (name : List ℕ). is_value name ≡ false) (one_escaped has.0 user spelt) has.2
+
+-- the nonce that it names is this one
+pub nonce_of_bare : (rules : ServerRules) (header : Gs2Header) (text bare nonce : List ℕ)
+    → text ≡ header_text header ++ bare → Part bare 1 (codes "r=" ++ nonce) → NamesNoNonce rules text
+    → is_nonce nonce ≡ false
+nonce_of_bare rules header text bare nonce is part has = subst (λ (named : List ℕ). is_nonce named ≡ false)
+    (one_behind bare 1 (codes "r=") has.0 nonce
+    (part_of_bare rules header text bare (codes "r=" ++ has.0) 1 is has.1) part) has.2
+
+-- what is misplaced after the nonce is so in the text after the header
+pub after_nonce : (rules : ServerRules) (header : Gs2Header) (text bare : List ℕ)
+    → text ≡ header_text header ++ bare → HasMisplacedAfterNonce rules text → HasMisplacedFrom 2 bare
+after_nonce rules header text bare is has = subst (λ (behind : List ℕ). HasMisplacedFrom 2 behind)
     (one_header has.0 header text has.1 bare has.3 is).1 has.4
 
 pub not_utf8 : (rules : ServerRules) (text : List ℕ) → ¬ IsUtf8 text → ReadsClientFirst rules text (Err Utf8Error)
@@ -34,12 +52,28 @@ unfolding ReadsClientFirst
 not_utf8 rules text fails = inl (fails, refl)
 
 pub no_header : (rules : ServerRules) (text : List ℕ) → IsUtf8 text
-    → ((header : ChannelBindingFlag) → TakesHeader rules header → ¬ StartsWith text (header_text header))
+    → ((header : Gs2Header) → TakesHeader rules header → ¬ StartsWith text (header_text header))
     → ReadsClientFirst rules text (Err CannotParseGs2Header)
 unfolding ReadsClientFirst
 no_header rules text utf8 none = inr (λ fails. fails utf8, inl (none, refl))
 
-module _ (rules : ServerRules) (header : ChannelBindingFlag) (text bare : List ℕ) (utf8 : IsUtf8 text)
+-- no test of the grammar has the error for a failed allocation
+pub not_the_grammar : (rules : ServerRules) (first : ClientFirst) → ¬ IsFirst (bare_grammar_tests rules first) OutOfMemory
+not_the_grammar rules first = not_first (bare_grammar_tests rules first) OutOfMemory
+    (λ wrong. absurd (cc), (λ wrong. absurd (cc), (λ wrong. absurd (cc), tt)))
+
+abbrev pub made : Gs2Header → List ℕ → List ℕ → List ℕ → ClientFirst
+made header user nonce bare = record { header = header; user = user; nonce = nonce; bare = bare }
+
+-- the tests of the grammar, of a text
+abbrev strict_tests : ServerRules → List ℕ → List (ServerScramErrorKind × Type 0)
+strict_tests rules text =
+    (CannotParseUsername, T rules.strict × NamesNoValue rules text)
+    ∷ (CannotParseClientNonce, T rules.strict × NamesNoNonce rules text)
+    ∷ (MisplacedAttribute, T (is_strict rules) × HasMisplacedAfterNonce rules text)
+    ∷ []
+
+module _ (rules : ServerRules) (header : Gs2Header) (text bare : List ℕ) (utf8 : IsUtf8 text)
     (takes : TakesHeader rules header) (is : text ≡ header_text header ++ bare) where
   pub no_name : ((rest : List ℕ) → ¬ Part bare 0 (codes "n=" ++ rest)) → ReadsClientFirst rules text
       (Err CannotParseUsername)
@@ -104,10 +138,10 @@ module _ (rules : ServerRules) (header : ChannelBindingFlag) (text bare : List �
       )
 
   pub named : (spelling user nonce : List ℕ) → Part bare 0 (codes "n=" ++ spelling) → escaped user ≡ spelling
-      → Part bare 1 (codes "r=" ++ nonce) → ¬ (T (is_strict rules) × HasAttributeFrom 2 bare)
-      → ReadsClientFirst rules text (Ok (record { header = header; user = user; nonce = nonce; bare = bare }))
+      → Part bare 1 (codes "r=" ++ nonce) → NoneHolds (bare_grammar_tests rules (made header user nonce bare))
+      → ReadsClientFirst rules text (Ok (made header user nonce bare))
   unfolding ReadsClientFirst
-  named spelling user nonce first spells has placed =
+  named spelling user nonce first spells has grammar =
       let part = user_part spelling user first spells in (
         (
           λ fails. fails utf8,
@@ -117,7 +151,13 @@ module _ (rules : ServerRules) (header : ChannelBindingFlag) (text bare : List �
               λ mock. mock user (header, bare, takes, is, part),
               (
                 λ none. none nonce (header, bare, takes, is, has),
-                (λ wrong. placed (wrong.0, after_nonce rules header text bare is wrong.1), tt),
+                (
+                  λ wrong. grammar.0 (wrong.0, name_of_bare rules header text bare user is part wrong.1),
+                  (
+                    λ wrong. grammar.1.0 (wrong.0, nonce_of_bare rules header text bare nonce is has wrong.1),
+                    (λ wrong. grammar.1.1.0 (wrong.0, after_nonce rules header text bare is wrong.1), tt),
+                  ),
+                ),
               ),
             ),
           ),
@@ -125,11 +165,30 @@ module _ (rules : ServerRules) (header : ChannelBindingFlag) (text bare : List �
         record { header = takes; bare = is; user = part; nonce = has },
       )
 
-  pub misplaced : (spelling user nonce : List ℕ) → Part bare 0 (codes "n=" ++ spelling) → escaped user ≡ spelling
-      → Part bare 1 (codes "r=" ++ nonce) → T (is_strict rules) → HasAttributeFrom 2 bare
-      → ReadsClientFirst rules text (Err MisplacedAttribute)
+  -- the first test of the grammar that holds of what is named holds of the text
+  grammar_first : (user nonce : List ℕ) (fault : ServerScramErrorKind) → Part bare 0 (codes "n=" ++ escaped user)
+      → Part bare 1 (codes "r=" ++ nonce) → IsFirst (bare_grammar_tests rules (made header user nonce bare)) fault
+      → IsFirst (strict_tests rules text) fault
+  grammar_first user nonce fault part has (inl (found, kind)) =
+      inl ((found.0, (user, (header, bare, takes, is, part), found.1)), kind)
+  grammar_first user nonce fault part has (inr (name, inl (found, kind))) = inr (
+    λ wrong. name (wrong.0, name_of_bare rules header text bare user is part wrong.1),
+    inl ((found.0, (nonce, (header, bare, takes, is, has), found.1)), kind),
+  )
+  grammar_first user nonce fault part has (inr (name, inr (plain, inl (found, kind)))) = inr (
+    λ wrong. name (wrong.0, name_of_bare rules header text bare user is part wrong.1),
+    inr (
+      λ wrong. plain (wrong.0, nonce_of_bare rules header text bare nonce is has wrong.1),
+      inl ((found.0, (header, bare, takes, is, found.1)), kind),
+    ),
+  )
+  grammar_first user nonce fault part has (inr (name, inr (plain, inr (placed, none)))) = absurd none
+
+  pub grammar_refused : (spelling user nonce : List ℕ) (fault : ServerScramErrorKind)
+      → Part bare 0 (codes "n=" ++ spelling) → escaped user ≡ spelling → Part bare 1 (codes "r=" ++ nonce)
+      → IsFirst (bare_grammar_tests rules (made header user nonce bare)) fault → ReadsClientFirst rules text (Err fault)
   unfolding ReadsClientFirst
-  misplaced spelling user nonce first spells has strict attribute =
+  grammar_refused spelling user nonce fault first spells has refused =
       let part = user_part spelling user first spells in
       inr (
         λ fails. fails utf8,
@@ -139,14 +198,11 @@ module _ (rules : ServerRules) (header : ChannelBindingFlag) (text bare : List �
             λ mock. mock user (header, bare, takes, is, part),
             inr (
               λ none. none nonce (header, bare, takes, is, has),
-              inl ((strict, (header, bare, takes, is, attribute)), refl),
+              grammar_first user nonce fault part has refused,
             ),
           ),
         ),
       )
-
-abbrev made : ChannelBindingFlag → List ℕ → List ℕ → List ℕ → ClientFirst
-made header user nonce bare = record { header = header; user = user; nonce = nonce; bare = bare }
 
 one_values : (rules : ServerRules) (text : List ℕ) (first other : ClientFirst) → NamesClientFirst rules text first
     → NamesClientFirst rules text other → first ≡ other

@@ -12,9 +12,8 @@ use Rattle.std.proofs.lemmas.Str.{IsUtf8-append}
 use Rattle.base64.specs.GeneralPurpose.{IsBytes}
 use Rattle.fe2o3_scram.specs.Texts.{base64_text, IsCount, NoComma, Parts, Part, joined, HasBase64}
 use Rattle.fe2o3_scram.specs.ClientFinal.{Answer, answer_by, fit, keys_for, client_final_of, Server, ClientFinal, HasMisplacedBeforeProof, Meets, ReadsClientFinal, without_proof_with}
-use Rattle.fe2o3_scram.specs.declared.scram_messages.client_channel.ClientChannel.{ClientChannel}
 use Rattle.fe2o3_scram.specs.ClientFirst.{client_first_bare, client_first_with, ReadsClientFirst}
-use Rattle.fe2o3_scram.specs.ChannelBinding.{cbind_data, cbind_input, flag_of}
+use Rattle.fe2o3_scram.specs.ChannelBinding.{ClientHeader, HoldsHeaderBytes, cbind_input, header_of}
 use Rattle.fe2o3_scram.specs.Escape.{escaped}
 use Rattle.fe2o3_scram.specs.Exchanges.{Exchange, client_in, IsSound, OpensRecord, Succeeds, nonce_in, bare_in, first_in, named_in, server_in, final_in, answer_in}
 use Rattle.fe2o3_scram.specs.Hmac.{digest, digest_len, exclusive_or}
@@ -39,9 +38,9 @@ use Rattle.fe2o3_scram.proofs.lemmas.texts.EscapingLemmas.{no_comma-escaped}
 use Rattle.fe2o3_scram.proofs.lemmas.texts.PartsLemmas.{one_part}
 use Rattle.fe2o3_scram.proofs.lemmas.texts.CutLemmas.{one_last_cut}
 use Rattle.fe2o3_scram.proofs.lemmas.texts.ExtensionLemmas.{none_after_all}
-use Rattle.fe2o3_scram.specs.Extensions.{HasAttributeFrom}
+use Rattle.fe2o3_scram.specs.Grammar.{HasMisplacedFrom}
 use Rattle.fe2o3_scram.proofs.lemmas.messages.ServerFinalLemmas.{same_signature, signature_read}
-use Rattle.fe2o3_scram.proofs.lemmas.messages.ServerFirstLemmas.{values_read, same_nonce, not_too_small, not_too_large, secret_holds}
+use Rattle.fe2o3_scram.proofs.lemmas.messages.ServerFirstLemmas.{adds_one, values_read, same_nonce, not_too_small, not_too_large, secret_holds}
 
 -- exclusive ors
 
@@ -111,17 +110,27 @@ bare_text : (user nonce : List ℕ) → IsUtf8 user → IsUtf8 nonce → IsUtf8 
 bare_text user nonce utf8 too = IsUtf8-append (codes "n=" ++ escaped user) (codes ",r=" ++ nonce)
     (utf8_behind (codes "n=") (escaped user) refl (IsUtf8-escaped user utf8)) (utf8_behind (codes ",r=") nonce refl too)
 
+-- a truth value is one of both
+not_both : {b : Bool} → b ≡ true → b ≡ false → ⊥
+not_both is not_so = let wrong : ◌≡◌ {A = Bool} true false = sym is ∙ not_so in absurd (cc)
+
 reads_client_first : (x : Exchange) → IsSound x
-    → ReadsClientFirst x.rules (client_first_with (flag_of x.channel) x.user x.client_nonce)
-    (Ok (record { header = flag_of x.channel; user = x.user; nonce = x.client_nonce; bare = bare_in x }))
+    → ReadsClientFirst x.rules (client_first_with (header_of x.header) x.user x.client_nonce)
+    (Ok (record { header = header_of x.header; user = x.user; nonce = x.client_nonce; bare = bare_in x }))
 reads_client_first x sound =
     let parts = two_parts (codes "n=" ++ escaped x.user) (codes "r=" ++ x.client_nonce)
     (part_of (codes "n=") (escaped x.user) refl (no_comma-escaped x.user))
     (part_of (codes "r=") x.client_nonce refl sound.client_plain) in
-    let utf8 = header_utf8 (flag_of x.channel) (bare_in x) (bare_text x.user x.client_nonce sound.user sound.client_text) in
-    named x.rules (flag_of x.channel) (client_first_with (flag_of x.channel) x.user x.client_nonce) (bare_in x) utf8 sound.header refl
+    let utf8 = header_utf8 (header_of x.header) (bare_in x) sound.identity (bare_text x.user x.client_nonce sound.user sound.client_text) in
+    named x.rules (header_of x.header) (client_first_with (header_of x.header) x.user x.client_nonce) (bare_in x) utf8 sound.header refl
     (escaped x.user) x.user x.client_nonce
-    (_, parts, refl) refl (_, parts, refl) (λ wrong. none_after_all 2 (bare_in x) _ parts refl wrong.1)
+    (_, parts, refl) refl (_, parts, refl) (
+      λ wrong. not_both (sound.name wrong.0) wrong.1,
+      (
+        λ wrong. not_both (sound.client_printable wrong.0) wrong.1,
+        (λ wrong. none_after_all 2 (bare_in x) _ parts refl wrong.1, tt),
+      ),
+    )
 
 -- server-first
 
@@ -173,11 +182,11 @@ opened version (Both own keys) password salt count nonce opens = go (fit keys fi
 abbrev made_in : Exchange → Answer
 made_in x =
     answer_by (keys_of x.version x.password x.salt x.count) (bare_in x) (first_in x)
-    (without_proof_with x.channel (nonce_in x))
+    (without_proof_with x.header (nonce_in x))
 
 pub answered : (x : Exchange) → IsSound x → answer_in x ≡ made_in x
 answered x sound =
-    ap (λ (keys : ClientKeys). answer_by keys (bare_in x) (first_in x) (without_proof_with x.channel (nonce_in x)))
+    ap (λ (keys : ClientKeys). answer_by keys (bare_in x) (first_in x) (without_proof_with x.header (nonce_in x)))
     (opened x.version x.secret x.password x.salt x.count (nonce_in x) sound.opens).0
 
 reads_server_first : (x : Exchange) → IsSound x
@@ -214,8 +223,14 @@ reads_server_first x sound =
           (not_too_large (first_in x) x.limits.max_iterations x.count count sound.within, tt),
         ),
       ),
+    ) (
+      λ wrong. adds_one (first_in x) x.client_nonce (nonce_in x) x.server_nonce nonce refl (sound.server_printable wrong.0) wrong.1,
+      (
+        λ wrong. wrong.1 x.count (decimal x.count, digits, (refl, sound.some, small)),
+        (λ wrong. none_after_all 3 (first_in x) _ parts refl wrong.1, tt),
+      ),
     )
-    (λ wrong. none_after_all 3 (first_in x) _ parts refl wrong.1) (secret_holds x.secret (first_in x) (named_in x) names
+    (secret_holds x.secret (first_in x) (named_in x) names
     (opened x.version x.secret x.password x.salt x.count (nonce_in x) sound.opens).1) names
 
 -- client-final
@@ -229,12 +244,12 @@ final_parts c r p plain too also = record {
       sym (append_assoc c (44 ∷ r) (44 ∷ p));
 }
 
-final_text : (channel : ClientChannel) (nonce proof : List ℕ) → IsUtf8 nonce
-    → IsUtf8 (client_final_of (without_proof_with channel nonce) proof)
-final_text channel nonce proof utf8 =
-    IsUtf8-append (without_proof_with channel nonce) (codes ",p=" ++ base64_text proof)
-    (IsUtf8-append (codes "c=" ++ base64_text (cbind_input channel)) (codes ",r=" ++ nonce)
-    (utf8_behind (codes "c=") (base64_text (cbind_input channel)) refl (IsUtf8-base64_text (cbind_input channel)))
+final_text : (header : ClientHeader) (nonce proof : List ℕ) → IsUtf8 nonce
+    → IsUtf8 (client_final_of (without_proof_with header nonce) proof)
+final_text header nonce proof utf8 =
+    IsUtf8-append (without_proof_with header nonce) (codes ",p=" ++ base64_text proof)
+    (IsUtf8-append (codes "c=" ++ base64_text (cbind_input header)) (codes ",r=" ++ nonce)
+    (utf8_behind (codes "c=") (base64_text (cbind_input header)) refl (IsUtf8-base64_text (cbind_input header)))
     (utf8_behind (codes ",r=") nonce refl utf8))
     (utf8_behind (codes ",p=") (base64_text proof) refl (IsUtf8-base64_text proof))
 
@@ -244,9 +259,9 @@ pub final_read : (server : Server) (text : List ℕ) (final : ClientFinal) → I
     → ReadsClientFinal server text (Ok final)
 unfolding ReadsClientFinal
 final_read server text final utf8 names placed = (
-  text_read server.channel server.strict server.nonce text utf8 final (
-    λ none. none (base64_text (cbind_input server.channel)) names.binding.1,
-    (λ none. none (cbind_input server.channel) names.binding, (λ other. other names.binding, tt)),
+  text_read server.header server.strict server.nonce text utf8 final (
+    λ none. none (base64_text (cbind_input server.header)) names.binding.1,
+    (λ none. none (cbind_input server.header) names.binding, (λ other. other names.binding, tt)),
   )
       (λ none. none server.nonce names.nonce, (λ other. other names.nonce, tt)) (
         λ none. none final.without (base64_text final.proof) names.proof.1,
@@ -257,35 +272,35 @@ final_read server text final utf8 names placed = (
   names.meets,
 )
 
-reads_final : (server : Server) (channel : ClientChannel) (proof : List ℕ)
-    → cbind_input server.channel ≡ cbind_input channel → IsBytes (cbind_data channel)
+reads_final : (server : Server) (header : ClientHeader) (proof : List ℕ)
+    → cbind_input server.header ≡ cbind_input header → HoldsHeaderBytes header
     → NoComma server.nonce → IsUtf8 server.nonce → IsBytes proof
     → length proof ≡ digest_len server.version → Meets server
-    (record { without = without_proof_with channel server.nonce; proof = proof })
-    → ReadsClientFinal server (client_final_of (without_proof_with channel server.nonce) proof)
-    (Ok (record { without = without_proof_with channel server.nonce; proof = proof }))
-reads_final server channel proof expected known plain utf8 bytes sized meets =
+    (record { without = without_proof_with header server.nonce; proof = proof })
+    → ReadsClientFinal server (client_final_of (without_proof_with header server.nonce) proof)
+    (Ok (record { without = without_proof_with header server.nonce; proof = proof }))
+reads_final server header proof expected known plain utf8 bytes sized meets =
     let nonce = server.nonce in
-    let text = client_final_of (without_proof_with channel nonce) proof in
-    let final : ClientFinal = record { without = without_proof_with channel nonce; proof = proof } in
+    let text = client_final_of (without_proof_with header nonce) proof in
+    let final : ClientFinal = record { without = without_proof_with header nonce; proof = proof } in
     let last = part_of (codes "p=") (base64_text proof) refl (no_comma-base64_text proof) in
-    let first = part_of (codes "c=") (base64_text (cbind_input channel)) refl (no_comma-base64_text (cbind_input channel)) in
+    let first = part_of (codes "c=") (base64_text (cbind_input header)) refl (no_comma-base64_text (cbind_input header)) in
     let second = part_of (codes "r=") nonce refl plain in
-    let parts = final_parts (codes "c=" ++ base64_text (cbind_input channel)) (codes "r=" ++ nonce)
+    let parts = final_parts (codes "c=" ++ base64_text (cbind_input header)) (codes "r=" ++ nonce)
     (codes "p=" ++ base64_text proof) first second last in
-    final_read server text final (final_text channel nonce proof utf8)
+    final_read server text final (final_text header nonce proof utf8)
     (record {
       binding = subst (HasBase64 text 0 (codes "c=")) (sym expected)
-          (IsBytes-cbind_input channel known, (_, parts, refl));
+          (IsBytes-cbind_input header known, (_, parts, refl));
       nonce = (_, parts, refl);
       proof =
           (bytes, (last, refl));
       sized = sized;
       meets = meets;
     })
-    (λ wrong. none_after_all 2 (without_proof_with channel nonce) _
-    (two_parts (codes "c=" ++ base64_text (cbind_input channel)) (codes "r=" ++ nonce) first second) refl
-    (subst (HasAttributeFrom 2) (sym (one_last_cut 44 text (without_proof_with channel nonce)
+    (λ wrong. none_after_all 2 (without_proof_with header nonce) _
+    (two_parts (codes "c=" ++ base64_text (cbind_input header)) (codes "r=" ++ nonce) first second) refl
+    (subst (HasMisplacedFrom 2) (sym (one_last_cut 44 text (without_proof_with header nonce)
     (codes "p=" ++ base64_text proof) wrong.1.0 (codes "p=" ++ wrong.1.1) (last, refl) wrong.1.2).0)
     wrong.1.3))
 
@@ -293,12 +308,12 @@ reads_client_final : (x : Exchange) → IsSound x → ReadsClientFinal (server_i
 reads_client_final x sound =
     let v = x.version in
     let salted = salted_of v x.password x.salt x.count in
-    let auth = auth_message (bare_in x) (first_in x) (without_proof_with x.channel (nonce_in x)) in
+    let auth = auth_message (bare_in x) (first_in x) (without_proof_with x.header (nonce_in x)) in
     let key = client_key v salted in
     let mac = client_signature v (stored_key v key) auth in
     let key_long : length key ≡ digest_len v = length-hmac_of v salted (codes "Client Key") in
     let mac_long : length mac ≡ digest_len v = length-hmac_of v (stored_key v key) auth in
-    reads_final (server_in x) x.channel (client_proof v key auth) sound.channel sound.bytes (nonce_plain x sound) (nonce_text x sound)
+    reads_final (server_in x) x.header (client_proof v key auth) sound.channel sound.bytes (nonce_plain x sound) (nonce_text x sound)
     (IsBytes-exclusive_or key mac (IsBytes-hmac_of v salted (codes "Client Key"))
     (IsBytes-hmac_of v (stored_key v key) auth))
     (length-exclusive_or key mac (key_long ∙ sym mac_long) ∙ key_long)
@@ -306,18 +321,19 @@ reads_client_final x sound =
 
 -- server-final
 
-pub reads_signature : (signature : List ℕ) → IsBytes signature
-    → ReadsServerFinal signature (codes "v=" ++ base64_text signature) (Ok tt)
-reads_signature signature bytes =
+pub reads_signature : (strict : Bool) (signature : List ℕ) → IsBytes signature
+    → ReadsServerFinal strict signature (codes "v=" ++ base64_text signature) (Ok tt)
+reads_signature strict signature bytes =
     let text = codes "v=" ++ base64_text signature in
     let plain = part_of (codes "v=") (base64_text signature) refl (no_comma-base64_text signature) in
     let utf8 = utf8_behind (codes "v=") (base64_text signature) refl (IsUtf8-base64_text signature) in
-    same_signature signature text signature (signature_read text utf8 (base64_text signature) signature
-    (_, only_part text plain, refl) (bytes, refl)) refl
+    same_signature strict signature text signature (signature_read strict text utf8 (base64_text signature) signature
+    (_, only_part text plain, refl) (bytes, refl) (λ wrong. none_after_all 1 text _ (only_part text plain) refl wrong.1))
+    refl
 
 reads_server_final : (x : Exchange)
-    → ReadsServerFinal (made_in x).signature (server_final_of (server_in x) (final_in x)) (Ok tt)
-reads_server_final x = reads_signature (made_in x).signature (IsBytes-hmac_of x.version _ _)
+    → ReadsServerFinal (client_in x).strict (made_in x).signature (server_final_of (server_in x) (final_in x)) (Ok tt)
+reads_server_final x = reads_signature (client_in x).strict (made_in x).signature (IsBytes-hmac_of x.version _ _)
 
 pub succeeds : (x : Exchange) → IsSound x → Succeeds x
 succeeds x sound = record {
@@ -325,6 +341,6 @@ succeeds x sound = record {
   server_first = reads_server_first x sound;
   client_final = subst (λ (answer : Answer). ReadsClientFinal (server_in x) answer.message (Ok (final_in x)))
       (sym (answered x sound)) (reads_client_final x sound);
-  server_final = subst (λ (answer : Answer). ReadsServerFinal answer.signature
+  server_final = subst (λ (answer : Answer). ReadsServerFinal (client_in x).strict answer.signature
       (server_final_of (server_in x) (final_in x)) (Ok tt)) (sym (answered x sound)) (reads_server_final x);
 }

@@ -1,19 +1,24 @@
 -- GS2 headers and channel bindings: no two have one text, and all are bytes and UTF-8.
-use Rattle.std.proofs.Common.{◌≡◌, ℕ, Option, Some, None, List, ◌++◌, get_or, refl, sym, ap, ◌∙◌, subst, codes, nat_eq, if◌then◌else◌}
+use Rattle.std.proofs.Common.{◌≡◌, ℕ, Bool, false, Option, Some, None, is_some, option_map, List, [], ◌∷◌, ◌++◌, append_assoc, get_or, refl, sym, ap, ◌∙◌, subst, codes, nat_eq, if◌then◌else◌}
 use Rattle.std.proofs.lemmas.List.{append_cancel_left}
 use Rattle.std.specs.Str.{IsUtf8}
 use Rattle.base64.specs.GeneralPurpose.{IsBytes}
-use Rattle.fe2o3_scram.specs.ChannelBinding.{TakesBound, cbind_data, cbind_input, data_of_kind, flag_of, header_text}
-use Rattle.fe2o3_scram.specs.Texts.{StartsWith}
+use Rattle.fe2o3_scram.specs.ChannelBinding.{AcceptsFlag, ClientHeader, Gs2Header, HoldsHeaderBytes, TakesBound, TakesHeader, authzid_text, cbind_data, cbind_input, data_of_kind, flag_text, header_of, header_text, own_header}
+use Rattle.fe2o3_scram.specs.Escape.{escaped}
+use Rattle.fe2o3_scram.specs.Texts.{NoComma, StartsWith}
 use Rattle.fe2o3_scram.specs.declared.channel_binding.ChannelBindings.{ChannelBindings}
 use Rattle.fe2o3_scram.specs.declared.channel_binding.ChannelData.{ChannelData}
 use Rattle.fe2o3_scram.specs.declared.channel_binding.ChannelKind.{ChannelKind}
 use Rattle.fe2o3_scram.specs.declared.channel_binding.ChannelKind.TheVariants.{TlsUnique, TlsServerEndPoint, TlsExporter}
-use Rattle.fe2o3_scram.specs.declared.scram_messages.client_channel.ClientChannel.{ClientChannel}
+use Rattle.fe2o3_scram.specs.declared.scram_messages.server_rules.ServerRules.{ServerRules}
 use Rattle.fe2o3_scram.specs.declared.scram_messages.channel_binding_flag.ChannelBindingFlag.{ChannelBindingFlag}
 use Rattle.fe2o3_scram.specs.declared.scram_messages.channel_binding_flag.ChannelBindingFlag.TheVariants.{NotSupported, ClientSupports, Required}
 use Rattle.fe2o3_scram.proofs.lemmas.hashes.DigestLemmas.{IsBytes-append, IsBytes-literal}
+use Rattle.std.proofs.lemmas.Str.{IsUtf8-append}
 use Rattle.fe2o3_scram.proofs.lemmas.texts.AsciiLemmas.{utf8_behind}
+use Rattle.fe2o3_scram.proofs.lemmas.texts.Base64Lemmas.{no_comma-append, no_comma-test}
+use Rattle.fe2o3_scram.proofs.lemmas.texts.CutLemmas.{one_cut}
+use Rattle.fe2o3_scram.proofs.lemmas.texts.EscapingLemmas.{no_comma-escaped, one_escaped}
 
 -- the header that a text begins with: 110 and 121 are n and y; in place 6 of the others is u, s or e of the kind's name
 abbrev flag_at : List ℕ → ChannelBindingFlag
@@ -23,67 +28,117 @@ flag_at text = if nat_eq (get_or text 0 0) 110 then NotSupported
     else (if nat_eq (get_or text 6 0) 115 then Required TlsServerEndPoint
     else Required TlsExporter)))
 
-flag_read : (header : ChannelBindingFlag) (rest : List ℕ) → flag_at (header_text header ++ rest) ≡ header
-flag_read NotSupported rest = refl
-flag_read ClientSupports rest = refl
-flag_read (Required TlsUnique) rest = refl
-flag_read (Required TlsServerEndPoint) rest = refl
-flag_read (Required TlsExporter) rest = refl
+flag_read : (flag : ChannelBindingFlag) (behind rest : List ℕ) → flag_at ((flag_text flag ++ behind) ++ rest) ≡ flag
+flag_read NotSupported behind rest = refl
+flag_read ClientSupports behind rest = refl
+flag_read (Required TlsUnique) behind rest = refl
+flag_read (Required TlsServerEndPoint) behind rest = refl
+flag_read (Required TlsExporter) behind rest = refl
+
+no_comma-identity : (acts_for : Option (List ℕ)) → NoComma (authzid_text acts_for)
+no_comma-identity None = tt
+no_comma-identity (Some name) = no_comma-append (codes "a=") (escaped name) (no_comma-test (codes "a=") refl) (no_comma-escaped name)
+
+one_identity : (acts_for own : Option (List ℕ)) → authzid_text acts_for ≡ authzid_text own → acts_for ≡ own
+one_identity None None same = refl
+one_identity None (Some name) same = absurd (cc)
+one_identity (Some name) None same = absurd (cc)
+one_identity (Some name) (Some other) same =
+    ap Some (one_escaped name other (append_cancel_left (codes "a=") (escaped name) (escaped other) same))
+
+-- a header, and a text after it: the flag, the identity between two commas, and the text
+in_pieces : (header : Gs2Header) (bare : List ℕ) → header_text header ++ bare
+    ≡ flag_text header.flag ++ (44 ∷ (authzid_text header.acts_for ++ (44 ∷ bare)))
+in_pieces header bare = append_assoc (flag_text header.flag) (44 ∷ (authzid_text header.acts_for ++ (44 ∷ []))) bare
+    ∙ ap (λ (z : List ℕ). flag_text header.flag ++ (44 ∷ z)) (append_assoc (authzid_text header.acts_for) (44 ∷ []) bare)
 
 -- a text begins with one header, and one text follows it
-pub one_header : (header own : ChannelBindingFlag) (text bare other : List ℕ) → text ≡ header_text header ++ bare
+pub one_header : (header own : Gs2Header) (text bare other : List ℕ) → text ≡ header_text header ++ bare
     → text ≡ header_text own ++ other → (header ≡ own) × (bare ≡ other)
 one_header header own text bare other is too =
     let both : header_text header ++ bare ≡ header_text own ++ other = sym is ∙ too in
-    let same : header ≡ own = sym (flag_read header bare) ∙ (ap flag_at both ∙ flag_read own other) in (
-      same,
-      append_cancel_left (header_text own) bare other
-          (ap (λ (flag : ChannelBindingFlag). header_text flag ++ bare) (sym same) ∙ both),
+    let flag : header.flag ≡ own.flag = sym (flag_read header.flag _ bare) ∙ (ap flag_at both ∙ flag_read own.flag _ other) in
+    let apart : flag_text own.flag ++ (44 ∷ (authzid_text header.acts_for ++ (44 ∷ bare)))
+    ≡ flag_text own.flag ++ (44 ∷ (authzid_text own.acts_for ++ (44 ∷ other))) =
+    ap (λ (z : ChannelBindingFlag). flag_text z ++ (44 ∷ (authzid_text header.acts_for ++ (44 ∷ bare)))) (sym flag)
+    ∙ (sym (in_pieces header bare) ∙ (both ∙ in_pieces own other)) in
+    let named : authzid_text header.acts_for ++ (44 ∷ bare) ≡ authzid_text own.acts_for ++ (44 ∷ other) =
+    append_cancel_left (44 ∷ []) _ _ (append_cancel_left (flag_text own.flag) _ _ apart) in
+    let cut = one_cut 44 (authzid_text header.acts_for ++ (44 ∷ bare)) (authzid_text header.acts_for) bare
+    (authzid_text own.acts_for) other (no_comma-identity header.acts_for, refl) (no_comma-identity own.acts_for, named) in
+    let acts_for : header.acts_for ≡ own.acts_for = one_identity header.acts_for own.acts_for cut.0 in (
+      λ i. record { flag = flag i; acts_for = acts_for i },
+      cut.1,
     )
 
 -- channel bindings that are one have one header and one data
-pub one_binding : (channel other : ClientChannel) → cbind_input channel ≡ cbind_input other
-    → (flag_of channel ≡ flag_of other) × (cbind_data channel ≡ cbind_data other)
-one_binding channel other same =
-    one_header (flag_of channel) (flag_of other) (cbind_input channel) (cbind_data channel) (cbind_data other) refl same
+pub one_binding : (header other : ClientHeader) → cbind_input header ≡ cbind_input other
+    → (header_of header ≡ header_of other) × (cbind_data header.channel ≡ cbind_data other.channel)
+one_binding header other same = one_header (header_of header) (header_of other) (cbind_input header)
+    (cbind_data header.channel) (cbind_data other.channel) refl same
 
-IsBytes-header : (header : ChannelBindingFlag) → IsBytes (header_text header)
-IsBytes-header NotSupported = IsBytes-literal (codes "n,,") refl
-IsBytes-header ClientSupports = IsBytes-literal (codes "y,,") refl
-IsBytes-header (Required TlsUnique) = IsBytes-literal (codes "p=tls-unique,,") refl
-IsBytes-header (Required TlsServerEndPoint) = IsBytes-literal (codes "p=tls-server-end-point,,") refl
-IsBytes-header (Required TlsExporter) = IsBytes-literal (codes "p=tls-exporter,,") refl
+IsBytes-flag : (flag : ChannelBindingFlag) → IsBytes (flag_text flag)
+IsBytes-flag NotSupported = IsBytes-literal (codes "n") refl
+IsBytes-flag ClientSupports = IsBytes-literal (codes "y") refl
+IsBytes-flag (Required TlsUnique) = IsBytes-literal (codes "p=tls-unique") refl
+IsBytes-flag (Required TlsServerEndPoint) = IsBytes-literal (codes "p=tls-server-end-point") refl
+IsBytes-flag (Required TlsExporter) = IsBytes-literal (codes "p=tls-exporter") refl
 
-pub IsBytes-cbind_input : (channel : ClientChannel) → IsBytes (cbind_data channel) → IsBytes (cbind_input channel)
-IsBytes-cbind_input channel bytes =
-    IsBytes-append (header_text (flag_of channel)) (cbind_data channel) (IsBytes-header (flag_of channel)) bytes
+IsBytes-header : (header : Gs2Header) → IsBytes (authzid_text header.acts_for) → IsBytes (header_text header)
+IsBytes-header header identity = IsBytes-append (flag_text header.flag) _ (IsBytes-flag header.flag)
+    (IsBytes-append (codes ",") _ (IsBytes-literal (codes ",") refl)
+    (IsBytes-append (authzid_text header.acts_for) (codes ",") identity (IsBytes-literal (codes ",") refl)))
+
+pub IsBytes-cbind_input : (header : ClientHeader) → HoldsHeaderBytes header → IsBytes (cbind_input header)
+IsBytes-cbind_input header bytes = IsBytes-append (header_text (header_of header)) (cbind_data header.channel)
+    (IsBytes-header (header_of header) bytes.1) bytes.0
+
+flag_utf8 : (flag : ChannelBindingFlag) (rest : List ℕ) → IsUtf8 rest → IsUtf8 (flag_text flag ++ rest)
+flag_utf8 NotSupported rest utf8 = utf8_behind (codes "n") rest refl utf8
+flag_utf8 ClientSupports rest utf8 = utf8_behind (codes "y") rest refl utf8
+flag_utf8 (Required TlsUnique) rest utf8 = utf8_behind (codes "p=tls-unique") rest refl utf8
+flag_utf8 (Required TlsServerEndPoint) rest utf8 = utf8_behind (codes "p=tls-server-end-point") rest refl utf8
+flag_utf8 (Required TlsExporter) rest utf8 = utf8_behind (codes "p=tls-exporter") rest refl utf8
 
 -- a header, and a text after it
-pub header_utf8 : (header : ChannelBindingFlag) (bare : List ℕ) → IsUtf8 bare → IsUtf8 (header_text header ++ bare)
-header_utf8 NotSupported bare utf8 = utf8_behind (codes "n,,") bare refl utf8
-header_utf8 ClientSupports bare utf8 = utf8_behind (codes "y,,") bare refl utf8
-header_utf8 (Required TlsUnique) bare utf8 = utf8_behind (codes "p=tls-unique,,") bare refl utf8
-header_utf8 (Required TlsServerEndPoint) bare utf8 = utf8_behind (codes "p=tls-server-end-point,,") bare refl utf8
-header_utf8 (Required TlsExporter) bare utf8 = utf8_behind (codes "p=tls-exporter,,") bare refl utf8
+pub header_utf8 : (header : Gs2Header) (bare : List ℕ) → IsUtf8 (authzid_text header.acts_for) → IsUtf8 bare
+    → IsUtf8 (header_text header ++ bare)
+header_utf8 header bare identity utf8 = subst IsUtf8 (sym (in_pieces header bare)) (flag_utf8 header.flag _
+    (utf8_behind (codes ",") _ refl (IsUtf8-append (authzid_text header.acts_for) (44 ∷ bare) identity
+    (utf8_behind (codes ",") bare refl utf8))))
+
+-- a text that begins with no header of a client that acts for itself begins with none that is accepted
+pub no_other : (rules : ServerRules) (text : List ℕ)
+    → ((flag : ChannelBindingFlag) → AcceptsFlag rules flag → ¬ StartsWith text (header_text (own_header flag)))
+    → (header : Gs2Header) → TakesHeader rules header → ¬ StartsWith text (header_text header)
+no_other rules text none header takes begins = none header.flag takes.0
+    (subst (λ (acts_for : Option (List ℕ)). StartsWith text (header_text (record { flag = header.flag; acts_for = acts_for })))
+    takes.1 begins)
 
 -- a text that begins with the header of no kind begins with none that a server of the mechanism with channel binding
 -- accepts
 pub no_kind : (channels : ChannelBindings) (text : List ℕ)
-    → ((kind : ChannelKind) → ¬ StartsWith text (header_text (Required kind)))
-    → (header : ChannelBindingFlag) → TakesBound channels header → ¬ StartsWith text (header_text header)
+    → ((kind : ChannelKind) → ¬ StartsWith text (header_text (own_header (Required kind))))
+    → (flag : ChannelBindingFlag) → TakesBound channels flag → ¬ StartsWith text (header_text (own_header flag))
 no_kind channels text none NotSupported takes begins = takes
 no_kind channels text none ClientSupports takes begins = takes
 no_kind channels text none (Required kind) takes begins = none kind begins
 
 -- a server that has no data of the kind that a text begins with accepts no header of it
 pub no_data_of : (channels : ChannelBindings) (text bare : List ℕ) (kind : ChannelKind)
-    → text ≡ header_text (Required kind) ++ bare → data_of_kind channels kind ≡ None
-    → (header : ChannelBindingFlag) → TakesBound channels header → ¬ StartsWith text (header_text header)
+    → text ≡ header_text (own_header (Required kind)) ++ bare → data_of_kind channels kind ≡ None
+    → (flag : ChannelBindingFlag) → TakesBound channels flag → ¬ StartsWith text (header_text (own_header flag))
 no_data_of channels text bare kind is absent NotSupported takes begins = takes
 no_data_of channels text bare kind is absent ClientSupports takes begins = takes
 no_data_of channels text bare kind is absent (Required other) takes begins =
-    let same = (one_header (Required kind) (Required other) text bare begins.0 is begins.1).0 in
+    let same = (one_header (own_header (Required kind)) (own_header (Required other)) text bare begins.0 is begins.1).0 in
+    let flags : Required kind ≡ Required other = ap (λ (header : Gs2Header). header.flag) same in
     let one : kind ≡ other = cc in
     let wrong : ◌≡◌ {A = Option ChannelData} None (Some takes.0) =
     sym absent ∙ (ap (data_of_kind channels) one ∙ takes.1) in
     absurd (cc)
+
+-- a header that names nobody
+pub no_name : {X : Type 0} (found : Option X) (text : X → List ℕ) → is_some found ≡ false → option_map text found ≡ None
+no_name None text is = refl
+no_name (Some x) text is = absurd (cc)

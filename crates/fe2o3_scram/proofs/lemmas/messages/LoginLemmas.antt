@@ -3,7 +3,7 @@
 use Rattle.std.proofs.Common.{ℕ, Some, None, List, refl, Ok}
 use Rattle.fe2o3_scram.specs.Logins.{AcceptedTextsLogIn, IsSigned, VerifiedTextsAreSigned}
 use Rattle.fe2o3_scram.specs.ScramClient as client_states
-use Rattle.fe2o3_scram.specs.ScramClient.{ClientSide, ClientState, VerifiesIn}
+use Rattle.fe2o3_scram.specs.ScramClient.{is_strict_client, ClientSide, ClientState, VerifiesIn}
 use Rattle.fe2o3_scram.specs.ScramServer.{ServerFirstSent}
 
 pub accepted_texts_log_in : AcceptedTextsLogIn
@@ -25,7 +25,7 @@ accepted_texts_log_in state next version rules text answer from = absurd from
 -- ---- a client
 
 signed : (state : ClientState) (side next : ClientSide) (text : List ℕ) → VerifiesIn state side text (Ok tt) next
-    → IsSigned state text
+    → IsSigned (is_strict_client side) state text
 signed (client_states.ClientFinalSent signature keys) side next text from =
     record { signature = signature; keys = keys; waits = refl; reads = from.0 }
 signed state side next text from = absurd from

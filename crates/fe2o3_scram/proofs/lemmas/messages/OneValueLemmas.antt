@@ -1,5 +1,5 @@
 -- What the four messages name, where they are read.
-use Rattle.std.proofs.Common.{◌≡◌, ℕ, List, Result, Ok, codes}
+use Rattle.std.proofs.Common.{◌≡◌, Bool, ℕ, List, Result, Ok, codes}
 use Rattle.fe2o3_scram.specs.declared.scram_messages.server_rules.ServerRules.{ServerRules}
 use Rattle.fe2o3_scram.specs.ClientFirst.{ClientFirst, ReadsClientFirst, NamesClientFirst}
 use Rattle.fe2o3_scram.specs.ClientFinal.{Server, ClientFinal, ReadsClientFinal}
@@ -21,10 +21,11 @@ pub names_server_first : (client : Client) (text : List ℕ) (first : ServerFirs
 unfolding ReadsServerFirst
 names_server_first client text first reads = reads.1
 
-pub names_server_final : (signature text : List ℕ) (verified : Unit {0}) → ReadsServerFinal signature text (Ok verified)
+pub names_server_final : (strict : Bool) (signature text : List ℕ) (verified : Unit {0})
+    → ReadsServerFinal strict signature text (Ok verified)
     → HasBase64 text 0 (codes "v=") signature
 unfolding ReadsServerFinal
-names_server_final signature text verified reads = names_signature text signature reads
+names_server_final strict signature text verified reads = names_signature strict text signature reads
 
 -- one value each
 

@@ -1,6 +1,5 @@
 -- A password of printable ASCII is taken alike as it is typed and prepared.
 use Rattle.std.proofs.Common.{◌↔◌, Bool, ℕ, List, Result, Ok, Err, inl, inr}
-use Rattle.fe2o3_scram.specs.declared.scram_messages.client_channel.ClientChannel.{ClientChannel}
 use Rattle.fe2o3_scram.specs.declared.client_secret.IterationLimits.{IterationLimits}
 use Rattle.fe2o3_scram.specs.declared.keys.RecordError.{RecordError}
 use Rattle.fe2o3_scram.specs.declared.scram_messages.error.ScramErrorKind.{ScramErrorKind}
@@ -12,6 +11,7 @@ use Rattle.fe2o3_scram.specs.Readings.{NoneHolds, Reads}
 use Rattle.fe2o3_scram.specs.SaslprepAscii.{IsPrintable}
 use Rattle.fe2o3_scram.specs.ServerFirst.{ServerFirst, ReadsServerFirst, client_of}
 use Rattle.fe2o3_scram.proofs.lemmas.messages.KeptKeyLemmas.{goes_over}
+use Rattle.fe2o3_scram.specs.ChannelBinding.{ClientHeader}
 
 -- what is made of a password
 
@@ -39,20 +39,20 @@ one_record_of_password version text salt count answer printable =
 
 -- what a client answers
 
-read_alike : (password nonce text : List ℕ) (limits : IterationLimits) (channel : ClientChannel) (strict : Bool)
+read_alike : (password nonce text : List ℕ) (limits : IterationLimits) (header : ClientHeader) (strict : Bool)
     (answer : Result ServerFirst ScramErrorKind)
-    → IsPrintable password → ReadsServerFirst (client_of nonce (Password (Prepared password)) limits channel strict) text answer
-    ↔ ReadsServerFirst (client_of nonce (Password (Typed password)) limits channel strict) text answer
+    → IsPrintable password → ReadsServerFirst (client_of nonce (Password (Prepared password)) limits header strict) text answer
+    ↔ ReadsServerFirst (client_of nonce (Password (Typed password)) limits header strict) text answer
 unfolding ReadsServerFirst
-read_alike password nonce text limits channel strict answer printable = (
-  goes_over nonce text limits channel strict _ _ _ _ answer (λ _ un. un printable) (λ un. absurd (un tt)),
-  goes_over nonce text limits channel strict _ _ _ _ answer (λ _ un. un tt) (λ un. absurd (un printable)),
+read_alike password nonce text limits header strict answer printable = (
+  goes_over nonce text limits header strict _ _ _ _ answer (λ _ un. un printable) (λ un. absurd (un tt)),
+  goes_over nonce text limits header strict _ _ _ _ answer (λ _ un. un tt) (λ un. absurd (un printable)),
 )
 
 pub one_answer_of_password : OneAnswerOfPassword
-one_answer_of_password version password nonce bare text limits channel strict (Ok answer) printable = (
-  λ answers. (answers.0, (read_alike password nonce text limits channel strict (Ok answers.0) printable).0 answers.1, answers.2),
-  λ answers. (answers.0, (read_alike password nonce text limits channel strict (Ok answers.0) printable).1 answers.1, answers.2),
+one_answer_of_password version password nonce bare text limits header strict (Ok answer) printable = (
+  λ answers. (answers.0, (read_alike password nonce text limits header strict (Ok answers.0) printable).0 answers.1, answers.2),
+  λ answers. (answers.0, (read_alike password nonce text limits header strict (Ok answers.0) printable).1 answers.1, answers.2),
 )
-one_answer_of_password version password nonce bare text limits channel strict (Err fault) printable =
-    read_alike password nonce text limits channel strict (Err fault) printable
+one_answer_of_password version password nonce bare text limits header strict (Err fault) printable =
+    read_alike password nonce text limits header strict (Err fault) printable

@@ -81,8 +81,8 @@ errors_are_read_again errors.NoResources = again errors.NoResources refl refl
 errors_are_read_again errors.OtherError = again errors.OtherError refl refl
 
 pub errors_are_no_signature : ServerErrorsAreNoSignature
-errors_are_no_signature signature text error is =
-    text_refused signature text ServerSignatureMismatch (no_verifier text is.0 (λ rest has.
+errors_are_no_signature strict signature text error is =
+    text_refused strict signature text ServerSignatureMismatch (no_verifier strict text is.0 (λ rest has.
     let same : codes "e=" ++ is.1.0 ≡ codes "v=" ++ rest =
     one_part text 0 (codes "e=" ++ is.1.0) (codes "v=" ++ rest) is.1.1 has in
     let letter : ◌≡◌ {A = ℕ} 101 118 = ap (λ (bytes : List ℕ). get_or bytes 0 0) same in

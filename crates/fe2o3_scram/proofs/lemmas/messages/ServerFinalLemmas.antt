@@ -1,8 +1,10 @@
 -- The reading of a server-final message.
-use Rattle.std.proofs.Common.{◌≡◌, ◌≢◌, ℕ, List, ◌++◌, Result, Ok, Err, refl, sym, ◌∙◌, ap, subst, codes, inl, inr}
+use Rattle.std.proofs.Common.{◌≡◌, ◌≢◌, Bool, ℕ, List, ◌++◌, Result, Ok, Err, refl, sym, ◌∙◌, ap, subst, codes, inl, inr}
+use Rattle.std.specs.Prelude.{T}
 use Rattle.std.specs.Str.{IsUtf8}
+use Rattle.fe2o3_scram.specs.Grammar.{HasMisplacedFrom}
 use Rattle.fe2o3_scram.specs.declared.scram_messages.error.ScramErrorKind.{ScramErrorKind}
-use Rattle.fe2o3_scram.specs.declared.scram_messages.error.ScramErrorKind.TheVariants.{Utf8Error, Base64DecodeError, ServerSignatureMismatch}
+use Rattle.fe2o3_scram.specs.declared.scram_messages.error.ScramErrorKind.TheVariants.{Utf8Error, Base64DecodeError, MisplacedAttribute, ServerSignatureMismatch}
 use Rattle.fe2o3_scram.specs.Texts.{base64_text, IsBase64, Part, HasBase64}
 use Rattle.fe2o3_scram.specs.ServerFinal.{ReadsSignature, ReadsServerFinal, server_final_tests}
 use Rattle.fe2o3_scram.proofs.lemmas.texts.Base64Lemmas.{one_spelled}
@@ -21,18 +23,18 @@ has_signature : (text spelling bytes : List ℕ) → Part text 0 (codes "v=" ++ 
 has_signature text spelling bytes is spells =
     (spells.0, subst (λ (spelt : List ℕ). Part text 0 (codes "v=" ++ spelt)) spells.1 is)
 
-pub not_utf8 : (text : List ℕ) → ¬ IsUtf8 text → ReadsSignature text (Err Utf8Error)
+pub not_utf8 : (strict : Bool) (text : List ℕ) → ¬ IsUtf8 text → ReadsSignature strict text (Err Utf8Error)
 unfolding ReadsSignature
-not_utf8 text fails = inl (fails, refl)
+not_utf8 strict text fails = inl (fails, refl)
 
-module _ (text : List ℕ) (utf8 : IsUtf8 text) where
+module _ (strict : Bool) (text : List ℕ) (utf8 : IsUtf8 text) where
   pub no_verifier : ((rest : List ℕ) → ¬ Part text 0 (codes "v=" ++ rest))
-      → ReadsSignature text (Err ServerSignatureMismatch)
+      → ReadsSignature strict text (Err ServerSignatureMismatch)
   unfolding ReadsSignature
   no_verifier none = inr (λ fails. fails utf8, inl (none, refl))
 
   pub not_base64 : (spelling : List ℕ) → Part text 0 (codes "v=" ++ spelling)
-      → ((bytes : List ℕ) → ¬ IsBase64 spelling bytes) → ReadsSignature text (Err Base64DecodeError)
+      → ((bytes : List ℕ) → ¬ IsBase64 spelling bytes) → ReadsSignature strict text (Err Base64DecodeError)
   unfolding ReadsSignature
   not_base64 spelling is none = inr (
     λ fails. fails utf8,
@@ -46,29 +48,36 @@ module _ (text : List ℕ) (utf8 : IsUtf8 text) where
   )
 
   pub signature_read : (spelling bytes : List ℕ) → Part text 0 (codes "v=" ++ spelling) → IsBase64 spelling bytes
-      → ReadsSignature text (Ok bytes)
+      → ¬ (T strict × HasMisplacedFrom 1 text) → ReadsSignature strict text (Ok bytes)
   unfolding ReadsSignature
-  signature_read spelling bytes is spells =
+  signature_read spelling bytes is spells placed =
       let has = has_signature text spelling bytes is spells in (
-        (λ fails. fails utf8, (λ absent. absent spelling is, (λ none. none bytes has, tt))),
+        (λ fails. fails utf8, (λ absent. absent spelling is, (λ none. none bytes has, (placed, tt)))),
         has,
       )
 
+  pub misplaced : (spelling bytes : List ℕ) → Part text 0 (codes "v=" ++ spelling) → IsBase64 spelling bytes
+      → T strict × HasMisplacedFrom 1 text → ReadsSignature strict text (Err MisplacedAttribute)
+  unfolding ReadsSignature
+  misplaced spelling bytes is spells placed =
+      let has = has_signature text spelling bytes is spells in
+      inr (λ fails. fails utf8, inr (λ absent. absent spelling is, inr (λ none. none bytes has, inl (placed, refl))))
+
 -- the signature is the one that the client waits for, or another
-pub same_signature : (signature text bytes : List ℕ) → ReadsSignature text (Ok bytes) → bytes ≡ signature
-    → ReadsServerFinal signature text (Ok tt)
+pub same_signature : (strict : Bool) (signature text bytes : List ℕ) → ReadsSignature strict text (Ok bytes) → bytes ≡ signature
+    → ReadsServerFinal strict signature text (Ok tt)
 unfolding ReadsServerFinal
-same_signature signature text bytes reads same = subst (λ (given : List ℕ). ReadsSignature text (Ok given)) same reads
+same_signature strict signature text bytes reads same = subst (λ (given : List ℕ). ReadsSignature strict text (Ok given)) same reads
 
-pub other_signature : (signature text bytes : List ℕ) → ReadsSignature text (Ok bytes) → bytes ≢ signature
-    → ReadsServerFinal signature text (Err ServerSignatureMismatch)
+pub other_signature : (strict : Bool) (signature text bytes : List ℕ) → ReadsSignature strict text (Ok bytes) → bytes ≢ signature
+    → ReadsServerFinal strict signature text (Err ServerSignatureMismatch)
 unfolding ReadsServerFinal
-other_signature signature text bytes reads other = inr (bytes, reads, other, refl)
+other_signature strict signature text bytes reads other = inr (bytes, reads, other, refl)
 
-pub text_refused : (signature text : List ℕ) (fault : ScramErrorKind) → ReadsSignature text (Err fault)
-    → ReadsServerFinal signature text (Err fault)
+pub text_refused : (strict : Bool) (signature text : List ℕ) (fault : ScramErrorKind) → ReadsSignature strict text (Err fault)
+    → ReadsServerFinal strict signature text (Err fault)
 unfolding ReadsServerFinal
-text_refused signature text fault refused = inl refused
+text_refused strict signature text fault refused = inl refused
 
 -- a message has one signature, and one reading
 
@@ -79,44 +88,44 @@ one_named text signature other has too =
     one_spelled (base64_text signature) signature other (has.0, refl)
     (spelled text (base64_text signature) signature other has.1 too)
 
-pub one_signature : (text : List ℕ) (answer other : Result (List ℕ) ScramErrorKind) → ReadsSignature text answer
-    → ReadsSignature text other → answer ≡ other
+pub one_signature : (strict : Bool) (text : List ℕ) (answer other : Result (List ℕ) ScramErrorKind) → ReadsSignature strict text answer
+    → ReadsSignature strict text other → answer ≡ other
 unfolding ReadsSignature
-one_signature text answer other reads too =
-    one_reading (server_final_tests text) (HasBase64 text 0 (codes "v=")) (one_named text) answer other reads too
+one_signature strict text answer other reads too =
+    one_reading (server_final_tests strict text) (HasBase64 text 0 (codes "v=")) (one_named text) answer other reads too
 
-pub names_signature : (text signature : List ℕ) → ReadsSignature text (Ok signature)
+pub names_signature : (strict : Bool) (text signature : List ℕ) → ReadsSignature strict text (Ok signature)
     → HasBase64 text 0 (codes "v=") signature
 unfolding ReadsSignature
-names_signature text signature reads = reads.1
+names_signature strict text signature reads = reads.1
 
-module _ (signature text : List ℕ) where
-  one_verdict : (other : List ℕ) → ReadsSignature text (Ok signature) → ReadsSignature text (Ok other)
+module _ (strict : Bool) (signature text : List ℕ) where
+  one_verdict : (other : List ℕ) → ReadsSignature strict text (Ok signature) → ReadsSignature strict text (Ok other)
       → other ≢ signature → ⊥
   one_verdict other reads too differ =
-      let both = one_signature text (Ok other) (Ok signature) too reads in
+      let both = one_signature strict text (Ok other) (Ok signature) too reads in
       let same : other ≡ signature = cc in
       differ same
 
-  pub one_server_final : (answer other : Result (Unit {0}) ScramErrorKind) → ReadsServerFinal signature text answer
-      → ReadsServerFinal signature text other → answer ≡ other
+  pub one_server_final : (answer other : Result (Unit {0}) ScramErrorKind) → ReadsServerFinal strict signature text answer
+      → ReadsServerFinal strict signature text other → answer ≡ other
   unfolding ReadsServerFinal
   one_server_final (Ok verified) (Ok other) reads too = refl
   one_server_final (Ok verified) (Err fault) reads (inl refused) =
-      let both = one_signature text (Ok signature) (Err fault) reads refused in absurd (cc)
+      let both = one_signature strict text (Ok signature) (Err fault) reads refused in absurd (cc)
   one_server_final (Ok verified) (Err fault) reads (inr (other, too, differ, is)) =
       absurd (one_verdict other reads too differ)
   one_server_final (Err fault) (Ok verified) (inl refused) reads =
-      let both = one_signature text (Ok signature) (Err fault) reads refused in absurd (cc)
+      let both = one_signature strict text (Ok signature) (Err fault) reads refused in absurd (cc)
   one_server_final (Err fault) (Ok verified) (inr (other, too, differ, is)) reads =
       absurd (one_verdict other reads too differ)
   one_server_final (Err fault) (Err other) (inl refused) (inl too) =
-      let both = one_signature text (Err fault) (Err other) refused too in
+      let both = one_signature strict text (Err fault) (Err other) refused too in
       let same : fault ≡ other = cc in
       ap Err same
   one_server_final (Err fault) (Err other) (inl refused) (inr (given, reads, differ, is)) =
-      let both = one_signature text (Err fault) (Ok given) refused reads in absurd (cc)
+      let both = one_signature strict text (Err fault) (Ok given) refused reads in absurd (cc)
   one_server_final (Err fault) (Err other) (inr (given, reads, differ, is)) (inl refused) =
-      let both = one_signature text (Err other) (Ok given) refused reads in absurd (cc)
+      let both = one_signature strict text (Err other) (Ok given) refused reads in absurd (cc)
   one_server_final (Err fault) (Err other) (inr (given, reads, differ, is)) (inr (more, too, differs, too_is)) =
       ap Err (is ∙ sym too_is)

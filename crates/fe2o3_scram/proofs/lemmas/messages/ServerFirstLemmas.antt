@@ -1,5 +1,6 @@
 -- The reading of a server-first message.
-use Rattle.std.proofs.Common.{◌≡◌, ℕ, ◌<◌, ◌≤◌, List, ◌∷◌, ◌++◌, Result, Ok, Err, refl, subst, codes, inl, inr, arith}
+use Rattle.std.proofs.Common.{◌≡◌, ℕ, ◌<◌, ◌≤◌, Bool, true, false, List, ◌∷◌, ◌++◌, Result, Ok, Err, refl, sym, ap, ◌∙◌, subst, codes, inl, inr, arith}
+use Rattle.std.proofs.lemmas.List.{append_cancel_left}
 use Rattle.std.specs.Prelude.{T}
 use Rattle.fe2o3_scram.specs.declared.client_secret.IterationLimits.{IterationLimits}
 use Rattle.fe2o3_scram.specs.ClientKeys.{ClientKeys}
@@ -8,11 +9,11 @@ use Rattle.fe2o3_scram.specs.ClientSecret.{Secret, Password, Keys, Both}
 use Rattle.fe2o3_scram.specs.private.Serving.{Serves, ServesNot}
 use Rattle.fe2o3_scram.proofs.lemmas.messages.FittingKeyLemmas.{fit_is, is_fit}
 use Rattle.fe2o3_scram.specs.declared.scram_messages.error.ScramErrorKind.{ScramErrorKind}
-use Rattle.fe2o3_scram.specs.declared.scram_messages.error.ScramErrorKind.TheVariants.{MisplacedAttribute, OutOfMemory}
-use Rattle.fe2o3_scram.specs.Extensions.{HasAttributeFrom}
-use Rattle.fe2o3_scram.specs.Texts.{base64_text, IsBase64, IsCount, Part, StartsWith, HasBase64}
+use Rattle.fe2o3_scram.specs.declared.scram_messages.error.ScramErrorKind.TheVariants.{OutOfMemory}
+use Rattle.fe2o3_scram.specs.Grammar.{is_nonce}
+use Rattle.fe2o3_scram.specs.Texts.{base64_text, IsBase64, IsCount, IsPlainCount, Part, StartsWith, HasBase64}
 use Rattle.fe2o3_scram.specs.Readings.{IsFirst, NoneHolds}
-use Rattle.fe2o3_scram.specs.ServerFirst.{Client, ServerFirst, HasCount, NamesServerFirst, ReachesSalt, ReadsServerFirst, nonce_tests, secret_tests, NamesOther}
+use Rattle.fe2o3_scram.specs.ServerFirst.{AddsNoNonce, Client, ServerFirst, HasCount, HasPlainCount, NamesServerFirst, ReachesSalt, ReadsServerFirst, grammar_tests, nonce_tests, secret_tests, NamesOther}
 use Rattle.fe2o3_scram.proofs.lemmas.texts.Base64Lemmas.{one_spelled}
 use Rattle.fe2o3_scram.proofs.lemmas.texts.CountLemmas.{one_count}
 use Rattle.fe2o3_scram.proofs.lemmas.texts.PartsLemmas.{one_behind}
@@ -87,9 +88,34 @@ not_too_small text least count has within small = let same = one_has_count text 
 
 pub ruleset counts = (no_count, not_too_small, not_too_large)
 
+-- ---- the grammar
+
+pub adds_none : (text client_nonce nonce added : List ℕ) → Part text 0 (codes "r=" ++ nonce) → nonce ≡ client_nonce ++ added
+    → is_nonce added ≡ false → AddsNoNonce client_nonce text
+adds_none text client_nonce nonce added is goes_on none =
+    (added, subst (λ (full : List ℕ). Part text 0 (codes "r=" ++ full)) goes_on is, none)
+
+pub adds_one : (text client_nonce nonce added : List ℕ) → Part text 0 (codes "r=" ++ nonce) → nonce ≡ client_nonce ++ added
+    → is_nonce added ≡ true → ¬ AddsNoNonce client_nonce text
+adds_one text client_nonce nonce added is goes_on one other =
+    let same = one_behind text 0 (codes "r=") nonce (client_nonce ++ other.0) is other.1 in
+    let added_too : added ≡ other.0 = append_cancel_left client_nonce added other.0 (sym goes_on ∙ same) in
+    let wrong : ◌≡◌ {A = Bool} true false = sym one ∙ ap is_nonce added_too ∙ other.2 in absurd (cc)
+
+pub adds_to_no_other : (text client_nonce nonce : List ℕ) → Part text 0 (codes "r=" ++ nonce)
+    → ¬ StartsWith nonce client_nonce → ¬ AddsNoNonce client_nonce text
+adds_to_no_other text client_nonce nonce is other has = other_nonce text client_nonce nonce is other has.0 has.1
+
+pub ruleset additions = (adds_none, adds_one, adds_to_no_other)
+
+pub no_plain : (text digits : List ℕ) → Part text 2 (codes "i=" ++ digits) → ((count : ℕ) → ¬ IsPlainCount digits count)
+    → ¬ ((count : ℕ) × HasPlainCount text count)
+no_plain text digits is none (count, has) = none count (subst (λ (spelt : List ℕ). IsPlainCount spelt count)
+    (one_behind text 2 (codes "i=") has.0 digits has.1 is) has.2)
+
 -- the tests after those of the count
 abbrev last_tests : Client → List ℕ → List (ScramErrorKind × Type 0)
-last_tests client text = (MisplacedAttribute, T client.strict × HasAttributeFrom 3 text) ∷ secret_tests client.secret text
+last_tests client text = grammar_tests client text ++ secret_tests client.secret text
 
 -- the parts of the reading make the whole
 
@@ -181,31 +207,36 @@ last_refused client text fault nonce salt count first =
     (IsFirst-back (salt_tests text) rest fault salt
     (IsFirst-back (count_tests client.limits text) (last_tests client text) fault count first))
 
--- a strict client rejects a misplaced attribute
-pub misplaced_refused : (client : Client) (text : List ℕ) → NoneHolds (nonce_tests client.nonce text)
-    → NoneHolds (salt_tests text) → NoneHolds (count_tests client.limits text) → T client.strict
-    → HasAttributeFrom 3 text → ReadsServerFirst client text (Err MisplacedAttribute)
-misplaced_refused client text nonce salt count strict has =
-    last_refused client text MisplacedAttribute nonce salt count (inl ((strict, has), refl))
+-- a strict client rejects what its grammar does not allow
+pub grammar_refused : (client : Client) (text : List ℕ) (fault : ScramErrorKind)
+    → NoneHolds (nonce_tests client.nonce text) → NoneHolds (salt_tests text) → NoneHolds (count_tests client.limits text)
+    → IsFirst (grammar_tests client text) fault → ReadsServerFirst client text (Err fault)
+grammar_refused client text fault nonce salt count first = last_refused client text fault nonce salt count
+    (IsFirst-front (grammar_tests client text) (secret_tests client.secret text) fault first)
+
+pub not_the_grammar : (client : Client) (text : List ℕ) → ¬ IsFirst (grammar_tests client text) OutOfMemory
+not_the_grammar client text = not_first (grammar_tests client text) OutOfMemory
+    (λ wrong. absurd (cc), (λ wrong. absurd (cc), (λ wrong. absurd (cc), tt)))
 
 pub secret_refused : (client : Client) (text : List ℕ) (fault : ScramErrorKind)
     → NoneHolds (nonce_tests client.nonce text) → NoneHolds (salt_tests text)
-    → NoneHolds (count_tests client.limits text) → ¬ (T client.strict × HasAttributeFrom 3 text)
+    → NoneHolds (count_tests client.limits text) → NoneHolds (grammar_tests client text)
     → IsFirst (secret_tests client.secret text) fault → ReadsServerFirst client text (Err fault)
-secret_refused client text fault nonce salt count placed first =
-    last_refused client text fault nonce salt count (inr (placed, first))
+secret_refused client text fault nonce salt count grammar first = last_refused client text fault nonce salt count
+    (IsFirst-back (grammar_tests client text) (secret_tests client.secret text) fault grammar first)
 
 pub values_read : (client : Client) (text : List ℕ) (first : ServerFirst) → NoneHolds (nonce_tests client.nonce text)
     → NoneHolds (salt_tests text) → NoneHolds (count_tests client.limits text)
-    → ¬ (T client.strict × HasAttributeFrom 3 text) → NoneHolds (secret_tests client.secret text)
+    → NoneHolds (grammar_tests client text) → NoneHolds (secret_tests client.secret text)
     → NamesServerFirst text first
     → ReadsServerFirst client text (Ok first)
 unfolding ReadsServerFirst
-values_read client text first nonce salt count placed secret names =
+values_read client text first nonce salt count grammar secret names =
     let rest = count_tests client.limits text ++ last_tests client text in (
       NoneHolds-append (nonce_tests client.nonce text) (salt_tests text ++ rest) nonce
           (NoneHolds-append (salt_tests text) rest salt (NoneHolds-append (count_tests client.limits text)
-          (last_tests client text) count (placed, secret))),
+          (last_tests client text) count
+          (NoneHolds-append (grammar_tests client text) (secret_tests client.secret text) grammar secret))),
       names,
     )
 

@@ -1,38 +1,40 @@
 -- Each of the four messages has an answer.
-use Rattle.std.proofs.Common.{◌≡◌, Bool, true, false, Option, Some, None, ◌⊎◌, ℕ, ◌<◌, List, [], ◌∷◌, ◌++◌, length, Result, Ok, Err, refl, subst, inl, inr, codes}
+use Rattle.std.proofs.Common.{◌≡◌, Bool, true, false, Option, Some, None, ◌⊎◌, ℕ, ◌<◌, List, [], ◌∷◌, ◌++◌, length, Result, Ok, Err, refl, sym, ap, ◌∙◌, subst, inl, inr, codes}
+use Rattle.std.specs.Fmt.{decimal}
 use Rattle.fe2o3_scram.specs.declared.scram_messages.error.ScramErrorKind.{ScramErrorKind}
-use Rattle.fe2o3_scram.specs.declared.scram_messages.error.ScramErrorKind.TheVariants.{MisplacedAttribute, ServerSignatureMismatch}
+use Rattle.fe2o3_scram.specs.declared.scram_messages.error.ScramErrorKind.TheVariants.{ServerSignatureMismatch}
 use Rattle.fe2o3_scram.specs.declared.scram_messages.error.ServerScramErrorKind.{ServerScramErrorKind}
 use Rattle.fe2o3_scram.specs.declared.scram_messages.error.ServerScramErrorKind.TheVariants.{XorLengthMismatch, AuthenticationFailed}
 use Rattle.fe2o3_scram.specs.declared.scram_messages.server_rules.ServerRules.{ServerRules}
-use Rattle.fe2o3_scram.specs.Extensions.{HasAttributeFrom}
+use Rattle.fe2o3_scram.specs.Grammar.{HasMisplacedFrom, is_nonce, is_value}
 use Rattle.fe2o3_scram.specs.ClientFinal.{Server, ClientFinal, HasMisplacedBeforeProof, HasProof, recovered_key, NamesClientFinal, ReadsFinalText, ReadsClientFinal, final_text_tests}
 use Rattle.fe2o3_scram.specs.declared.scram_messages.channel_binding_flag.ChannelBindingFlag.{ChannelBindingFlag}
 use Rattle.fe2o3_scram.specs.declared.scram_messages.channel_binding_flag.ChannelBindingFlag.TheVariants.{NotSupported, ClientSupports, Required}
 use Rattle.fe2o3_scram.specs.declared.channel_binding.ChannelBindings.{ChannelBindings}
 use Rattle.fe2o3_scram.specs.declared.channel_binding.ChannelData.{ChannelData}
 use Rattle.fe2o3_scram.specs.declared.channel_binding.ChannelKind.TheVariants.{TlsUnique, TlsServerEndPoint, TlsExporter}
-use Rattle.fe2o3_scram.specs.declared.scram_messages.client_channel.ClientChannel.{ClientChannel}
-use Rattle.fe2o3_scram.specs.ClientFirst.{ClientFirst, BarePart, HasMisplacedAfterNonce, NamesClientFirst, ReadsClientFirst, client_first_tests}
-use Rattle.fe2o3_scram.specs.ChannelBinding.{TakesFlag, TakesHeader, cbind_input, data_of_kind, header_text, is_strict}
+use Rattle.fe2o3_scram.specs.ClientFirst.{ClientFirst, BarePart, HasMisplacedAfterNonce, NamesClientFirst, NamesNoNonce, NamesNoValue, ReadsClientFirst, client_first_tests}
+use Rattle.fe2o3_scram.specs.ChannelBinding.{AcceptsFlag, ClientHeader, Gs2Header, TakesFlag, TakesHeader, cbind_input, data_of_kind, header_text, is_strict, own_header}
 use Rattle.fe2o3_scram.specs.Escape.{escaped}
 use Rattle.fe2o3_scram.specs.Hmac.{digest, digest_len}
 use Rattle.fe2o3_scram.specs.Readings.{IsFirst, NoneHolds, Reads}
 use Rattle.fe2o3_scram.specs.ServerFinal.{ReadsSignature, ReadsServerFinal, server_final_tests}
 use Rattle.fe2o3_scram.specs.ServerFirst as server_first
-use Rattle.fe2o3_scram.specs.ServerFirst.{Client, ServerFirst, HasCount, NamesServerFirst, ReadsServerFirst, server_first_tests, secret_tests}
+use Rattle.fe2o3_scram.specs.ServerFirst.{AddsNoNonce, Client, ServerFirst, HasCount, HasPlainCount, NamesServerFirst, ReadsServerFirst, grammar_tests, server_first_tests, secret_tests}
 use Rattle.fe2o3_scram.specs.declared.client_secret.IterationLimits.{IterationLimits}
 use Rattle.fe2o3_scram.specs.ClientKeys.{ClientKeys}
 use Rattle.fe2o3_scram.specs.ClientSecret.{Secret, Password, Keys, Both}
-use Rattle.fe2o3_scram.specs.Texts.{base64_text, StartsWith, Part, LastPart, HasBase64}
+use Rattle.fe2o3_scram.specs.Texts.{IsPlainCount, base64_text, StartsWith, Part, LastPart, HasBase64}
 use Rattle.fe2o3_scram.specs.Passwords.{PasswordText, Typed, Prepared, IsNormal}
 use Rattle.base64.specs.GeneralPurpose.{IsBytes}
-use Rattle.fe2o3_scram.proofs.lemmas.messages.ClientFirstLemmas.{after_nonce}
-use Rattle.fe2o3_scram.proofs.lemmas.messages.HeaderLemmas.{one_header}
+use Rattle.fe2o3_scram.proofs.lemmas.messages.ClientFirstLemmas.{after_nonce, name_of_bare, nonce_of_bare}
+use Rattle.fe2o3_scram.proofs.lemmas.messages.HeaderLemmas.{no_other, one_header}
 use Rattle.fe2o3_scram.proofs.lemmas.messages.ClientFinalLemmas.{no_proof, has_proof, proof_part, unread_proof}
-use Rattle.fe2o3_scram.proofs.lemmas.messages.ServerFirstLemmas.{one_has_count, no_count}
+use Rattle.fe2o3_scram.proofs.lemmas.messages.ServerFirstLemmas.{one_has_count, no_count, no_plain}
+use Rattle.fe2o3_scram.proofs.lemmas.texts.CountLemmas.{one_count, plain_is_count}
+use Rattle.fe2o3_scram.proofs.lemmas.texts.PartsLemmas.{one_behind}
 use Rattle.fe2o3_scram.proofs.lemmas.texts.CutLemmas.{last_part_or, one_last_cut}
-use Rattle.fe2o3_scram.proofs.lemmas.texts.AttributeTestLemmas.{attribute_from_or}
+use Rattle.fe2o3_scram.proofs.lemmas.texts.GrammarLemmas.{misplaced_from_or}
 use Rattle.std.specs.Prelude.{T}
 use Rattle.fe2o3_scram.proofs.lemmas.texts.DecisionLemmas.{Decided, Found, held, found_one, not_or, none_or, some_or, both_or, found_with, less_or, same_number_or, same_or, bytes_or, utf8_or, printable_or, rest_or, part_or, part_is_or, attribute_or, attribute_text_or, base64_or, count_or, name_or}
 use Rattle.fe2o3_scram.specs.private.Tests.{salt_tests, count_tests, binding_tests, final_nonce_tests, spelling_tests}
@@ -80,26 +82,26 @@ true_or false = inr (λ wrong. wrong)
 -- ---- the client-first message
 
 -- a header that is accepted, and what follows it
-abbrev Cut : ServerRules → List ℕ → ChannelBindingFlag × List ℕ → Type 0
+abbrev Cut : ServerRules → List ℕ → Gs2Header × List ℕ → Type 0
 Cut rules text cut = TakesHeader rules cut.0 × (text ≡ header_text cut.0 ++ cut.1)
 
--- whether a header that is accepted is at the beginning, and what follows it
+-- whether the header with a flag that is accepted is at the beginning, and what follows it
 abbrev Of : ServerRules → List ℕ → ChannelBindingFlag → Type 0
-Of rules text header = Found (λ (bare : List ℕ). Cut rules text (header, bare))
+Of rules text flag = Found (λ (bare : List ℕ). Cut rules text (own_header flag, bare))
 
-taken_or : (rules : ServerRules) (text : List ℕ) (header : ChannelBindingFlag)
-    → Decided (TakesHeader rules header) → Of rules text header
-taken_or rules text header (inl takes) =
-    found_with (rest_or (header_text header) text) (λ bare is. inl (bare, (takes, is))) (λ bare cut. (bare, cut.1))
-taken_or rules text header (inr refuses) = inr (λ bare cut. refuses cut.0)
+taken_or : (rules : ServerRules) (text : List ℕ) (flag : ChannelBindingFlag)
+    → Decided (AcceptsFlag rules flag) → Of rules text flag
+taken_or rules text flag (inl takes) = found_with (rest_or (header_text (own_header flag)) text)
+    (λ bare is. inl (bare, ((takes, refl), is))) (λ bare cut. (bare, cut.1))
+taken_or rules text flag (inr refuses) = inr (λ bare cut. refuses cut.0.0)
 
--- whether a server accepts a header
+-- whether a server accepts a flag
 takes_data : (known : Option ChannelData) → Decided ((its : ChannelData) × (known ≡ Some its))
 takes_data None = inr (λ has. absurd (cc))
 takes_data (Some its) = inl (its, refl)
 
-takes_or : (channels : Option ChannelBindings) (accept_y : Bool) (header : ChannelBindingFlag)
-    → Decided (TakesFlag channels accept_y header)
+takes_or : (channels : Option ChannelBindings) (accept_y : Bool) (flag : ChannelBindingFlag)
+    → Decided (TakesFlag channels accept_y flag)
 takes_or None accept_y NotSupported = inl tt
 takes_or None accept_y ClientSupports = true_or accept_y
 takes_or None accept_y (Required kind) = inr (λ wrong. wrong)
@@ -111,33 +113,39 @@ cut_or : (rules : ServerRules) (text : List ℕ) → Found (Cut rules text)
 cut_or rules text = go (found NotSupported) (found ClientSupports) (found (Required TlsUnique))
     (found (Required TlsServerEndPoint)) (found (Required TlsExporter))
   where
-    found : (header : ChannelBindingFlag) → Of rules text header
-    found header = taken_or rules text header (takes_or rules.channels rules.accept_cbind_flag_y header)
+    found : (flag : ChannelBindingFlag) → Of rules text flag
+    found flag = taken_or rules text flag (takes_or rules.channels rules.accept_cbind_flag_y flag)
 
-    neither : ((bare : List ℕ) → ¬ Cut rules text (NotSupported, bare))
-        → ((bare : List ℕ) → ¬ Cut rules text (ClientSupports, bare))
-        → ((bare : List ℕ) → ¬ Cut rules text (Required TlsUnique, bare))
-        → ((bare : List ℕ) → ¬ Cut rules text (Required TlsServerEndPoint, bare))
-        → ((bare : List ℕ) → ¬ Cut rules text (Required TlsExporter, bare))
-        → (cut : ChannelBindingFlag × List ℕ) → ¬ Cut rules text cut
-    neither n y u s e (NotSupported, bare) cut = n bare cut
-    neither n y u s e (ClientSupports, bare) cut = y bare cut
-    neither n y u s e (Required TlsUnique, bare) cut = u bare cut
-    neither n y u s e (Required TlsServerEndPoint, bare) cut = s bare cut
-    neither n y u s e (Required TlsExporter, bare) cut = e bare cut
+    -- what begins with no header of a client that acts for itself
+    own : ((flag : ChannelBindingFlag) (bare : List ℕ) → ¬ Cut rules text (own_header flag, bare))
+        → (cut : Gs2Header × List ℕ) → ¬ Cut rules text cut
+    own none (header, bare) cut = no_other rules text
+        (λ flag takes begins. none flag begins.0 ((takes, refl), begins.1)) header cut.0 (bare, cut.1)
+
+    neither : ((bare : List ℕ) → ¬ Cut rules text (own_header NotSupported, bare))
+        → ((bare : List ℕ) → ¬ Cut rules text (own_header ClientSupports, bare))
+        → ((bare : List ℕ) → ¬ Cut rules text (own_header (Required TlsUnique), bare))
+        → ((bare : List ℕ) → ¬ Cut rules text (own_header (Required TlsServerEndPoint), bare))
+        → ((bare : List ℕ) → ¬ Cut rules text (own_header (Required TlsExporter), bare))
+        → (flag : ChannelBindingFlag) (bare : List ℕ) → ¬ Cut rules text (own_header flag, bare)
+    neither n y u s e NotSupported bare cut = n bare cut
+    neither n y u s e ClientSupports bare cut = y bare cut
+    neither n y u s e (Required TlsUnique) bare cut = u bare cut
+    neither n y u s e (Required TlsServerEndPoint) bare cut = s bare cut
+    neither n y u s e (Required TlsExporter) bare cut = e bare cut
 
     go : Of rules text NotSupported → Of rules text ClientSupports → Of rules text (Required TlsUnique)
         → Of rules text (Required TlsServerEndPoint) → Of rules text (Required TlsExporter) → Found (Cut rules text)
-    go (inl (bare, cut)) y u s e = inl ((NotSupported, bare), cut)
-    go (inr n) (inl (bare, cut)) u s e = inl ((ClientSupports, bare), cut)
-    go (inr n) (inr y) (inl (bare, cut)) s e = inl ((Required TlsUnique, bare), cut)
-    go (inr n) (inr y) (inr u) (inl (bare, cut)) e = inl ((Required TlsServerEndPoint, bare), cut)
-    go (inr n) (inr y) (inr u) (inr s) (inl (bare, cut)) = inl ((Required TlsExporter, bare), cut)
-    go (inr n) (inr y) (inr u) (inr s) (inr e) = inr (neither n y u s e)
+    go (inl (bare, cut)) y u s e = inl ((own_header NotSupported, bare), cut)
+    go (inr n) (inl (bare, cut)) u s e = inl ((own_header ClientSupports, bare), cut)
+    go (inr n) (inr y) (inl (bare, cut)) s e = inl ((own_header (Required TlsUnique), bare), cut)
+    go (inr n) (inr y) (inr u) (inl (bare, cut)) e = inl ((own_header (Required TlsServerEndPoint), bare), cut)
+    go (inr n) (inr y) (inr u) (inr s) (inl (bare, cut)) = inl ((own_header (Required TlsExporter), bare), cut)
+    go (inr n) (inr y) (inr u) (inr s) (inr e) = inr (own (neither n y u s e))
 
 -- whether the message begins with no header that is taken
 no_header_or : (rules : ServerRules) (text : List ℕ)
-    → Decided ((header : ChannelBindingFlag) → TakesHeader rules header → ¬ StartsWith text (header_text header))
+    → Decided ((header : Gs2Header) → TakesHeader rules header → ¬ StartsWith text (header_text header))
 no_header_or rules text = elim (cut_or rules text) [
   | inl ((header, bare), cut) ↦ inr (λ none. none header cut.0 (bare, cut.1))
   | inr none ↦ inl (λ header takes begins. none (header, begins.0) (takes, begins.1))
@@ -150,7 +158,7 @@ bare_attribute_or : {X : Type 0} (write : X → List ℕ) (rules : ServerRules) 
 bare_attribute_or {X} write rules text k key read =
     found_with (cut_or rules text) behind (λ x has. ((has.0, has.1), (has.2, has.3)))
   where
-    behind : (cut : ChannelBindingFlag × List ℕ) → Cut rules text cut
+    behind : (cut : Gs2Header × List ℕ) → Cut rules text cut
         → Found (λ (x : X). BarePart rules text k (key ++ write x))
     behind (header, bare) cut =
         found_with (attribute_or (λ _. Unit {0}) write bare k key
@@ -165,10 +173,32 @@ bare_attribute_or {X} write rules text k key read =
           ),
         ))
 
--- whether an attribute that RFC 5802 defines is after the nonce
+false_or : (b : Bool) → Decided (b ≡ false)
+false_or true = inr (λ wrong. absurd (cc))
+false_or false = inl refl
+
+-- whether the user that the message names has a name that is no value
+no_value_or : (rules : ServerRules) (text : List ℕ) → Found (λ (user : List ℕ). BarePart rules text 0 (codes "n=" ++ escaped user))
+    → Decided (NamesNoValue rules text)
+no_value_or rules text (inl (user, (header, bare, takes, is, part))) = elim (false_or (is_value user)) [
+  | inl none ↦ inl (user, (header, bare, takes, is, part), none)
+  | inr some ↦ inr (λ has. some (name_of_bare rules header text bare user is part has))
+]
+no_value_or rules text (inr none) = inr (λ has. none has.0 has.1)
+
+-- whether the nonce that it names is not printable
+no_nonce_or : (rules : ServerRules) (text : List ℕ) → Found (λ (nonce : List ℕ). BarePart rules text 1 (codes "r=" ++ nonce))
+    → Decided (NamesNoNonce rules text)
+no_nonce_or rules text (inl (nonce, (header, bare, takes, is, part))) = elim (false_or (is_nonce nonce)) [
+  | inl none ↦ inl (nonce, (header, bare, takes, is, part), none)
+  | inr some ↦ inr (λ has. some (nonce_of_bare rules header text bare nonce is part has))
+]
+no_nonce_or rules text (inr none) = inr (λ has. none has.0 has.1)
+
+-- whether something else than an extension is after the nonce
 after_nonce_or : (rules : ServerRules) (text : List ℕ) → Decided (HasMisplacedAfterNonce rules text)
 after_nonce_or rules text = elim (cut_or rules text) [
-  | inl ((header, bare), cut) ↦ elim (attribute_from_or 2 bare) [
+  | inl ((header, bare), cut) ↦ elim (misplaced_from_or 2 bare) [
     | inl has ↦ inl (header, bare, cut.0, cut.1, has)
     | inr none ↦ inr (λ has. none (after_nonce rules header text bare cut.1 has))
   ]
@@ -188,9 +218,11 @@ some_client_first rules text =
           (
             none_or nonce,
             (
-              both_or (true_or (is_strict rules))
-                  (after_nonce_or rules text),
-              tt,
+              both_or (true_or rules.strict) (no_value_or rules text user),
+              (
+                both_or (true_or rules.strict) (no_nonce_or rules text nonce),
+                (both_or (true_or (is_strict rules)) (after_nonce_or rules text), tt),
+              ),
             ),
           ),
         ),
@@ -290,18 +322,55 @@ count_decided limits text = (
   ),
 )
 
+-- whether a message names a count without a sign or leading zeros
+plain_or : (digits : List ℕ) → Found (IsPlainCount digits)
+plain_or digits = elim (count_or digits) [
+  | inl (count, has) ↦ elim (same_or digits (decimal count)) [
+    | inl same ↦ inl (count, (same, has.4, has.5))
+    | inr other ↦ inr (λ plain_count plain. other
+        (plain.0 ∙ ap decimal (one_count digits plain_count count (plain_is_count digits plain_count plain) has)))
+  ]
+  | inr none ↦ inr (λ count plain. none count (plain_is_count digits count plain))
+]
+
+has_plain_count_or : (text : List ℕ) → Found (HasPlainCount text)
+has_plain_count_or text = found_with (attribute_text_or text 2 (codes "i=")) (λ digits is. elim (plain_or digits) [
+  | inl (count, has) ↦ inl (count, (digits, is, has))
+  | inr none ↦ inr (λ count has. no_plain text digits is none (count, has))
+]) (λ count has. (has.0, has.1))
+
+adds_no_nonce_or : (client_nonce text : List ℕ) → Decided (AddsNoNonce client_nonce text)
+adds_no_nonce_or client_nonce text = elim (attribute_text_or text 0 (codes "r=" ++ client_nonce)) [
+  | inl (added, is) ↦ elim (false_or (is_nonce added)) [
+    | inl none ↦ inl (added, is, none)
+    | inr some ↦ inr (λ has. some (subst (λ (other : List ℕ). is_nonce other ≡ false)
+        (one_behind text 0 (codes "r=" ++ client_nonce) has.0 added has.1 is) has.2))
+  ]
+  | inr none ↦ inr (λ has. none has.0 has.1)
+]
+
+grammar_decided : (client : Client) (text : List ℕ) → AllDecided (grammar_tests client text)
+grammar_decided client text = (
+  both_or (true_or client.grammar) (adds_no_nonce_or client.nonce text),
+  (
+    both_or (true_or client.grammar) (none_or (has_plain_count_or text)),
+    (both_or (true_or client.strict) (misplaced_from_or 3 text), tt),
+  ),
+)
+
 pub some_server_first : (client : Client) (text : List ℕ)
     → (answer : Result ServerFirst ScramErrorKind) × ReadsServerFirst client text answer
 unfolding ReadsServerFirst
 some_server_first client text =
-    let secret = (MisplacedAttribute, T client.strict × HasAttributeFrom 3 text) ∷ secret_tests client.secret text in
+    let secret = grammar_tests client text ++ secret_tests client.secret text in
     let count = count_tests client.limits text ++ secret in
     let salt = salt_tests text ++ count in
     some_reading (server_first_tests client text) (NamesServerFirst text)
     (decided-append (server_first.nonce_tests client.nonce text) salt (nonce_decided client.nonce text)
     (decided-append (salt_tests text) count (salt_decided text)
     (decided-append (count_tests client.limits text) secret (count_decided client.limits text)
-    (both_or (true_or client.strict) (attribute_from_or 3 text), secret_decided client.secret text))))
+    (decided-append (grammar_tests client text) (secret_tests client.secret text) (grammar_decided client text)
+    (secret_decided client.secret text)))))
     (λ none.
     let nonce_parts = none-split (server_first.nonce_tests client.nonce text) salt none in
     let salt_parts = none-split (salt_tests text) count nonce_parts.1 in
@@ -344,10 +413,10 @@ proof_or text = elim (last_part_or text) [
   | inr none ↦ inr (λ final has. none final.without (codes "p=" ++ base64_text final.proof) has.1)
 ]
 
-binding_decided : (channel : ClientChannel) (text : List ℕ) → AllDecided (binding_tests channel text)
-binding_decided channel text = (
+binding_decided : (header : ClientHeader) (text : List ℕ) → AllDecided (binding_tests header text)
+binding_decided header text = (
   none_or (attribute_text_or text 0 (codes "c=")),
-  (none_or (binding_or text), (not_or (this_binding_or text (cbind_input channel)), tt)),
+  (none_or (binding_or text), (not_or (this_binding_or text (cbind_input header)), tt)),
 )
 
 final_nonce_decided : (nonce text : List ℕ) → AllDecided (final_nonce_tests nonce text)
@@ -356,13 +425,13 @@ final_nonce_decided nonce text = (
   (not_or (part_is_or text 1 (codes "r=" ++ nonce)), tt),
 )
 
--- whether an attribute that RFC 5802 defines is between the nonce and the proof
+-- whether something else than an extension is between the nonce and the proof
 before_proof_or : (text : List ℕ) → Decided (HasMisplacedBeforeProof text)
 before_proof_or text = elim (last_part_or text) [
   | inl (before, part, is) ↦ elim (rest_or (codes "p=") part) [
-    | inl (rest, begins) ↦ elim (attribute_from_or 2 before) [
+    | inl (rest, begins) ↦ elim (misplaced_from_or 2 before) [
       | inl has ↦ inl (before, rest, subst (LastPart text before) begins is, has)
-      | inr none ↦ inr (λ has. none (subst (HasAttributeFrom 2)
+      | inr none ↦ inr (λ has. none (subst (HasMisplacedFrom 2)
           (one_last_cut 44 text has.0 (codes "p=" ++ has.1) before part has.2 is).0 has.3))
     ]
     | inr none ↦ inr (λ has. no_proof text before part is (λ begins. none begins.0 begins.1) has.0 has.1 has.2)
@@ -375,24 +444,24 @@ spelling_decided strict text =
     (proof_part_or text, (none_or (proof_or text), (both_or (true_or strict) (before_proof_or text), tt)))
 
 -- a text has an answer before the keys are looked at
-some_final_text : (channel : ClientChannel) (strict : Bool) (nonce text : List ℕ)
-    → (answer : Result ClientFinal ServerScramErrorKind) × ReadsFinalText channel strict nonce text answer
+some_final_text : (header : ClientHeader) (strict : Bool) (nonce text : List ℕ)
+    → (answer : Result ClientFinal ServerScramErrorKind) × ReadsFinalText header strict nonce text answer
 unfolding ReadsFinalText
-some_final_text channel strict nonce text =
+some_final_text header strict nonce text =
     let after_binding = final_nonce_tests nonce text ++ spelling_tests strict text in
-    some_reading (final_text_tests channel strict nonce text) (NamesClientFinal channel nonce text) (
+    some_reading (final_text_tests header strict nonce text) (NamesClientFinal header nonce text) (
       not_or (utf8_or text),
-      decided-append (binding_tests channel text) after_binding (binding_decided channel text)
+      decided-append (binding_tests header text) after_binding (binding_decided header text)
           (decided-append (final_nonce_tests nonce text) (spelling_tests strict text) (final_nonce_decided nonce text)
           (spelling_decided strict text)),
     )
     (λ none.
-    let binding_parts = none-split (binding_tests channel text) after_binding none.1 in
+    let binding_parts = none-split (binding_tests header text) after_binding none.1 in
     let nonce_parts = none-split (final_nonce_tests nonce text) (spelling_tests strict text) binding_parts.1 in
     let final = found_one (proof_or text) nonce_parts.1.1.0 in (
       final.0,
       record {
-        binding = held (this_binding_or text (cbind_input channel)) binding_parts.0.1.1.0;
+        binding = held (this_binding_or text (cbind_input header)) binding_parts.0.1.1.0;
         nonce = held (part_is_or text 1 (codes "r=" ++ nonce)) nonce_parts.0.1.0;
         proof = final.1;
       },
@@ -401,9 +470,9 @@ some_final_text channel strict nonce text =
 pub some_client_final : (server : Server) (text : List ℕ)
     → (answer : Result ClientFinal ServerScramErrorKind) × ReadsClientFinal server text answer
 unfolding ReadsClientFinal
-some_client_final server text = go (some_final_text server.channel server.strict server.nonce text)
+some_client_final server text = go (some_final_text server.header server.strict server.nonce text)
   where
-    go : (answer : Result ClientFinal ServerScramErrorKind) × ReadsFinalText server.channel server.strict server.nonce text answer
+    go : (answer : Result ClientFinal ServerScramErrorKind) × ReadsFinalText server.header server.strict server.nonce text answer
         → (answer : Result ClientFinal ServerScramErrorKind) × ReadsClientFinal server text answer
     go (Err fault, reads) = (Err fault, inl reads)
     go (Ok final, reads) = elim (same_number_or (length final.proof) (digest_len server.version)) [
@@ -420,21 +489,30 @@ some_client_final server text = go (some_final_text server.channel server.strict
 signature_or : (text : List ℕ) → Found (HasBase64 text 0 (codes "v="))
 signature_or text = attribute_or IsBytes base64_text text 0 (codes "v=") base64_or
 
-some_signature : (text : List ℕ) → (answer : Result (List ℕ) ScramErrorKind) × ReadsSignature text answer
+some_signature : (strict : Bool) (text : List ℕ)
+    → (answer : Result (List ℕ) ScramErrorKind) × ReadsSignature strict text answer
 unfolding ReadsSignature
-some_signature text = some_reading (server_final_tests text) (HasBase64 text 0 (codes "v="))
-    (not_or (utf8_or text), (none_or (attribute_text_or text 0 (codes "v=")), (none_or (signature_or text), tt)))
+some_signature strict text = some_reading (server_final_tests strict text) (HasBase64 text 0 (codes "v=")) (
+  not_or (utf8_or text),
+  (
+    none_or (attribute_text_or text 0 (codes "v=")),
+    (
+      none_or (signature_or text),
+      (both_or (true_or strict) (misplaced_from_or 1 text), tt),
+    ),
+  ),
+)
     (λ none. found_one (signature_or text) none.1.1.0)
 
-pub some_server_final : (signature text : List ℕ)
-    → (answer : Result (Unit {0}) ScramErrorKind) × ReadsServerFinal signature text answer
+pub some_server_final : (strict : Bool) (signature text : List ℕ)
+    → (answer : Result (Unit {0}) ScramErrorKind) × ReadsServerFinal strict signature text answer
 unfolding ReadsServerFinal
-some_server_final signature text = go (some_signature text)
+some_server_final strict signature text = go (some_signature strict text)
   where
-    go : (answer : Result (List ℕ) ScramErrorKind) × ReadsSignature text answer
-        → (answer : Result (Unit {0}) ScramErrorKind) × ReadsServerFinal signature text answer
+    go : (answer : Result (List ℕ) ScramErrorKind) × ReadsSignature strict text answer
+        → (answer : Result (Unit {0}) ScramErrorKind) × ReadsServerFinal strict signature text answer
     go (Err fault, reads) = (Err fault, inl reads)
     go (Ok other, reads) = elim (same_or other signature) [
-      | inl same ↦ (Ok tt, subst (λ (named : List ℕ). ReadsSignature text (Ok named)) same reads)
+      | inl same ↦ (Ok tt, subst (λ (named : List ℕ). ReadsSignature strict text (Ok named)) same reads)
       | inr differ ↦ (Err ServerSignatureMismatch, inr (other, reads, differ, refl))
     ]

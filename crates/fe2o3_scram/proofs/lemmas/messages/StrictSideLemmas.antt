@@ -4,39 +4,41 @@ use Rattle.std.specs.Prelude.{T, ◌||◌}
 use Rattle.fe2o3_scram.specs.Agreement.{OneStrictSideOfTextsIsEnough}
 use Rattle.fe2o3_scram.specs.ClientFinal.{ClientFinal, ReadsClientFinal, ReadsFinalText, Server}
 use Rattle.fe2o3_scram.specs.ClientFirst.{ClientFirst, ReadsClientFirst}
-use Rattle.fe2o3_scram.specs.ChannelBinding.{expected_channel, is_bound, is_strict}
-use Rattle.fe2o3_scram.specs.declared.scram_messages.client_channel.ClientChannel.{ClientChannel}
+use Rattle.fe2o3_scram.specs.ChannelBinding.{ClientHeader, expected_header, is_strict, needs_strict}
 use Rattle.fe2o3_scram.specs.declared.scram_messages.server_rules.ServerRules.{ServerRules}
 use Rattle.fe2o3_scram.specs.Extensions.{HasAttributeFrom}
 use Rattle.fe2o3_scram.specs.ScramClient.{holding}
 use Rattle.fe2o3_scram.specs.ScramServer.{server_against}
 use Rattle.fe2o3_scram.specs.ServerFirst.{Client, ReadsServerFirst, ServerFirst, challenge_of}
 use Rattle.fe2o3_scram.specs.Texts.{base64_text}
+use Rattle.fe2o3_scram.proofs.lemmas.texts.GrammarLemmas.{attribute_is_misplaced}
 
 pub none_after_count : (client : Client) (text : List ℕ) (first : ServerFirst) → T client.strict
     → ReadsServerFirst client text (Ok first) → ¬ HasAttributeFrom 3 text
 unfolding ReadsServerFirst
-none_after_count client text first strict reads has = reads.0.1.1.1.1.1.1.1.1.1.1.0 (strict, has)
+none_after_count client text first strict reads has =
+    reads.0.1.1.1.1.1.1.1.1.1.1.1.1.0 (strict, attribute_is_misplaced 3 text has)
 
 pub none_after_nonce : (rules : ServerRules) (text : List ℕ) (first : ClientFirst) → T (is_strict rules)
     → ReadsClientFirst rules text (Ok first) → ¬ HasAttributeFrom 2 first.bare
 unfolding ReadsClientFirst
 none_after_nonce rules text first strict reads has =
-    reads.0.1.1.1.1.0 (strict, (first.header, first.bare, reads.1.header, reads.1.bare, has))
+    reads.0.1.1.1.1.1.1.0
+    (strict, (first.header, first.bare, reads.1.header, reads.1.bare, attribute_is_misplaced 2 first.bare has))
 
-none_in_text : (channel : ClientChannel) (strict : Bool) (nonce text : List ℕ) (final : ClientFinal) → T strict
-    → ReadsFinalText channel strict nonce text (Ok final) → ¬ HasAttributeFrom 2 final.without
+none_in_text : (header : ClientHeader) (strict : Bool) (nonce text : List ℕ) (final : ClientFinal) → T strict
+    → ReadsFinalText header strict nonce text (Ok final) → ¬ HasAttributeFrom 2 final.without
 unfolding ReadsFinalText
-none_in_text channel strict nonce text final is reads has = reads.0.1.1.1.1.1.1.1.1.0
-    (is, (final.without, base64_text final.proof, reads.1.proof.1, has))
+none_in_text header strict nonce text final is reads has = reads.0.1.1.1.1.1.1.1.1.0
+    (is, (final.without, base64_text final.proof, reads.1.proof.1, attribute_is_misplaced 2 final.without has))
 
 pub none_before_proof : (server : Server) (text : List ℕ) (final : ClientFinal) → T server.strict
     → ReadsClientFinal server text (Ok final) → ¬ HasAttributeFrom 2 final.without
 unfolding ReadsClientFinal
 none_before_proof server text final strict reads =
-    none_in_text server.channel server.strict server.nonce text final strict reads.0
+    none_in_text server.header server.strict server.nonce text final strict reads.0
 
--- a side that is strict is strict, whether it binds a channel or not
+-- a side that is strict is strict, whether it has to be or not
 pub strict_or : (bound strict : Bool) → T strict → T (bound || strict)
 strict_or true strict is = tt
 strict_or false strict is = is
@@ -49,5 +51,5 @@ one_strict_side_of_texts_is_enough side provider own text its init response clie
     inr (
       none_after_nonce provider.rules init server.client strict server.reads_init,
       none_before_proof (server_against provider.version provider.rules challenge server.stored) response server.final
-          (strict_or (is_bound (expected_channel provider.rules.channels server.client.header)) (is_strict provider.rules) strict) server.reads,
+          (strict_or (needs_strict (expected_header provider.rules.channels server.client.header)) (is_strict provider.rules) strict) server.reads,
     )

@@ -4,6 +4,7 @@ use Rattle.std.specs.List.{AllByRecursion, list_all}
 use Rattle.std.specs.Str.Parse.{AllDigits}
 use Rattle.std.proofs.lemmas.Bool.{and_parts, not-true, eqb-false}
 use Rattle.std.proofs.lemmas.Str.Parse.{digit_from_value}
+use Rattle.base64.specs.GeneralPurpose.{IsBytes}
 use Rattle.base64.specs.Rfc4648.{encode_symbols, padding_len}
 use Rattle.fe2o3_scram.specs.Texts.{Without, alphabet, base64_text}
 
@@ -55,6 +56,40 @@ module _ (P : ℕ → Type 0) where
   each-encode_symbols symbols (a ∷ b ∷ []) holds = (holds _, (holds _, (holds _, tt)))
   each-encode_symbols symbols (a ∷ b ∷ c ∷ bytes) holds =
       (holds _, (holds _, (holds _, (holds _, each-encode_symbols symbols bytes holds))))
+
+  -- what holds of the 64 symbols holds of each symbol of bytes
+  each-symbol : (symbols bytes : List ℕ) → ((i : ℕ) → i < 64 → P (get_or symbols i 0)) → IsBytes bytes
+      → AllByRecursion P (encode_symbols symbols bytes)
+  unfolding encode_symbols
+  each-symbol symbols [] holds are = tt
+  each-symbol symbols (a ∷ []) holds are =
+      let one = are 0 in (holds _ (omega (arith, one)), (holds _ (omega (arith, one)), tt))
+  each-symbol symbols (a ∷ b ∷ []) holds are =
+      let one = are 0 in
+      let two = are 1 in
+      (holds _ (omega (arith, one)), (holds _ (omega (arith, one, two)), (holds _ (omega (arith, two)), tt)))
+  each-symbol symbols (a ∷ b ∷ c ∷ bytes) holds are =
+      let one = are 0 in
+      let two = are 1 in
+      let three = are 2 in (
+        holds _ (omega (arith, one)),
+        (
+          holds _ (omega (arith, one, two)),
+          (
+            holds _ (omega (arith, two, three)),
+            (holds _ (omega (arith, three)), each-symbol symbols bytes holds (λ i. are (suc (suc (suc i))))),
+          ),
+        ),
+      )
+
+  -- what holds of each symbol and of the padding holds of each byte of a spelling of bytes
+  pub each-base64_of_bytes : (bytes : List ℕ) → IsBytes bytes → P 61 → AllByRecursion P alphabet
+      → AllByRecursion P (base64_text bytes)
+  unfolding base64_text
+  each-base64_of_bytes bytes are padding all =
+      each-append P (encode_symbols alphabet bytes) (replicate (padding_len (length bytes)) 61)
+      (each-symbol alphabet bytes (λ i below. all-at P alphabet i 0 below all) are)
+      (each-replicate (padding_len (length bytes)) 61 padding)
 
   -- what holds of each symbol, of the padding and of 0 holds of each byte of a spelling
   pub each-base64_text : (bytes : List ℕ) → P 0 → P 61 → AllByRecursion P alphabet

@@ -6,6 +6,7 @@ use Rattle.std.specs.Prelude.{slice_get}
 use Rattle.std.specs.List.{AllByRecursion}
 use Rattle.fe2o3_scram.specs.Texts.{Parts, StartsWith}
 use Rattle.fe2o3_scram.specs.Extensions.{HasAttributeFrom, is_attribute}
+use Rattle.fe2o3_scram.specs.Grammar.{HasMisplacedFrom}
 use Rattle.fe2o3_scram.proofs.lemmas.texts.PartsLemmas.{one_list_of_parts}
 
 -- ---- the parts after those that are known
@@ -29,9 +30,9 @@ pub none_after_three : (text p q r : List ℕ) (more : List (List ℕ)) → Part
 none_after_three text p q r more are none = none_at more
     (λ j part at is. none (suc (suc (suc j)), part, omega arith, (p ∷ q ∷ r ∷ more, are, at), is))
 
--- a text in k parts has none after them
+-- a text in k parts has none after them, misplaced or not
 pub none_after_all : (k : ℕ) (text : List ℕ) (parts : List (List ℕ)) → Parts text parts → length parts ≡ k
-    → ¬ HasAttributeFrom k text
+    → ¬ HasMisplacedFrom k text
 none_after_all k text parts are all has =
     let same = one_list_of_parts text has.3.0 parts has.3.1 are in
     let within : has.0 < length has.3.0 = slice_get_within has.3.0 has.0 has.1 has.3.2 in

@@ -1,5 +1,5 @@
 use Rattle.std.proofs.Common.{◌≡◌, ◌++◌, Bool, true, false, codes, refl, sym, ◌∙◌, subst, inl, inr}
-use Rattle.fe2o3_scram.specs.Extensions.{HasAttributeFrom}
+use Rattle.fe2o3_scram.specs.Grammar.{HasMisplacedFrom}
 use Rattle.fe2o3_scram.specs.Texts.{LastPart}
 use Rattle.fe2o3_scram.proofs.lemmas.texts.CutLemmas.{one_last_cut}
 use Rattle.fe2o3_scram.proofs.lemmas.messages.ClientFinalLemmas.{no_proof, has_proof, proof_part, unread_proof}
@@ -65,7 +65,7 @@ returns-clause-tested c =
         λ none. none (record { without = without; proof = proof }) has,
         (
           λ wrong.
-              let placed = subst (HasAttributeFrom 2) (one_last_cut 44 c.args.client_final.now wrong.1.0
+              let placed = subst (HasMisplacedFrom 2) (one_last_cut 44 c.args.client_final.now wrong.1.0
               (codes "p=" ++ wrong.1.1) without c.in-Some.last.now wrong.1.2 c.in-Some.ensures).0 wrong.1.3 in
               let yes : ◌≡◌ {A = Bool} false true =
               sym c.if-is_misplaced.false ∙ c.is_misplaced.ensures.1 (wrong.0, placed) in absurd (cc),

@@ -1,7 +1,7 @@
 use Rattle.std.proofs.Common.{refl, ap, ◌∙◌, subst, Ok, Err}
 use Rattle.std.proofs.lemmas.Result.{err_from_is_err_and}
 use Rattle.fe2o3_scram.specs.declared.scram_messages.error.ServerScramErrorKind.{ServerScramErrorKind}
-use Rattle.fe2o3_scram.specs.ChannelBinding.{expected_channel, is_strict}
+use Rattle.fe2o3_scram.specs.ChannelBinding.{expected_header, is_strict, own_header}
 use Rattle.fe2o3_scram.specs.ClientFinal.{server_of}
 use Rattle.fe2o3_scram.specs.Credentials.{Record}
 use Rattle.fe2o3_scram.specs.ScramServer.{server_state_of}
@@ -14,6 +14,7 @@ returns-in_ok-server_final_message-in-ServerFirstSent-clause-answer g c =
     let s = c.in-ServerFirstSent in
     let version = (g.C.ScramCredentialProvider.meaning c.args.self.now.credentials).version in
     let answers = rw (
+      c.new.ensures,
       c.expected_channel.ensures,
       c.is_strict.ensures,
       c.scram_version.ensures,
@@ -22,7 +23,7 @@ returns-in_ok-server_final_message-in-ServerFirstSent-clause-answer g c =
       c.deref-in-ServerFirstSent-2.ensures,
     ) at c.in_ok-server_final_message-in-ServerFirstSent.ensures.answer in
     let own = subst (λ (stored : Record). AnswersClientFinal
-    (server_of version (expected_channel c.args.self.now.rules.channels s.header) (is_strict c.args.self.now.rules) s.client_first_message_bare s.server_first_message
+    (server_of version (expected_header c.args.self.now.rules.channels (own_header s.header)) (is_strict c.args.self.now.rules) s.client_first_message_bare s.server_first_message
     s.client_server_nonce stored)
     c.args.client_final_message.now
     (Ok c.in_ok-server_final_message-in-ServerFirstSent.server_final_message.items)) c.as_stored_password.ensures answers in
@@ -35,6 +36,7 @@ returns-in_err-server_final_message-in-ServerFirstSent-clause-answer g c =
     let s = c.in-ServerFirstSent in
     let version = (g.C.ScramCredentialProvider.meaning c.args.self.now.credentials).version in
     let answers = rw (
+      c.new.ensures,
       c.expected_channel.ensures,
       c.is_strict.ensures,
       c.scram_version.ensures,
@@ -44,7 +46,7 @@ returns-in_err-server_final_message-in-ServerFirstSent-clause-answer g c =
     ) at c.in_err-server_final_message-in-ServerFirstSent.ensures.answer in
     let from = err_from_is_err_and c.from_residual.result c.from_residual.ensures.1 in
     let own = λ (fault : ServerScramErrorKind). subst (λ (stored : Record). AnswersClientFinal
-    (server_of version (expected_channel c.args.self.now.rules.channels s.header) (is_strict c.args.self.now.rules) s.client_first_message_bare s.server_first_message
+    (server_of version (expected_header c.args.self.now.rules.channels (own_header s.header)) (is_strict c.args.self.now.rules) s.client_first_message_bare s.server_first_message
     s.client_server_nonce stored)
     c.args.client_final_message.now (Err fault)) c.as_stored_password.ensures in
     rw (from.1, from.2, s.is) (λ memory. answers.0 memory, λ other. (own _ (answers.1 other), refl))

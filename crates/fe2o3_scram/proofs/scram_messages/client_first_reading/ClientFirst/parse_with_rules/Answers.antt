@@ -1,9 +1,11 @@
 use Rattle.std.proofs.Common.{◌≡◌, Bool, true, false, rules, sym, ◌∙◌, refl}
+use Rattle.std.proofs.lemmas.Result.{err_from_is_err_and}
 use Rattle.std.specs.Prelude.{◌↔◌}
 use Rattle.std.specs.Cow.{cow_str_bytes, IsBorrowedStr}
 use Rattle.std.specs.declared.borrow.CowStr.{CowStr}
 use Rattle.std.specs.declared.borrow.CowStr.TheVariants as cows
-use Rattle.fe2o3_scram.proofs.lemmas.messages.ClientFirstLemmas.{not_utf8, no_header, no_name, bad_name, misplaced, no_nonce, named, invalid_name, escaped_name, has_escapes}
+use Rattle.fe2o3_scram.specs.ChannelBinding.{own_header}
+use Rattle.fe2o3_scram.proofs.lemmas.messages.ClientFirstLemmas.{grammar_refused, made, not_the_grammar, not_utf8, no_header, no_name, bad_name, no_nonce, named, invalid_name, escaped_name, has_escapes}
 use Rattle.fe2o3_scram.proofs.scram_messages.client_first_reading.ClientFirst.parse_with_rules.Goals as goal
 
 pub returns-in_default-clause-answer : goal.returns-in_default-clause-answer
@@ -23,7 +25,7 @@ returns-in_default-cut_header-clause-answer c = (
 pub returns-in_default-attribute-clause-answer : goal.returns-in_default-attribute-clause-answer
 returns-in_default-attribute-clause-answer c = (
   search rules,
-  λ _. no_name c.args.rules c.in-Some.header c.args.text.now c.in-Some.client_first_message_bare.now
+  λ _. no_name c.args.rules (own_header c.in-Some.header) c.args.text.now c.in-Some.client_first_message_bare.now
       c.in-Ok.ensures.cases.1 c.in-Some.ensures.0 (sym c.in-Ok.ensures.cases.0 ∙ c.in-Some.ensures.1)
       c.in_default-attribute.ensures,
 )
@@ -31,7 +33,7 @@ returns-in_default-attribute-clause-answer c = (
 pub returns-in-Err-Invalid-clause-answer : goal.returns-in-Err-Invalid-clause-answer
 returns-in-Err-Invalid-clause-answer c = (
   search rules,
-  λ _. bad_name c.args.rules c.in-Some.header c.args.text.now c.in-Some.client_first_message_bare.now
+  λ _. bad_name c.args.rules (own_header c.in-Some.header) c.args.text.now c.in-Some.client_first_message_bare.now
       c.in-Ok.ensures.cases.1 c.in-Some.ensures.0 (sym c.in-Ok.ensures.cases.0 ∙ c.in-Some.ensures.1)
       c.in-Some-attribute.escaped.now c.in-Some-attribute.ensures
       (invalid_name c.in-Err-Invalid.field-0 _ _ c.in-Err-Invalid.field-0-is c.in-Err-Invalid.ensures.err),
@@ -40,7 +42,7 @@ returns-in-Err-Invalid-clause-answer c = (
 pub returns-in_default-attribute-2-clause-answer : goal.returns-in_default-attribute-2-clause-answer
 returns-in_default-attribute-2-clause-answer c = (
   search rules,
-  λ _. no_nonce c.args.rules c.in-Some.header c.args.text.now c.in-Some.client_first_message_bare.now
+  λ _. no_nonce c.args.rules (own_header c.in-Some.header) c.args.text.now c.in-Some.client_first_message_bare.now
       c.in-Ok.ensures.cases.1 c.in-Some.ensures.0 (sym c.in-Ok.ensures.cases.0 ∙ c.in-Some.ensures.1)
       c.in-Some-attribute.escaped.now
       (cow_str_bytes c.in-Ok-unescape_username.username)
@@ -49,18 +51,17 @@ returns-in_default-attribute-2-clause-answer c = (
 
 pub returns-clause-answer : goal.returns-clause-answer
 returns-clause-answer c =
-    named c.args.rules c.in-Some.header c.args.text.now c.in-Some.client_first_message_bare.now
+    named c.args.rules (own_header c.in-Some.header) c.args.text.now c.in-Some.client_first_message_bare.now
     c.in-Ok.ensures.cases.1 c.in-Some.ensures.0 (sym c.in-Ok.ensures.cases.0 ∙ c.in-Some.ensures.1)
     c.in-Some-attribute.escaped.now
     (cow_str_bytes c.in-Ok-unescape_username.username)
     c.in-Some-attribute-2.client_nonce.now c.in-Some-attribute.ensures c.in-Ok-unescape_username.ensures.ok
-    c.in-Some-attribute-2.ensures (λ wrong.
-    let yes : ◌≡◌ {A = Bool} false true = sym c.if-is_misplaced.false ∙ (rw c.is_strict.ensures at c.is_misplaced.ensures).1 wrong in absurd (cc))
+    c.in-Some-attribute-2.ensures c.in_ok-test_grammar.ensures
 
 pub returns-in-Err-OutOfMemory-clause-answer : goal.returns-in-Err-OutOfMemory-clause-answer
 returns-in-Err-OutOfMemory-clause-answer c =
     let name = c.in-Err-OutOfMemory.ensures.spells c.in-Err-OutOfMemory.field-0-is in (
-      λ _. has_escapes c.args.rules c.in-Some.header c.args.text.now c.in-Some.client_first_message_bare.now
+      λ _. has_escapes c.args.rules (own_header c.in-Some.header) c.args.text.now c.in-Some.client_first_message_bare.now
           c.in-Ok.ensures.cases.1 c.in-Some.ensures.0 (sym c.in-Ok.ensures.cases.0 ∙ c.in-Some.ensures.1)
           c.in-Some-attribute.escaped.now name.0 c.in-Some-attribute.ensures name.1
           (escaped_name c.in-Err-OutOfMemory.field-0 _ _ c.in-Err-OutOfMemory.field-0-is
@@ -71,7 +72,7 @@ returns-in-Err-OutOfMemory-clause-answer c =
 pub returns-clause-borrowed : goal.returns-clause-borrowed
 returns-clause-borrowed c = λ unescaped.
     go c.in-Ok-unescape_username.username c.in-Ok-unescape_username.ensures.borrowed (λ escapes. unescaped
-    (has_escapes c.args.rules c.in-Some.header c.args.text.now c.in-Some.client_first_message_bare.now
+    (has_escapes c.args.rules (own_header c.in-Some.header) c.args.text.now c.in-Some.client_first_message_bare.now
     c.in-Ok.ensures.cases.1 c.in-Some.ensures.0 (sym c.in-Ok.ensures.cases.0 ∙ c.in-Some.ensures.1)
     c.in-Some-attribute.escaped.now (cow_str_bytes c.in-Ok-unescape_username.username) c.in-Some-attribute.ensures
     c.in-Ok-unescape_username.ensures.ok escapes))
@@ -81,13 +82,16 @@ returns-clause-borrowed c = λ unescaped.
     go (cows.Borrowed text) both some = tt
     go (cows.Owned text) both some = absurd (some (λ none. both.1 none))
 
-pub returns-then-is_misplaced-clause-answer : goal.returns-then-is_misplaced-clause-answer
-returns-then-is_misplaced-clause-answer c =
-    let has = (rw c.is_strict.ensures at c.is_misplaced.ensures).0 c.if-is_misplaced.true in (
-      search rules,
-      λ _. misplaced c.args.rules c.in-Some.header c.args.text.now c.in-Some.client_first_message_bare.now
+pub returns-in_err-test_grammar-clause-answer : goal.returns-in_err-test_grammar-clause-answer
+returns-in_err-test_grammar-clause-answer c =
+    let from = err_from_is_err_and c.from_residual.result c.from_residual.ensures.1 in
+    let first = made (own_header c.in-Some.header) (cow_str_bytes c.in-Ok-unescape_username.username)
+    c.in-Some-attribute-2.client_nonce.now c.in-Some.client_first_message_bare.now in
+    rw (from.1, from.2) (
+      λ memory. absurd (not_the_grammar c.args.rules first (rw memory at c.in_err-test_grammar.ensures)),
+      λ _. grammar_refused c.args.rules (own_header c.in-Some.header) c.args.text.now c.in-Some.client_first_message_bare.now
           c.in-Ok.ensures.cases.1 c.in-Some.ensures.0 (sym c.in-Ok.ensures.cases.0 ∙ c.in-Some.ensures.1)
           c.in-Some-attribute.escaped.now (cow_str_bytes c.in-Ok-unescape_username.username)
-          c.in-Some-attribute-2.client_nonce.now c.in-Some-attribute.ensures c.in-Ok-unescape_username.ensures.ok
-          c.in-Some-attribute-2.ensures has.0 has.1,
+          c.in-Some-attribute-2.client_nonce.now c.in_err-test_grammar.field-0.0 c.in-Some-attribute.ensures
+          c.in-Ok-unescape_username.ensures.ok c.in-Some-attribute-2.ensures c.in_err-test_grammar.ensures,
     )
