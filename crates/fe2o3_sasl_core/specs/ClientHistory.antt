@@ -13,8 +13,8 @@ use Rattle.fe2o3_scram.specs.declared.scram_messages.error.ScramErrorKind.TheVar
 use Rattle.fe2o3_scram.specs.Texts.{base64_text}
 use Rattle.fe2o3_scram.specs.ClientFinal.{Answer, answer_of}
 use Rattle.fe2o3_scram.specs.ClientFirst.{client_first_bare, client_first_with}
-use Rattle.fe2o3_sasl_core.specs.Events.{Given, Login, login_mechanism, ClientSays, Started, Answered, Reported, Refused, scram_fault}
-use Rattle.fe2o3_scram.specs.ChannelBinding.{flag_of}
+use Rattle.fe2o3_sasl_core.specs.Events.{is_strict_login, Given, Login, login_mechanism, ClientSays, Started, Answered, Reported, Refused, scram_fault, login_header}
+use Rattle.fe2o3_scram.specs.ChannelBinding.{header_of}
 use Rattle.fe2o3_sasl_core.specs.Positions.{OpenBy}
 use Rattle.fe2o3_scram.specs.ServerFinal.{ReadsServerFinal}
 use Rattle.fe2o3_scram.specs.ServerFirst.{Client, ServerFirst, ReadsServerFirst, client_of}
@@ -29,11 +29,11 @@ pub record Answering : Type 0 where
 
 -- what a client knows when it reads a challenge against this nonce of its own
 abbrev pub client_at : Login → List ℕ → Client
-client_at login nonce = client_of nonce login.secret login.limits login.channel login.strict
+client_at login nonce = client_of nonce login.secret login.limits (login_header login) login.strict
 
 -- the answer of a client to a server-first message (RFC 5802, section 5)
 abbrev pub answer_at : Login → Answering → Answer
-answer_at login answer = answer_of login.version login.secret login.channel
+answer_at login answer = answer_of login.version login.secret (login_header login)
     (client_first_bare login.user answer.nonce) answer.text answer.first
 
 -- the reply of a start: an init with the client-first message (AMQP 1.0, part 5, section 5.3.3.2)
@@ -41,7 +41,7 @@ abbrev pub says_start : Login → Given → ClientSays
 says_start login event =
     carried (Refused (Frame faults.TooLarge)) (λ body. Started body)
     (canonical (frames.Init (login_mechanism login)
-    (Some (client_first_with (flag_of login.channel) login.user (base64_text event.nonce))) login.hostname))
+    (Some (client_first_with (header_of (login_header login)) login.user (base64_text event.nonce))) login.hostname))
 
 -- the reply to a signature that came in a challenge: an empty response (RFC 4422, section 5)
 abbrev pub says_verified : ClientSays
@@ -70,7 +70,7 @@ MaySign login IsOpen answer = (login.signature_by_challenge ≡ true) × IsOpen 
 -- a challenge is read as the server-final message of an open answer: by every test of a server-final message
 abbrev pub ReadsSigning : Login → (Answering → Type 0) → List ℕ → Result (Unit {0}) ScramErrorKind → Type 0
 ReadsSigning login IsOpen text result = (answer : Answering) × MaySign login IsOpen answer
-    × ReadsServerFinal (answer_at login answer).signature text result
+    × ReadsServerFinal (is_strict_login login) (answer_at login answer).signature text result
 
 -- an outcome Ok without data is accepted if the signature of an answer has come in a challenge. The data is read in this
 -- order: an answer is open, and then every test of a server-final message
@@ -80,10 +80,10 @@ ReadsOutcome login IsOpen IsVerified None (Ok verified) = (answer : Answering) �
 ReadsOutcome login IsOpen IsVerified None (Err kind) =
     ((answer : Answering) → ¬ IsVerified answer) × (kind ≡ ServerSignatureMismatch)
 ReadsOutcome login IsOpen IsVerified (Some text) (Ok verified) = (answer : Answering) × IsOpen answer
-    × ReadsServerFinal (answer_at login answer).signature text (Ok verified)
+    × ReadsServerFinal (is_strict_login login) (answer_at login answer).signature text (Ok verified)
 ReadsOutcome login IsOpen IsVerified (Some text) (Err kind) =
     (((answer : Answering) → ¬ IsOpen answer) × (kind ≡ IllegalClientState))
-    ⊎ ((answer : Answering) × IsOpen answer × ReadsServerFinal (answer_at login answer).signature text (Err kind))
+    ⊎ ((answer : Answering) × IsOpen answer × ReadsServerFinal (is_strict_login login) (answer_at login answer).signature text (Err kind))
 
 -- the reply to a body that spells this, where a challenge is expected for these nonces, these answers are open, and the
 -- signature of these has come in a challenge
@@ -156,7 +156,7 @@ abbrev pub SignsAt : Login → List Given → List ClientSays → ℕ → Answer
 SignsAt login events replies k answer =
     (event : Given) × (text : List ℕ) × (slice_get events k ≡ Some event)
     × SpellsBody event.body (Ok (frames.Challenge text)) × MaySign login (OpenAnswer login events replies k) answer
-    × ReadsServerFinal (answer_at login answer).signature text (Ok tt)
+    × ReadsServerFinal (is_strict_login login) (answer_at login answer).signature text (Ok tt)
 
 -- the answer whose signature came in a challenge before k, which the client answered last, if neither a start nor a
 -- reported Ok is between

@@ -7,7 +7,7 @@ use Rattle.fe2o3_scram.specs.declared.hmac.ScramVersion.{ScramVersion}
 use Rattle.fe2o3_scram.specs.declared.scram_messages.channel_binding_flag.ChannelBindingFlag.{ChannelBindingFlag}
 use Rattle.fe2o3_scram.specs.declared.scram_messages.channel_binding_flag.ChannelBindingFlag.TheVariants.{ClientSupports, Required}
 use Rattle.fe2o3_scram.specs.declared.scram_messages.client_channel.ClientChannel.TheVariants.{Bound, NotOffered}
-use Rattle.fe2o3_scram.specs.ChannelBinding.{header_text, plus_name}
+use Rattle.fe2o3_scram.specs.ChannelBinding.{header_text, plus_name, own_header}
 use Rattle.fe2o3_scram.specs.ClientSecret.{Secret}
 use Rattle.fe2o3_scram.specs.Hmac.{mechanism_name}
 use Rattle.fe2o3_scram.specs.ScramClient.{ClientSide}
@@ -20,7 +20,7 @@ use Rattle.fe2o3_sasl_core.specs.declared.client_policy.ClientPolicy.{ClientPoli
 -- the profile's initial response begins with this GS2 header, whatever its nonce (RFC 5802, section 7)
 abbrev pub BeginsWithHeader : ChannelBindingFlag → Profile → Type 0
 BeginsWithHeader flag profile =
-    (nonce : List ℕ) → (bare : List ℕ) × (initial_response profile nonce ≡ Some (header_text flag ++ bare))
+    (nonce : List ℕ) → (bare : List ℕ) × (initial_response profile nonce ≡ Some (header_text (own_header flag) ++ bare))
 
 -- the profile is of SCRAM with -PLUS, and binds exactly this channel: its kind and its data
 pub record BindsExactly (binding : ChannelBinding) (profile : Profile) : Type 0 where

@@ -5,7 +5,7 @@ use Rattle.std.specs.Str.{IsUtf8}
 use Rattle.fe2o3_sasl_wire.specs.SaslFrames.{IsBytes}
 use Rattle.fe2o3_sasl_wire.specs.declared.amqp_types.SaslCode.{SaslCode}
 use Rattle.fe2o3_sasl_wire.specs.declared.sasl_frames.error.Error.{Error}
-use Rattle.fe2o3_scram.specs.ChannelBinding.{HoldsChannelBytes, is_bound, mechanism_of}
+use Rattle.fe2o3_scram.specs.ChannelBinding.{is_bound, mechanism_of, ClientHeader, HoldsHeaderBytes, needs_strict, authzid_text}
 use Rattle.fe2o3_scram.specs.declared.scram_messages.client_channel.ClientChannel.{ClientChannel}
 use Rattle.fe2o3_scram.specs.declared.hmac.ScramVersion.{ScramVersion}
 use Rattle.fe2o3_scram.specs.declared.scram_messages.error.ScramErrorKind.{ScramErrorKind}
@@ -23,7 +23,7 @@ pub record Given : Type 0 where
   pub nonce : List ℕ
 
 -- what a client logs in with: user name, secret and version, the iteration counts that it accepts, what it says of its
--- channel (RFC 5802, section 6), whether it is set to be strict (it rejects an attribute that RFC 5802 defines in the
+-- channel (RFC 5802, section 6), whom it acts for, or none if it acts for itself, whether it is set to be strict (it rejects an attribute that RFC 5802 defines in the
 -- place of an extension), whether it accepts the server's signature in a challenge too (RFC 4422, section 5), and the
 -- hostname that its init carries, if any (AMQP 1.0, part 5, section 5.3.3.2)
 pub record Login : Type 0 where
@@ -32,6 +32,7 @@ pub record Login : Type 0 where
   pub version : ScramVersion
   pub limits : IterationLimits
   pub channel : ClientChannel
+  pub acts_for : Option (List ℕ)
   pub strict : Bool
   pub signature_by_challenge : Bool
   pub hostname : Option (List ℕ)
@@ -40,9 +41,13 @@ pub record Login : Type 0 where
 abbrev pub login_mechanism : Login → List ℕ
 login_mechanism login = mechanism_of login.version (is_bound login.channel)
 
--- a login is strict if it binds a channel, or is set to
+-- the header of a login's messages (RFC 5802, section 7)
+abbrev pub login_header : Login → ClientHeader
+login_header login = record { channel = login.channel; acts_for = login.acts_for }
+
+-- a login is strict if it binds a channel or acts for somebody else, or is set to
 abbrev pub is_strict_login : Login → Bool
-is_strict_login login = is_bound login.channel || login.strict
+is_strict_login login = needs_strict (login_header login) || login.strict
 
 -- a reply of a server: the body of a challenge, the code and the body of an outcome, or an error
 pub data ServerSays : Type 0 where
@@ -73,11 +78,12 @@ pub record IsGiven (event : Given) : Type 0 where
 abbrev pub AreGiven : List Given → Type 0
 AreGiven events = (k : ℕ) (event : Given) → slice_get events k ≡ Some event → IsGiven event
 
--- what the code holds of a login: texts in UTF-8, a limit of 32 bits, and data of a channel that are bytes
+-- what the code holds of a login: texts in UTF-8, a limit of 32 bits, and a header that is bytes
 pub record IsLogin (login : Login) : Type 0 where
   pub user : IsUtf8 login.user
   pub limit : login.limits.max_iterations < 2 ^ 32
-  pub channel : HoldsChannelBytes login.channel
+  pub channel : HoldsHeaderBytes (login_header login)
+  pub identity : IsUtf8 (authzid_text login.acts_for)
   pub hostname : (text : List ℕ) → login.hostname ≡ Some text → IsUtf8 text
 
 -- what the code holds of a secret: its keys are as long as a digest (RFC 5802, section 3)

@@ -6,7 +6,7 @@ use Rattle.fe2o3_sasl_wire.specs.declared.sasl_frames.error.Error.TheVariants as
 use Rattle.fe2o3_sasl_wire.specs.SaslFrames as frames
 use Rattle.fe2o3_sasl_core.specs.ClientHistory.{Answering, answer_at, OpenAnswer, VerifiedAnswer}
 use Rattle.fe2o3_scram.specs.Credentials.{Provider}
-use Rattle.fe2o3_sasl_core.specs.Events.{Given, Login, IsRecord, ServerSays, Concluded, Failed, ClientSays, Reported, Refused}
+use Rattle.fe2o3_sasl_core.specs.Events.{is_strict_login, Given, Login, IsRecord, ServerSays, Concluded, Failed, ClientSays, Reported, Refused}
 use Rattle.fe2o3_sasl_core.specs.Positions.{IsLastOpen}
 use Rattle.fe2o3_scram.specs.ServerFinal.{ReadsServerFinal}
 use Rattle.fe2o3_sasl_core.specs.Bodies.{SpellsBody}
@@ -32,7 +32,7 @@ pub record AnswersOkExactly (provider : Provider) (events : List Given) (replies
 abbrev pub SignedAt : Login → List Given → List ClientSays → ℕ → Option (List ℕ) → Type 0
 SignedAt login events replies m (Some text) = (event : Given) × (answer : Answering) × (slice_get events m ≡ Some event)
     × SpellsBody event.body (Ok (frames.Outcome outcomes.Ok (Some text)))
-    × OpenAnswer login events replies m answer × ReadsServerFinal (answer_at login answer).signature text (Ok tt)
+    × OpenAnswer login events replies m answer × ReadsServerFinal (is_strict_login login) (answer_at login answer).signature text (Ok tt)
 SignedAt login events replies m None = (event : Given) × (answer : Answering) × (slice_get events m ≡ Some event)
     × SpellsBody event.body (Ok (frames.Outcome outcomes.Ok None)) × VerifiedAnswer login events replies m answer
 

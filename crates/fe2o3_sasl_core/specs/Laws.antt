@@ -7,7 +7,7 @@ use Rattle.fe2o3_sasl_wire.specs.SaslFrames.{IsBytes, SaslFrame}
 use Rattle.fe2o3_sasl_wire.specs.SaslFrames as frames
 use Rattle.fe2o3_sasl_core.specs.ClientHistory.{Answering, AnswersAt, ClientAllocates, ClientHistory, is_start, is_answer, ends_answer}
 use Rattle.fe2o3_scram.specs.BoundChannels.{ServerBinds}
-use Rattle.fe2o3_scram.specs.ChannelBinding.{HoldsChannelBytes, TakesHeader, is_strict}
+use Rattle.fe2o3_scram.specs.ChannelBinding.{is_strict, HoldsHeaderBytes, AcceptsFlag}
 use Rattle.fe2o3_scram.specs.declared.channel_binding.ChannelBinding.{ChannelBinding}
 use Rattle.fe2o3_scram.specs.declared.scram_messages.client_channel.ClientChannel.TheVariants.{Absent, Bound}
 use Rattle.fe2o3_scram.specs.declared.scram_messages.channel_binding_flag.ChannelBindingFlag.TheVariants.{ClientSupports}
@@ -16,7 +16,7 @@ use Rattle.fe2o3_scram.specs.ClientSecret.{Password, Keys}
 use Rattle.fe2o3_scram.specs.Laws.{AreKeysOf}
 use Rattle.fe2o3_scram.specs.Passwords.{PasswordText, IsNormal, password_bytes}
 use Rattle.fe2o3_scram.specs.Credentials.{Provider, Record}
-use Rattle.fe2o3_sasl_core.specs.Events.{Given, AreGiven, Login, is_strict_login, IsLogin, IsRecord, IsSecret, ServerSays, Concluded, Failed, ClientSays, Refused}
+use Rattle.fe2o3_sasl_core.specs.Events.{Given, AreGiven, Login, is_strict_login, IsLogin, IsRecord, IsSecret, ServerSays, Concluded, Failed, ClientSays, Refused, login_header}
 use Rattle.fe2o3_sasl_core.specs.Runs.{Runs, AcceptorSteps, ProfileReplies, ProfileSteps}
 use Rattle.fe2o3_sasl_core.specs.SaslAcceptor.{acceptor_machine, acceptor_user, Acceptor, ScramAcceptor}
 use Rattle.fe2o3_sasl_core.specs.Profiles.{scram_profile, Profile, StepAllocates}
@@ -176,10 +176,10 @@ OneStrictSideIsEnough = (sides : Sides) (k n : ℕ) (answer : Answering) (accept
 -- channel, of one kind and with the same data
 abbrev pub EqualMessagesBindOneChannel : Type 0
 EqualMessagesBindOneChannel = (sides : Sides) (k n : ℕ) (answer : Answering) (accepted : Accepted)
-    → IsRecord accepted.challenge.stored → HoldsChannelBytes sides.login.channel
+    → IsRecord accepted.challenge.stored → HoldsHeaderBytes (login_header sides.login)
     → AnswersAt sides.login sides.client_events sides.client_replies k answer
     → AcceptsAt sides.provider sides.server_events sides.server_replies n accepted
-    → sides.login.channel ≢ Absent → ¬ TakesHeader sides.provider.rules ClientSupports
+    → sides.login.channel ≢ Absent → ¬ AcceptsFlag sides.provider.rules ClientSupports
     → T (is_strict_login sides.login) ⊎ T (is_strict sides.provider.rules)
     → client_message sides.login answer ≡ server_message accepted
     → (binding : ChannelBinding) × (sides.login.channel ≡ Bound binding) × ServerBinds sides.provider binding

@@ -13,6 +13,7 @@ pub mod AnyMechanismSides
 pub mod ExternalServer
 pub mod PasswordServer
 pub mod PlainServer
+pub mod PlainWords
 pub mod ProfileFaults
 pub mod Profiles
 pub mod SaslProfile

@@ -11,8 +11,8 @@ use Rattle.fe2o3_scram.specs.Texts.{base64_text}
 use Rattle.fe2o3_scram.specs.ClientFirst.{client_first_with}
 use Rattle.fe2o3_scram.specs.ClientKeys.{ClientKeys}
 use Rattle.fe2o3_scram.specs.ScramClient as client_states
-use Rattle.fe2o3_scram.specs.ScramClient.{ClientSide, ClientState, started, AnswersIn, ChecksSignatureIn, ConcludesIn, VerifiesIn, ReachesSaltIn, ReachesVerifierIn, expects_signature, with_state}
-use Rattle.fe2o3_scram.specs.ChannelBinding.{flag_of, is_bound, mechanism_of}
+use Rattle.fe2o3_scram.specs.ScramClient.{ClientSide, ClientState, started, AnswersIn, ChecksSignatureIn, ConcludesIn, VerifiesIn, ReachesSaltIn, ReachesVerifierIn, expects_signature, with_state, header_in}
+use Rattle.fe2o3_scram.specs.ChannelBinding.{is_bound, mechanism_of, header_of}
 use Rattle.fe2o3_sasl_core.specs.Events.{Login, scram_fault}
 use Rattle.fe2o3_sasl_core.specs.declared.sasl_profile.error.ProfileError.{ProfileError}
 use Rattle.fe2o3_sasl_core.specs.declared.sasl_profile.error.ProfileError.TheVariants.{NotImplemented, Scram, OutOfMemory}
@@ -54,7 +54,7 @@ profile_name (MessageProfile mechanism message is_due) = message_name mechanism
 -- the initial response of a profile, with this nonce
 abbrev pub initial_response : Profile → List ℕ → Option (List ℕ)
 initial_response (ScramProfile client) nonce =
-    Some (client_first_with (flag_of client.channel) client.user (base64_text nonce))
+    Some (client_first_with (header_of (header_in client)) client.user (base64_text nonce))
 initial_response (PlainProfile user password) nonce = Some (0 ∷ user ++ 0 ∷ password)
 initial_response (MessageProfile mechanism message is_due) nonce = Some message
 initial_response profile nonce = None
@@ -174,6 +174,7 @@ scram_profile login = ScramProfile (record {
   version = login.version;
   limits = login.limits;
   channel = login.channel;
+  acts_for = login.acts_for;
   strict = login.strict;
   signature_by_challenge = login.signature_by_challenge;
   state = client_states.ClientInitial;

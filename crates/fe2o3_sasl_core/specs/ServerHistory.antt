@@ -12,7 +12,7 @@ use Rattle.fe2o3_scram.specs.ClientFirst.{ClientFirst, ReadsClientFirst}
 use Rattle.fe2o3_scram.specs.Credentials.{Record, Provider}
 use Rattle.fe2o3_sasl_core.specs.Bodies.{SpellsBody, says_frame}
 use Rattle.fe2o3_sasl_core.specs.Events.{Given, ServerSays, Challenged, Concluded, Failed}
-use Rattle.fe2o3_scram.specs.ChannelBinding.{expected_channel, is_strict, server_mechanism}
+use Rattle.fe2o3_scram.specs.ChannelBinding.{is_strict, server_mechanism, expected_header}
 use Rattle.fe2o3_sasl_core.specs.Positions.{OpenBy}
 use Rattle.fe2o3_scram.specs.ClientFinal.{Server, ClientFinal, ReadsClientFinal, server_of}
 use Rattle.fe2o3_scram.specs.ServerFinal.{server_final_of}
@@ -35,7 +35,7 @@ first_message challenge = server_first_of (full_nonce challenge) challenge.store
 -- what the server knows when it reads a response to a challenge
 abbrev pub server_at : Provider → Challenging → Server
 server_at provider challenge =
-    server_of provider.version (expected_channel provider.rules.channels challenge.client.header)
+    server_of provider.version (expected_header provider.rules.channels challenge.client.header)
     (is_strict provider.rules) challenge.client.bare (first_message challenge) (full_nonce challenge) challenge.stored
 
 -- the frame, with the event's nonce, fits as init: it names the mechanism, and its response is a client-first message

@@ -1,5 +1,5 @@
 -- What a step means to its caller, in the words of the headline. Each is the contract of a clause of `laws::steps`.
-use Rattle.std.specs.Prelude.{◌≡◌, ◌⊎◌, ℕ, true, Option, Some, None, List, Ok}
+use Rattle.std.specs.Prelude.{◌≡◌, ◌⊎◌, ℕ, Bool, true, Option, Some, None, List, Ok}
 use Rattle.fe2o3_sasl_wire.specs.declared.amqp_types.SaslCode.TheVariants as outcomes
 use Rattle.fe2o3_sasl_wire.specs.SaslFrames as frames
 use Rattle.fe2o3_sasl_wire.specs.SaslFrames.{SaslFrame}
@@ -8,7 +8,7 @@ use Rattle.fe2o3_scram.specs.ClientKeys.{ClientKeys}
 use Rattle.fe2o3_scram.specs.Credentials.{Provider}
 use Rattle.fe2o3_scram.specs.declared.hmac.ScramVersion.{ScramVersion}
 use Rattle.fe2o3_scram.specs.Logins.{TextLogsIn, IsSigned}
-use Rattle.fe2o3_scram.specs.ScramClient.{ClientSide, ClientState, SignatureVerified}
+use Rattle.fe2o3_scram.specs.ScramClient.{ClientSide, ClientState, SignatureVerified, is_strict_client}
 use Rattle.fe2o3_scram.specs.ScramServer.{ServerState, ServerFinalSent}
 use Rattle.fe2o3_sasl_core.specs.Bodies.{SpellsBody}
 use Rattle.fe2o3_sasl_core.specs.Events.{Given, ClientSays, Answered, Concluded, Reported}
@@ -36,17 +36,18 @@ PlainOksLogIn = (server next : PlainState) (event : Given) (body : List ℕ)
     → (frame : SaslFrame) × (user : List ℕ) × SpellsBody event.body (Ok frame)
     × PlainLogsIn server.passwords server.provider frame user × (next ≡ record server { user = Some user })
 
--- an outcome Ok with this data shows a SCRAM client in this state the signature that it waits for (RFC 5802, section 5);
+-- an outcome Ok with this data shows a SCRAM client in this state, strict or not, the signature that it waits for (RFC
+-- 5802, section 5);
 -- without data it may come only after a challenge that showed it (RFC 4422, section 5)
-abbrev pub ShowsSignature : ClientState → Option (List ℕ) → Type 0
-ShowsSignature state (Some text) = IsSigned state text
-ShowsSignature state None = (keys : Option ClientKeys) × (state ≡ SignatureVerified keys)
+abbrev pub ShowsSignature : Bool → ClientState → Option (List ℕ) → Type 0
+ShowsSignature strict state (Some text) = IsSigned strict state text
+ShowsSignature strict state None = (keys : Option ClientKeys) × (state ≡ SignatureVerified keys)
 
 -- a SCRAM profile reports Ok only on an outcome Ok that shows the signature, with this data
 abbrev pub ReportedOksAreSigned : Type 0
 ReportedOksAreSigned = (hostname : Option (List ℕ)) (client : ClientSide) (event : Given) (more : Option (List ℕ))
     (next : Profile) → ProfileSteps hostname (ScramProfile client) event (Reported outcomes.Ok more) next
-    → SpellsBody event.body (Ok (frames.Outcome outcomes.Ok more)) × ShowsSignature client.state more
+    → SpellsBody event.body (Ok (frames.Outcome outcomes.Ok more)) × ShowsSignature (is_strict_client client) client.state more
 
 -- a SCRAM profile waits for an outcome without data only after a challenge with the signature that it waits for, which it
 -- answers by a response
@@ -56,4 +57,4 @@ VerifiedOnSignature = (hostname : Option (List ℕ)) (client next : ClientSide) 
     → next.state ≡ SignatureVerified keys
     → (next ≡ client)
     ⊎ ((text : List ℕ) × (body : List ℕ) × SpellsBody event.body (Ok (frames.Challenge text))
-    × IsSigned client.state text × (client.signature_by_challenge ≡ true) × (says ≡ Answered body))
+    × IsSigned (is_strict_client client) client.state text × (client.signature_by_challenge ≡ true) × (says ≡ Answered body))

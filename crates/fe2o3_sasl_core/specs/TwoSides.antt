@@ -5,11 +5,11 @@ use Rattle.fe2o3_sasl_wire.specs.SaslFrames as frames
 use Rattle.fe2o3_sasl_core.specs.Bodies.{SpellsBody}
 use Rattle.fe2o3_sasl_core.specs.Positions.{OpenBy}
 use Rattle.fe2o3_scram.specs.ClientFinal.{keys_for, without_proof_with}
-use Rattle.fe2o3_scram.specs.ChannelBinding.{HoldsChannelBytes, cbind_data, expected_channel, flag_of}
+use Rattle.fe2o3_scram.specs.ChannelBinding.{cbind_data, HoldsHeaderBytes, header_of, expected_header}
 use Rattle.fe2o3_scram.specs.ClientFirst.{client_first_bare}
 use Rattle.fe2o3_sasl_core.specs.ClientHistory.{Answering, AnswersAt, ClientHistory, OpenAnswer, VerifiedAnswer, is_answer, ends_answer}
 use Rattle.fe2o3_scram.specs.Credentials.{Provider}
-use Rattle.fe2o3_sasl_core.specs.Events.{Given, Login, ServerSays, Concluded, ClientSays, Answered, Reported}
+use Rattle.fe2o3_sasl_core.specs.Events.{Given, Login, ServerSays, Concluded, ClientSays, Answered, Reported, login_header}
 use Rattle.fe2o3_scram.specs.Extensions.{NoneMisplaced}
 use Rattle.fe2o3_scram.specs.Hmac.{hmac_of}
 use Rattle.fe2o3_scram.specs.ClientKeys.{ClientKeys}
@@ -20,7 +20,7 @@ use Rattle.fe2o3_scram.specs.Texts.{Part, Parts}
 -- AuthMessage of the messages as the client has them (RFC 5802, section 3)
 abbrev pub client_message : Login → Answering → List ℕ
 client_message login answer = auth_message (client_first_bare login.user answer.nonce) answer.text
-    (without_proof_with login.channel answer.first.nonce)
+    (without_proof_with (login_header login) answer.first.nonce)
 
 -- AuthMessage of the messages as the server has them (RFC 5802, section 3)
 abbrev pub server_message : Accepted → List ℕ
@@ -124,11 +124,11 @@ NoneMisplacedIn answer accepted = NoneMisplaced answer.text accepted.challenge.c
 -- channel
 pub record Agree (login : Login) (provider : Provider) (answer : Answering) (accepted : Accepted) : Type 0 where
   pub version : (keys_at login answer).version ≡ provider.version
-  pub header : HoldsChannelBytes login.channel → NoneMisplacedIn answer accepted
-      → flag_of login.channel ≡ accepted.challenge.client.header
-  pub channel : HoldsChannelBytes login.channel → NoneMisplacedIn answer accepted
+  pub header : HoldsHeaderBytes (login_header login) → NoneMisplacedIn answer accepted
+      → header_of (login_header login) ≡ accepted.challenge.client.header
+  pub channel : HoldsHeaderBytes (login_header login) → NoneMisplacedIn answer accepted
       → cbind_data login.channel
-      ≡ cbind_data (expected_channel provider.rules.channels accepted.challenge.client.header)
+      ≡ cbind_data (expected_header provider.rules.channels accepted.challenge.client.header).channel
   pub user : login.user ≡ accepted.challenge.client.user
   pub nonce : answer.nonce ≡ accepted.challenge.client.nonce
   pub full_nonce : IsPlainInit accepted ⊎ NoneMisplacedIn answer accepted

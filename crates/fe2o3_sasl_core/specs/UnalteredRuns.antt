@@ -1,14 +1,15 @@
 -- A login whose frame bodies arrive as they were sent (RFC 5802, section 5; AMQP 1.0, part 5, section 5.3.2).
-use Rattle.std.specs.Prelude.{◌≡◌, ◌≢◌, ◌≤◌, ℕ, Option, Some, None, List, [], ◌∷◌, ◌++◌, slice_get}
+use Rattle.std.specs.Prelude.{◌≡◌, ◌≢◌, ◌≤◌, ℕ, Bool, Option, Some, None, List, [], ◌∷◌, ◌++◌, T, true, slice_get}
 use Rattle.fe2o3_sasl_wire.specs.declared.amqp_types.SaslCode.TheVariants as outcomes
 use Rattle.fe2o3_sasl_wire.specs.declared.sasl_frames.error.Error.TheVariants as faults
 use Rattle.fe2o3_sasl_wire.specs.SaslFrames.{IsBytes, canonical}
 use Rattle.fe2o3_sasl_wire.specs.SaslFrames as frames
 use Rattle.fe2o3_scram.specs.Texts.{base64_text}
-use Rattle.fe2o3_scram.specs.ChannelBinding.{TakesHeader, cbind_data, expected_channel, flag_of}
+use Rattle.fe2o3_scram.specs.Grammar.{is_nonce, is_value}
+use Rattle.fe2o3_scram.specs.ChannelBinding.{TakesHeader, cbind_data, header_of, expected_header}
 use Rattle.fe2o3_sasl_core.specs.ClientHistory.{ClientHistory}
 use Rattle.fe2o3_scram.specs.Credentials.{Provider, record_of}
-use Rattle.fe2o3_sasl_core.specs.Events.{Given, Login, login_mechanism, IsLogin, ServerSays, Challenged, Concluded, Failed, ClientSays, Started, Answered, Reported, Refused}
+use Rattle.fe2o3_sasl_core.specs.Events.{Given, Login, login_mechanism, IsLogin, ServerSays, Challenged, Concluded, Failed, ClientSays, Started, Answered, Reported, Refused, login_header}
 use Rattle.fe2o3_scram.specs.Exchanges.{OpensRecord}
 use Rattle.fe2o3_sasl_core.specs.ServerHistory.{ServerHistory}
 use Rattle.fe2o3_sasl_core.specs.TwoSides.{Sides, sides_of}
@@ -33,6 +34,17 @@ abbrev pub Arrives : Option (List ℕ) → List ℕ → Type 0
 Arrives None body = Unit {0}
 Arrives (Some sent) body = body ≡ sent
 
+-- the nonces of both sides are written with printable characters where the other side is strict (RFC 5802, section 7), as
+-- each nonce of 32 bytes is
+abbrev pub ArePrintable : Sides → List ℕ → List ℕ → Type 0
+ArePrintable sides mine theirs = (T sides.provider.rules.strict → is_nonce (base64_text mine) ≡ true)
+    × (T sides.login.strict → is_nonce (base64_text theirs) ≡ true)
+
+-- each nonce of these events is, if the other side is strict
+abbrev pub NoncesArePrintable : Bool → List Given → Type 0
+NoncesArePrintable strict events = T strict → (k : ℕ) (event : Given) → slice_get events k ≡ Some event
+    → is_nonce (base64_text event.nonce) ≡ true
+
 -- three events of the client and two of the server: the list of the one mechanism, and from then on what the other side
 -- sent, if it sent a body
 pub record UnalteredRun (sides : Sides) : Type 0 where
@@ -41,6 +53,7 @@ pub record UnalteredRun (sides : Sides) : Type 0 where
   pub outcome : Given
   pub init : Given
   pub response : Given
+  pub printable : ArePrintable sides offer.nonce init.nonce
   pub client_events : sides.client_events ≡ offer ∷ challenge ∷ outcome ∷ []
   pub server_events : sides.server_events ≡ init ∷ response ∷ []
   pub offered : canonical (frames.Mechanisms (login_mechanism sides.login ∷ [])) ≡ Some offer.body
@@ -58,12 +71,13 @@ pub record Suffices (sides : Sides) : Type 0 where
 
 -- the provider holds the record of a password with this salt and this count, which the client's secret opens and whose
 -- count it accepts; and it accepts the client's GS2 header and has the data of the client's channel, as each provider
--- without channels does of each client without one
+-- without channels does of each client without one; a strict provider accepts the user's name (RFC 5802, section 7)
 pub record HoldsLogin (sides : Sides) (password salt : List ℕ) (count : ℕ) : Type 0 where
   pub version : sides.provider.version ≡ sides.login.version
-  pub header : TakesHeader sides.provider.rules (flag_of sides.login.channel)
+  pub header : TakesHeader sides.provider.rules (header_of (login_header sides.login))
   pub channel : cbind_data sides.login.channel
-      ≡ cbind_data (expected_channel sides.provider.rules.channels (flag_of sides.login.channel))
+      ≡ cbind_data (expected_header sides.provider.rules.channels (header_of (login_header sides.login))).channel
+  pub name : T sides.provider.rules.strict → is_value sides.login.user ≡ true
   pub stored : sides.provider.records sides.login.user
       ≡ Some (record_of sides.login.version password salt count)
   pub bytes : IsBytes salt

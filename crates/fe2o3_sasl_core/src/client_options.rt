@@ -17,8 +17,8 @@ pub struct ClientOptions {
     /// then reports an Ok without data (RFC 4422, section 5).
     pub signature_by_challenge: bool,
 
-    /// Whether the client rejects an attribute that RFC 5802 defines in the place of an extension, by
-    /// `MisplacedAttribute`. A client that binds a channel is always strict.
+    /// Whether the client is strict: it rejects messages that the grammar of RFC 5802, section 7, does not allow
+    /// ([`ScramClient::strict`]).
     pub strict: bool,
 
     /// What the client says of its channel (RFC 5802, section 6). With `ClientChannel::Bound` its mechanism is the one

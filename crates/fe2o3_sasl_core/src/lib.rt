@@ -20,6 +20,7 @@ pub mod restrict_mechanisms;
 pub mod sasl_acceptor;
 pub mod sasl_profile;
 pub mod steps;
+pub mod strict_plain;
 pub mod whole_runs;
 
 pub use crate::any_mechanism::{AnyMechanism, HasMechanism, Selected};
@@ -46,6 +47,7 @@ pub use crate::steps::{
     acceptor_body_step, acceptor_frame_step, acceptor_step, profile_body_step, profile_frame_step,
     profile_step,
 };
+pub use crate::strict_plain::StrictPlainMechanism;
 pub use crate::whole_runs::{
     run_acceptor, run_profile, scram_client_run, scram_client_run_limited,
     scram_client_run_with_options, scram_server_run, scram_server_run_with_rules,

@@ -9,6 +9,7 @@ ghost use Rattle.fe2o3_scram.specs.Passwords.{password_of};
 ghost use Rattle.fe2o3_scram.specs.Texts.{Cut};
 ghost use Rattle.fe2o3_sasl_core.specs.Costs.{CostsAtMost};
 ghost use Rattle.fe2o3_sasl_core.specs.PlainServer.{AsksPlain, HasPassword, IsTaken, MeetsUser, PlainLogsIn, PlainParts, PlainState, PreparesPassword, SpellsPlain, TestingCosts, count_or, parts_of, plain_allocates, plain_hmacs, plain_machine, plain_reasons, plain_state};
+ghost use Rattle.fe2o3_sasl_core.specs.PlainWords.{IsPlainWord};
 ghost use Rattle.fe2o3_sasl_core.specs.SaslAcceptor.{HasReason, sent_frame};
 ghost use Rattle.fe2o3_sasl_core.specs.declared.plain_server.passwords.PlainPasswords.TheVariants.{Typed as FormTyped, Saslprep as FormSaslprep};
 
@@ -245,15 +246,15 @@ fn mock(iterations: u32) -> StoredPassword<'static>
 
 /// A message of PLAIN, borrowed from an init.
 #[derive(Drop)]
-struct PlainMessage<'a> {
-    identity: &'a str,
-    username: &'a str,
-    password: &'a str,
+pub(crate) struct PlainMessage<'a> {
+    pub(crate) identity: &'a str,
+    pub(crate) username: &'a str,
+    pub(crate) password: &'a str,
 }
 
 impl<'a> PlainMessage<'a> {
     /// Reads the message, or returns `None` if the bytes are none that is accepted.
-    fn read_taken(bytes: &'a [u8]) -> Option<PlainMessage<'a>>
+    pub(crate) fn read_taken(bytes: &'a [u8]) -> Option<PlainMessage<'a>>
         ensures { MatchOption result ((parts : PlainParts) → SpellsPlain parts bytes.now → ¬ IsTaken parts)
             (λ message. SpellsPlain (parts_of message) bytes.now × IsTaken (parts_of message)) }
     {
@@ -304,6 +305,20 @@ impl<'a> PlainMessage<'a> {
             return false;
         }
         self.identity.is_empty() || self.identity == self.username
+    }
+}
+
+/// Returns whether the text can be a user name or a password of a message (RFC 4616, section 2).
+#[tactic(auto, using(crate::proofs::lemmas::machines::PlainMessageLemmas::plain_word))]
+pub(crate) fn is_plain_word(word: &str) -> bool
+    ensures { IsTrue result ↔ IsPlainWord word.now }
+{
+    if word.is_empty() {
+        return false;
+    }
+    match cut_at_zero(word) {
+        Some(_) => false,
+        None => true,
     }
 }
 

@@ -213,9 +213,9 @@ fn has_zero_part(bytes: &[u8], k: usize, wanted: &[u8]) -> bool
 /// An acceptor of PLAIN for one user (RFC 4616). Its answers allocate nothing.
 #[derive(Drop)]
 pub struct SaslPlainMechanism {
-    username: String,
-    password: SecretText,
-    accepted: bool,
+    pub(crate) username: String,
+    pub(crate) password: SecretText,
+    pub(crate) accepted: bool,
 }
 
 impl SaslPlainMechanism {

@@ -1,8 +1,9 @@
 //! The client's side of a negotiation: what it answers to the frames of a server (AMQP 1.0, part 5, section 5.3.2).
 
-ghost use Rattle.std.specs.Prelude.{◌≡◌, ◌++◌, ◌∷◌, false, IfOk, IfErr, OnOk, OnErr, IsAscii, option_map, string_bytes};
+ghost use Rattle.std.specs.Prelude.{◌≡◌, ◌++◌, ◌∷◌, false, IfOk, IfErr, OnOk, OnErr, MatchOption, IsAscii, option_map, string_bytes};
 ghost use Rattle.fe2o3_sasl_wire.specs.AmqpTypes.{binary_bytes};
 ghost use Rattle.fe2o3_sasl_core.specs.Profiles.{ScramProfile, PlainProfile, MessageProfile, AnonymousMessage, ExternalMessage, scram_profile, profile_name, initial_response, after_init};
+ghost use Rattle.fe2o3_sasl_core.specs.PlainWords.{ArePlainWords};
 ghost use Rattle.fe2o3_sasl_core.specs.Runs.{login_with};
 ghost use Rattle.fe2o3_sasl_core.specs.SaslProfile.{RefusesUrl, HasCredentials, profile_of};
 
@@ -16,10 +17,12 @@ mod single_message;
 use crate::OutOfMemory;
 use crate::client_options::ClientOptions;
 use crate::mechanism_names::{ANONYMOUS, EXTERNAL, PLAIN, symbol_of};
+use crate::plain_server::is_plain_word;
 pub use error::{ProfileError, UrlError};
 use fe2o3_sasl_wire::{Binary, SaslInit, SaslOutcome, SaslResponse, Symbol};
 use fe2o3_scram::hmac::ScramVersion;
 use fe2o3_scram::scram_client::ScramClient;
+use fe2o3_scram::secrets::SecretText;
 pub(crate) use frames::outcome_of;
 pub use scram::{SaslScram, SaslScramSha1, SaslScramSha256, SaslScramSha512};
 use scram_frames::first_message;
@@ -39,8 +42,8 @@ pub enum SaslProfile {
         /// The user name.
         username: String,
 
-        /// The password.
-        password: String,
+        /// The password, which is overwritten before its memory is freed.
+        password: SecretText,
     },
 
     /// EXTERNAL (RFC 4422, appendix A).
@@ -81,7 +84,24 @@ impl SaslProfile {
     pub fn plain(username: String, password: String) -> SaslProfile
         ensures { profile_of result ≡ PlainProfile (string_bytes username) (string_bytes password) }
     {
-        SaslProfile::Plain { username, password }
+        SaslProfile::Plain {
+            username,
+            password: SecretText::new(password),
+        }
+    }
+
+    /// Makes a PLAIN profile like [`SaslProfile::plain`], or returns `None` if the user name or the password is empty or
+    /// has a zero byte, as no message may have it (RFC 4616, section 2).
+    pub fn plain_checked(username: String, password: String) -> Option<SaslProfile>
+        ensures { MatchOption result (¬ ArePlainWords (string_bytes username) (string_bytes password))
+            (λ profile. ArePlainWords (string_bytes username) (string_bytes password)
+            × (profile_of profile ≡ PlainProfile (string_bytes username) (string_bytes password))) }
+    {
+        if is_plain_word(&username) && is_plain_word(&password) {
+            Some(SaslProfile::plain(username, password))
+        } else {
+            None
+        }
     }
 
     /// Makes an ANONYMOUS profile that sends this trace information, which may be empty, as its initial response (RFC
@@ -121,7 +141,7 @@ impl SaslProfile {
         };
         Ok(SaslProfile::Plain {
             username: String::from_str(alloc, username)?,
-            password: String::from_str(alloc, password)?,
+            password: SecretText::from_str(alloc, password)?,
         })
     }
 
@@ -184,7 +204,7 @@ impl SaslProfile {
         match self {
             SaslProfile::Anonymous | SaslProfile::External => Ok(None),
             SaslProfile::Plain { username, password } => {
-                Ok(Some(plain_message(alloc, username, password)?))
+                Ok(Some(plain_message(alloc, username, password.as_str())?))
             }
             SaslProfile::AnonymousAs(single) => Ok(Some(single.start(alloc)?)),
             SaslProfile::ExternalAs(single) => Ok(Some(single.start(alloc)?)),

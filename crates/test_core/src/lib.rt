@@ -27,6 +27,8 @@ mod paths;
 #[cfg(test)]
 mod plain_records;
 #[cfg(test)]
+mod plain_words;
+#[cfg(test)]
 mod printed;
 #[cfg(test)]
 mod profiles;

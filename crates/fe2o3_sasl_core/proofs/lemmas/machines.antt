@@ -7,6 +7,7 @@ pub mod OneReplyLemmas
 pub mod ServerMachineLemmas
 pub mod PlainMessageLemmas
 pub mod PlainServerLemmas
+pub mod StrictPlainLemmas
 pub mod ZeroPartLemmas
 pub mod SomeRunLemmas
 pub mod ResponseCostLemmas

@@ -10,9 +10,10 @@ use crate::OutOfMemory;
 use crate::sasl_acceptor::SaslServerFrame;
 use fe2o3_sasl_wire::{SaslCode, SaslInit, SaslResponse, Symbol};
 use std::alloc::AllocError;
+use std::fmt;
 
 /// Where a server that sends extra challenges is in a login.
-#[derive(Debug, Drop)]
+#[derive(Drop)]
 pub enum ChallengePhase {
     /// No extra challenge is open, and the acceptor names the user.
     Idle,
@@ -53,6 +54,21 @@ impl Clone for ChallengePhase {
             }),
             ChallengePhase::Signing => Ok(ChallengePhase::Signing),
             ChallengePhase::Unconfirmed => Ok(ChallengePhase::Unconfirmed),
+        }
+    }
+}
+
+impl fmt::Debug for ChallengePhase {
+    /// Writes the phase, and the mechanism of an init that was asked, without the hostname and the nonce.
+    fn fmt<W: fmt::Write>(&self, f: &mut fmt::Formatter<W>) -> fmt::Result {
+        match self {
+            ChallengePhase::Idle => f.write_str("Idle"),
+            ChallengePhase::Asking { mechanism, .. } => {
+                let mechanism = mechanism.as_str();
+                write!(f, "Asking {{ mechanism: {mechanism:?}, .. }}")
+            }
+            ChallengePhase::Signing => f.write_str("Signing"),
+            ChallengePhase::Unconfirmed => f.write_str("Unconfirmed"),
         }
     }
 }

@@ -220,8 +220,7 @@ impl<'a> PasswordServerBuilder<'a> {
         builder
     }
 
-    /// Returns this builder, whose SCRAM is strict if `strict` is true (`ScramAuthenticator::strict`). With `-PLUS` it
-    /// always is.
+    /// Returns this builder, whose SCRAM is strict if `strict` is true (`ScramAuthenticator::strict`).
     pub fn strict(self, strict: bool) -> Self
         ensures { settings_of result ≡ record (settings_of self.entry) {
           rules = record ((settings_of self.entry).rules) { strict = strict };

@@ -1,10 +1,10 @@
 //! The SCRAM profiles: one type over the versions (RFC 5802, section 5), and a name for each of the three.
 
-ghost use Rattle.std.specs.Prelude.{◌≡◌, ◌↔◌, IfOk, MatchOption, Some, None, string_bytes};
+ghost use Rattle.std.specs.Prelude.{◌≡◌, ◌↔◌, IfOk, MatchOption, Some, None, string_bytes, option_map};
 ghost use Rattle.fe2o3_scram.specs.declared.hmac.ScramVersion.{ScramVersion};
 ghost use Rattle.fe2o3_scram.specs.declared.hmac.ScramVersion.TheVariants.{Sha1, Sha256, Sha512};
 ghost use Rattle.fe2o3_scram.specs.ClientSecret.{IsOfVersion, no_limit, secret_of};
-ghost use Rattle.fe2o3_scram.specs.ScramClient.{fresh_client, login_keys, with_channel, with_limits, with_signature_by_challenge, with_strict};
+ghost use Rattle.fe2o3_scram.specs.ScramClient.{acting_for, fresh_client, login_keys, with_channel, with_limits, with_signature_by_challenge, with_strict};
 ghost use Rattle.fe2o3_sasl_core.specs.Profiles.{ScramProfile, scram_profile};
 ghost use Rattle.fe2o3_sasl_core.specs.Runs.{login_of};
 ghost use Rattle.fe2o3_sasl_core.specs.SaslProfile.{profile_of, variant_version};
@@ -146,15 +146,23 @@ impl<V: OfVersion> SaslScram<V> {
     }
 
     /// Returns this client, but it says this of its channel (RFC 5802, section 6). With `ClientChannel::Bound` its
-    /// mechanism is the one with `-PLUS`, and it is always strict ([`ScramClient::with_channel`]).
+    /// mechanism is the one with `-PLUS` ([`ScramClient::with_channel`]).
     pub fn with_channel(self, channel: ClientChannel) -> Self
         ensures { result ≡ with_channel self channel }
     {
         Self::of(self.client.with_channel(channel))
     }
 
-    /// Returns this client, but strict if `strict` is true: it rejects an attribute that RFC 5802 defines in the place of
-    /// an extension, by `MisplacedAttribute` ([`ScramClient::strict`]).
+    /// Returns this client, but it acts for this identity (RFC 5802, section 5.1, `a=`), or for itself if there is none
+    /// ([`ScramClient::acting_for`]).
+    pub fn acting_for(self, acts_for: Option<String>) -> Self
+        ensures { result ≡ acting_for self (option_map (λ name. string_bytes name) acts_for) }
+    {
+        Self::of(self.client.acting_for(acts_for))
+    }
+
+    /// Returns this client, but strict if `strict` is true: it rejects messages that the grammar of RFC 5802, section 7,
+    /// does not allow ([`ScramClient::strict`]).
     pub fn strict(self, strict: bool) -> Self
         ensures { result ≡ with_strict self strict }
     {

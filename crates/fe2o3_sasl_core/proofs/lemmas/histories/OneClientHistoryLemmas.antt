@@ -9,7 +9,7 @@ use Rattle.fe2o3_sasl_wire.specs.SaslFrames.{SaslFrame}
 use Rattle.fe2o3_scram.specs.declared.scram_messages.error.ScramErrorKind.{ScramErrorKind}
 use Rattle.fe2o3_scram.specs.Texts.{base64_text}
 use Rattle.fe2o3_sasl_core.specs.ClientHistory.{Answering, answer_at, client_at, says_answer, ReadsChallenge, ReadsOutcome, ReadsSigning, ClientAnswers, ClientAllocates, is_start, is_answer, ends_answer, NonceAt, IsDue, AnswersAt, OpenAnswer, SignsAt, VerifiedAnswer, ClientHistory}
-use Rattle.fe2o3_sasl_core.specs.Events.{Given, Login, ClientSays, Refused, scram_fault}
+use Rattle.fe2o3_sasl_core.specs.Events.{is_strict_login, Given, Login, ClientSays, Refused, scram_fault}
 use Rattle.fe2o3_sasl_core.specs.Laws.{OneClientHistory}
 use Rattle.fe2o3_scram.specs.ServerFinal.{ReadsServerFinal}
 use Rattle.fe2o3_scram.specs.ServerFirst.{ServerFirst, ReadsServerFirst}
@@ -151,11 +151,11 @@ one_reading_of_challenge login Due one text answer other = go answer other
 -- a server-final message has one reading, where one answer at most is open
 one_reading_of_signature : (login : Login) (IsOpen : Answering → Type 0) → OfOne IsOpen → (text : List ℕ)
     (waits again : Answering) (first second : Result (Unit {0}) ScramErrorKind) → IsOpen waits → IsOpen again
-    → ReadsServerFinal (answer_at login waits).signature text first
-    → ReadsServerFinal (answer_at login again).signature text second → first ≡ second
+    → ReadsServerFinal (is_strict_login login) (answer_at login waits).signature text first
+    → ReadsServerFinal (is_strict_login login) (answer_at login again).signature text second → first ≡ second
 one_reading_of_signature login IsOpen one text waits again first second opened too h k =
-    one_server_final (answer_at login again).signature text first second
-    (subst (λ (x : Answering). ReadsServerFinal (answer_at login x).signature text first)
+    one_server_final (is_strict_login login) (answer_at login again).signature text first second
+    (subst (λ (x : Answering). ReadsServerFinal (is_strict_login login) (answer_at login x).signature text first)
     (one waits again opened too) h) k
 
 -- so has a signature in a challenge
@@ -177,8 +177,8 @@ one_reading_of_outcome login IsOpen IsVerified one None (Err a) (Err b) h k = ap
 one_reading_of_outcome login IsOpen IsVerified one (Some text) answer other h k = go answer other h k
   where
     reads : (waits again : Answering) (first second : Result (Unit {0}) ScramErrorKind) → IsOpen waits → IsOpen again
-        → ReadsServerFinal (answer_at login waits).signature text first
-        → ReadsServerFinal (answer_at login again).signature text second
+        → ReadsServerFinal (is_strict_login login) (answer_at login waits).signature text first
+        → ReadsServerFinal (is_strict_login login) (answer_at login again).signature text second
         → first ≡ second
     reads = one_reading_of_signature login IsOpen one text
 

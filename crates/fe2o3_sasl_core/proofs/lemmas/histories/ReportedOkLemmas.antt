@@ -8,12 +8,12 @@ use Rattle.fe2o3_sasl_wire.specs.declared.sasl_frames.error.Error.TheVariants as
 use Rattle.fe2o3_sasl_wire.specs.SaslFrames.{canonical, SaslFrame}
 use Rattle.fe2o3_sasl_wire.specs.SaslFrames as frames
 use Rattle.fe2o3_scram.specs.Texts.{base64_text, HasBase64}
-use Rattle.fe2o3_scram.specs.ChannelBinding.{flag_of}
+use Rattle.fe2o3_scram.specs.ChannelBinding.{header_of}
 use Rattle.fe2o3_scram.specs.ClientFirst.{client_first_with}
 use Rattle.fe2o3_sasl_core.specs.ClientHistory.{Answering, OpenAnswer, VerifiedAnswer, IsDue, ClientHistory, ClientAnswers, ClientAllocates, ReadsOutcome, answer_at}
 use Rattle.fe2o3_sasl_core.specs.Bodies.{SpellsBody}
 use Rattle.fe2o3_sasl_core.specs.TwoSides.{SignedAnswer, VerifierText}
-use Rattle.fe2o3_sasl_core.specs.Events.{Given, Login, login_mechanism, ClientSays, Started, Answered, Reported, Refused}
+use Rattle.fe2o3_sasl_core.specs.Events.{is_strict_login, Given, Login, login_mechanism, ClientSays, Started, Answered, Reported, Refused, login_header}
 use Rattle.fe2o3_scram.proofs.lemmas.messages.OneValueLemmas.{names_server_final}
 use Rattle.fe2o3_sasl_core.proofs.lemmas.positions.PositionLemmas.{some_at}
 use Rattle.fe2o3_sasl_core.proofs.lemmas.frames.SpellingLemmas.{carried_not}
@@ -30,7 +30,7 @@ module _ (login : Login) (Due : List ℕ → Type 0) (IsOpen IsVerified : Answer
   reported event (Ok (frames.Mechanisms names)) more (inl says) =
       absurd (carried_not (Refused (Frame faults.TooLarge)) (λ body. Started body)
       (canonical (frames.Init (login_mechanism login)
-      (Some (client_first_with (flag_of login.channel) login.user (base64_text event.nonce))) login.hostname))
+      (Some (client_first_with (header_of (login_header login)) login.user (base64_text event.nonce))) login.hostname))
       (Reported outcomes.Ok more) (λ is. cc) (λ body is. cc) (sym says.1))
   reported event (Ok (frames.Mechanisms names)) more (inr says) = let is = says.1 in absurd (cc)
   reported event (Ok (frames.Challenge text)) more (inl says) =
@@ -83,7 +83,7 @@ pub signature_of_ok : (login : Login) (events : List Given) (replies : List Clie
     × VerifierText events replies m more text × HasBase64 text 0 (codes "v=") (answer_at login answer).signature
 signature_of_ok login events replies m (Some given) history at =
     let reads = (reported_at login events replies m (Some given) history at).3 in
-    (reads.0, given, reads.1, refl, names_server_final (answer_at login reads.0).signature given tt reads.2)
+    (reads.0, given, reads.1, refl, names_server_final (is_strict_login login) (answer_at login reads.0).signature given tt reads.2)
 signature_of_ok login events replies m None history at =
     let reads = (reported_at login events replies m None history at).3 in
     let signs = reads.1.2 in (
@@ -91,5 +91,5 @@ signature_of_ok login events replies m None history at =
       signs.1,
       reads.1,
       (reads.1.0, reads.1.1, (signs.0, signs.2, signs.3)),
-      names_server_final (answer_at login reads.0).signature signs.1 tt signs.5,
+      names_server_final (is_strict_login login) (answer_at login reads.0).signature signs.1 tt signs.5,
     )

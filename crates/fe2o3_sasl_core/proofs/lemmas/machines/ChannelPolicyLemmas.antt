@@ -10,7 +10,7 @@ use Rattle.fe2o3_scram.specs.declared.scram_messages.channel_binding_flag.Channe
 use Rattle.fe2o3_scram.specs.declared.scram_messages.channel_binding_flag.ChannelBindingFlag.TheVariants.{ClientSupports, Required}
 use Rattle.fe2o3_scram.specs.declared.scram_messages.client_channel.ClientChannel.{ClientChannel}
 use Rattle.fe2o3_scram.specs.declared.scram_messages.client_channel.ClientChannel.TheVariants.{Bound, NotOffered}
-use Rattle.fe2o3_scram.specs.ChannelBinding.{flag_of, header_text, is_bound, mechanism_of, plus_name}
+use Rattle.fe2o3_scram.specs.ChannelBinding.{flag_of, is_bound, mechanism_of, plus_name, ClientHeader, header_of}
 use Rattle.fe2o3_scram.specs.ClientFirst.{client_first_bare, client_first_with}
 use Rattle.fe2o3_scram.specs.ClientSecret.{Secret, Password, Keys, Both}
 use Rattle.fe2o3_scram.specs.Hmac.{mechanism_name}
@@ -100,6 +100,7 @@ record IsScramWith (channel : ClientChannel) (version : ScramVersion) (profile :
   pub client : ClientSide
   pub scram : profile ≡ ScramProfile client
   pub channel_is : client.channel ≡ channel
+  pub own : client.acts_for ≡ None
   pub version_is : client.version ≡ version
 
 scram_with : (policy : ClientPolicy) (channel : ClientChannel) (user : List ℕ) (version : ScramVersion)
@@ -110,15 +111,17 @@ scram_with policy channel user version (Some secret) profile is = record {
   client = with_channel (with_limits (fresh_client user version secret) policy.limits) channel;
   scram = sym (the_some _ profile is);
   channel_is = refl;
+  own = refl;
   version_is = refl;
 }
 
 begins : (channel : ClientChannel) (profile : Profile) (client : ClientSide) → profile ≡ ScramProfile client
-    → client.channel ≡ channel → BeginsWithHeader (flag_of channel) profile
-begins channel profile client is same nonce = (
+    → client.channel ≡ channel → client.acts_for ≡ None → BeginsWithHeader (flag_of channel) profile
+begins channel profile client is same own nonce = (
   client_first_bare client.user (base64_text nonce),
   ap (λ (p : Profile). initial_response p nonce) is
-      ∙ ap (λ (c : ClientChannel). Some (client_first_with (flag_of c) client.user (base64_text nonce))) same,
+      ∙ ap (λ (header : ClientHeader). Some (client_first_with (header_of header) client.user (base64_text nonce)))
+      (λ i. record { channel = same i; acts_for = own i }),
 )
 
 named : (channel : ClientChannel) (profile : Profile) (client : ClientSide) → profile ≡ ScramProfile client
@@ -133,7 +136,7 @@ binds_exactly binding version profile is = record {
   scram = is.scram;
   channel = is.channel_is;
   name = named (Bound binding) profile is.client is.scram is.channel_is;
-  says = begins (Bound binding) profile is.client is.scram is.channel_is;
+  says = begins (Bound binding) profile is.client is.scram is.channel_is is.own;
 }
 
 says_not_offered : (version : ScramVersion) (profile : Profile) → IsScramWith NotOffered version profile
@@ -143,7 +146,7 @@ says_not_offered version profile is = record {
   scram = is.scram;
   channel = is.channel_is;
   name = named NotOffered profile is.client is.scram is.channel_is;
-  says = begins NotOffered profile is.client is.scram is.channel_is;
+  says = begins NotOffered profile is.client is.scram is.channel_is is.own;
 }
 
 module _ (policy : ClientPolicy) (user : List ℕ) (secret : Secret) where

@@ -11,7 +11,7 @@ use Rattle.fe2o3_scram.specs.declared.scram_messages.channel_binding_flag.Channe
 use Rattle.fe2o3_scram.specs.declared.scram_messages.channel_binding_flag.ChannelBindingFlag.TheVariants.{NotSupported, ClientSupports, Required}
 use Rattle.fe2o3_scram.specs.declared.channel_binding.ChannelBindings.{ChannelBindings}
 use Rattle.fe2o3_scram.specs.declared.channel_binding.ChannelKind.TheVariants.{TlsUnique, TlsServerEndPoint, TlsExporter}
-use Rattle.fe2o3_scram.specs.ChannelBinding.{TakesFlag, TakesHeader, is_strict, mechanism_of, no_data}
+use Rattle.fe2o3_scram.specs.ChannelBinding.{TakesFlag, TakesHeader, is_strict, mechanism_of, no_data, AcceptsFlag}
 use Rattle.fe2o3_scram.specs.ClientFirst.{ClientFirst, NamesClientFirst, ReadsClientFirst}
 use Rattle.fe2o3_scram.proofs.lemmas.messages.ClientFirstLemmas.{after_nonce}
 use Rattle.fe2o3_scram.proofs.lemmas.messages.OneValueLemmas.{one_client_first_value}
@@ -173,17 +173,17 @@ some_claim mechanism text = some_of mechanism text (name_or mechanism)
 
 -- ---- what a server reads
 
--- a header that a server accepts is one of its mechanism
-header_of_mechanism : (channels : Option ChannelBindings) (accept_y : Bool) (header : ChannelBindingFlag)
-    → TakesFlag channels accept_y header → TakesHeader (headers_of (is_some channels)) header
-header_of_mechanism None accept_y NotSupported takes = tt
-header_of_mechanism None accept_y ClientSupports takes = tt
-header_of_mechanism None accept_y (Required kind) takes = takes
-header_of_mechanism (Some channels) accept_y NotSupported takes = takes
-header_of_mechanism (Some channels) accept_y ClientSupports takes = takes
-header_of_mechanism (Some channels) accept_y (Required TlsUnique) takes = (no_data, refl)
-header_of_mechanism (Some channels) accept_y (Required TlsServerEndPoint) takes = (no_data, refl)
-header_of_mechanism (Some channels) accept_y (Required TlsExporter) takes = (no_data, refl)
+-- a flag that a server accepts is one of its mechanism
+flag_of_mechanism : (channels : Option ChannelBindings) (accept_y : Bool) (flag : ChannelBindingFlag)
+    → TakesFlag channels accept_y flag → AcceptsFlag (headers_of (is_some channels)) flag
+flag_of_mechanism None accept_y NotSupported takes = tt
+flag_of_mechanism None accept_y ClientSupports takes = tt
+flag_of_mechanism None accept_y (Required kind) takes = takes
+flag_of_mechanism (Some channels) accept_y NotSupported takes = takes
+flag_of_mechanism (Some channels) accept_y ClientSupports takes = takes
+flag_of_mechanism (Some channels) accept_y (Required TlsUnique) takes = (no_data, refl)
+flag_of_mechanism (Some channels) accept_y (Required TlsServerEndPoint) takes = (no_data, refl)
+flag_of_mechanism (Some channels) accept_y (Required TlsExporter) takes = (no_data, refl)
 
 -- a claim is read strictly only where each server is strict
 strict_like_servers : (channels : Option ChannelBindings) (strict : Bool)
@@ -191,12 +191,18 @@ strict_like_servers : (channels : Option ChannelBindings) (strict : Bool)
 strict_like_servers None strict is = absurd is
 strict_like_servers (Some channels) strict is = tt
 
+-- what claims are read by is not set to be strict
+not_strict : (plus : Bool) → ¬ T (headers_of plus).strict
+not_strict true strict = strict
+not_strict false strict = strict
+
 read_by_server : (rules : ServerRules) (text : List ℕ) (first : ClientFirst) → ReadsClientFirst rules text (Ok first)
     → ReadsClientFirst (headers_of (is_some rules.channels)) text (Ok first)
 unfolding ReadsClientFirst
 read_by_server rules text first reads =
     let names = reads.1 in
-    let takes = header_of_mechanism rules.channels rules.accept_cbind_flag_y first.header names.header in (
+    let flag = flag_of_mechanism rules.channels rules.accept_cbind_flag_y first.header.flag names.header.0 in
+    let takes : TakesHeader (headers_of (is_some rules.channels)) first.header = (flag, names.header.1) in (
       (
         reads.0.0,
         (
@@ -206,17 +212,23 @@ read_by_server rules text first reads =
             (
               λ none. none first.nonce (first.header, first.bare, takes, names.bare, names.nonce),
               (
-                λ wrong. reads.0.1.1.1.1.0 (
-                  strict_like_servers rules.channels rules.strict wrong.0,
+                λ wrong. not_strict (is_some rules.channels) wrong.0,
+                (
+                  λ wrong. not_strict (is_some rules.channels) wrong.0,
                   (
-                    first.header,
-                    first.bare,
-                    names.header,
-                    names.bare,
-                    after_nonce (headers_of (is_some rules.channels)) first.header text first.bare names.bare wrong.1,
+                    λ wrong. reads.0.1.1.1.1.1.1.0 (
+                      strict_like_servers rules.channels rules.strict wrong.0,
+                      (
+                        first.header,
+                        first.bare,
+                        names.header,
+                        names.bare,
+                        after_nonce (headers_of (is_some rules.channels)) first.header text first.bare names.bare wrong.1,
+                      ),
+                    ),
+                    tt,
                   ),
                 ),
-                tt,
               ),
             ),
           ),

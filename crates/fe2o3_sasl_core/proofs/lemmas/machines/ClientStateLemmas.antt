@@ -8,7 +8,7 @@ use Rattle.fe2o3_scram.specs.ClientFirst.{client_first_bare}
 use Rattle.fe2o3_scram.specs.ClientKeys.{ClientKeys}
 use Rattle.fe2o3_sasl_core.specs.ClientHistory.{Answering, answer_at, MaySign, ReadsChallenge, ReadsOutcome, ReadsSigning}
 use Rattle.fe2o3_scram.specs.ScramClient.{ClientState, ClientInitial, ClientFirstSent, ClientFinalSent, SignatureVerified, Complete, ClientSide, AnswersIn, ChecksSignatureIn, ConcludesIn, VerifiesIn, expects_signature}
-use Rattle.fe2o3_sasl_core.specs.Events.{Login}
+use Rattle.fe2o3_sasl_core.specs.Events.{is_strict_login, Login, login_header}
 use Rattle.fe2o3_sasl_core.specs.Profiles.{Profile, ScramProfile}
 use Rattle.fe2o3_scram.specs.ServerFinal.{ReadsServerFinal}
 
@@ -22,6 +22,7 @@ side_in login state = record {
   version = login.version;
   limits = login.limits;
   channel = login.channel;
+  acts_for = login.acts_for;
   strict = login.strict;
   signature_by_challenge = login.signature_by_challenge;
   state = state;
@@ -83,7 +84,7 @@ answers_due login (ClientFirstSent nonce bare) at text message after stands utf8
     let first = h.1.0 in
     let answer : Answering = record { nonce = nonce; text = text; first = first } in
     let same : h.0 ≡ answer_at login answer = h.1.2
-    ∙ ap (λ (b : List ℕ). answer_of login.version login.secret login.channel b text first) stands.3 in (
+    ∙ ap (λ (b : List ℕ). answer_of login.version login.secret (login_header login) b text first) stands.3 in (
       answer,
       (utf8, refl, stands.0, h.1.1),
       h.2 ∙ ap (λ (x : Answer). x.message) same,
@@ -119,7 +120,7 @@ verifies_open login (SignatureVerified keys) at text verified after stands h = a
 verifies_open login (Complete keys) at text verified after stands h = absurd h
 verifies_open login (ClientFinalSent signature keys) at text verified after stands h = (
   keys,
-  (stands.1.0, stands.1.1, subst (λ (s : List ℕ). ReadsServerFinal s text (Ok tt)) stands.1.2 h.0),
+  (stands.1.0, stands.1.1, subst (λ (s : List ℕ). ReadsServerFinal (is_strict_login login) s text (Ok tt)) stands.1.2 h.0),
   stands.0,
   h.1,
 )
@@ -138,7 +139,7 @@ refuses_open login (SignatureVerified keys) at text kind after stands h =
 refuses_open login (Complete keys) at text kind after stands h =
     (inl ((λ answer e. absurd (none-some answer (sym stands.1 ∙ e))), h.0), h.1)
 refuses_open login (ClientFinalSent signature keys) at text kind after stands h =
-    (inr (stands.1.0, stands.1.1, subst (λ (s : List ℕ). ReadsServerFinal s text (Err kind)) stands.1.2 h.0), h.1)
+    (inr (stands.1.0, stands.1.1, subst (λ (s : List ℕ). ReadsServerFinal (is_strict_login login) s text (Err kind)) stands.1.2 h.0), h.1)
 
 pub left_true : (left right : Bool) → left && right ≡ true → left ≡ true
 left_true true right is = refl
@@ -173,7 +174,7 @@ signs_open login (ClientFinalSent signature keys) at text verified after stands 
   (
     stands.1.0,
     (left_true login.signature_by_challenge true is, stands.1.1),
-    subst (λ (s : List ℕ). ReadsServerFinal s text (Ok tt)) stands.1.2 h.0,
+    subst (λ (s : List ℕ). ReadsServerFinal (is_strict_login login) s text (Ok tt)) stands.1.2 h.0,
   ),
   stands.0,
   h.1,
@@ -196,7 +197,7 @@ refuses_signing login (ClientFinalSent signature keys) at text kind after stands
   (
     stands.1.0,
     (left_true login.signature_by_challenge true is, stands.1.1),
-    subst (λ (s : List ℕ). ReadsServerFinal s text (Err kind)) stands.1.2 h.0,
+    subst (λ (s : List ℕ). ReadsServerFinal (is_strict_login login) s text (Err kind)) stands.1.2 h.0,
   ),
   h.1,
 )

@@ -10,13 +10,13 @@ use Rattle.fe2o3_sasl_wire.specs.SaslFrames as frames
 use Rattle.fe2o3_scram.specs.declared.scram_messages.error.ScramErrorKind.{ScramErrorKind}
 use Rattle.fe2o3_scram.specs.declared.scram_messages.error.ScramErrorKind.TheVariants.{Utf8Error}
 use Rattle.fe2o3_scram.specs.Texts.{base64_text}
-use Rattle.fe2o3_scram.specs.ChannelBinding.{flag_of}
+use Rattle.fe2o3_scram.specs.ChannelBinding.{header_of}
 use Rattle.fe2o3_scram.specs.ClientFirst.{client_first_with}
 use Rattle.fe2o3_scram.specs.ClientKeys.{ClientKeys}
 use Rattle.fe2o3_scram.proofs.lemmas.messages.ServerFinalLemmas.{not_utf8 as not_utf8_text, text_refused}
 use Rattle.fe2o3_sasl_core.specs.ClientHistory.{Answering, answer_at, says_answer, MaySign, ReadsChallenge, ReadsSigning, ClientAnswers, ClientAllocates, is_start, is_answer, ends_answer}
 use Rattle.fe2o3_scram.specs.ScramClient.{ClientState, ClientInitial, ClientFirstSent, ClientFinalSent, SignatureVerified, Complete, ClientSide, AnswersIn, ChecksSignatureIn, ConcludesIn, VerifiesIn, expects_signature}
-use Rattle.fe2o3_sasl_core.specs.Events.{Given, Login, login_mechanism, ClientSays, Started, Answered, Reported, Refused, scram_fault}
+use Rattle.fe2o3_sasl_core.specs.Events.{is_strict_login, Given, Login, login_mechanism, ClientSays, Started, Answered, Reported, Refused, scram_fault, login_header}
 use Rattle.fe2o3_sasl_core.specs.Profiles.{Profile, ScramProfile, ChallengeReplies, client_frame, profile_machine, StepAllocates}
 use Rattle.fe2o3_sasl_core.specs.Runs.{Replies, ProfileGives}
 use Rattle.fe2o3_sasl_core.specs.Bodies.{carried}
@@ -73,13 +73,13 @@ start_step : (login : Login) (state : ClientState) (at : Expected) (event : Give
     (names : List (List ℕ)) (says : ClientSays) (next : Profile) → Contains names (login_mechanism login) →
     Replies (profile_in login state) (profile_in login (started_state login (base64_text event.nonce)))
     (Ok (frames.Init (login_mechanism login)
-    (Some (client_first_with (flag_of login.channel) login.user (base64_text event.nonce))) login.hostname)) says next →
+    (Some (client_first_with (header_of (login_header login)) login.user (base64_text event.nonce))) login.hostname)) says next →
     StepsTo login state at event (Ok (frames.Mechanisms names)) says next
 start_step login state at event names says next has h =
     let nonce = base64_text event.nonce in
     let s = sent (Refused (Frame faults.TooLarge)) (λ body. Started body)
     (canonical (frames.Init (login_mechanism login)
-    (Some (client_first_with (flag_of login.channel) login.user nonce)) login.hostname))
+    (Some (client_first_with (header_of (login_header login)) login.user nonce)) login.hostname))
     (profile_in login state) (profile_in login (started_state login nonce)) says next h in
     let row : SaysRow login at event (Ok (frames.Mechanisms names)) says = inr (inl (has, s.0)) in
     ⊎_elim (λ (x : (says ≡ Refused (Frame faults.TooLarge)) × (next ≡ profile_in login state)). refused login state at
@@ -216,7 +216,16 @@ not_utf8_row login state at event text says stands not_utf8 is =
         → ClientAnswers login (DueAt at) (OpenAt at) (VerifiedAt at) event (Ok (frames.Challenge text)) says
     go false none = inr (inr (no_signing login state at stands none, inr (Utf8Error, inl (not_utf8, refl), is)))
     go true expects = let w = waiting state stands expects in
-        inr (inl (Utf8Error, (w.0, w.1, text_refused (answer_at login w.0).signature text Utf8Error (not_utf8_text text not_utf8)), is))
+        inr (inl (
+          Utf8Error,
+          (
+            w.0,
+            w.1,
+            text_refused (is_strict_login login) (answer_at login w.0).signature text Utf8Error
+                (not_utf8_text (is_strict_login login) text not_utf8),
+          ),
+          is,
+        ))
 
 -- the step where memory does not run out
 machine_step : (login : Login) (state : ClientState) (at : Expected) (event : Given)
@@ -229,7 +238,7 @@ machine_step login state at event (frames.Mechanisms names) reply moved says nex
     start_step login state at event names says next m.0
     (replied (profile_in login state) moved (profile_in login (started_state login (base64_text event.nonce))) reply
     (Ok (frames.Init (login_mechanism login)
-    (Some (client_first_with (flag_of login.channel) login.user (base64_text event.nonce))) login.hostname)) says next m.1 m.2 h)
+    (Some (client_first_with (header_of (login_header login)) login.user (base64_text event.nonce))) login.hostname)) says next m.1 m.2 h)
 machine_step login state at event (frames.Mechanisms names) reply moved says next stands (inr m) h =
     let r = replied (profile_in login state) moved (profile_in login state) reply
     (Err NotImplemented) says next m.1 m.2 h in

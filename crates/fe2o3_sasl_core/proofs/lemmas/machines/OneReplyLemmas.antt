@@ -14,7 +14,7 @@ use Rattle.fe2o3_scram.specs.ClientFirst.{ClientFirst, ReadsClientFirst}
 use Rattle.fe2o3_scram.specs.Credentials.{Record, Provider}
 use Rattle.fe2o3_scram.specs.ClientKeys.{ClientKeys}
 use Rattle.fe2o3_scram.specs.ScramClient as client_states
-use Rattle.fe2o3_scram.specs.ScramClient.{ClientState, ClientSide, AnswersIn, ChecksSignatureIn, ConcludesIn, VerifiesIn, expects_signature, with_state, holding}
+use Rattle.fe2o3_scram.specs.ScramClient.{is_strict_client, ClientState, ClientSide, AnswersIn, ChecksSignatureIn, ConcludesIn, VerifiesIn, expects_signature, with_state, holding, header_in}
 use Rattle.fe2o3_scram.specs.ScramServer as server_states
 use Rattle.fe2o3_scram.specs.ScramServer.{ServerState, ChallengesFrom, ConcludesFrom, server_against}
 use Rattle.fe2o3_scram.specs.ServerFinal.{ReadsServerFinal, server_final_of}
@@ -180,7 +180,7 @@ answered_side side answer = with_state side (client_states.ClientFinalSent answe
 -- the turn to a server-first message that was read
 abbrev answer_turn : ClientSide → List ℕ → List ℕ → Result ServerFirst ScramErrorKind → ClientTurn (List ℕ)
 answer_turn side bare text (Ok first) =
-    let answer = answer_of side.version side.secret side.channel bare text first in
+    let answer = answer_of side.version side.secret (header_in side) bare text first in
     (Ok answer.message, answered_side side answer)
 answer_turn side bare text (Err fault) = (Err fault, side)
 
@@ -227,7 +227,7 @@ verification_turn side state (Err fault) = (Err fault, side)
 verification_made : (signature : List ℕ) (keys : Option ClientKeys) (side : ClientSide) (text : List ℕ)
     (answer : Result (Unit {0}) ScramErrorKind) (next : ClientSide)
     → VerifiesIn (client_states.ClientFinalSent signature keys) side text answer next
-    → MadeOf (ReadsServerFinal signature text) (verification_turn side (client_states.Complete keys)) (answer, next)
+    → MadeOf (ReadsServerFinal (is_strict_client side) signature text) (verification_turn side (client_states.Complete keys)) (answer, next)
 verification_made signature keys side text (Ok verified) next is = (Ok verified, is.0, λ i. (Ok verified, is.1 i))
 verification_made signature keys side text (Err fault) next is = (Err fault, is.0, λ i. (Err fault, is.1 i))
 
@@ -235,9 +235,9 @@ one_verification : (state : ClientState) (side : ClientSide) (text : List ℕ) (
     (next last : ClientSide) → VerifiesIn state side text answer next → VerifiesIn state side text other last
     → ◌≡◌ {A = ClientTurn (Unit {0})} (answer, next) (other, last)
 one_verification (client_states.ClientFinalSent signature keys) side text answer other next last is too =
-    one_made (ReadsServerFinal signature text) (verification_turn side (client_states.Complete keys)) (answer, next)
+    one_made (ReadsServerFinal (is_strict_client side) signature text) (verification_turn side (client_states.Complete keys)) (answer, next)
     (other, last)
-    (one_server_final signature text) (verification_made signature keys side text answer next is)
+    (one_server_final (is_strict_client side) signature text) (verification_made signature keys side text answer next is)
     (verification_made signature keys side text other last too)
 one_verification client_states.ClientInitial side text (Ok verified) other next last is too = absurd is
 one_verification client_states.ClientInitial side text (Err fault) (Ok verified) next last is too = absurd too
@@ -259,7 +259,7 @@ one_verification (client_states.Complete keys) side text (Err fault) (Err kind) 
 check_made : (signature : List ℕ) (keys : Option ClientKeys) (side : ClientSide) (text : List ℕ)
     (answer : Result (Unit {0}) ScramErrorKind) (next : ClientSide)
     → ChecksSignatureIn (client_states.ClientFinalSent signature keys) side text answer next
-    → MadeOf (ReadsServerFinal signature text) (verification_turn side (client_states.SignatureVerified keys))
+    → MadeOf (ReadsServerFinal (is_strict_client side) signature text) (verification_turn side (client_states.SignatureVerified keys))
     (answer, next)
 check_made signature keys side text (Ok verified) next is = (Ok verified, is.0, λ i. (Ok verified, is.1 i))
 check_made signature keys side text (Err fault) next is = (Err fault, is.0, λ i. (Err fault, is.1 i))
@@ -270,9 +270,9 @@ one_check : (state : ClientState) (side : ClientSide) (text : List ℕ) (answer 
     → ChecksSignatureIn state side text other last
     → ◌≡◌ {A = ClientTurn (Unit {0})} (answer, next) (other, last)
 one_check (client_states.ClientFinalSent signature keys) side text answer other next last is too =
-    one_made (ReadsServerFinal signature text) (verification_turn side (client_states.SignatureVerified keys))
+    one_made (ReadsServerFinal (is_strict_client side) signature text) (verification_turn side (client_states.SignatureVerified keys))
     (answer, next) (other, last)
-    (one_server_final signature text) (check_made signature keys side text answer next is)
+    (one_server_final (is_strict_client side) signature text) (check_made signature keys side text answer next is)
     (check_made signature keys side text other last too)
 one_check state side text (Ok verified) other next last is too = absurd is
 one_check state side text (Err fault) (Ok verified) next last is too = absurd too

@@ -1,7 +1,7 @@
 -- Messages of PLAIN: a text is cut into the parts of one at most, and is none where it is not cut so.
 use Rattle.std.proofs.Common.{◌≡◌, ℕ, List, ◌∷◌, ◌++◌, subst, ◌∙◌, refl}
 use Rattle.std.specs.Str.{IsUtf8}
-use Rattle.fe2o3_scram.specs.Texts.{Cut}
+use Rattle.fe2o3_scram.specs.Texts.{Cut, Without}
 use Rattle.fe2o3_scram.proofs.lemmas.texts.CutLemmas.{not_without, one_cut, without-uncut}
 use Rattle.fe2o3_sasl_core.specs.PlainServer.{IsTaken, PlainParts, SpellsPlain}
 
@@ -37,6 +37,15 @@ pub cut_twice : (text identity rest user password : List ℕ) → IsUtf8 text �
     → SpellsPlain (record { identity = identity; user = user; password = password }) text
 cut_twice text identity rest user password utf8 first second none =
     (utf8, first.0, second.0, without-uncut 0 password none, first.1 ∙ rw second.1 refl)
+
+-- a word that is not cut has no zero byte, and one that is cut has one
+pub word_uncut : (word : List ℕ) → ((before rest : List ℕ) → ¬ Cut 0 word before rest) → Without 0 word
+word_uncut word none = without-uncut 0 word none
+
+pub word_cut : (word before rest : List ℕ) → Cut 0 word before rest → ¬ Without 0 word
+word_cut word before rest cut = not_without 0 word before rest cut
+
+pub ruleset plain_word = (word_uncut, word_cut)
 
 -- a text is one message at most
 pub one_message : (text : List ℕ) (parts other : PlainParts) → SpellsPlain parts text → SpellsPlain other text

@@ -18,7 +18,7 @@ use Rattle.fe2o3_scram.specs.declared.hmac.ScramVersion.{ScramVersion}
 use Rattle.fe2o3_scram.specs.declared.scram_messages.server_rules.ServerRules.{ServerRules}
 use Rattle.fe2o3_scram.specs.Hmac.{mechanism_name}
 use Rattle.fe2o3_scram.specs.ScramClient as client_states
-use Rattle.fe2o3_scram.specs.ScramClient.{ClientSide, ClientState, AnswersIn, ChecksSignatureIn, ConcludesIn, VerifiesIn, expects_signature, started, with_state, holding}
+use Rattle.fe2o3_scram.specs.ScramClient.{is_strict_client, ClientSide, ClientState, AnswersIn, ChecksSignatureIn, ConcludesIn, VerifiesIn, expects_signature, started, with_state, holding, header_in}
 use Rattle.fe2o3_scram.specs.ScramServer.{ServerState, Initial, ServerFirstSent, ServerFinalSent, ChallengesFrom, ConcludesFrom, server_against}
 use Rattle.fe2o3_scram.specs.ServerFinal.{ReadsServerFinal, server_final_of}
 use Rattle.fe2o3_scram.specs.ServerFirst.{ServerFirst, ReadsServerFirst, challenge_of}
@@ -231,7 +231,7 @@ some_answer (client_states.ClientFirstSent nonce bare) side text =
     go : (read : Result ServerFirst ScramErrorKind) → ReadsServerFirst (holding side nonce) text read
         → (answer : Result (List ℕ) ScramErrorKind) × (after : ClientSide)
         × AnswersIn (client_states.ClientFirstSent nonce bare) side text answer after
-    go (Ok first) reads = let answer = answer_of side.version side.secret side.channel bare text first in (
+    go (Ok first) reads = let answer = answer_of side.version side.secret (header_in side) bare text first in (
       Ok answer.message,
       with_state side (client_states.ClientFinalSent answer.signature (Some answer.keys)),
       (answer, (first, reads, refl), refl, refl),
@@ -246,9 +246,9 @@ some_verification (client_states.ClientFirstSent nonce bare) side text = (Err Il
 some_verification (client_states.SignatureVerified keys) side text = (Err IllegalClientState, side, (refl, refl))
 some_verification (client_states.Complete keys) side text = (Err IllegalClientState, side, (refl, refl))
 some_verification (client_states.ClientFinalSent signature keys) side text =
-    let read = some_server_final signature text in go read.0 read.1
+    let read = some_server_final (is_strict_client side) signature text in go read.0 read.1
   where
-    go : (read : Result (Unit {0}) ScramErrorKind) → ReadsServerFinal signature text read
+    go : (read : Result (Unit {0}) ScramErrorKind) → ReadsServerFinal (is_strict_client side) signature text read
         → (answer : Result (Unit {0}) ScramErrorKind) × (after : ClientSide)
         × VerifiesIn (client_states.ClientFinalSent signature keys) side text answer after
     go (Ok verified) reads = (Ok verified, with_state side (client_states.Complete keys), (reads, refl))
@@ -258,9 +258,9 @@ some_verification (client_states.ClientFinalSent signature keys) side text =
 some_check : (state : ClientState) (side : ClientSide) (text : List ℕ)
     → (answer : Result (Unit {0}) ScramErrorKind) × (after : ClientSide) × ChecksSignatureIn state side text answer after
 some_check (client_states.ClientFinalSent signature keys) side text =
-    let read = some_server_final signature text in go read.0 read.1
+    let read = some_server_final (is_strict_client side) signature text in go read.0 read.1
   where
-    go : (read : Result (Unit {0}) ScramErrorKind) → ReadsServerFinal signature text read
+    go : (read : Result (Unit {0}) ScramErrorKind) → ReadsServerFinal (is_strict_client side) signature text read
         → (answer : Result (Unit {0}) ScramErrorKind) × (after : ClientSide)
         × ChecksSignatureIn (client_states.ClientFinalSent signature keys) side text answer after
     go (Ok verified) reads = (Ok verified, with_state side (client_states.SignatureVerified keys), (reads, refl))
@@ -415,6 +415,7 @@ some_client_history login events are =
       version = login.version;
       limits = login.limits;
       channel = login.channel;
+      acts_for = login.acts_for;
       strict = login.strict;
       signature_by_challenge = login.signature_by_challenge;
       state = client_states.ClientInitial;

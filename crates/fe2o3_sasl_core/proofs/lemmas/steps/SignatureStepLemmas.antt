@@ -9,7 +9,7 @@ use Rattle.fe2o3_sasl_wire.specs.SaslFrames as frames
 use Rattle.fe2o3_scram.specs.ClientKeys.{ClientKeys}
 use Rattle.fe2o3_scram.specs.declared.scram_messages.error.ScramErrorKind.{ScramErrorKind}
 use Rattle.fe2o3_scram.specs.ScramClient as client_states
-use Rattle.fe2o3_scram.specs.ScramClient.{ClientSide, ClientState, SignatureVerified, AnswersIn, ChecksSignatureIn, ConcludesIn, VerifiesIn, expects_signature, is_unsigned, started}
+use Rattle.fe2o3_scram.specs.ScramClient.{ClientSide, ClientState, SignatureVerified, AnswersIn, ChecksSignatureIn, ConcludesIn, VerifiesIn, expects_signature, is_strict_client, is_unsigned, started}
 use Rattle.fe2o3_scram.specs.Logins.{IsSigned}
 use Rattle.fe2o3_sasl_core.specs.Bodies.{SpellsBody}
 use Rattle.fe2o3_sasl_core.specs.Events.{Given, ClientSays, Started, Answered, Refused, scram_fault}
@@ -26,7 +26,7 @@ same_client client other is = cc
 abbrev ComesToWait : ClientSide → ClientSide → Given → ClientSays → Type 0
 ComesToWait client next event says = (next ≡ client)
     ⊎ ((text : List ℕ) × (body : List ℕ) × SpellsBody event.body (Ok (frames.Challenge text))
-    × IsSigned client.state text × (client.signature_by_challenge ≡ true) × (says ≡ Answered body))
+    × IsSigned (is_strict_client client) client.state text × (client.signature_by_challenge ≡ true) × (says ≡ Answered body))
 
 -- with an error the client that was moved to is the next one, and with a reported outcome too
 refusal_moves : (client next after : ClientSide) (moved : Profile) (reply : Result SaslFrame ProfileError)
@@ -116,7 +116,7 @@ end_error state client after kind from = from.1
 
 -- a challenge that is accepted there shows the signature
 checked_is_signed : (state : ClientState) (client after : ClientSide) (text : List ℕ)
-    → ChecksSignatureIn state client text (Ok tt) after → IsSigned state text
+    → ChecksSignatureIn state client text (Ok tt) after → IsSigned (is_strict_client client) state text
 checked_is_signed (client_states.ClientFinalSent signature keys) client after text from =
     record { signature = signature; keys = keys; waits = refl; reads = from.0 }
 checked_is_signed state client after text from = absurd from

@@ -9,7 +9,7 @@ use Rattle.fe2o3_sasl_wire.specs.SaslFrames as frames
 use Rattle.fe2o3_scram.specs.Credentials.{Provider}
 use Rattle.fe2o3_scram.specs.declared.scram_messages.error.ScramErrorKind.{ScramErrorKind}
 use Rattle.fe2o3_scram.specs.declared.scram_messages.error.ServerScramErrorKind.{ServerScramErrorKind}
-use Rattle.fe2o3_scram.specs.ScramClient.{ClientSide, ClientState, SignatureVerified, ConcludesIn, VerifiesIn, expects_signature}
+use Rattle.fe2o3_scram.specs.ScramClient.{is_strict_client, ClientSide, ClientState, SignatureVerified, ConcludesIn, VerifiesIn, expects_signature}
 use Rattle.fe2o3_scram.specs.ScramServer.{ServerState, ServerFinalSent, ConcludesFrom}
 use Rattle.fe2o3_scram.specs.Logins.{IsSigned}
 use Rattle.fe2o3_scram.proofs.lemmas.messages.LoginLemmas.{accepted_texts_log_in, verified_texts_are_signed}
@@ -203,7 +203,7 @@ verified_is_signed : (client after : ClientSide) (event : Given) (text : List �
     (answer : Result (Unit {0}) ScramErrorKind) (reply : Result SaslFrame ProfileError) (moved next : Profile)
     (more : Option (List ℕ)) → VerifiesIn client.state client text answer after
     → reply ≡ client_frame (λ verified. frames.Outcome outcomes.Ok (Some text)) answer
-    → Reports (ScramProfile client) moved reply more next → (more ≡ Some text) × IsSigned client.state text
+    → Reports (ScramProfile client) moved reply more next → (more ≡ Some text) × IsSigned (is_strict_client client) client.state text
 verified_is_signed client after event text (Ok tt) reply moved next more from is said =
     let same = (subst (λ (r : Result SaslFrame ProfileError). Reports (ScramProfile client) moved r more next) is
     said).0 in (cc, verified_texts_are_signed client after text from)
@@ -232,7 +232,7 @@ ended_is_verified : (state : ClientState) (client after : ClientSide) (answer : 
     (reply : Result SaslFrame ProfileError) (moved next : Profile) (more : Option (List ℕ))
     → ConcludesIn state client answer after
     → reply ≡ client_frame (λ verified. frames.Outcome outcomes.Ok None) answer
-    → Reports (ScramProfile client) moved reply more next → (more ≡ None) × ShowsSignature state None
+    → Reports (ScramProfile client) moved reply more next → (more ≡ None) × ShowsSignature (is_strict_client client) state None
 ended_is_verified (SignatureVerified keys) client after (Ok tt) reply moved next more from is said =
     let same = (subst (λ (r : Result SaslFrame ProfileError). Reports (ScramProfile client) moved r more next) is
     said).0 in (cc, (keys, refl))
@@ -250,7 +250,7 @@ reported_oks_are_signed hostname client event more next (Ok frame, spells, inr g
     go : (frame : SaslFrame) (reply : Result SaslFrame ProfileError) (moved : Profile)
         → SpellsBody event.body (Ok frame) → profile_machine (ScramProfile client) hostname event.nonce frame reply moved
         → Reports (ScramProfile client) moved reply more next
-        → SpellsBody event.body (Ok (frames.Outcome outcomes.Ok more)) × ShowsSignature client.state more
+        → SpellsBody event.body (Ok (frames.Outcome outcomes.Ok more)) × ShowsSignature (is_strict_client client) client.state more
     go (frames.Mechanisms names) reply moved spells (inl m) said =
         absurd (init_is_no_report (ScramProfile client) moved next reply _ _ _ more m.1 said)
     go (frames.Mechanisms names) reply moved spells (inr m) said =
@@ -262,11 +262,11 @@ reported_oks_are_signed hostname client event more next (Ok frame, spells, inr g
     go (frames.Outcome outcomes.Ok None) reply moved spells m said =
         let ended = ended_is_verified client.state client m.1 m.0 reply moved next more m.2 m.3 said in
         subst (λ (shown : Option (List ℕ)). SpellsBody event.body (Ok (frames.Outcome outcomes.Ok shown))
-        × ShowsSignature client.state shown) (sym ended.0) (spells, ended.1)
+        × ShowsSignature (is_strict_client client) client.state shown) (sym ended.0) (spells, ended.1)
     go (frames.Outcome outcomes.Ok (Some text)) reply moved spells m said =
         let signed = verified_is_signed client m.1 event text m.0 reply moved next more m.2 m.3 said in
         subst (λ (shown : Option (List ℕ)). SpellsBody event.body (Ok (frames.Outcome outcomes.Ok shown))
-        × ShowsSignature client.state shown) (sym signed.0) (spells, signed.1)
+        × ShowsSignature (is_strict_client client) client.state shown) (sym signed.0) (spells, signed.1)
     go (frames.Outcome outcomes.Auth shown) reply moved spells m said =
         absurd (other_code (ScramProfile client) moved next reply outcomes.Auth shown more m.0 (λ is. absurd (cc)) said)
     go (frames.Outcome outcomes.Sys shown) reply moved spells m said =

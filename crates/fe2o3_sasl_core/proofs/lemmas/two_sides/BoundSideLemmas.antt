@@ -1,6 +1,6 @@
 -- Of a client that has a channel and a server that takes no `y,,`: equal AuthMessages are of one channel.
-use Rattle.std.proofs.Common.{◌≡◌, ℕ, List}
-use Rattle.fe2o3_scram.specs.ChannelBinding.{TakesHeader}
+use Rattle.std.proofs.Common.{◌≡◌, ℕ, List, ap}
+use Rattle.fe2o3_scram.specs.ChannelBinding.{TakesHeader, Gs2Header}
 use Rattle.fe2o3_scram.specs.Credentials.{Provider}
 use Rattle.fe2o3_scram.proofs.lemmas.messages.BoundChannelLemmas.{one_channel}
 use Rattle.fe2o3_sasl_core.specs.Events.{Given, ServerSays}
@@ -21,8 +21,8 @@ equal_messages_bind_one_channel sides k n answer accepted kept bytes answers acc
     let login = same_messages sides k n answer accepted kept answers accepts same in
     let apart = one_strict_side_is_enough sides k n answer accepted answers accepts strict in
     let found = one_channel sides.login.channel sides.provider.rules.channels sides.provider.rules.accept_cbind_flag_y
-    accepted.challenge.client.header has refuses (login.header bytes apart)
-    (takes_header sides.provider sides.server_events sides.server_replies n accepted accepts)
+    accepted.challenge.client.header.flag has refuses (ap (λ (header : Gs2Header). header.flag) (login.header bytes apart))
+    (takes_header sides.provider sides.server_events sides.server_replies n accepted accepts).0
     (login.channel bytes apart) in (
       found.0,
       found.1,

@@ -1,7 +1,7 @@
 -- Of a strict client and of a strict server: what it read has no attribute of RFC 5802 in the place of an extension.
 use Rattle.std.proofs.Common.{ℕ, List, Some, inl, inr, subst, sym}
 use Rattle.std.specs.Prelude.{T}
-use Rattle.fe2o3_scram.specs.ChannelBinding.{expected_channel, is_bound, is_strict}
+use Rattle.fe2o3_scram.specs.ChannelBinding.{is_strict, expected_header, needs_strict}
 use Rattle.fe2o3_sasl_wire.specs.SaslFrames as frames
 use Rattle.fe2o3_sasl_wire.specs.SaslFrames.{SaslFrame}
 use Rattle.fe2o3_scram.specs.Credentials.{Provider}
@@ -28,7 +28,7 @@ module _ (provider : Provider) (strict : T (is_strict provider.rules)) where
       let init = fits.0.2 in (
         init_has_none init.0 init.1 accepted.challenge init.4,
         none_before_proof (server_at provider accepted.challenge) text accepted.final
-            (strict_or (is_bound (expected_channel provider.rules.channels accepted.challenge.client.header))
+            (strict_or (needs_strict (expected_header provider.rules.channels accepted.challenge.client.header))
             (is_strict provider.rules) strict) fits.1,
       )
   response_has_none events replies n frame accepted fits = absurd fits

@@ -9,11 +9,11 @@ use Rattle.fe2o3_sasl_wire.specs.SaslFrames.{canonical, SaslFrame}
 use Rattle.fe2o3_sasl_wire.specs.SaslFrames as frames
 use Rattle.fe2o3_scram.specs.declared.scram_messages.error.ScramErrorKind.{ScramErrorKind}
 use Rattle.fe2o3_scram.specs.Texts.{base64_text}
-use Rattle.fe2o3_scram.specs.ChannelBinding.{flag_of}
+use Rattle.fe2o3_scram.specs.ChannelBinding.{header_of}
 use Rattle.fe2o3_scram.specs.ClientFirst.{client_first_with}
 use Rattle.fe2o3_sasl_core.specs.ClientHistory.{Answering, answer_at, client_at, MaySign, ReadsChallenge, ClientAnswers, ClientAllocates, ClientHistory, IsDue, OpenAnswer, VerifiedAnswer, is_answer}
 use Rattle.fe2o3_scram.specs.Credentials.{Provider}
-use Rattle.fe2o3_sasl_core.specs.Events.{Given, Login, login_mechanism, ServerSays, Challenged, Concluded, Failed, ClientSays, Started, Answered, Reported, Refused}
+use Rattle.fe2o3_sasl_core.specs.Events.{is_strict_login, Given, Login, login_mechanism, ServerSays, Challenged, Concluded, Failed, ClientSays, Started, Answered, Reported, Refused, login_header}
 use Rattle.fe2o3_sasl_core.specs.Positions.{test_at, IsLastOpen, OpenBy}
 use Rattle.fe2o3_scram.specs.ClientFinal.{ClientFinal, ReadsClientFinal}
 use Rattle.fe2o3_scram.specs.ServerFinal.{ReadsServerFinal}
@@ -109,12 +109,12 @@ start_row : (login : Login) (events : List Given) (replies : List ClientSays) (k
     → says ≢ Refused OutOfMemory → says ≢ Refused (Frame faults.TooLarge) → Arrives (client_body (Some says)) body
     → (says ≡ Started body)
     × (canonical (frames.Init (login_mechanism login)
-    (Some (client_first_with (flag_of login.channel) login.user (base64_text event.nonce))) login.hostname) ≡ Some body)
+    (Some (client_first_with (header_of (login_header login)) login.user (base64_text event.nonce))) login.hostname) ≡ Some body)
 start_row login events replies k event says body (inl wants) memory small arrives = absurd (memory wants.1)
 start_row login events replies k event says body (inr (inl starts)) memory small arrives =
     sent_as client_body (Refused (Frame faults.TooLarge)) (λ (b : List ℕ). Started b) (λ bytes. refl)
     (canonical (frames.Init (login_mechanism login)
-    (Some (client_first_with (flag_of login.channel) login.user (base64_text event.nonce))) login.hostname)) says body starts.1 small arrives
+    (Some (client_first_with (header_of (login_header login)) login.user (base64_text event.nonce))) login.hostname)) says body starts.1 small arrives
 start_row login events replies k event says body (inr (inr other)) memory small arrives =
     absurd (other.0 (0, omega arith, refl))
 
@@ -125,7 +125,7 @@ pub client_starts : (login : Login) (events : List Given) (replies : List Client
     → ClientComplete replies → ClientSmall replies → Arrives (client_body (slice_get replies k)) body
     → (slice_get replies k ≡ Some (Started body))
     × (canonical (frames.Init (login_mechanism login)
-    (Some (client_first_with (flag_of login.channel) login.user (base64_text event.nonce))) login.hostname) ≡ Some body)
+    (Some (client_first_with (header_of (login_header login)) login.user (base64_text event.nonce))) login.hostname) ≡ Some body)
 client_starts login events replies k event body history at spells complete small arrives =
     let reply = client_reply login events replies k event
     (frames.Mechanisms (login_mechanism login ∷ [])) history at spells in
@@ -318,10 +318,10 @@ server_accepts provider events replies k event text accepted body history at spe
 -- ---- the client reports
 
 -- a verifier that is verified is not rejected
-not_refused : (signature text : List ℕ) (kind : ScramErrorKind) → ReadsServerFinal signature text (Ok tt)
-    → ReadsServerFinal signature text (Err kind) → ⊥
-not_refused signature text kind reads refuses = differ
-    (one_server_final signature text (Ok tt) (Err kind) reads refuses)
+not_refused : (strict : Bool) (signature text : List ℕ) (kind : ScramErrorKind) → ReadsServerFinal strict signature text (Ok tt)
+    → ReadsServerFinal strict signature text (Err kind) → ⊥
+not_refused strict signature text kind reads refuses = differ
+    (one_server_final strict signature text (Ok tt) (Err kind) reads refuses)
   where
     differ : ◌≡◌ {A = Result (Unit {0}) ScramErrorKind} (Ok tt) (Err kind) → ⊥
     differ e = absurd (cc)
@@ -329,7 +329,7 @@ not_refused signature text kind reads refuses = differ
 report_row : (login : Login) (events : List Given) (replies : List ClientSays) (k : ℕ) (event : Given) (text : List ℕ)
     (answer : Answering) (says : ClientSays) → ((other : Answering) → OpenAnswer login events replies k other
     → other ≡ answer)
-    → OpenAnswer login events replies k answer → ReadsServerFinal (answer_at login answer).signature text (Ok tt)
+    → OpenAnswer login events replies k answer → ReadsServerFinal (is_strict_login login) (answer_at login answer).signature text (Ok tt)
     → ClientRow login events replies k event (Ok (frames.Outcome outcomes.Ok (Some text))) says
     → ¬ (says ≡ Refused OutOfMemory)
     → says ≡ Reported outcomes.Ok (Some text)
@@ -339,8 +339,8 @@ report_row login events replies k event text answer says one opened reads (inr (
 report_row login events replies k event text answer says one opened reads (inr (inr (kind, inl none, is))) complete =
     absurd (none.0 answer opened)
 report_row login events replies k event text answer says one opened reads (inr (inr (kind, inr refuses, is))) complete =
-    absurd (not_refused (answer_at login answer).signature text kind reads
-    (subst (λ (a : Answering). ReadsServerFinal (answer_at login a).signature text (Err kind))
+    absurd (not_refused (is_strict_login login) (answer_at login answer).signature text kind reads
+    (subst (λ (a : Answering). ReadsServerFinal (is_strict_login login) (answer_at login a).signature text (Err kind))
     (one refuses.0 refuses.1) refuses.2))
 
 -- a verifier of the answer that is open is reported
@@ -350,7 +350,7 @@ pub client_reports : (login : Login) (events : List Given) (replies : List Clien
     → SpellsBody event.body (Ok (frames.Outcome outcomes.Ok (Some text)))
     → ((other : Answering) → OpenAnswer login events replies k other → other ≡ answer)
     → OpenAnswer login events replies k answer
-    → ReadsServerFinal (answer_at login answer).signature text (Ok tt)
+    → ReadsServerFinal (is_strict_login login) (answer_at login answer).signature text (Ok tt)
     → slice_get replies k ≡ Some (Reported outcomes.Ok (Some text))
 client_reports login events replies k event text answer history complete at spells one opened reads =
     let reply = client_reply login events replies k event (frames.Outcome outcomes.Ok (Some text)) history at spells in

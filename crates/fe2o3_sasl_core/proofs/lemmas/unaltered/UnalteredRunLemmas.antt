@@ -108,46 +108,46 @@ module _ (sides : Sides) (password salt : List ℕ) (count : ℕ) (run : Unalter
   -- the client starts, the server challenges, the client answers, the server accepts, the client reports
   starts : (slice_get sides.client_replies 0 ≡ Some (Started run.init.body))
       × (canonical (init_in sides.login.hostname exchange) ≡ Some run.init.body)
-  starts = step.starts sides password salt count run.offer run.init histories login holds fits run.init.body
+  starts = step.starts sides password salt count run.offer run.init histories login holds fits run.printable run.init.body
       (client_event 0, run.offered) run.started
 
   challenges : (slice_get sides.server_replies 0 ≡ Some (Challenged run.challenge.body))
       × (canonical (frames.Challenge (first_in exchange)) ≡ Some run.challenge.body)
-  challenges = step.challenges sides password salt count run.offer run.init histories login holds fits
+  challenges = step.challenges sides password salt count run.offer run.init histories login holds fits run.printable
       run.challenge.body (server_event 0, starts.1) run.challenged
 
-  has_started : step.HasStarted sides password salt count run.offer run.init histories login holds fits
+  has_started : step.HasStarted sides password salt count run.offer run.init histories login holds fits run.printable
   has_started = ((client_event 0, run.offered), (run.init.body, starts.0))
 
-  has_challenge : step.HasChallenge sides password salt count run.offer run.init histories login holds fits
+  has_challenge : step.HasChallenge sides password salt count run.offer run.init histories login holds fits run.printable
       run.challenge
   has_challenge = (client_event 1, challenges.1)
 
   answers : (slice_get sides.client_replies 1 ≡ Some (Answered run.response.body))
       × (canonical (frames.Response (answer_in exchange).message) ≡ Some run.response.body)
-  answers = step.answers sides password salt count run.offer run.init histories login holds fits run.challenge
+  answers = step.answers sides password salt count run.offer run.init histories login holds fits run.printable run.challenge
       run.response.body has_started has_challenge run.answered
 
-  has_challenged : step.HasChallenged sides password salt count run.offer run.init histories login holds fits
+  has_challenged : step.HasChallenged sides password salt count run.offer run.init histories login holds fits run.printable
   has_challenged = ((server_event 0, starts.1), (run.challenge.body, challenges.0))
 
-  has_response : step.HasResponse sides password salt count run.offer run.init histories login holds fits run.response
+  has_response : step.HasResponse sides password salt count run.offer run.init histories login holds fits run.printable run.response
   has_response = (server_event 1, answers.1)
 
   accepts : (slice_get sides.server_replies 1 ≡ Some (Concluded outcomes.Ok run.outcome.body))
       × (canonical (frames.Outcome outcomes.Ok (Some final_sent)) ≡ Some run.outcome.body)
-  accepts = step.accepts sides password salt count run.offer run.init histories login holds fits run.response
+  accepts = step.accepts sides password salt count run.offer run.init histories login holds fits run.printable run.response
       run.outcome.body has_challenged has_response run.concluded
 
-  has_answered : step.HasAnswered sides password salt count run.offer run.init histories login holds fits run.challenge
+  has_answered : step.HasAnswered sides password salt count run.offer run.init histories login holds fits run.printable run.challenge
   has_answered = (has_challenge, (run.response.body, answers.0))
 
   reports : slice_get sides.client_replies 2 ≡ Some (Reported outcomes.Ok (Some final_sent))
-  reports = step.reports sides password salt count run.offer run.init histories login holds fits run.challenge
+  reports = step.reports sides password salt count run.offer run.init histories login holds fits run.printable run.challenge
       run.outcome has_started has_answered (client_event 2, accepts.1)
 
   open_answer : OpenAnswer sides.login sides.client_events sides.client_replies 2 (answering_in exchange)
-  open_answer = step.open_answer sides password salt count run.offer run.init histories login holds fits
+  open_answer = step.open_answer sides password salt count run.offer run.init histories login holds fits run.printable
       run.challenge has_started has_answered
 
   -- all replies
@@ -171,9 +171,9 @@ module _ (sides : Sides) (password salt : List ℕ) (count : ℕ) (run : Unalter
       run.response,
       frames.Response (answer_in exchange).message,
       server_event 1,
-      step.response_spelled sides password salt count run.offer run.init histories login holds fits
+      step.response_spelled sides password salt count run.offer run.init histories login holds fits run.printable
           run.response has_response,
-      step.response_fits sides password salt count run.offer run.init histories login holds fits has_challenged,
+      step.response_fits sides password salt count run.offer run.init histories login holds fits run.printable has_challenged,
     );
   }
 
@@ -191,7 +191,7 @@ module _ (sides : Sides) (password salt : List ℕ) (count : ℕ) (run : Unalter
   shows = record {
     body = run.response.body;
     answered = answers.0;
-    answers = step.answers_at sides password salt count run.offer run.init histories login holds fits
+    answers = step.answers_at sides password salt count run.offer run.init histories login holds fits run.printable
         run.challenge has_started has_challenge;
     ok = ok_at;
     one = ap (λ (keys : ClientKeys). client_proof keys.version keys.client_key
@@ -234,7 +234,7 @@ module _ (sides : Sides) (password salt : List ℕ) (count : ℕ) (run : Unalter
     refl,
     refl,
     (
-      plain_in exchange (sound_exchange sides password salt count run.offer.nonce run.init.nonce login holds),
+      plain_in exchange (sound_exchange sides password salt count run.offer.nonce run.init.nonce login holds run.printable),
       refl,
       refl,
       refl,

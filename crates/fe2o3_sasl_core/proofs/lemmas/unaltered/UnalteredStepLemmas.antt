@@ -18,18 +18,18 @@ use Rattle.fe2o3_scram.specs.declared.scram_messages.client_channel.ClientChanne
 use Rattle.fe2o3_scram.specs.declared.scram_messages.client_channel.ClientChannel.TheVariants.{Absent, NotOffered, Bound}
 use Rattle.fe2o3_scram.specs.declared.scram_messages.channel_binding_flag.ChannelBindingFlag.{ChannelBindingFlag}
 use Rattle.fe2o3_scram.specs.declared.scram_messages.channel_binding_flag.ChannelBindingFlag.TheVariants.{NotSupported, ClientSupports, Required}
-use Rattle.fe2o3_scram.specs.ChannelBinding.{TakesFlag, cbind_data, expected_channel, flag_of, header_text, is_bound, is_strict, mechanism_of, server_mechanism}
+use Rattle.fe2o3_scram.specs.ChannelBinding.{TakesFlag, expected_channel, flag_of, header_text, is_bound, is_strict, mechanism_of, server_mechanism, header_of, expected_header, ClientHeader}
 use Rattle.fe2o3_scram.specs.ClientFirst.{client_first_with}
 use Rattle.fe2o3_scram.specs.ClientFinal.{ReadsClientFinal, server_of}
 use Rattle.fe2o3_scram.specs.Exchanges.{Exchange, IsSound, Succeeds, nonce_in, bare_in, record_in, first_in, named_in, answer_in, final_in}
 use Rattle.fe2o3_scram.specs.ServerFinal.{server_final_of, ReadsServerFinal}
 use Rattle.fe2o3_sasl_core.specs.Bodies.{SpellsBody}
 use Rattle.fe2o3_sasl_core.specs.ClientHistory.{Answering, AnswersAt, ReadsChallenge, IsDue, NonceAt, OpenAnswer, is_start, is_answer, ends_answer}
-use Rattle.fe2o3_sasl_core.specs.Events.{Given, Login, login_mechanism, IsLogin, Challenged, Concluded, Started, Answered, Reported}
+use Rattle.fe2o3_sasl_core.specs.Events.{Given, Login, is_strict_login, login_mechanism, IsLogin, Challenged, Concluded, Started, Answered, Reported, login_header}
 use Rattle.fe2o3_sasl_core.specs.Positions.{test_at, IsLastOpen}
 use Rattle.fe2o3_sasl_core.specs.ServerHistory.{Challenging, Accepted, FitsAsInit, FitsAsResponse, FitsAt, Open, final_message, is_challenge, is_ok}
 use Rattle.fe2o3_sasl_core.specs.TwoSides.{Sides, Histories}
-use Rattle.fe2o3_sasl_core.specs.UnalteredRuns.{Suffices, HoldsLogin, Arrives, client_body, server_body}
+use Rattle.fe2o3_sasl_core.specs.UnalteredRuns.{ArePrintable, Suffices, HoldsLogin, Arrives, client_body, server_body}
 use Rattle.fe2o3_scram.proofs.lemmas.texts.AsciiLemmas.{IsUtf8-base64_text, IsUtf8-literal}
 use Rattle.fe2o3_scram.proofs.lemmas.texts.Base64Lemmas.{no_comma-base64_text}
 use Rattle.fe2o3_scram.proofs.lemmas.messages.ExchangeLemmas.{succeeds, nonce_text}
@@ -45,7 +45,7 @@ abbrev pub exchange_of : Login → ServerRules → List ℕ → List ℕ → ℕ
 exchange_of login rules password salt count mine theirs =
     record {
       version = login.version;
-      channel = login.channel;
+      header = login_header login;
       rules = rules;
       user = login.user;
       secret = login.secret;
@@ -80,16 +80,16 @@ pub one_mechanism : (sides : Sides) (password salt : List ℕ) (count : ℕ) →
     → login_mechanism sides.login ≡ server_mechanism sides.provider.version sides.provider.rules
 one_mechanism sides password salt count holds =
     let rules = sides.provider.rules in
-    let bound = bound_alike rules.channels rules.accept_cbind_flag_y sides.login.channel holds.header in
+    let bound = bound_alike rules.channels rules.accept_cbind_flag_y sides.login.channel holds.header.0 in
     λ i. mechanism_of (sym holds.version i) (bound i)
 
 pub sound_exchange : (sides : Sides) (password salt : List ℕ) (count : ℕ) (mine theirs : List ℕ) → IsLogin sides.login
-    → HoldsLogin sides password salt count → IsSound
+    → HoldsLogin sides password salt count → ArePrintable sides mine theirs → IsSound
     (exchange_of sides.login sides.provider.rules password salt count mine theirs)
-sound_exchange sides password salt count mine theirs is holds = record {
+sound_exchange sides password salt count mine theirs is holds printable = record {
   header = holds.header;
   channel = let expected = expected_flag sides.provider.rules.channels (flag_of sides.login.channel) in
-      λ i. header_text (expected i) ++ sym holds.channel i;
+      λ i. header_text (record { flag = expected i; acts_for = sides.login.acts_for }) ++ sym holds.channel i;
   bytes = is.channel;
   opens = holds.opens;
   some = holds.some;
@@ -98,16 +98,20 @@ sound_exchange sides password salt count mine theirs is holds = record {
   limit = is.limit;
   salt = holds.bytes;
   user = is.user;
+  identity = is.identity;
   client_text = IsUtf8-base64_text mine;
   server_text = IsUtf8-base64_text theirs;
   client_plain = no_comma-base64_text mine;
   server_plain = no_comma-base64_text theirs;
+  name = holds.name;
+  client_printable = printable.0;
+  server_printable = printable.1;
 }
 
 -- its challenge, its answer, and what its server accepts
 abbrev pub challenge_in : Exchange → Challenging
 challenge_in x = record {
-  client = record { header = flag_of x.channel; user = x.user; nonce = x.client_nonce; bare = bare_in x };
+  client = record { header = header_of x.header; user = x.user; nonce = x.client_nonce; bare = bare_in x };
   nonce = x.server_nonce;
   stored = record_in x;
 }
@@ -120,8 +124,8 @@ accepted_in x = record { challenge = challenge_in x; final = final_in x }
 
 -- its init, with this hostname
 abbrev pub init_in : Option (List ℕ) → Exchange → SaslFrame
-init_in hostname x = frames.Init (mechanism_of x.version (is_bound x.channel))
-    (Some (client_first_with (flag_of x.channel) x.user x.client_nonce)) hostname
+init_in hostname x = frames.Init (mechanism_of x.version (is_bound x.header.channel))
+    (Some (client_first_with (header_of x.header) x.user x.client_nonce)) hostname
 
 -- the server-first message is UTF-8
 first_text : (x : Exchange) → IsSound x → IsUtf8 (first_in x)
@@ -138,7 +142,8 @@ first_text x sound =
 -- ---- the login, body by body
 
 module _ (sides : Sides) (password salt : List ℕ) (count : ℕ) (offer init : Given) (histories : Histories sides)
-    (login : IsLogin sides.login) (holds : HoldsLogin sides password salt count) (fits : Suffices sides) where
+    (login : IsLogin sides.login) (holds : HoldsLogin sides password salt count) (fits : Suffices sides)
+    (printable : ArePrintable sides offer.nonce init.nonce) where
   abbrev pub exchange : Exchange
   exchange = exchange_of sides.login sides.provider.rules password salt count offer.nonce init.nonce
 
@@ -146,13 +151,13 @@ module _ (sides : Sides) (password salt : List ℕ) (count : ℕ) (offer init : 
   final_sent = final_message sides.provider (accepted_in exchange)
 
   abbrev text_sent : List ℕ
-  text_sent = client_first_with (flag_of sides.login.channel) sides.login.user exchange.client_nonce
+  text_sent = client_first_with (header_of (login_header sides.login)) sides.login.user exchange.client_nonce
 
   abbrev pub init_sent : SaslFrame
   init_sent = init_in sides.login.hostname exchange
 
   pub sound : IsSound exchange
-  sound = sound_exchange sides password salt count offer.nonce init.nonce login holds
+  sound = sound_exchange sides password salt count offer.nonce init.nonce login holds printable
 
   meets : Succeeds exchange
   meets = succeeds exchange sound
@@ -270,9 +275,9 @@ module _ (sides : Sides) (password salt : List ℕ) (count : ℕ) (offer init : 
       same_frame : (frame other : SaslFrame) → ◌≡◌ {A = Result SaslFrame Error} (Ok frame) (Ok other) → frame ≡ other
       same_frame frame other e = cc
 
-  -- the channel that the server expects
-  abbrev expected : ClientChannel
-  expected = expected_channel exchange.rules.channels (flag_of exchange.channel)
+  -- the header that the server expects
+  abbrev expected : ClientHeader
+  expected = expected_header exchange.rules.channels (header_of exchange.header)
 
   pub response_fits : HasChallenged
       → FitsAsResponse sides.provider (Open sides.provider sides.server_events sides.server_replies 1)
@@ -327,8 +332,8 @@ module _ (sides : Sides) (password salt : List ℕ) (count : ℕ) (offer init : 
           (Ok (frames.Challenge other)) → text ≡ other
       same_text text other e = cc
 
-  verifier_read : ReadsServerFinal (answer_in exchange).signature final_sent (Ok tt)
-  verifier_read = subst (λ (version : ScramVersion). ReadsServerFinal (answer_in exchange).signature
+  verifier_read : ReadsServerFinal (is_strict_login sides.login) (answer_in exchange).signature final_sent (Ok tt)
+  verifier_read = subst (λ (version : ScramVersion). ReadsServerFinal (is_strict_login sides.login) (answer_in exchange).signature
       (server_final_of (server_of version expected (is_strict exchange.rules) (bare_in exchange) (first_in exchange)
       (nonce_in exchange) (record_in exchange)) (final_in exchange)) (Ok tt)) (sym holds.version) meets.server_final
 

@@ -1,6 +1,8 @@
 use Rattle.std.proofs.Common.{arith, refl, subst}
 use Rattle.std.proofs.lemmas.Option.{none-some}
+use Rattle.std.proofs.lemmas.Str.{IsUtf8-nil}
 use Rattle.base64.specs.GeneralPurpose.{IsBytes}
+use Rattle.fe2o3_scram.proofs.lemmas.hashes.DigestLemmas.{IsBytes-nil}
 use Rattle.fe2o3_sasl_core.specs.Events.{Login}
 use Rattle.fe2o3_sasl_core.specs.Runs.{login_with}
 use Rattle.fe2o3_sasl_core.proofs.lemmas.steps.LongerRunLemmas.{if_ok_map}
@@ -31,6 +33,7 @@ returns-clause-unaltered c =
     if_ok_map _ _ c.run_profile.result (λ replies has. has login (made, refl) (record {
       user = c.utf8.user;
       limit = omega arith;
-      channel = subst IsBytes c.data.ensures c.are_bytes.ensures;
+      channel = (subst IsBytes c.data.ensures c.are_bytes.ensures, IsBytes-nil);
+      identity = IsUtf8-nil;
       hostname = λ host is. absurd (none-some host is);
     })) c.run_profile.ensures.unaltered
