@@ -23,6 +23,7 @@ changed secret limits hostname =
       version = Sha256;
       limits = limits;
       channel = Absent;
+      acts_for = None;
       strict = false;
       signature_by_challenge = false;
       hostname = hostname;

@@ -19,6 +19,7 @@ use Rattle.fe2o3_sasl_core.specs.ServerHistory.{Challenging, Accepted, full_nonc
 use Rattle.fe2o3_sasl_core.specs.TwoSides.{Sides, Histories, Takes, Shows, HasParts, proof_at}
 use Rattle.fe2o3_sasl_core.specs.Verdicts.{Agreed, JudgesVerifier, JudgesProof}
 use Rattle.fe2o3_sasl_core.specs.UnalteredRuns.{UnalteredRun, Suffices, HoldsLogin}
+use Rattle.fe2o3_scram.specs.ChannelBinding.{own_header}
 
 -- ---- the client and the server
 
@@ -54,6 +55,7 @@ login = record {
   version = Sha256;
   limits = up_to no_limit;
   channel = Absent;
+  acts_for = None;
   strict = false;
   signature_by_challenge = false;
   hostname = None;
@@ -97,7 +99,7 @@ answering text nonce = record {
 -- what the server makes of a client-first message
 abbrev pub challenging : List ℕ → Challenging
 challenging bare = record {
-  client = record { header = NotSupported; user = codes "user"; nonce = client_nonce; bare = bare };
+  client = record { header = own_header NotSupported; user = codes "user"; nonce = client_nonce; bare = bare };
   nonce =
       server_nonce;
   stored = stored;

@@ -7,12 +7,12 @@ use Rattle.fe2o3_sasl_wire.specs.declared.sasl_frames.error.Error.{Error}
 use Rattle.fe2o3_sasl_wire.specs.declared.sasl_frames.error.Error.TheVariants as faults
 use Rattle.fe2o3_sasl_wire.specs.SaslFrames.{canonical, SaslFrame}
 use Rattle.fe2o3_sasl_wire.specs.SaslFrames as frames
-use Rattle.fe2o3_scram.specs.ChannelBinding.{flag_of}
+use Rattle.fe2o3_scram.specs.ChannelBinding.{header_of}
 use Rattle.fe2o3_scram.specs.ClientFirst.{client_first_with}
 use Rattle.fe2o3_scram.specs.Texts.{base64_text}
 use Rattle.fe2o3_sasl_core.specs.Bodies.{SpellsBody}
 use Rattle.fe2o3_sasl_core.specs.ClientHistory.{Answering, OpenAnswer, SignsAt, VerifiedAnswer, IsDue, ClientHistory, ClientAnswers, ClientAllocates, ReadsSigning, is_start, is_answer, ends_answer}
-use Rattle.fe2o3_sasl_core.specs.Events.{Given, Login, login_mechanism, ClientSays, Started, Answered, Reported, Refused}
+use Rattle.fe2o3_sasl_core.specs.Events.{Given, Login, login_mechanism, ClientSays, Started, Answered, Reported, Refused, login_header}
 use Rattle.fe2o3_sasl_core.specs.Positions.{test_at, IsLastOpen}
 use Rattle.fe2o3_sasl_core.specs.Laws.{AnswerPosition}
 use Rattle.fe2o3_sasl.specs.private.Receipts.{ProvesAt}
@@ -39,7 +39,7 @@ module _ (login : Login) (Due : List ℕ → Type 0) (IsOpen IsVerified : Answer
   answers_of event (Ok (frames.Mechanisms names)) body (inl says) =
       absurd (carried_not (Refused (Frame faults.TooLarge)) (λ body. Started body)
       (canonical (frames.Init (login_mechanism login)
-      (Some (client_first_with (flag_of login.channel) login.user (base64_text event.nonce))) login.hostname))
+      (Some (client_first_with (header_of (login_header login)) login.user (base64_text event.nonce))) login.hostname))
       (Answered body) (λ is. cc)
       (λ body is. cc) (sym says.1))
   answers_of event (Ok (frames.Mechanisms names)) body (inr says) = let is = says.1 in absurd (cc)

@@ -7,7 +7,6 @@ use Rattle.fe2o3_sasl_wire.specs.SaslFrames as frames
 use Rattle.fe2o3_sasl_wire.specs.SaslFrames.{SaslFrame}
 use Rattle.fe2o3_scram.specs.declared.scram_messages.server_rules.ServerRules.{ServerRules}
 use Rattle.fe2o3_scram.specs.ClientFinal.{ClientFinal, HasProof, ReadsFinalText}
-use Rattle.fe2o3_scram.specs.declared.scram_messages.client_channel.ClientChannel.{ClientChannel}
 use Rattle.fe2o3_scram.specs.ClientFirst.{ClientFirst, ReadsClientFirst}
 use Rattle.fe2o3_scram.specs.Credentials.{Provider, Record, Store, serving}
 use Rattle.fe2o3_scram.specs.ServerFirst.{ServerChallenge, challenge_of, AnswersClientFirst}
@@ -26,6 +25,7 @@ use Rattle.fe2o3_sasl_core.proofs.lemmas.frames.SpellingLemmas.{one_spelled_fram
 use Rattle.fe2o3_sasl_core.proofs.lemmas.histories.OneServerHistoryLemmas.{one_fits}
 use Rattle.fe2o3_sasl_core.proofs.lemmas.histories.ServerLawLemmas.{ok_accepts, accepted_response}
 use Rattle.fe2o3_sasl_core.proofs.lemmas.positions.PositionLemmas.{opens_here, was_open, one_open}
+use Rattle.fe2o3_scram.specs.ChannelBinding.{ClientHeader}
 
 -- ---- a first message of that many parts
 
@@ -49,9 +49,9 @@ challenge_again provider nonce text challenge client stored answers reads known 
     (sym answers.3 ∙ (ap (λ (first : ClientFirst). provider.records first.user) one ∙ sym known)) in
     answers.4 ∙ (λ i. challenge_of (one i) nonce (same i))
 
-pub proof_again : (channel : ClientChannel) (strict : Bool) (nonce text : List ℕ) (final : ClientFinal)
-    → ReadsFinalText channel strict nonce text (Ok final) → HasProof text final
-proof_again channel strict nonce text final reads = (names_final_text channel strict nonce text final reads).proof
+pub proof_again : (header : ClientHeader) (strict : Bool) (nonce text : List ℕ) (final : ClientFinal)
+    → ReadsFinalText header strict nonce text (Ok final) → HasProof text final
+proof_again header strict nonce text final reads = (names_final_text header strict nonce text final reads).proof
 
 -- the receipt of an accepted response
 pub receipt_for : {R E : Type 0} (view : R → ServerReceipt) (store : Store) (rules : ServerRules) (position : ℕ)

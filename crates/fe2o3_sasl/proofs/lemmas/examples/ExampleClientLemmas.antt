@@ -14,7 +14,7 @@ use Rattle.fe2o3_scram.specs.declared.scram_messages.error.ScramErrorKind.{Scram
 use Rattle.fe2o3_scram.specs.declared.scram_messages.error.ScramErrorKind.TheVariants.{StaleKeys as NamesStaleKeys}
 use Rattle.fe2o3_sasl_core.specs.Bodies.{SpellsBody, carried}
 use Rattle.fe2o3_sasl_core.specs.ClientHistory.{Answering, AnswersAt, IsDue, MaySign, NonceAt, OpenAnswer, ReadsChallenge, answer_at, ends_answer, is_answer, is_start, says_answer}
-use Rattle.fe2o3_sasl_core.specs.Events.{Answered, ClientSays, Given, Login, Refused, Reported, scram_fault}
+use Rattle.fe2o3_sasl_core.specs.Events.{Answered, ClientSays, Given, Login, Refused, Reported, is_strict_login, scram_fault, login_header}
 use Rattle.fe2o3_sasl_core.specs.Positions.{test_at}
 use Rattle.fe2o3_sasl_core.specs.TwoSides.{client_message, proof_at}
 use Rattle.fe2o3_sasl.specs.examples.ClientExamples.{KeysLogIn, StaleKeysLogInLater, asks, is_served, logs_in, made, other_salt, starts, with_keys}
@@ -47,7 +47,7 @@ none_may_sign some IsOpen unsigned answer may = absurd (true≢false (sym may.0 
 refuses : (some : Login) (events : List Given) (replies : List ClientSays) (k : ℕ) (bytes : List ℕ)
     (kind : ScramErrorKind) → some.signature_by_challenge ≡ false → length bytes ≡ 32
     → IsDue events replies k client_nonce
-    → ReadsServerFirst (client_of client_nonce some.secret some.limits some.channel some.strict)
+    → ReadsServerFirst (client_of client_nonce some.secret some.limits (login_header some) some.strict)
     (joined (salted bytes both)) (Err kind)
     → SaysAt some events replies k (asks bytes) (Refused (scram_fault kind))
 refuses some events replies k bytes kind unsigned long due reads =
@@ -64,7 +64,7 @@ refuses some events replies k bytes kind unsigned long due reads =
 
 module _ (some : Login) (unsigned : some.signature_by_challenge ≡ false)
     (one : answer_at some made ≡ answer_at login made)
-    (reads : ReadsServerFirst (client_of client_nonce some.secret some.limits some.channel some.strict) made.text
+    (reads : ReadsServerFirst (client_of client_nonce some.secret some.limits (login_header some) some.strict) made.text
     (Ok made.first)) where
   -- its reading of the challenge, where that is due
   challenge_read : (events : List Given) (replies : List ClientSays) (k : ℕ) → IsDue events replies k client_nonce
@@ -79,9 +79,9 @@ module _ (some : Login) (unsigned : some.signature_by_challenge ≡ false)
       ∙ ap (λ (answer : Answer). carried (Refused (Frame faults.TooLarge)) (λ body. Answered body)
       (canonical (frames.Response answer.message))) (sym one)
 
-  signature_taken : ReadsServerFinal (answer_at some made).signature (verifier made) (Ok tt)
-  signature_taken = subst (λ (answer : Answer). ReadsServerFinal answer.signature (verifier made) (Ok tt)) (sym one)
-      (signature_read made.text both (client_message login made) refl)
+  signature_taken : ReadsServerFinal (is_strict_login some) (answer_at some made).signature (verifier made) (Ok tt)
+  signature_taken = subst (λ (answer : Answer). ReadsServerFinal (is_strict_login some) answer.signature (verifier made) (Ok tt)) (sym one)
+      (signature_read made.text both (client_message login made) refl (is_strict_login some))
 
   answered : (events : List Given) (replies : List ClientSays) (k : ℕ) → IsDue events replies k client_nonce
       → SaysAt some events replies k (asks salt)
@@ -110,16 +110,16 @@ module _ (some : Login) (unsigned : some.signature_by_challenge ≡ false)
 
 -- ---- keys in place of the password
 
-keys_read : ReadsServerFirst (client_of client_nonce with_keys.secret with_keys.limits with_keys.channel with_keys.strict)
+keys_read : ReadsServerFirst (client_of client_nonce with_keys.secret with_keys.limits (login_header with_keys) with_keys.strict)
     made.text (Ok made.first)
 keys_read =
     let named = names_salted salt salt_bytes both server_nonce [] refl plain_both tt in
-    values_read (client_of client_nonce with_keys.secret with_keys.limits with_keys.channel with_keys.strict) made.text
+    values_read (client_of client_nonce with_keys.secret with_keys.limits (login_header with_keys) with_keys.strict) made.text
     made.first
     (nonce_passes salt salt_bytes both server_nonce [] refl plain_both tt)
     (salt_passes salt salt_bytes both server_nonce [] refl plain_both tt)
     (count_passes salt salt_bytes both server_nonce [] refl plain_both tt with_keys.limits (omega arith) (omega arith))
-    (λ wrong. wrong.0) (λ other. other (named.salt, named.count), tt) named
+    (λ wrong. wrong.0, (λ wrong. wrong.0, (λ wrong. wrong.0, tt))) (λ other. other (named.salt, named.count), tt) named
 
 -- it starts as the client with the password does
 keys_start : (events : List Given) (replies : List ClientSays)
@@ -145,19 +145,19 @@ keys_log_in =
 other_bytes : IsBytes other_salt
 other_bytes = IsBytes-replicate 32 4 (omega arith)
 
-others_refused : ReadsServerFirst (client_of client_nonce with_keys.secret with_keys.limits with_keys.channel with_keys.strict)
+others_refused : ReadsServerFirst (client_of client_nonce with_keys.secret with_keys.limits (login_header with_keys) with_keys.strict)
     (joined (salted other_salt both)) (Err NamesStaleKeys)
 others_refused =
     let text = joined (salted other_salt both) in
     let named = names_salted other_salt other_bytes both server_nonce [] refl plain_both tt in
     let apart : ¬ (other_salt ≡ salt) = λ same. absurd (cc) in
-    secret_refused (client_of client_nonce with_keys.secret with_keys.limits with_keys.channel with_keys.strict) text
+    secret_refused (client_of client_nonce with_keys.secret with_keys.limits (login_header with_keys) with_keys.strict) text
     NamesStaleKeys
     (nonce_passes other_salt other_bytes both server_nonce [] refl plain_both tt)
     (salt_passes other_salt other_bytes both server_nonce [] refl plain_both tt)
     (count_passes other_salt other_bytes both server_nonce [] refl plain_both tt with_keys.limits (omega arith)
     (omega arith))
-    (λ wrong. wrong.0) (inl (λ has. apart (one_has_salt text other_salt salt named.salt has.0), refl))
+    (λ wrong. wrong.0, (λ wrong. wrong.0, (λ wrong. wrong.0, tt))) (inl (λ has. apart (one_has_salt text other_salt salt named.salt has.0), refl))
 
 pub stale_keys_log_in_later : StaleKeysLogInLater
 stale_keys_log_in_later =

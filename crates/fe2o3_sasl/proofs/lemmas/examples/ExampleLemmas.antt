@@ -43,6 +43,7 @@ run = record {
   outcome = _;
   init = _;
   response = _;
+  printable = (λ strict. absurd strict, λ strict. absurd strict);
   client_events = refl;
   server_events = refl;
   offered = mechanisms_sent;
@@ -55,7 +56,7 @@ run = record {
 holds : HoldsLogin (sides_with unaltered) (codes "pencil") salt 4096
 holds = record {
   version = refl;
-  header = tt;
+  header = (tt, refl);
   channel = refl;
   stored = refl;
   bytes = IsBytes-replicate 32 3 (omega arith);
@@ -63,6 +64,7 @@ holds = record {
   some = omega arith;
   least = omega arith;
   within = omega arith;
+  name = λ strict. absurd strict;
 }
 
 -- no reply is a fault

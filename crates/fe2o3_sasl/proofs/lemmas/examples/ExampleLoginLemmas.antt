@@ -14,7 +14,7 @@ use Rattle.fe2o3_scram.specs.Credentials.{Provider}
 use Rattle.fe2o3_scram.specs.Hmac.{hmac_of}
 use Rattle.fe2o3_scram.specs.Texts.{base64_text, joined, Part}
 use Rattle.fe2o3_sasl_core.specs.ClientHistory.{Answering, AnswersAt, IsDue, OpenAnswer, MaySign, ReadsChallenge, ClientHistory, says_start, says_answer, is_start, is_answer, ends_answer}
-use Rattle.fe2o3_sasl_core.specs.Events.{Given, Login, ServerSays, Challenged, Concluded, Failed, ClientSays, Started, Answered, Refused}
+use Rattle.fe2o3_sasl_core.specs.Events.{Given, Login, is_strict_login, ServerSays, Challenged, Concluded, Failed, ClientSays, Started, Answered, Refused}
 use Rattle.fe2o3_sasl_core.specs.Bodies.{SpellsBody, carried, says_frame}
 use Rattle.fe2o3_sasl_core.specs.ServerHistory.{Accepted, FitsAsInit, FitsAsResponse, Open, ServerHistory, is_challenge, is_ok, says_ok, server_at, first_message}
 use Rattle.fe2o3_sasl_core.specs.TwoSides.{Histories, OkAt, Shows, Takes, client_message, proof_at, server_message}
@@ -225,7 +225,7 @@ module _ (added : Added) (is : PassesUnseen added) where
 
   clients_history : ClientHistory login given said
   clients_history =
-      let signed = signature_read text nonce (client_message login answer) refl in
+      let signed = signature_read text nonce (client_message login answer) refl (is_strict_login login) in
       let final = spells_body (sends_ok answer) (tt, (tt, tt)) (ok_sent answer) in
       let none : (other : Answering) → ¬ MaySign login (OpenAnswer login given said 1) other =
       λ other may. absurd (true≢false (sym may.0)) in
@@ -251,8 +251,8 @@ module _ (added : Added) (is : PassesUnseen added) where
 
   pub takes : Takes (sides_with added) 2 1 accepted
   takes =
-      let has = names_server_final _ (verifier answer) tt
-      (signature_read text nonce (client_message login answer) refl) in
+      let has = names_server_final _ _ (verifier answer) tt
+      (signature_read text nonce (client_message login answer) refl (is_strict_login login)) in
       record {
         more = Some (verifier answer);
         text = verifier answer;

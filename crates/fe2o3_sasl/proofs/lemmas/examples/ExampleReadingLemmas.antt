@@ -1,24 +1,22 @@
 -- How the messages of the worked examples are read.
 use Rattle.std.specs.Prelude.{T, false}
-use Rattle.std.proofs.Common.{◌≡◌, ◌≤◌, ℕ, List, [], ◌∷◌, ◌++◌, length, refl, sym, ◌∙◌, ap, subst, arith, codes, Ok, false}
+use Rattle.std.proofs.Common.{◌≡◌, ◌≤◌, ℕ, List, [], ◌∷◌, ◌++◌, length, refl, sym, ◌∙◌, ap, subst, arith, codes, Ok, Bool, false}
 use Rattle.std.specs.List.{AllByRecursion}
 use Rattle.std.specs.Str.{IsUtf8}
 use Rattle.std.proofs.lemmas.List.Elements.{All-from_recursion}
 use Rattle.std.proofs.lemmas.Option.{none-some}
-use Rattle.std.proofs.lemmas.Str.{IsUtf8-append}
+use Rattle.std.proofs.lemmas.Str.{IsUtf8-append, IsUtf8-nil}
 use Rattle.base64.specs.GeneralPurpose.{IsBytes}
 use Rattle.fe2o3_scram.specs.ClientFirst.{default_rules}
 use Rattle.fe2o3_scram.specs.declared.hmac.ScramVersion.TheVariants.{Sha256}
 use Rattle.fe2o3_scram.specs.Texts.{base64_text, IsCount, Parts, Part, joined, HasBase64}
 use Rattle.fe2o3_scram.specs.ClientFinal.{HasProof, Meets, ReadsClientFinal, Server, without_proof}
-use Rattle.fe2o3_scram.specs.ChannelBinding.{cbind_input}
-use Rattle.fe2o3_scram.specs.declared.scram_messages.client_channel.ClientChannel.{ClientChannel}
-use Rattle.fe2o3_scram.specs.declared.scram_messages.client_channel.ClientChannel.TheVariants.{Absent}
+use Rattle.fe2o3_scram.specs.ChannelBinding.{cbind_input, ClientHeader, own_header, plain_header}
 use Rattle.fe2o3_scram.specs.declared.scram_messages.channel_binding_flag.ChannelBindingFlag.TheVariants.{NotSupported}
 use Rattle.fe2o3_scram.specs.ClientFirst.{ReadsClientFirst}
 use Rattle.fe2o3_sasl_core.specs.ClientHistory.{answer_at}
 use Rattle.fe2o3_scram.specs.Escape.{escaped}
-use Rattle.fe2o3_sasl_core.specs.Events.{IsLogin, IsRecord}
+use Rattle.fe2o3_sasl_core.specs.Events.{IsLogin, IsRecord, login_header}
 use Rattle.fe2o3_sasl.specs.examples.Examples.{client_bytes, server_bytes, client_nonce, server_nonce, both, salt, login, stored, names, salted, values, binds, answering, challenging}
 use Rattle.fe2o3_scram.specs.Hmac.{digest, digest_len, hmac_of, exclusive_or}
 use Rattle.fe2o3_scram.specs.Keys.{auth_message}
@@ -44,7 +42,8 @@ pub is_login : IsLogin login
 is_login = record {
   user = IsUtf8-literal (codes "user") refl;
   limit = omega arith;
-  channel = IsBytes-nil;
+  channel = (IsBytes-nil, IsBytes-nil);
+  identity = IsUtf8-nil;
   hostname = λ host is. absurd (none-some host is);
 }
 
@@ -93,14 +92,15 @@ plain_binds nonce plain = (plain-literal (codes "c=biws") refl refl, (plain_nonc
 
 pub reads_names : (user : List ℕ) (more : List (List ℕ)) → escaped user ≡ user → Plain user → AllByRecursion Plain more
     → ReadsClientFirst default_rules (codes "n,," ++ joined (names user ++ more))
-    (Ok (record { header = NotSupported; user = user; nonce = client_nonce; bare = joined (names user ++ more) }))
+    (Ok (record { header = own_header NotSupported; user = user; nonce = client_nonce; bare = joined (names user ++ more) }))
 reads_names user more sent plain too =
     let all = each_append Plain (names user) more (plain_names user plain) too in
     let parts = parts_joined (codes "n=" ++ user) ((codes "r=" ++ client_nonce) ∷ more) all in
-    named default_rules NotSupported (codes "n,," ++ joined (names user ++ more)) (joined (names user ++ more))
+    named default_rules (own_header NotSupported) (codes "n,," ++ joined (names user ++ more)) (joined (names user ++ more))
     (IsUtf8-append (codes "n,,") (joined (names user ++ more)) (IsUtf8-literal (codes "n,,") refl)
-    (utf8_joined (names user ++ more) all)) tt refl user user client_nonce
-    (names user ++ more, parts, refl) sent (names user ++ more, parts, refl) (λ wrong. wrong.0)
+    (utf8_joined (names user ++ more) all)) (tt, refl) refl user user client_nonce
+    (names user ++ more, parts, refl) sent (names user ++ more, parts, refl)
+    (λ wrong. wrong.0, (λ wrong. wrong.0, (λ wrong. wrong.0, tt)))
 
 -- ---- the server-first message, with more parts after the count
 
@@ -177,15 +177,16 @@ module _ (bytes : List ℕ) (is : IsBytes bytes) (nonce rest : List ℕ) (more :
 
 pub reads_values : (nonce rest : List ℕ) (more : List (List ℕ)) → nonce ≡ client_nonce ++ rest → Plain nonce
     → AllByRecursion Plain more
-    → ReadsServerFirst (client_of client_nonce login.secret login.limits login.channel login.strict)
+    → ReadsServerFirst (client_of client_nonce login.secret login.limits (login_header login) login.strict)
     (joined (values nonce ++ more)) (Ok (answering (joined (values nonce ++ more)) nonce).first)
 reads_values nonce rest more begins plain too =
-    values_read (client_of client_nonce login.secret login.limits login.channel login.strict)
+    values_read (client_of client_nonce login.secret login.limits (login_header login) login.strict)
     (joined (values nonce ++ more)) _
     (nonce_passes salt salt_bytes nonce rest more begins plain too)
     (salt_passes salt salt_bytes nonce rest more begins plain too)
     (count_passes salt salt_bytes nonce rest more begins plain too login.limits (omega arith) (omega arith))
-    (λ wrong. wrong.0) (λ un. un password_printable, tt) (names_salted salt salt_bytes nonce rest more begins plain too)
+    (λ wrong. wrong.0, (λ wrong. wrong.0, (λ wrong. wrong.0, tt))) (λ un. un password_printable, tt)
+    (names_salted salt salt_bytes nonce rest more begins plain too)
 
 -- ---- the AuthMessage
 
@@ -253,13 +254,13 @@ module _ (text nonce : List ℕ) where
 
   -- and then the signature is the one that the client waits for
   pub signature_read : (message : List ℕ) → client_message login (answering text nonce) ≡ message
-      → ReadsServerFinal (answer_at login (answering text nonce)).signature
+      → (strict : Bool) → ReadsServerFinal strict (answer_at login (answering text nonce)).signature
       (codes "v=" ++ base64_text (hmac_of Sha256 stored.server_key message)) (Ok tt)
-  signature_read message same =
+  signature_read message same strict =
       let signature = (answer_at login (answering text nonce)).signature in
-      subst (λ (one : List ℕ). ReadsServerFinal signature (codes "v="
+      subst (λ (one : List ℕ). ReadsServerFinal strict signature (codes "v="
       ++ base64_text (hmac_of Sha256 stored.server_key one)) (Ok tt)) same
-      (reads_signature signature (IsBytes-hmac_of Sha256 _ _))
+      (reads_signature strict signature (IsBytes-hmac_of Sha256 _ _))
 
 -- ---- the client-final message, with more parts between the nonce and the proof
 
@@ -295,19 +296,19 @@ module _ (more : List (List ℕ)) (too : AllByRecursion Plain more) (proof : Lis
       (record { without = joined (binds both ++ more); proof = proof })
   has_final bytes = (bytes, (plain_last.0, refl))
 
-  pub reads_final : (server : Server) → Absent ≡ server.channel → server.strict ≡ false → server.nonce ≡ both
+  pub reads_final : (server : Server) → plain_header ≡ server.header → server.strict ≡ false → server.nonce ≡ both
       → IsBytes proof
       → length proof ≡ digest_len server.version
       → Meets server (record { without = joined (binds both ++ more); proof = proof })
       → ReadsClientFinal server (final_text more proof) (Ok
       (record { without = joined (binds both ++ more); proof = proof }))
-  reads_final server channel lax same bytes sized meets =
+  reads_final server header lax same bytes sized meets =
       let text = final_text more proof in
       let binding : Part text 0 (codes "c=" ++ codes "biws") = (parts, final_parts, refl) in
       let nonce : Part text 1 (codes "r=" ++ both) = (parts, final_parts, refl) in
       final_read server text (record { without = joined (binds both ++ more); proof = proof }) utf8_final
       (record {
-        binding = subst (λ (own : ClientChannel). HasBase64 text 0 (codes "c=") (cbind_input own)) channel (
+        binding = subst (λ (own : ClientHeader). HasBase64 text 0 (codes "c=") (cbind_input own)) header (
           IsBytes-literal (codes "n,,") refl,
           subst
               (λ (spelling : List ℕ). Part text 0 (codes "c=" ++ spelling)) (sym header_text) binding,

@@ -27,7 +27,7 @@ use Rattle.fe2o3_sasl_core.proofs.lemmas.machines.ClientMachineLemmas.{profile_r
 use Rattle.fe2o3_sasl_core.specs.declared.sasl_profile.error.ProfileError.{ProfileError}
 use Rattle.fe2o3_sasl_core.specs.declared.sasl_profile.error.ProfileError.TheVariants.{StaleKeys}
 
-module _ (user : List ℕ) (limits : IterationLimits) (channel : ClientChannel) (strict accept : Bool) (keys : ClientKeys)
+module _ (user : List ℕ) (limits : IterationLimits) (channel : ClientChannel) (acts_for : Option (List ℕ)) (strict accept : Bool) (keys : ClientKeys)
     (password : PasswordText) (normal : IsNormal password) (are : AreKeysOf keys (password_bytes password)) where
   -- the client with this secret, and the two profiles
   abbrev side : Secret → ClientState → ClientSide
@@ -37,6 +37,7 @@ module _ (user : List ℕ) (limits : IterationLimits) (channel : ClientChannel) 
     version = keys.version;
     limits = limits;
     channel = channel;
+    acts_for = acts_for;
     strict = strict;
     signature_by_challenge = accept;
     state = state;
@@ -64,10 +65,10 @@ module _ (user : List ℕ) (limits : IterationLimits) (channel : ClientChannel) 
   answer_alike (ClientFirstSent nonce bare) own text (Ok message) next fit is = (
     ClientFinalSent is.0.signature (Some is.0.keys),
     is.3,
-    (is.0, keys_stand keys password nonce bare text limits channel strict (Ok is.0) normal are (λ e. cc) is.1, is.2, refl),
+    (is.0, keys_stand keys password nonce bare text limits (record { channel = channel; acts_for = acts_for }) strict (Ok is.0) normal are (λ e. cc) is.1, is.2, refl),
   )
   answer_alike (ClientFirstSent nonce bare) own text (Err fault) next fit is =
-      (own, is.1, (keys_stand keys password nonce bare text limits channel strict (Err fault) normal are other is.0, refl))
+      (own, is.1, (keys_stand keys password nonce bare text limits (record { channel = channel; acts_for = acts_for }) strict (Err fault) normal are other is.0, refl))
     where
       same_fault : ◌≡◌ {A = Result Answer ScramErrorKind} (Err fault) (Err kinds.StaleKeys) → fault ≡ kinds.StaleKeys
       same_fault e = cc
@@ -272,6 +273,7 @@ profile_by login version secret = ScramProfile (record {
   version = version;
   limits = login.limits;
   channel = login.channel;
+  acts_for = login.acts_for;
   strict = login.strict;
   signature_by_challenge = login.signature_by_challenge;
   state = ClientInitial;
@@ -283,7 +285,7 @@ keyed_runs_are_runs login keys password events replies last same normal are run 
     replies last → (after : Profile)
     × Runs (ProfileSteps login.hostname) (profile_by login version (Password password)) events replies after)
     same
-    (λ here. runs_alike login.user login.limits login.channel login.strict login.signature_by_challenge keys password
+    (λ here. runs_alike login.user login.limits login.channel login.acts_for login.strict login.signature_by_challenge keys password
     normal are
     ClientInitial login.hostname events replies last here fit) run
 

@@ -27,7 +27,7 @@ use fe2o3_scram::ServerRules;
 use fe2o3_scram::credentials::ScramCredentialProvider;
 use fe2o3_scram::hmac::{Meter, ScramVersion};
 use fe2o3_scram::keys::auth_message;
-use fe2o3_scram::scram_messages::{ClientChannel, ClientFinal};
+use fe2o3_scram::scram_messages::{ClientFinal, ClientHeader};
 use std::alloc::Global;
 
 /// Returns the receipt of an Ok to the response in this body. The only error is `OutOfMemory`, also for a body that is
@@ -44,10 +44,10 @@ pub(crate) fn ok_receipt<C: ScramCredentialProvider>(
     ensures { IfOk result (λ receipt. OkFor (serving rules (C.meaning credentials.now)) place
         (opened_challenge opened.now) body.now (server_receipt receipt)) }
 {
-    let channel = rules.expected_channel(opened.client_first.header);
+    let header = ClientHeader::new(rules.expected_channel(opened.client_first.header), None);
     let client_final = response_again(
         alloc,
-        &channel,
+        &header,
         &opened.server_first.client_server_nonce,
         body,
     )?;
@@ -55,10 +55,10 @@ pub(crate) fn ok_receipt<C: ScramCredentialProvider>(
 }
 
 /// Reads the response in this body again. The only error is `OutOfMemory`, also for a body that is no response with
-/// this channel and this nonce.
+/// this header and this nonce.
 fn response_again<'a>(
     alloc: Global,
-    channel: &ClientChannel,
+    header: &ClientHeader<'_>,
     client_server_nonce: &[u8],
     body: &'a [u8],
 ) -> Result<ClientFinal<'a>, OutOfMemory>
@@ -69,9 +69,9 @@ fn response_again<'a>(
         return Err(OutOfMemory);
     };
     // The response has passed the tests of the server, of a strict one too: it is read here for its proof.
-    let Ok(client_final) = ClientFinal::parse_with_channel(
+    let Ok(client_final) = ClientFinal::parse_with_header(
         alloc,
-        channel,
+        header,
         false,
         client_server_nonce,
         text,

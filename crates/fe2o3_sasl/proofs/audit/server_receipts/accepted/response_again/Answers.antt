@@ -8,7 +8,7 @@ returns c =
     let response = c.in-Ok-Response-default in (
       response.text.now,
       (response.field-0-1, rw response.field-0-0-is at response.ensures.reads),
-      proof_again c.args.channel.now false c.args.client_server_nonce.now response.text.now
+      proof_again c.args.header.now false c.args.client_server_nonce.now response.text.now
           (client_final_values c.in-Ok.client_final)
           c.in-Ok.ensures,
     )
