@@ -248,10 +248,10 @@ def others():
               apart(alice.bodies, alice.bodies), [], "The user is unknown.", 3)
     nonce = body("Challenge", b"r=x" + model.read(alice.challenge)[1][0][2:])
     yield row("A challenge that the client refuses.", users, apart(alice.bodies[:2], []), [],
-              "A message is rejected.", 3,
+              "The message in line 4 of standard input is rejected.", 3,
               last=(("client", nonce), [f"client: sasl-challenge: {len(model.read(nonce)[1][0])} bytes",
                                         "client: server-first: rejected: Server Nonce should start with client Nonce"]))
-    yield row("A body that is no frame.", users, [], [], "A message is rejected.", 3,
+    yield row("A body that is no frame.", users, [], [], "The message in line 2 of standard input is rejected.", 3,
               last=(("server", "0201000000534440"), ["server: frame: rejected: Decode Error"]))
 
 
@@ -303,12 +303,13 @@ def unfit():
     yield row("A line of no side.", users, apart([alice.offer], []), [], no_side, 4, last=(("", alice.offer), []))
     yield row("A side without a body.", users, [], [], no_side, 4, last=(("client", ""), []))
     yield row("A body that is not hexadecimal.", users, [], [],
-              "A line of standard input is not in hexadecimal.", 4, last=(("server", "0"), []))
+              "Line 2 of standard input is not in hexadecimal.", 4, last=(("server", "0"), []))
     yield row("No password.", users, [], [], "There is no password on the first line of standard input.", 4,
               password=None)
     yield row("A password that is not printable ASCII.", users, [], [], "The password is not printable ASCII.", 4,
               password="pencil\\t")
-    yield row("No file of users.", None, [], [], "The file cannot be read: entity not found.", 4)
+    yield row("No file of users.", None, [], [],
+              "users.txt: The file cannot be read: entity not found. Check its name and its mode.", 4)
 
 
 HEAD = """\

@@ -191,6 +191,11 @@ def explain(name, login, said_first, said_final):
 
 
 DONE = "= 0"
+LOGGED_IN = (f"! scram: {USER} logged in", DONE)
+
+
+def message_rejected(at):
+    return f"! scram: The message in line {at} of standard input is rejected."
 
 
 def client_refuses(text):
@@ -216,7 +221,7 @@ def over_lines():
         login = bound(kind)
         first, challenged, last, signed = login.texts()
         rows.append(client(f"A client that binds {kind}.", channel(kind), [challenged, signed], [first, last], DONE))
-        rows.append(server(f"A server that binds {kind}.", channel(kind), [first, last], [challenged, signed], DONE))
+        rows.append(server(f"A server that binds {kind}.", channel(kind), [first, last], [challenged, signed], *LOGGED_IN))
         rows.append(server("Other data.", channel(kind, b"\6" * 32), [first, last],
             [challenged, "e=channel-bindings-dont-match"], *server_refuses("Invalid channel binding")))
     for mechanism in ("SCRAM-SHA-1", "SCRAM-SHA-512"):
@@ -224,7 +229,7 @@ def over_lines():
         first, challenged, last, signed = login.texts()
         option = channel("tls-exporter")
         rows.append(client("Another mechanism.", option, [challenged, signed], [first, last], DONE, mechanism=mechanism))
-        rows.append(server("Another mechanism.", option, [first, last], [challenged, signed], DONE, mechanism=mechanism))
+        rows.append(server("Another mechanism.", option, [first, last], [challenged, signed], *LOGGED_IN, mechanism=mechanism))
     login = bound("tls-unique")
     first, challenged, last, _ = login.texts()
     rows.append(client("The server has other data.", channel("tls-unique"),
@@ -247,11 +252,11 @@ def not_offered():
     rows = [
         client("A client that was offered no channel binding.", "--channel-not-offered", [challenged, signed],
             [first, last], DONE),
-        server("A server that accepts `y,,`.", "--accept-y", [first, last], [challenged, signed], DONE),
+        server("A server that accepts `y,,`.", "--accept-y", [first, last], [challenged, signed], *LOGGED_IN),
         server("A server that does not.", "", [first], ["e=other-error"], *NO_HEADER),
     ]
     without, challenged, last, signed = plain("n,,").texts()
-    rows.append(server("It accepts `n,,` too.", "--accept-y", [without, last], [challenged, signed], DONE))
+    rows.append(server("It accepts `n,,` too.", "--accept-y", [without, last], [challenged, signed], *LOGGED_IN))
     swapped = Login("y,,", b"n,,")
     rows.append(server("The last message repeats the header of the first.", "--accept-y",
         [swapped.client_first, swapped.client_final], [swapped.server_first, "e=channel-bindings-dont-match"],
@@ -273,7 +278,7 @@ def strict():
     rows.append(client("An extension.", "--strict", [challenged, signed], [first, last], DONE))
     login = plain("n,,", client_more=",i=1")
     first, challenged, last, signed = login.texts()
-    rows.append(server("A server that is not strict.", "", [first, last], [challenged, signed], DONE))
+    rows.append(server("A server that is not strict.", "", [first, last], [challenged, signed], *LOGGED_IN))
     rows.append(server("A strict server.", "--strict", [first], ["e=other-error"], *server_refuses(MISPLACED)))
     login = bound("tls-exporter", client_more=",i=1")
     rows.append(server("A server that binds a channel is strict.", channel("tls-exporter"), [login.client_first],
@@ -293,7 +298,7 @@ def over_frames():
         client_sent = [init(login.plus, first), response(last)]
         rows.append(client_frames(f"A client that binds {kind}.", channel(kind), server_sent, client_sent, DONE,
             mechanism=mechanism))
-        rows.append(server_frames(f"A server that binds {kind}.", channel(kind), client_sent, server_sent, DONE,
+        rows.append(server_frames(f"A server that binds {kind}.", channel(kind), client_sent, server_sent, *LOGGED_IN,
             mechanism=mechanism))
         rows.append(server_frames("Other data.", channel(kind, b"\6" * 32), client_sent, [*server_sent[:2], AUTH],
             *closed("The login was rejected"), mechanism=mechanism))
@@ -311,7 +316,7 @@ def over_frames():
     client_sent = [init(SHA_256, first), response(last)]
     rows.append(client_frames("A client that was offered no channel binding.", "--channel-not-offered", server_sent,
         client_sent, DONE))
-    rows.append(server_frames("A server that accepts `y,,`.", "--accept-y", client_sent, server_sent, DONE))
+    rows.append(server_frames("A server that accepts `y,,`.", "--accept-y", client_sent, server_sent, *LOGGED_IN))
     rows.append(server_frames("A server that does not.", "", client_sent[:1], [offer(SHA_256), AUTH],
         *closed("The login was rejected")))
     login = plain("n,,", server_more=",s=AAAA")
@@ -373,14 +378,14 @@ def explained():
         rows.append(row(name, "explain", ["< " + line(text) for text in login.texts()[:3]],
             f'> client-first: {said}user "{USER}", nonce "{b64(CLIENT_NONCE)}"',
             f'> server-first: salt {SALT.hex()}, {COUNT} iterations, nonce "{login.nonce}"',
-            "> client-final: rejected: Invalid channel binding", "! scram: A message is rejected.", "= 3"))
+            "> client-final: rejected: Invalid channel binding", message_rejected(3), "= 3"))
     login = bound("tls-exporter")
     for header, name in (
         ("p=tls-other,,", "An unknown kind."),
         ("p=tls-unique,a=alice,", "A client that acts for another."),
     ):
         rows.append(row(name, "explain", ["< " + line(plain(header).client_first)],
-            "> client-first: rejected: Cannot parse GS2-header", "! scram: A message is rejected.", "= 3"))
+            "> client-first: rejected: Cannot parse GS2-header", message_rejected(1), "= 3"))
     frames = [offer(login.plus), init(login.plus, login.client_first), challenge(login.server_first),
         response(login.client_final), ok(login.server_final)]
     rows.append(row("The bodies of a login.", "explain --frames", ["< " + body[4:].hex() for body in frames],

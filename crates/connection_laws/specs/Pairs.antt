@@ -19,7 +19,7 @@ use Rattle.fe2o3_sasl_core.specs.Runs.{ProfileSteps}
 use Rattle.fe2o3_sasl_core.specs.SaslAcceptor.{ScramAcceptor, acceptor_names, acceptor_machine, acceptor_user}
 use Rattle.fe2o3_sasl_core.specs.ServerHistory.{Accepted, AcceptsAt, final_message, is_challenge, is_ok}
 use Rattle.fe2o3_sasl_core.specs.TwoSides.{Sides, sides_of, OkAt, VerifierText, ReportedAnswer, Takes, Shows, Agree, client_message, server_message}
-use Rattle.fe2o3_sasl_core.specs.UnalteredRuns.{HoldsLogin}
+use Rattle.fe2o3_sasl_core.specs.UnalteredRuns.{HoldsLogin, NoncesArePrintable}
 use Rattle.fe2o3_sasl_core.specs.Verdicts.{Verdict, JudgesProof}
 use Rattle.fe2o3_sasl_negotiation.specs.declared.progress.Progress.TheVariants.{Authenticated}
 use Rattle.fe2o3_sasl_negotiation.specs.Connections.{Piece, ClientNegotiated}
@@ -145,7 +145,7 @@ ReplaysAreRejected = (provider other : Provider) (server : ServerOf provider) (a
 -- ---- where nothing is altered
 
 -- the bytes arrive as they were sent, after both headers: the client takes the server's list of mechanisms and what
--- the server sends after it, and the server takes what the client sends
+-- the server sends after it, and the server takes what the client sends; each nonce of 32 bytes is printable
 pub record Unaltered {login : Login} {provider : Provider} (client : ClientOf login) (server : ServerOf provider)
     : Type 0 where
   pub offer : List ℕ
@@ -153,6 +153,8 @@ pub record Unaltered {login : Login} {provider : Provider} (client : ClientOf lo
   pub small : length offer + 4 ≤ 512
   pub to_client : client.taken ≡ sasl_header ++ (framed offer ++ server.sent)
   pub to_server : server.taken ≡ sasl_header ++ client.sent
+  pub client_nonces : NoncesArePrintable provider.rules.strict client.connection.events
+  pub server_nonces : NoncesArePrintable login.strict server.connection.events
 
 -- the AuthMessages are equal and both agree
 abbrev pub MeanOneLogin : Login → Provider → Answering → Accepted → Type 0

@@ -2,18 +2,19 @@
 -- part 5, section 5.3.2). Each law is the contract of a clause of `unaltered::unaltered`.
 use Rattle.std.specs.Prelude.{◌≡◌, ◌≤◌, ◌+◌, ℕ, Some, List, [], ◌++◌, length}
 use Rattle.std.specs.List.{AllByRecursion}
-use Rattle.fe2o3_scram.specs.ChannelBinding.{cbind_data}
+use Rattle.fe2o3_scram.specs.ChannelBinding.{cbind_input}
 use Rattle.fe2o3_scram.specs.Credentials.{Provider}
 use Rattle.fe2o3_scram.specs.Escape.{escaped}
+use Rattle.base64.specs.GeneralPurpose.{IsBytes}
 use Rattle.fe2o3_scram.specs.ScramServer.{Initial}
 use Rattle.fe2o3_sasl_core.specs.ClientHistory.{Answering, OpenAnswer}
-use Rattle.fe2o3_sasl_core.specs.Events.{Given, Login, IsLogin, ServerSays, ClientSays}
+use Rattle.fe2o3_sasl_core.specs.Events.{Given, Login, IsLogin, ServerSays, ClientSays, login_header}
 use Rattle.fe2o3_sasl_core.specs.Profiles.{Profile, scram_profile}
 use Rattle.fe2o3_sasl_core.specs.Runs.{Runs, AcceptorSteps, ProfileSteps}
 use Rattle.fe2o3_sasl_core.specs.SaslAcceptor.{Acceptor, ScramAcceptor, acceptor_machine, acceptor_names, acceptor_user}
 use Rattle.fe2o3_sasl_core.specs.ServerHistory.{Accepted, AcceptsAt}
 use Rattle.fe2o3_sasl_core.specs.TwoSides.{Sides, sides_of, client_message, server_message}
-use Rattle.fe2o3_sasl_core.specs.UnalteredRuns.{HoldsLogin, UnalteredRun, LogsIn}
+use Rattle.fe2o3_sasl_core.specs.UnalteredRuns.{HoldsLogin, NoncesArePrintable, UnalteredRun, LogsIn}
 use Rattle.fe2o3_sasl_negotiation.specs.declared.progress.Progress.TheVariants.{Authenticated}
 use Rattle.fe2o3_sasl_negotiation.specs.ClientNegotiation.{ClientReceives}
 use Rattle.fe2o3_sasl_negotiation.specs.Connections.{Piece, frames_of, ClientNegotiated, ServerNegotiated, fresh}
@@ -38,17 +39,21 @@ pub record Joined (login : Login) (provider : Provider) (client : Side Profile) 
       (fresh server_limit (ScramAcceptor provider Initial)) server_calls (sasl_header ++ client_sent) server_sent
       server []
 
--- the nonce of a call has 32 bytes
+-- a nonce has 32 bytes
+abbrev pub IsNonce : List ℕ → Type 0
+IsNonce nonce = IsBytes nonce × (length nonce ≡ 32)
+
+-- the nonce of a call is one
 abbrev pub HasNonce : Call → Type 0
-HasNonce call = length call.nonce ≡ 32
+HasNonce call = IsNonce call.nonce
 
 -- the texts of a login fit in the frames of SASL (part 5, section 5.3.1): the escaped name and the hostname have at most
--- 412 bytes together, or less by those that the channel needs; the salt has at most 285; and the data of the channel, if
--- one is bound, have at most 64
+-- 412 bytes together, or less by those that the header needs; the salt has at most 285; and the GS2 header with the
+-- data of the channel has at most 88
 pub record FitsFrames (login : Login) (bytes : List ℕ) : Type 0 where
-  pub names : bytes_for login.channel + length (escaped login.user) + length_of login.hostname ≤ 412
+  pub names : bytes_for (login_header login) + length (escaped login.user) + length_of login.hostname ≤ 412
   pub salt : length bytes ≤ 285
-  pub channel : length (cbind_data login.channel) ≤ 64
+  pub binding : length (cbind_input (login_header login)) ≤ 88
 
 -- both sides take frames of 512 bytes, as AMQP requires, and their nonces have 32 bytes
 pub record TakesFrames {login : Login} {provider : Provider} {client : Side Profile} {server : Side Acceptor}
@@ -108,4 +113,5 @@ NegotiationsAgree = (login : Login) (provider : Provider) (password salt : List 
     joined.client_sent client)
     (theirs : ServerNegotiated acceptor_machine joined.server_limit (ScramAcceptor provider Initial) server_pieces
     (sasl_header ++ joined.client_sent) out server)
+    → NoncesArePrintable provider.rules.strict mine.events → NoncesArePrintable login.strict theirs.events
     → OneLogin (sides_of login mine.events mine.replies provider theirs.events theirs.replies) salt count

@@ -6,6 +6,8 @@ pub mod RefusalLemmas
 pub mod RefusedBodyLemmas
 pub mod CutLemmas
 pub mod UnitLemmas
+pub mod ExtendedLemmas
+pub mod ExtendedLawLemmas
 pub mod KindLemmas
 pub mod ChallengeLemmas
 pub mod PieceLemmas

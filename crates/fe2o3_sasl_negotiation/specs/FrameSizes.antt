@@ -7,7 +7,7 @@ use Rattle.fe2o3_sasl_wire.specs.SaslFrames as frames
 use Rattle.fe2o3_scram.specs.declared.scram_messages.client_channel.ClientChannel.{ClientChannel}
 use Rattle.fe2o3_scram.specs.declared.scram_messages.client_channel.ClientChannel.TheVariants.{Absent, NotOffered, Bound}
 use Rattle.fe2o3_scram.specs.declared.hmac.ScramVersion.{ScramVersion}
-use Rattle.fe2o3_scram.specs.ChannelBinding.{flag_of, is_bound, kind_name, mechanism_of}
+use Rattle.fe2o3_scram.specs.ChannelBinding.{is_bound, kind_name, mechanism_of, ClientHeader, header_of, authzid_text}
 use Rattle.fe2o3_scram.specs.ClientFirst.{client_first_with}
 use Rattle.fe2o3_scram.specs.Escape.{escaped}
 
@@ -28,19 +28,23 @@ InitsFit = (mechanism : List ℕ) (response hostname : Option (List ℕ))
 
 -- how many bytes more an init has if the client binds a channel (RFC 5802, sections 4 and 7): those of "-PLUS", and
 -- those that "p=", the name of the kind and ",," have more than "n,,"
-abbrev pub bytes_for : ClientChannel → ℕ
-bytes_for Absent = 0
-bytes_for NotOffered = 0
-bytes_for (Bound binding) = length (kind_name binding.kind) + 6
+abbrev pub bytes_for_channel : ClientChannel → ℕ
+bytes_for_channel Absent = 0
+bytes_for_channel NotOffered = 0
+bytes_for_channel (Bound binding) = length (kind_name binding.kind) + 6
+
+-- how many more it has for the channel and for the identity that the client acts for
+abbrev pub bytes_for : ClientHeader → ℕ
+bytes_for header = bytes_for_channel header.channel + length (authzid_text header.acts_for)
 
 -- the init of a SCRAM client whose escaped name and hostname have at most 412 bytes together, or less by those that the
--- channel needs, with a nonce of at most 44 bytes, as 32 bytes have in base64 (RFC 5802, section 7)
+-- header needs, with a nonce of at most 44 bytes, as 32 bytes have in base64 (RFC 5802, section 7)
 abbrev pub ScramInitsFit : Type 0
-ScramInitsFit = (version : ScramVersion) (channel : ClientChannel) (user nonce : List ℕ)
+ScramInitsFit = (version : ScramVersion) (header : ClientHeader) (user nonce : List ℕ)
     (hostname : Option (List ℕ)) → length nonce ≤ 44
-    → bytes_for channel + length (escaped user) + length_of hostname ≤ 412
-    → CanBeSent (frames.Init (mechanism_of version (is_bound channel))
-    (Some (client_first_with (flag_of channel) user nonce)) hostname)
+    → bytes_for header + length (escaped user) + length_of hostname ≤ 412
+    → CanBeSent (frames.Init (mechanism_of version (is_bound header.channel))
+    (Some (client_first_with (header_of header) user nonce)) hostname)
 
 -- a challenge and a response of at most 487 bytes
 abbrev pub TextsFit : Type 0

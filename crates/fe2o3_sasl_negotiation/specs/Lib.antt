@@ -18,3 +18,4 @@ pub mod FrameSizes
 pub mod Nonces
 pub mod PolicyClient
 pub mod PolicyLaws
+pub mod ExtendedHeaders

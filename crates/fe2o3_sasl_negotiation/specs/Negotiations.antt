@@ -1,5 +1,5 @@
 -- What one call does to a side of a connection, for any machine.
-use Rattle.std.specs.Prelude.{◌≡◌, ◌⊎◌, ℕ, ◌+◌, ◌-◌, ◌<◌, ◌≤◌, List, [], ◌++◌, length, take, drop, Result, Ok, Err}
+use Rattle.std.specs.Prelude.{◌≡◌, ◌⊎◌, ℕ, ◌+◌, ◌-◌, ◌<◌, ◌≤◌, Bool, true, false, List, [], ◌++◌, length, take, drop, Result, Ok, Err}
 use Rattle.fe2o3_sasl_wire.specs.declared.sasl_frames.error.Error.{Error}
 use Rattle.fe2o3_sasl_wire.specs.SaslFrames.{SaslFrame}
 use Rattle.fe2o3_sasl_wire.specs.SaslFrames as frames
@@ -11,7 +11,7 @@ use Rattle.fe2o3_sasl_negotiation.specs.declared.progress.FrameKind.{FrameKind}
 use Rattle.fe2o3_sasl_negotiation.specs.declared.progress.FrameKind.TheVariants as turns
 use Rattle.fe2o3_sasl_negotiation.specs.declared.progress.Progress.{Progress}
 use Rattle.fe2o3_sasl_negotiation.specs.declared.progress.Progress.TheVariants.{InProgress, Authenticated, Failed}
-use Rattle.fe2o3_sasl_negotiation.specs.Framing.{framed, size_of, unit_size, IsPart, IsRefused, IsWhole}
+use Rattle.fe2o3_sasl_negotiation.specs.Framing.{framed, size_of, unextended, unit_size, unit_read, IsPart, IsRefused, IsWhole}
 
 -- a side of a connection: its progress, the expected unit, the maximum size of a frame, what has arrived of that unit,
 -- and the state of its machine
@@ -64,6 +64,14 @@ AnswersTo Asks turn state (Ok frame) answer next =
     (¬ IsInTurn turn frame × (answer ≡ closes UnexpectedFrame (Frame turn)) × (next ≡ state))
     ⊎ (IsInTurn turn frame × Asks answer next)
 
+-- what a side answers to a unit that has arrived: its answers to the unit that it reads, by whether it accepts extended
+-- headers
+abbrev pub Reading : {S : Type 0} → Bool → (Expected → S → List ℕ → List ℕ → SideOutput → S → Type 0)
+    → Expected → S → List ℕ → List ℕ → SideOutput → S → Type 0
+Reading false Answers = Answers
+Reading true Answers = λ expected state nonce unit answer next.
+    Answers expected state nonce (unit_read true expected unit) answer next
+
 -- a call keeps every byte and needs more
 abbrev pub Waits : {S : Type 0} → Side S → List ℕ → ℕ → List ℕ → Side S → Type 0
 Waits side bytes taken sent next =
@@ -112,3 +120,23 @@ abbrev pub Completes : {S : Type 0} → Side S → List ℕ → FrameKind → Li
 Completes side bytes turn body = let come = side.held ++ bytes in
     (side.progress ≡ InProgress) × (side.expected ≡ Frame turn) × IsWhole (Frame turn) side.limit come
     × (body ≡ drop 4 (take (size_of come) come))
+
+-- these bytes complete a frame, and this holds of the side that holds nothing and the bytes of that frame without its
+-- extended header
+abbrev pub CompletesRead : {S : Type 0} → (Side S → List ℕ → Type 0) → Side S → List ℕ → Type 0
+CompletesRead Holds side bytes = (turn : FrameKind) × (body : List ℕ) × Completes side bytes turn body
+    × Holds (record side { held = [] }) (framed (unextended body))
+
+-- where a call allocates, by whether the side accepts extended headers: where a call with these bytes would, or one with
+-- the whole frame that the side reads
+abbrev pub AsksReading : {S : Type 0} → Bool → (ℕ → Side S → List ℕ → Type 0) → ℕ → Side S → List ℕ → Type 0
+AsksReading false Asks = Asks
+AsksReading true Asks = λ room side bytes. Asks room side bytes ⊎ CompletesRead (Asks room) side bytes
+
+-- what a call costs, by whether the side accepts extended headers: what a call with these bytes would, or one with the
+-- whole frame that the side reads
+abbrev pub CostsReading : {S : Type 0} → Bool → (Side S → List ℕ → List ℕ → ℕ → ℕ → Type 0) → Side S → List ℕ → List ℕ
+    → ℕ → ℕ → Type 0
+CostsReading false Costs = Costs
+CostsReading true Costs = λ side bytes nonce before after. Costs side bytes nonce before after
+    ⊎ CompletesRead (λ read body. Costs read body nonce before after) side bytes

@@ -1,11 +1,12 @@
 -- The additional data of an outcome by which a server rejects a login (AMQP 1.0, part 5, section 5.3.3.6).
-use Rattle.std.specs.Prelude.{◌≡◌, ◌⊎◌, ℕ, Option, None, List, Result, Ok, Err}
+use Rattle.std.specs.Prelude.{◌≡◌, ◌⊎◌, ℕ, Bool, Option, None, List, Result, Ok, Err}
 use Rattle.fe2o3_sasl_wire.specs.declared.amqp_types.SaslCode.TheVariants as outcomes
 use Rattle.fe2o3_sasl_wire.specs.declared.sasl_frames.error.Error.{Error}
 use Rattle.fe2o3_sasl_wire.specs.SaslFrames.{SaslFrame}
 use Rattle.fe2o3_sasl_wire.specs.SaslFrames as frames
 use Rattle.fe2o3_sasl_core.specs.Bodies.{SpellsBody}
 use Rattle.fe2o3_sasl_negotiation.specs.declared.progress.FrameKind.{FrameKind}
+use Rattle.fe2o3_sasl_negotiation.specs.Framing.{body_read}
 use Rattle.fe2o3_sasl_negotiation.specs.Negotiations.{Completes, IsInTurn, Side}
 
 -- the additional data of a frame that rejects a login: an outcome with another code than Ok
@@ -25,8 +26,9 @@ RejectsBy turn (Ok frame) more =
 abbrev pub RejectsWith : FrameKind → List ℕ → Option (List ℕ) → Type 0
 RejectsWith turn body more = (spelled : Result SaslFrame Error) × SpellsBody body spelled × RejectsBy turn spelled more
 
--- the additional data by which the frame rejects a login that these bytes complete; none if they complete no frame
-abbrev pub CompletesRefusal : {S : Type 0} → Side S → List ℕ → Option (List ℕ) → Type 0
-CompletesRefusal side bytes more =
-    ((turn : FrameKind) × (body : List ℕ) × Completes side bytes turn body × RejectsWith turn body more)
+-- the additional data by which the frame rejects a login that these bytes complete, read by whether the side accepts
+-- extended headers; none if they complete no frame
+abbrev pub CompletesRefusal : {S : Type 0} → Bool → Side S → List ℕ → Option (List ℕ) → Type 0
+CompletesRefusal accepts side bytes more = ((turn : FrameKind) × (body : List ℕ) × Completes side bytes turn body
+    × RejectsWith turn (body_read accepts body) more)
     ⊎ (((turn : FrameKind) (body : List ℕ) → ¬ Completes side bytes turn body) × (more ≡ None))

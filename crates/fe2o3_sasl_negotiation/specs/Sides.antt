@@ -1,5 +1,5 @@
 -- The sides of a connection that the code's values are.
-use Rattle.std.specs.Prelude.{Option, option_map, string_bytes, List, ℕ}
+use Rattle.std.specs.Prelude.{Bool, Option, option_map, string_bytes, List, ℕ}
 use Rattle.fe2o3_sasl_negotiation.specs.declared.client.ClientEndpoint.{ClientEndpoint}
 use Rattle.fe2o3_sasl_negotiation.specs.declared.client.ClientRole.{ClientRole}
 use Rattle.fe2o3_sasl_negotiation.specs.declared.server.ServerRole.{ServerRole}
@@ -13,6 +13,10 @@ use Rattle.fe2o3_sasl_negotiation.specs.Snapshot.{server_fits, client_fits}
 -- the endpoint that answers for a side
 abbrev pub endpoint_in : {E R : Type 0} {role : Ghosts R} → ConnectionSide E R role → E
 endpoint_in side = side.endpoint
+
+-- whether a side accepts extended headers
+abbrev pub extended_in : {E R : Type 0} {role : Ghosts R} → ConnectionSide E R role → Bool
+extended_in side = side.extended_headers
 
 -- the side that a value is, by the state of its endpoint
 abbrev pub connection_side : {E R S : Type 0} {role : Ghosts R} → (E → S) → ConnectionSide E R role → Side S

@@ -1,6 +1,6 @@
 //! The client's side of a connection (AMQP 1.0, part 5, section 5.3.2).
 
-ghost use Rattle.std.specs.Prelude.{◌≡◌, ◌≢◌, ◌≤◌, ◌^◌, ◌++◌, ℕ, Bool, List, Option, [], IfOk, IfErr, OnOk, OnErr, option_map, string_bytes, length, drop, min, refl};
+ghost use Rattle.std.specs.Prelude.{◌≡◌, ◌≢◌, ◌≤◌, ◌^◌, ◌++◌, ℕ, Bool, false, List, Option, [], IfOk, IfErr, OnOk, OnErr, option_map, string_bytes, length, drop, min, refl};
 ghost use Rattle.std.proofs.Common.{inl};
 ghost use Rattle.fe2o3_sasl_core.specs.Profiles.{Profile};
 ghost use Rattle.fe2o3_sasl_core.specs.Runs.{client_reply};
@@ -223,7 +223,7 @@ impl Endpoint<ClientRole> for ClientEndpoint {
 
 impl ClientNegotiation {
     ghost use Rattle.fe2o3_sasl_negotiation.specs.Nonces.{client_uses_nonce};
-    ghost use Rattle.fe2o3_sasl_negotiation.specs.Sides.{client_side, hostname_in};
+    ghost use Rattle.fe2o3_sasl_negotiation.specs.Sides.{client_side, extended_in, hostname_in};
 
     /// Makes the client's side of a new connection from a profile that no connection has used and the hostname that its
     /// init carries, if any. The client speaks first: send its header (`open`).
@@ -231,6 +231,7 @@ impl ClientNegotiation {
         ensures side { client_side result
             ≡ record { progress = InProgress; expected = Header; limit = 512; held = []; state = profile_of profile } }
         ensures hostname { hostname_in result ≡ option_map string_bytes hostname }
+        ensures extended { extended_in result ≡ false }
     {
         Self::with_frame_limit(alloc, profile, hostname, MAX_FRAME)
     }
@@ -250,6 +251,7 @@ impl ClientNegotiation {
           state = profile_of profile;
         } }
         ensures hostname { hostname_in result ≡ option_map string_bytes hostname }
+        ensures extended { extended_in result ≡ false }
     {
         ConnectionSide::begin(alloc, ClientEndpoint { profile, hostname }, limit)
     }
@@ -276,11 +278,13 @@ impl ClientNegotiation {
     pub fn snapshot(&self) -> Snapshot<'_>
         ensures side { side_of result (client_side self.now).state ≡ client_side self.now }
         ensures kept { IsClientKept result }
+        ensures extended { result.extended_headers ≡ extended_in self.now }
     {
         Snapshot {
             progress: self.progress,
             expected: self.expected,
             limit: self.limit,
+            extended_headers: self.extended_headers,
             held: &self.held,
             user: None,
         }
@@ -298,7 +302,8 @@ impl ClientNegotiation {
     ) -> Result<Self, RestoreError>
         ensures ok { IfOk result (λ side. IsClientKept kept.now
             × (client_side side ≡ side_of kept.now (profile_of profile))
-            × (hostname_in side ≡ option_map string_bytes hostname)) }
+            × (hostname_in side ≡ option_map string_bytes hostname)
+            × (extended_in side ≡ kept.now.extended_headers)) }
         ensures refused { IfErr result (λ error. error ≡ RestoreError.InvalidSnapshot → ¬ IsClientKept kept.now) }
         ensures other_user { IfErr result (λ error. error ≢ RestoreError.OtherUser) }
         ensures memory { IfErr result (λ error. error ≡ RestoreError.OutOfMemory → IsClientKept kept.now) }

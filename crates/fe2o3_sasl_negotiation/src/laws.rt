@@ -8,6 +8,7 @@ ghost use Rattle.fe2o3_sasl_core.specs.SaslAcceptor.{ScramAcceptor, acceptor_mac
 ghost use Rattle.fe2o3_sasl_negotiation.specs.ClientNegotiation.{ClientReceives};
 ghost use Rattle.fe2o3_sasl_negotiation.specs.Connections.{ServersConnect, ClientsConnect, ServerConnectionsLogIn, ClientConnectionsLogIn};
 ghost use Rattle.fe2o3_sasl_negotiation.specs.CostLaws.{ServersCost, ClientsCost, ServersOfAreBounded, ServersAreBounded, ExtendedServersAreBounded, ClientsAreBounded};
+ghost use Rattle.fe2o3_sasl_negotiation.specs.ExtendedHeaders.{ExtendedHeadersAreIgnored, ClientsIgnoreExtendedHeaders, PolicyClientsIgnoreExtendedHeaders};
 ghost use Rattle.fe2o3_sasl_negotiation.specs.Laws.{CutsDoNotMatter, ClientCutsDoNotMatter};
 ghost use Rattle.fe2o3_sasl_negotiation.specs.NamedUsers.{AnyMechanismServersLogIn, AnyMechanismStepsLogIn};
 ghost use Rattle.fe2o3_sasl_negotiation.specs.ScramConnections.{ScramServersServe, ScramClientsReport};
@@ -21,6 +22,16 @@ use fe2o3_sasl_core::{AuthenticatedUser, HasMechanism};
 pub fn cuts<A: AuthenticatedUser>()
     ensures server { CutsDoNotMatter (ServerSideAnswers A.names A.machine) }
     ensures client { ClientCutsDoNotMatter }
+{}
+
+/// A side that accepts extended headers ([`accept_extended_headers`](crate::ConnectionSide::accept_extended_headers)) does
+/// what a side does that does not, over the stream without these headers: as many calls with the same nonces send the
+/// same bytes and leave the same side. So the other laws hold of it over that stream. Each frame has an allowed size in
+/// both streams.
+pub fn extended_headers<A: AuthenticatedUser>()
+    ensures server { ExtendedHeadersAreIgnored (ServerSideAnswers A.names A.machine) }
+    ensures client { ClientsIgnoreExtendedHeaders }
+    ensures policy_client { PolicyClientsIgnoreExtendedHeaders }
 {}
 
 /// The headline theorem over the bytes of a server's connection, in whatever calls they are passed. A server of any

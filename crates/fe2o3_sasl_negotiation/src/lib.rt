@@ -9,6 +9,7 @@
 #![tactic(auto)]
 
 mod client;
+mod extended;
 pub mod frame_sizes;
 mod framing;
 pub mod laws;
@@ -66,6 +67,7 @@ pub use fe2o3_sasl_core::ScramHashes;
 pub use fe2o3_sasl_core::Selected;
 pub use fe2o3_sasl_core::ServerReply;
 pub use fe2o3_sasl_core::SingleMessage;
+pub use fe2o3_sasl_core::StrictPlainMechanism;
 pub use fe2o3_sasl_core::UrlError;
 pub use fe2o3_sasl_core::WithExtraChallenges;
 pub use fe2o3_sasl_core::WithLastAttempt;

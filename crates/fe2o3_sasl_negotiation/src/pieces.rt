@@ -13,7 +13,7 @@ ghost use Rattle.fe2o3_sasl_core.specs.SaslAcceptor.{ScramAcceptor, acceptor_mac
 ghost use Rattle.fe2o3_sasl_negotiation.specs.Connections.{ServerConnection, ServerNegotiated, ClientConnection, LastReply, IsOkSent, bytes_of};
 ghost use Rattle.fe2o3_sasl_negotiation.specs.ScramConnections.{ScramServes};
 ghost use Rattle.fe2o3_sasl_negotiation.specs.Pieces.{piece_of, first_bytes};
-ghost use Rattle.fe2o3_sasl_negotiation.specs.Sides.{client_side, hostname_in, server_side};
+ghost use Rattle.fe2o3_sasl_negotiation.specs.Sides.{client_side, extended_in, hostname_in, server_side};
 ghost use Rattle.fe2o3_sasl_negotiation.specs.private.Pieces.{Continues};
 
 use crate::client::ClientNegotiation;
@@ -59,9 +59,11 @@ fn serve_piece<A: AuthenticatedUser>(
     piece: &Piece<'_>,
     sent: &mut BytesMut,
 ) -> Result<usize, OutOfMemory>
+    requires { extended_in side.old ≡ false }
     ensures within { IfOk result (λ taken. taken ≤ length piece.now.bytes.now) }
     ensures all { IfOk result (λ taken. taken < length piece.now.bytes.now
         → (server_side A.state side.new).progress ≢ InProgress) }
+    ensures extended { IfOk result (λ _. extended_in side.new ≡ false) }
     ensures ok { IfOk result (λ taken. (more : List ℕ) × (sent.new.items ≡ sent.old.items ++ more)
         × ((limit : ℕ) (state : A.State)
         → Continues (ServerConnection A.names A.machine limit state) (server_side A.state side.old)
@@ -155,9 +157,11 @@ fn answer_piece(
     piece: &Piece<'_>,
     sent: &mut BytesMut,
 ) -> Result<usize, OutOfMemory>
+    requires { extended_in side.old ≡ false }
     ensures within { IfOk result (λ taken. taken ≤ length piece.now.bytes.now) }
     ensures all { IfOk result (λ taken. taken < length piece.now.bytes.now
         → (client_side side.new).progress ≢ InProgress) }
+    ensures extended { IfOk result (λ _. extended_in side.new ≡ false) }
     ensures hostname { IfOk result (λ _. hostname_in side.new ≡ hostname_in side.old) }
     ensures ok { IfOk result (λ taken. (more : List ℕ) × (sent.new.items ≡ sent.old.items ++ more)
         × ((limit : ℕ) (profile : Profile)

@@ -1,6 +1,6 @@
 //! A client that selects its mechanism from the server's offer (AMQP 1.0, part 5, section 5.3.3.2).
 
-ghost use Rattle.std.specs.Prelude.{◌≡◌, ◌≤◌, ◌^◌, ℕ, List, Option, None, [], IfOk, OnErr, option_map, string_bytes, length, drop, min, refl};
+ghost use Rattle.std.specs.Prelude.{◌≡◌, ◌≤◌, ◌^◌, ℕ, false, List, Option, None, [], IfOk, OnErr, option_map, string_bytes, length, drop, min, refl};
 ghost use Rattle.std.proofs.Common.{inl};
 ghost use Rattle.fe2o3_scram.specs.ClientSecret.{secret_of};
 ghost use Rattle.fe2o3_sasl_core.specs.Profiles.{Profile};
@@ -165,6 +165,7 @@ impl Endpoint<ClientRole> for PolicyEndpoint<'_> {
 
 impl<'a> PolicyClient<'a> {
     ghost use Rattle.fe2o3_sasl_negotiation.specs.PolicyClient.{policy_side, selection_in};
+    ghost use Rattle.fe2o3_sasl_negotiation.specs.Sides.{extended_in};
 
     /// Makes the client's side of a new connection, which has selected no mechanism yet. The client speaks first: send
     /// its header (`ClientNegotiation::open`).
@@ -172,6 +173,7 @@ impl<'a> PolicyClient<'a> {
         ensures side { policy_side result
             ≡ record { progress = InProgress; expected = Header; limit = 512; held = []; state = None } }
         ensures selection { selection_in result ≡ selection_of login.entry }
+        ensures extended { extended_in result ≡ false }
     {
         Self::with_frame_limit(alloc, login, MAX_FRAME)
     }
@@ -186,6 +188,7 @@ impl<'a> PolicyClient<'a> {
           state = None;
         } }
         ensures selection { selection_in result ≡ selection_of login.entry }
+        ensures extended { extended_in result ≡ false }
     {
         ConnectionSide::begin(
             alloc,

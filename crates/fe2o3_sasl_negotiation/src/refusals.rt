@@ -55,7 +55,7 @@ fn refusal_of(alloc: Global, turn: FrameKind, body: &[u8]) -> Result<Option<Vec<
 }
 
 impl<E: Endpoint<R>, R: Role> ConnectionSide<E, R> {
-    ghost use Rattle.fe2o3_sasl_negotiation.specs.Sides.{connection_side};
+    ghost use Rattle.fe2o3_sasl_negotiation.specs.Sides.{connection_side, extended_in};
 
     /// Returns the additional data of the outcome that these bytes complete, if it rejects the login: its code is not
     /// `Ok`. Returns `None` for any other frame, if the bytes complete no frame, and if the outcome has no data. Nothing
@@ -63,8 +63,8 @@ impl<E: Endpoint<R>, R: Role> ConnectionSide<E, R> {
     ///
     /// The only error is `OutOfMemory`, for a side in progress that expects a frame.
     pub fn peek_refusal(&self, alloc: Global, bytes: &[u8]) -> Result<Option<Vec<u8>>, OutOfMemory>
-        ensures refusal { IfOk result (λ copy. CompletesRefusal (connection_side E.state self.now) bytes.now
-            (option_map (λ taken. taken.items) copy)) }
+        ensures refusal { IfOk result (λ copy. CompletesRefusal (extended_in self.now) (connection_side E.state self.now)
+            bytes.now (option_map (λ taken. taken.items) copy)) }
         ensures memory { OnErr result (((connection_side E.state self.now).progress ≡ InProgress)
             × ((connection_side E.state self.now).expected ≢ Header)) }
     {
@@ -72,6 +72,7 @@ impl<E: Endpoint<R>, R: Role> ConnectionSide<E, R> {
             progress: self.progress,
             expected: self.expected,
             limit: self.limit,
+            extended_headers: self.extended_headers,
             held: &self.held,
             user: None,
         };

@@ -1,7 +1,7 @@
 //! A side that is saved and restored over an acceptor or a profile in the same state is the same side.
 
 ghost use Rattle.std.specs.Prelude.{◌≡◌, IfErr, IfOk, option_map, string_bytes};
-ghost use Rattle.fe2o3_sasl_negotiation.specs.Sides.{acceptor_in, client_side, hostname_in, server_side};
+ghost use Rattle.fe2o3_sasl_negotiation.specs.Sides.{acceptor_in, client_side, extended_in, hostname_in, server_side};
 ghost use Rattle.fe2o3_sasl_core.specs.SaslProfile.{profile_of};
 
 use crate::client::ClientNegotiation;
@@ -21,6 +21,7 @@ pub fn restored_server<A: AuthenticatedUser + Drop>(
 ) -> Result<ServerNegotiation<A>, RestoreError>
     requires { A.state acceptor ≡ A.state (acceptor_in side.now) }
     ensures side { IfOk result (λ restored. server_side A.state restored ≡ server_side A.state side.now) }
+    ensures extended { IfOk result (λ restored. extended_in restored ≡ extended_in side.now) }
     ensures user { IfOk result (λ restored. A.named (acceptor_in restored) ≡ A.named (acceptor_in side.now)) }
     ensures memory { IfErr result (λ error. error ≡ RestoreError.OutOfMemory) }
 {
@@ -39,6 +40,7 @@ pub fn restored_client(
 ) -> Result<ClientNegotiation, RestoreError>
     requires { profile_of profile ≡ (client_side side.now).state }
     ensures side { IfOk result (λ restored. client_side restored ≡ client_side side.now) }
+    ensures extended { IfOk result (λ restored. extended_in restored ≡ extended_in side.now) }
     ensures hostname { IfOk result (λ restored. hostname_in restored ≡ option_map string_bytes hostname) }
     ensures memory { IfErr result (λ error. error ≡ RestoreError.OutOfMemory) }
 {

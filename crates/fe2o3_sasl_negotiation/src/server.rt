@@ -1,6 +1,6 @@
 //! The server's side of a connection (AMQP 1.0, part 5, section 5.3.2).
 
-ghost use Rattle.std.specs.Prelude.{◌≡◌, ◌≢◌, ◌≤◌, ◌^◌, ◌++◌, ℕ, List, [], IfOk, IfErr, OnErr, option_map, length, drop, min, refl};
+ghost use Rattle.std.specs.Prelude.{◌≡◌, ◌≢◌, ◌≤◌, ◌^◌, ◌++◌, ℕ, false, List, [], IfOk, IfErr, OnErr, option_map, length, drop, min, refl};
 ghost use Rattle.std.proofs.Common.{inl};
 ghost use Rattle.fe2o3_sasl_core.specs.Runs.{server_reply};
 ghost use Rattle.fe2o3_sasl_core.specs.Events.{Failed};
@@ -195,26 +195,28 @@ impl<A: AuthenticatedUser> Endpoint<ServerRole> for A {
 
 impl<A: AuthenticatedUser> ServerNegotiation<A> {
     ghost use Rattle.fe2o3_sasl_negotiation.specs.Nonces.{server_uses_nonce};
-    ghost use Rattle.fe2o3_sasl_negotiation.specs.Sides.{acceptor_in, server_side};
+    ghost use Rattle.fe2o3_sasl_negotiation.specs.Sides.{acceptor_in, extended_in, server_side};
 
     /// Makes the server's side of a new connection, by an acceptor that no connection has used. It waits for the
     /// client's header.
     pub fn new(alloc: Global, acceptor: A) -> Self
-        ensures { server_side A.state result
+        ensures side { server_side A.state result
             ≡ record { progress = InProgress; expected = Header; limit = 512; held = []; state = A.state acceptor } }
+        ensures extended { extended_in result ≡ false }
     {
         Self::with_frame_limit(alloc, acceptor, MAX_FRAME)
     }
 
     /// Like `new`, but the side rejects a frame of more bytes than the limit, if that is below 512.
     pub fn with_frame_limit(alloc: Global, acceptor: A, limit: usize) -> Self
-        ensures { server_side A.state result ≡ record {
+        ensures side { server_side A.state result ≡ record {
           progress = InProgress;
           expected = Header;
           limit = min limit 512;
           held = [];
           state = A.state acceptor;
         } }
+        ensures extended { extended_in result ≡ false }
     {
         ConnectionSide::begin(alloc, acceptor, limit)
     }
@@ -256,11 +258,13 @@ impl<A: AuthenticatedUser> ServerNegotiation<A> {
         ensures side { side_of result (A.state (acceptor_in self.now)) ≡ server_side A.state self.now }
         ensures kept { IsServerKept result }
         ensures user { NamesKeptUser result (A.named (acceptor_in self.now)) }
+        ensures extended { result.extended_headers ≡ extended_in self.now }
     {
         Snapshot {
             progress: self.progress,
             expected: self.expected,
             limit: self.limit,
+            extended_headers: self.extended_headers,
             held: &self.held,
             user: self.authenticated_user(),
         }
@@ -275,7 +279,8 @@ impl<A: AuthenticatedUser> ServerNegotiation<A> {
     where
         A: Drop,
         ensures ok { IfOk result (λ side. IsServerKept kept.now × NamesKeptUser kept.now (A.named acceptor)
-            × (server_side A.state side ≡ side_of kept.now (A.state acceptor)) × (acceptor_in side ≡ acceptor)) }
+            × (server_side A.state side ≡ side_of kept.now (A.state acceptor)) × (acceptor_in side ≡ acceptor)
+            × (extended_in side ≡ kept.now.extended_headers)) }
         ensures refused { IfErr result (λ error. error ≡ RestoreError.InvalidSnapshot → ¬ IsServerKept kept.now) }
         ensures other_user { IfErr result (λ error. error ≡ RestoreError.OtherUser
             → IsServerKept kept.now × (kept.now.progress ≡ Authenticated) × (A.named acceptor ≢ shown kept.now.user)) }

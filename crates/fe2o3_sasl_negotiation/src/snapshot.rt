@@ -2,7 +2,7 @@
 
 ghost use Rattle.std.specs.Prelude.{◌≡◌, ◌≢◌, ◌↔◌, ℕ, List, IsTrue, IfOk, IfErr, MatchOption, None};
 ghost use Rattle.fe2o3_sasl_wire.specs.FrameView.{shown};
-ghost use Rattle.fe2o3_sasl_negotiation.specs.Framing.{IsPart};
+ghost use Rattle.fe2o3_sasl_negotiation.specs.Framing.{IsPart, body_read};
 ghost use Rattle.fe2o3_sasl_negotiation.specs.Negotiations.{Completes};
 ghost use Rattle.fe2o3_sasl_negotiation.specs.Snapshot.{IsKept, IsServerKept, IsClientKept, EndsEmpty, NamesAfterLogin, server_awaits, server_due, server_fits, client_awaits, client_due, outcome_due, client_fits, side_kept};
 ghost use Rattle.fe2o3_sasl_negotiation.specs.declared.progress.Expected.TheVariants.{Header};
@@ -10,6 +10,7 @@ ghost use Rattle.fe2o3_sasl_negotiation.specs.declared.progress.Progress.TheVari
 ghost use Rattle.fe2o3_sasl_negotiation.specs.declared.progress.FrameKind.{FrameKind as TurnKind};
 ghost use Rattle.fe2o3_sasl_negotiation.specs.declared.snapshot.RestoreError.TheVariants.{OutOfMemory as RestoreOutOfMemory};
 
+use crate::extended::body_of;
 use crate::framing::{Arrived, MAX_FRAME, is_sasl, size, take_unit};
 use crate::progress::{CloseReason, Expected, FrameKind, Progress};
 use fe2o3_sasl_core::ProfileError;
@@ -29,6 +30,9 @@ pub struct Snapshot<'a> {
 
     /// The maximum size of a frame, 512 at most.
     pub limit: usize,
+
+    /// Whether the side accepts frames with an extended header (`accept_extended_headers`).
+    pub extended_headers: bool,
 
     /// The bytes that have arrived of the expected header or frame.
     pub held: &'a [u8],
@@ -65,9 +69,9 @@ impl From<AllocError> for RestoreError {
 }
 
 impl Snapshot<'_> {
-    /// Returns the body of the frame that these bytes complete, without the four bytes of its size, or `None` if they
-    /// complete none. Read in it which user a frame claims, before you restore a server. Nothing is taken: pass the
-    /// same bytes to `receive` after that.
+    /// Returns the body of the frame that these bytes complete, without the four bytes of its size, and without its
+    /// extended header if the side accepts these, or `None` if they complete none. Read in it which user a frame claims,
+    /// before you restore a server. Nothing is taken: pass the same bytes to `receive` after that.
     ///
     /// Errors, in this order: `InvalidSnapshot` if no side has such values, and `OutOfMemory`, only for a side that
     /// waits for a frame. The user is not read.
@@ -76,7 +80,9 @@ impl Snapshot<'_> {
         ensures kept { IfOk result (λ _. IsKept self.now) }
         ensures body { IfOk result (λ body. MatchOption body
             ((turn : TurnKind) (body : List ℕ) → ¬ Completes (side_kept self.now) bytes.now turn body)
-            (λ body. (turn : TurnKind) × Completes (side_kept self.now) bytes.now turn body.items)) }
+            (λ body. (turn : TurnKind) × (received : List ℕ)
+            × Completes (side_kept self.now) bytes.now turn received
+            × (body.items ≡ body_read self.now.extended_headers received))) }
         ensures refused { IfErr result (λ error. error ≡ RestoreError.InvalidSnapshot → ¬ IsKept self.now) }
         ensures other_user { IfErr result (λ error. error ≢ RestoreError.OtherUser) }
         ensures memory { IfErr result (λ error. error ≡ RestoreError.OutOfMemory
@@ -93,10 +99,7 @@ impl Snapshot<'_> {
         };
         let mut held = self.held.to_vec(alloc)?;
         match take_unit(&mut held, self.expected, self.limit, bytes)? {
-            Arrived::Whole => match held.get(4..) {
-                Some(body) => Ok(Some(body.to_vec(alloc)?)),
-                None => Ok(None),
-            },
+            Arrived::Whole => Ok(Some(body_of(alloc, self.extended_headers, &held)?)),
             Arrived::Part | Arrived::Refused => Ok(None),
         }
     }

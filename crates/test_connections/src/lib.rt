@@ -10,6 +10,8 @@ mod cuts;
 #[cfg(test)]
 mod ends;
 #[cfg(test)]
+mod extended;
+#[cfg(test)]
 mod policies;
 #[cfg(test)]
 mod saved;

@@ -23,6 +23,7 @@ use std::process::ExitCode;
 enum Kind {
     Frames,
     Runs,
+    StrictRuns,
     Commands,
     Audits,
     NamedAudits,
@@ -31,12 +32,13 @@ enum Kind {
 }
 
 /// The files of rows.
-static FILES: [(Kind, &str); 14] = [
+static FILES: [(Kind, &str); 15] = [
     (Kind::Frames, "frames.txt"),
     (Kind::Frames, "worked-frames.txt"),
     (Kind::Frames, "peers.txt"),
     (Kind::Runs, "runs.txt"),
     (Kind::Runs, "peer-runs.txt"),
+    (Kind::StrictRuns, "peer-runs.txt"),
     (Kind::Runs, "named-runs.txt"),
     (Kind::Runs, "cbind-flag-y-runs.txt"),
     (Kind::Audits, "audits.txt"),
@@ -61,7 +63,7 @@ impl Kind {
     fn words(self) -> (&'static str, &'static str) {
         match self {
             Kind::Frames => ("bodies", "read"),
-            Kind::Runs => ("runs", "bodies"),
+            Kind::Runs | Kind::StrictRuns => ("runs", "bodies"),
             Kind::Commands => ("commands", "lines"),
             Kind::Audits | Kind::NamedAudits => ("audits", "findings"),
             Kind::Connections | Kind::Cuts => ("connections", "calls"),
@@ -74,6 +76,7 @@ impl Kind {
         match self {
             Kind::Frames => frames::check(row),
             Kind::Runs | Kind::NamedAudits => (1, runs::check(row)),
+            Kind::StrictRuns => (1, runs::check_strictly(row)),
             Kind::Commands | Kind::Audits => (1, commands::check(row)),
             Kind::Connections => (1, connections::check(row)),
             Kind::Cuts => connections::check_cuts(row),

@@ -120,6 +120,23 @@ pub fn check(row: &mut Row<'_>) -> usize {
     run.wanted.len()
 }
 
+/// Checks that a strict SCRAM client or server answers like one that is not, of a paragraph of another program, and
+/// returns how many answers these are. Sides with other words are left out, and so is libpq, which sends an empty user
+/// name: the grammar does not allow it.
+pub fn check_strictly(row: &mut Row<'_>) -> usize {
+    let run = read(row);
+    let (kind, user) = (run.side.split(' ').next(), run.side.split(' ').nth(2));
+    if user == Some("-") || !matches!(kind, Some("server" | "client")) {
+        return 0;
+    }
+    row.turn_to(run.side);
+    match row.word() {
+        "server" => acceptors::check_strict(row, &run),
+        _ => profiles::check_strict(row, &run),
+    }
+    run.wanted.len()
+}
+
 /// Checks a SCRAM client: `VERSION USER PASSWORD`, and a limit on the count, if there is one.
 fn check_client(row: &mut Row<'_>, run: &Run<'_>) {
     let (alloc, version, user, password) = (row.alloc, row.version(), row.text(), row.text());

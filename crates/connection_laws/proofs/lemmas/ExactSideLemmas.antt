@@ -25,7 +25,7 @@ use Rattle.fe2o3_sasl_negotiation.specs.Framing.{sasl_header, framed, size_of, F
 use Rattle.fe2o3_sasl_negotiation.specs.Laws.{Call, Calls, Negotiates}
 use Rattle.fe2o3_sasl_negotiation.specs.Negotiations.{Side, SideOutput, Sends, IsInTurn, AnswersTo, Receives, ReceivesAt}
 use Rattle.fe2o3_sasl_negotiation.proofs.lemmas.UnitLemmas.{awaiting, behind_answer, AnswersUnit, one_unit, size_of-framed, length-framed, body_of-framed}
-use Rattle.connection_laws.specs.Unaltered.{HasNonce}
+use Rattle.connection_laws.specs.Unaltered.{HasNonce, IsNonce}
 use Rattle.connection_laws.proofs.lemmas.SmallReplyLemmas.{fits_as, names_fit}
 
 -- ---- nonces of 32 bytes
@@ -33,10 +33,10 @@ use Rattle.connection_laws.proofs.lemmas.SmallReplyLemmas.{fits_as, names_fit}
 -- the answer to a unit, with a nonce of 32 bytes
 abbrev pub Exact : {S : Type 0} → (Expected → S → List ℕ → List ℕ → SideOutput → S → Type 0) → Expected → S → List ℕ → List ℕ
     → SideOutput → S → Type 0
-Exact Answers expected state nonce unit answer next = Answers expected state nonce unit answer next × (length nonce ≡ 32)
+Exact Answers expected state nonce unit answer next = Answers expected state nonce unit answer next × IsNonce nonce
 
 exact_at : {S : Type 0} (Answers : Expected → S → List ℕ → List ℕ → SideOutput → S → Type 0) (progress : Progress) (side : Side S)
-    (bytes nonce : List ℕ) (taken : ℕ) (sent : List ℕ) (next : Side S) → length nonce ≡ 32
+    (bytes nonce : List ℕ) (taken : ℕ) (sent : List ℕ) (next : Side S) → IsNonce nonce
     → ReceivesAt progress Answers side bytes nonce taken sent next
     → ReceivesAt progress (Exact Answers) side bytes nonce taken sent next
 exact_at Answers InProgress side bytes nonce taken sent next long (inl waits) = inl waits
@@ -185,7 +185,7 @@ module _ {S A : Type 0} (Answers : Expected → S → List ℕ → List ℕ → 
     pub answer : SideOutput
     pub next : S
     pub after : List ℕ
-    pub long : length nonce ≡ 32
+    pub long : IsNonce nonce
     pub steps : Step state (record { body = body; nonce = nonce }) says next
     pub said : Says state says turn answer
     pub goes_on : Negotiates (Exact Answers) (behind_answer answer limit next) nonces more after last

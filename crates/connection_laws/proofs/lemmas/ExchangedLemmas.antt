@@ -16,7 +16,7 @@ use Rattle.fe2o3_sasl_core.specs.Runs.{ProfileSteps}
 use Rattle.fe2o3_sasl_core.specs.SaslAcceptor.{Acceptor, ScramAcceptor, acceptor_machine}
 use Rattle.fe2o3_sasl_core.specs.ServerHistory.{ServerHistory}
 use Rattle.fe2o3_sasl_core.specs.TwoSides.{Sides, sides_of, Histories}
-use Rattle.fe2o3_sasl_core.specs.UnalteredRuns.{Suffices, Arrives, UnalteredRun, client_body, server_body}
+use Rattle.fe2o3_sasl_core.specs.UnalteredRuns.{NoncesArePrintable, Suffices, Arrives, UnalteredRun, client_body, server_body}
 use Rattle.fe2o3_sasl_core.proofs.lemmas.machines.ClientMachineLemmas.{profile_runs_are_histories}
 use Rattle.fe2o3_sasl_core.proofs.lemmas.machines.ServerMachineLemmas.{acceptor_runs_are_histories}
 use Rattle.fe2o3_sasl_negotiation.specs.declared.progress.Progress.TheVariants.{Authenticated}
@@ -176,13 +176,19 @@ module _ (login : Login) (provider : Provider)
       served.events_are (same_frames theirs.events (plain said.init ∷ plain said.response ∷ [])
       (shorter_frames said.init said.response said.init_small said.response_small) server_frames)
 
-  pub run : UnalteredRun both_sides
-  run = record {
+  pub run : NoncesArePrintable provider.rules.strict mine.events → NoncesArePrintable login.strict theirs.events
+      → UnalteredRun both_sides
+  run client_nonces server_nonces = record {
     offer = client_three.offer;
     challenge = client_three.challenge;
     outcome = client_three.outcome;
     init = served.init;
     response = served.response;
+    printable = (
+      λ strict. client_nonces strict 0 client_three.offer
+          (ap (λ (events : List Given). slice_get events 0) client_three.are),
+      λ strict. server_nonces strict 0 served.init (ap (λ (events : List Given). slice_get events 0) served.events_are),
+    );
     client_events = client_three.are;
     server_events = served.events_are;
     offered = ap (λ (name : List ℕ). canonical (frames.Mechanisms (name ∷ []))) mechanism

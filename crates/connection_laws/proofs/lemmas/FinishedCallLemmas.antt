@@ -4,7 +4,7 @@ use Rattle.std.specs.List.{AllByRecursion}
 use Rattle.std.proofs.lemmas.Bool.{cases_lt}
 use Rattle.fe2o3_sasl_negotiation.specs.Laws.{Call}
 use Rattle.connection_laws.specs.JoinedSides.{AreEnough}
-use Rattle.connection_laws.specs.Unaltered.{HasNonce}
+use Rattle.connection_laws.specs.Unaltered.{HasNonce, IsNonce}
 use Rattle.connection_laws.proofs.lemmas.CompletingCallLemmas.{Finishes}
 
 -- the calls take n bytes, and those after that are enough for this many bytes and units
@@ -12,7 +12,7 @@ pub record Finished (n : ℕ) (calls : List Call) (bytes units : ℕ) : Type 0 w
   pub nonce : List ℕ
   pub after : List Call
   pub finishes : Finishes calls n nonce after
-  pub long : length nonce ≡ 32
+  pub long : IsNonce nonce
   pub longs : AllByRecursion HasNonce after
   pub enough : AreEnough bytes units after
 

@@ -9,6 +9,7 @@ use Rattle.fe2o3_scram.specs.Escape.{escaped}
 use Rattle.fe2o3_scram.specs.Exchanges.{first_in}
 use Rattle.fe2o3_sasl.specs.examples.Examples.{login as user_login, provider as user_provider, salt as user_salt, client_bytes, server_bytes}
 use Rattle.fe2o3_sasl.proofs.lemmas.examples.ExampleLemmas.{premises_can_be_met}
+use Rattle.fe2o3_sasl.proofs.lemmas.examples.ExampleTextLemmas.{IsBytes-replicate}
 use Rattle.fe2o3_sasl_core.specs.Profiles.{Profile, ScramProfile, scram_profile}
 use Rattle.fe2o3_sasl_core.specs.SaslAcceptor.{Acceptor, acceptor_names, acceptor_machine}
 use Rattle.fe2o3_sasl_core.specs.TwoSides.{sides_of}
@@ -247,9 +248,9 @@ joined_sides_exist login provider password salt count client_limit server_limit 
     s0 : Finished 8 server_calls 1024 2
     s0 = finish 8 8 1024 2 server_calls (omega arith) (omega arith) (omega arith) server_longs server_enough
 
-    s1 : Finished (length (framed (init_fits login salt c1.nonce fits c1.long).0)) s0.after 512 1
-    s1 = let (some, small) = size_of_sent _ (init_fits login salt c1.nonce fits c1.long) in
-        finish (length (framed (init_fits login salt c1.nonce fits c1.long).0)) 512 512 1 s0.after some small (omega arith)
+    s1 : Finished (length (framed (init_fits login salt c1.nonce fits c1.long.1).0)) s0.after 512 1
+    s1 = let (some, small) = size_of_sent _ (init_fits login salt c1.nonce fits c1.long.1) in
+        finish (length (framed (init_fits login salt c1.nonce fits c1.long.1).0)) 512 512 1 s0.after some small (omega arith)
         s0.longs s0.enough
 
     p : Premises
@@ -293,11 +294,12 @@ user_holds = let holds = premises_can_be_met.3 in record {
   within = holds.within;
   header = holds.header;
   channel = holds.channel;
+  name = holds.name;
 }
 
 user_fits : FitsFrames user_login user_salt
 unfolding escaped
-user_fits = record { names = omega arith; salt = omega arith; channel = omega arith }
+user_fits = record { names = omega arith; salt = omega arith; binding = omega arith }
 
 each_equal : (Is : Call → Type 0) (call : Call) (n : ℕ) → Is call → AllByRecursion Is (replicate n call)
 each_equal Is call zero is = tt
@@ -317,8 +319,8 @@ module _ (client_calls server_calls handed : ℕ) where
       (replicate server_calls server_call)
   user_joins client_enough server_enough = joined_sides_exist user_login user_provider (codes "pencil") user_salt 4096
       512 512 (replicate client_calls client_call) (replicate server_calls server_call) premises_can_be_met.2 user_holds
-      user_fits (omega arith) (omega arith) (each_equal HasNonce client_call client_calls refl)
-      (each_equal HasNonce server_call server_calls refl) client_enough server_enough
+      user_fits (omega arith) (omega arith) (each_equal HasNonce client_call client_calls (IsBytes-replicate 32 1 (omega arith), refl))
+      (each_equal HasNonce server_call server_calls (IsBytes-replicate 32 2 (omega arith), refl)) client_enough server_enough
 
   each_passed : (least : ℕ) → least ≤ handed
       → AllByRecursion (λ (call : Call). least ≤ call.handed) (replicate client_calls client_call)

@@ -10,13 +10,12 @@ use Rattle.fe2o3_sasl_wire.specs.declared.amqp_types.SaslCode.TheVariants as out
 use Rattle.fe2o3_sasl_wire.specs.declared.sasl_frames.error.Error.TheVariants as faults
 use Rattle.fe2o3_sasl_wire.specs.SaslFrames.{SaslFrame, canonical}
 use Rattle.fe2o3_sasl_wire.specs.SaslFrames as frames
-use Rattle.fe2o3_scram.specs.declared.scram_messages.client_channel.ClientChannel.{ClientChannel}
 use Rattle.fe2o3_scram.specs.declared.hmac.ScramVersion.{ScramVersion}
 use Rattle.fe2o3_scram.specs.ClientFirst.{ClientFirst, client_first_with}
 use Rattle.fe2o3_scram.specs.ClientFinal.{ReadsClientFinal, server_of}
 use Rattle.fe2o3_scram.specs.Credentials.{Provider}
 use Rattle.fe2o3_scram.specs.Exchanges.{Exchange, IsSound, nonce_in, bare_in, named_in, first_in, answer_in, final_in, record_in}
-use Rattle.fe2o3_scram.specs.ChannelBinding.{expected_channel, flag_of, is_bound, is_strict, server_mechanism}
+use Rattle.fe2o3_scram.specs.ChannelBinding.{is_bound, is_strict, server_mechanism, header_of, expected_header, ClientHeader}
 use Rattle.fe2o3_scram.specs.ScramClient.{ClientSide, ClientInitial, ClientFinalSent, Complete, started, with_state}
 use Rattle.fe2o3_scram.specs.ScramServer.{Initial, ServerFirstSent, ServerFinalSent}
 use Rattle.fe2o3_scram.specs.ServerFinal.{ReadsServerFinal, server_final_of}
@@ -24,7 +23,7 @@ use Rattle.fe2o3_scram.specs.ServerFirst.{ServerChallenge, challenge_of}
 use Rattle.fe2o3_scram.specs.Texts.{base64_text}
 use Rattle.fe2o3_scram.proofs.lemmas.messages.ExchangeLemmas.{nonce_text}
 use Rattle.fe2o3_scram.proofs.lemmas.texts.AsciiLemmas.{IsUtf8-base64_text, IsUtf8-literal}
-use Rattle.fe2o3_sasl_core.specs.Events.{Login, login_mechanism, Challenged, Concluded, Failed, Started, Answered, Reported, Refused, ServerSays, ClientSays}
+use Rattle.fe2o3_sasl_core.specs.Events.{Login, is_strict_login, login_mechanism, Challenged, Concluded, Failed, Started, Answered, Reported, Refused, ServerSays, ClientSays, login_header}
 use Rattle.fe2o3_sasl_core.specs.declared.sasl_profile.error.ProfileError.TheVariants.{Frame as FrameFault}
 use Rattle.fe2o3_sasl_core.specs.Profiles.{Profile, ScramProfile, ChallengeReplies, scram_profile, accepts_signature_by_challenge}
 use Rattle.fe2o3_sasl_core.specs.Runs.{SendsCanonical, AcceptorGives, ProfileReplies}
@@ -152,12 +151,12 @@ module _ (p : Premises) where
   abbrev outcome_body : List ℕ
   outcome_body = frame.outcome_body p
 
-  -- the server has the client's mechanism, and expects this of its channel
+  -- the server has the client's mechanism, and expects this header of it
   mechanism : login_mechanism login ≡ server_mechanism provider.version provider.rules
   mechanism = one_mechanism (sides_of login [] [] provider [] []) p.password p.salt p.count p.holds
 
-  abbrev channel : ClientChannel
-  channel = expected_channel provider.rules.channels (flag_of login.channel)
+  abbrev header : ClientHeader
+  header = expected_header provider.rules.channels (header_of (login_header login))
 
   -- ---- the client, answer by answer
 
@@ -172,6 +171,7 @@ module _ (p : Premises) where
     version = login.version;
     limits = login.limits;
     channel = login.channel;
+    acts_for = login.acts_for;
     strict = login.strict;
     signature_by_challenge = login.signature_by_challenge;
     state = ClientInitial;
@@ -240,9 +240,9 @@ module _ (p : Premises) where
       tt
       (answers nonce) (inl ((frame.response_sent p).2, refl))
 
-  verifier_read : ReadsServerFinal (answer_in exchange).signature final_sent (Ok tt)
-  verifier_read = subst (λ (version : ScramVersion). ReadsServerFinal (answer_in exchange).signature
-      (server_final_of (server_of version channel (is_strict exchange.rules) (bare_in exchange) (first_in exchange)
+  verifier_read : ReadsServerFinal (is_strict_login login) (answer_in exchange).signature final_sent (Ok tt)
+  verifier_read = subst (λ (version : ScramVersion). ReadsServerFinal (is_strict_login login) (answer_in exchange).signature
+      (server_final_of (server_of version header (is_strict exchange.rules) (bare_in exchange) (first_in exchange)
       (nonce_in exchange) (record_in exchange)) (final_in exchange)) (Ok tt)) (sym p.holds.version) (frame.meets p).server_final
 
   reports : (nonce : List ℕ) → ProfileReplies login.hostname (ScramProfile answered_side) nonce outcome
@@ -265,7 +265,7 @@ module _ (p : Premises) where
   -- ---- the server, answer by answer
 
   abbrev read_first : ClientFirst
-  read_first = record { header = flag_of login.channel; user = login.user; nonce = base64_text mine; bare = bare_in exchange }
+  read_first = record { header = header_of (login_header login); user = login.user; nonce = base64_text mine; bare = bare_in exchange }
 
   abbrev challenge : ServerChallenge
   challenge = challenge_of read_first (base64_text theirs) (record_in exchange)
@@ -330,14 +330,14 @@ module _ (p : Premises) where
   server_challenges = server_answer turns.Init first_acceptor challenged_acceptor init_body theirs init
       (Challenged challenge_body) (waits challenge_body turns.Response)
       (spells_init login.version (is_bound login.channel)
-      (client_first_with (flag_of login.channel) login.user (base64_text mine)) login.hostname init_body p.is.hostname
+      (client_first_with (header_of (login_header login)) login.user (base64_text mine)) login.hostname init_body p.is.hostname
       (frame.init_sent p).1) tt challenges
       (inl ((frame.challenge_sent p).2, refl))
 
-  response_read : ReadsClientFinal (server_of provider.version channel (is_strict exchange.rules) (bare_in exchange)
+  response_read : ReadsClientFinal (server_of provider.version header (is_strict exchange.rules) (bare_in exchange)
       (first_in exchange) (nonce_in exchange) (record_in exchange)) message (Ok (final_in exchange))
   response_read = subst (λ (version : ScramVersion). ReadsClientFinal
-      (server_of version channel (is_strict exchange.rules) (bare_in exchange) (first_in exchange) (nonce_in exchange)
+      (server_of version header (is_strict exchange.rules) (bare_in exchange) (first_in exchange) (nonce_in exchange)
       (record_in exchange)) message (Ok (final_in exchange))) (sym p.holds.version) (frame.meets p).client_final
 
   accepts : (nonce : List ℕ) → AcceptorGives acceptor_machine challenged_acceptor

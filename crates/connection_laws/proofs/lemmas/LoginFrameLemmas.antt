@@ -5,7 +5,7 @@ use Rattle.fe2o3_sasl_wire.specs.declared.amqp_types.SaslCode.{SaslCode}
 use Rattle.fe2o3_sasl_wire.specs.declared.amqp_types.SaslCode.TheVariants as outcomes
 use Rattle.fe2o3_sasl_wire.specs.SaslFrames.{SaslFrame}
 use Rattle.fe2o3_sasl_wire.specs.SaslFrames as frames
-use Rattle.fe2o3_scram.specs.ChannelBinding.{flag_of, is_bound}
+use Rattle.fe2o3_scram.specs.ChannelBinding.{is_bound, header_of}
 use Rattle.fe2o3_scram.specs.ClientFirst.{client_first_with}
 use Rattle.fe2o3_scram.specs.ClientFinal.{keys_for, without_proof_with}
 use Rattle.fe2o3_scram.specs.ClientKeys.{ClientKeys, keys_of}
@@ -14,7 +14,7 @@ use Rattle.fe2o3_scram.specs.Exchanges.{Exchange, IsSound, Succeeds, nonce_in, b
 use Rattle.fe2o3_scram.specs.Keys.{auth_message, client_proof}
 use Rattle.fe2o3_scram.specs.Texts.{base64_text}
 use Rattle.fe2o3_scram.proofs.lemmas.messages.ExchangeLemmas.{succeeds, opened}
-use Rattle.fe2o3_sasl_core.specs.Events.{Login, login_mechanism, IsLogin}
+use Rattle.fe2o3_sasl_core.specs.Events.{Login, login_mechanism, IsLogin, login_header}
 use Rattle.fe2o3_sasl_core.specs.ServerHistory.{final_message}
 use Rattle.fe2o3_sasl_core.specs.TwoSides.{sides_of}
 use Rattle.fe2o3_sasl_core.specs.UnalteredRuns.{HoldsLogin}
@@ -24,8 +24,8 @@ use Rattle.fe2o3_sasl_negotiation.specs.ClientNegotiation.{client_follows}
 use Rattle.fe2o3_sasl_negotiation.specs.FrameSizes.{CanBeSent}
 use Rattle.fe2o3_sasl_negotiation.specs.Negotiations.{IsInTurn}
 use Rattle.fe2o3_sasl_negotiation.proofs.lemmas.FrameSizeLemmas.{texts_fit}
-use Rattle.connection_laws.specs.Unaltered.{FitsFrames}
-use Rattle.connection_laws.proofs.lemmas.SmallReplyLemmas.{login_init_fits, nonce_length, first_length, proof_length, response_length, names_fit, ok_fits}
+use Rattle.connection_laws.specs.Unaltered.{FitsFrames, IsNonce}
+use Rattle.connection_laws.proofs.lemmas.SmallReplyLemmas.{login_init_fits, nonce_is_printable, nonce_length, first_length, proof_length, response_length, names_fit, ok_fits}
 
 -- an outcome is in turn after a response, whether or not the client accepts the signature in a challenge
 pub outcome_in_turn : (signs : Bool) (code : SaslCode) (more : Option (List ℕ))
@@ -45,13 +45,13 @@ pub record Premises : Type 0 where
   pub is : IsLogin login
   pub holds : HoldsLogin (sides_of login [] [] provider [] []) password salt count
   pub fits : FitsFrames login salt
-  pub mine_long : length mine ≡ 32
-  pub theirs_long : length theirs ≡ 32
+  pub mine_long : IsNonce mine
+  pub theirs_long : IsNonce theirs
 
 -- the init with this nonce
 abbrev pub init_of : Login → List ℕ → SaslFrame
 init_of login nonce = frames.Init (login_mechanism login)
-    (Some (client_first_with (flag_of login.channel) login.user (base64_text nonce))) login.hostname
+    (Some (client_first_with (header_of (login_header login)) login.user (base64_text nonce))) login.hostname
 
 pub init_fits : (login : Login) (salt nonce : List ℕ) → FitsFrames login salt → length nonce ≡ 32
     → CanBeSent (init_of login nonce)
@@ -75,6 +75,7 @@ module _ (p : Premises) where
 
   pub sound : IsSound exchange
   sound = step.sound_exchange (sides_of login [] [] provider [] []) p.password p.salt p.count mine theirs p.is p.holds
+      (λ _. nonce_is_printable mine p.mine_long, λ _. nonce_is_printable theirs p.theirs_long)
 
   pub meets : Succeeds exchange
   meets = succeeds exchange sound
@@ -97,16 +98,16 @@ module _ (p : Premises) where
   outcome = frames.Outcome outcomes.Ok (Some final_sent)
 
   mine_long : length (base64_text mine) ≡ 44
-  mine_long = nonce_length mine p.mine_long
+  mine_long = nonce_length mine p.mine_long.1
 
   theirs_long : length (base64_text theirs) ≡ 44
-  theirs_long = nonce_length theirs p.theirs_long
+  theirs_long = nonce_length theirs p.theirs_long.1
 
   abbrev pub names_sent : CanBeSent names
   names_sent = names_fit login.version (is_bound login.channel)
 
   abbrev pub init_sent : CanBeSent init
-  init_sent = init_fits login p.salt mine p.fits p.mine_long
+  init_sent = init_fits login p.salt mine p.fits p.mine_long.1
 
   pub challenge_sent : CanBeSent (frames.Challenge (first_in exchange))
   challenge_sent = (texts_fit (first_in exchange)
@@ -118,9 +119,9 @@ module _ (p : Premises) where
   pub response_sent : CanBeSent (frames.Response message)
   response_sent =
       let keys : ClientKeys = keys_for login.version login.secret (named_in exchange) in
-      let auth : List ℕ = auth_message (bare_in exchange) (first_in exchange) (without_proof_with login.channel (nonce_in exchange)) in
+      let auth : List ℕ = auth_message (bare_in exchange) (first_in exchange) (without_proof_with (login_header login) (nonce_in exchange)) in
       (texts_fit message
-      (response_length login.channel (nonce_in exchange) (client_proof keys.version keys.client_key auth) p.fits.channel
+      (response_length (login_header login) (nonce_in exchange) (client_proof keys.version keys.client_key auth) p.fits.binding
       (length-append (base64_text mine) (base64_text theirs) ∙ omega (arith, mine_long, theirs_long))
       (proof_length keys login.version p.password p.salt auth p.count by_keys))).1
 

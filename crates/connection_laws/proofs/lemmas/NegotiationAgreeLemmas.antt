@@ -15,12 +15,12 @@ use Rattle.connection_laws.proofs.lemmas.UnalteredLemmas.{unaltered_sides_log_in
 
 pub negotiations_agree : NegotiationsAgree
 negotiations_agree login provider password salt count client server joined is holds fits wide client_pieces
-    server_pieces offer out offered all mine theirs =
+    server_pieces offer out offered all mine theirs client_nonces server_nonces =
     one_login login mine.events mine.replies provider theirs.events theirs.replies password salt count
     (exchanged.run login provider mechanism joined.client_limit joined.server_limit client server
     both.client_progress
     both.server_progress client_pieces server_pieces joined.server_sent joined.client_sent
-    (sasl_header ++ joined.client_sent) out offer offered offer_small all refl mine theirs)
+    (sasl_header ++ joined.client_sent) out offer offered offer_small all refl mine theirs client_nonces server_nonces)
     (exchanged.histories login provider mechanism joined.client_limit joined.server_limit client server
     both.client_progress both.server_progress client_pieces server_pieces joined.server_sent joined.client_sent
     (sasl_header ++ joined.client_sent) out offer offered offer_small all refl mine theirs)
@@ -34,6 +34,7 @@ negotiations_agree login provider password salt count client server joined is ho
       within = holds.within;
       header = holds.header;
       channel = holds.channel;
+      name = holds.name;
     })
     (exchanged.fits login provider mechanism joined.client_limit joined.server_limit client server
     both.client_progress

@@ -36,30 +36,30 @@ module _ (login : Login) (client_events : List Given) (client_replies : List Cli
 
   starts : (slice_get client_replies 0 ≡ Some (Started run.init.body))
       × (canonical (step.init_in login.hostname exchange) ≡ Some run.init.body)
-  starts = step.starts sides password salt count run.offer run.init histories is holds fits run.init.body
+  starts = step.starts sides password salt count run.offer run.init histories is holds fits run.printable run.init.body
       (client_event 0, run.offered) run.started
 
   challenges : (slice_get server_replies 0 ≡ Some (Challenged run.challenge.body))
       × (canonical (frames.Challenge (first_in exchange)) ≡ Some run.challenge.body)
-  challenges = step.challenges sides password salt count run.offer run.init histories is holds fits run.challenge.body
+  challenges = step.challenges sides password salt count run.offer run.init histories is holds fits run.printable run.challenge.body
       (server_event 0, starts.1) run.challenged
 
-  has_started : step.HasStarted sides password salt count run.offer run.init histories is holds fits
+  has_started : step.HasStarted sides password salt count run.offer run.init histories is holds fits run.printable
   has_started = ((client_event 0, run.offered), (run.init.body, starts.0))
 
-  has_challenge : step.HasChallenge sides password salt count run.offer run.init histories is holds fits run.challenge
+  has_challenge : step.HasChallenge sides password salt count run.offer run.init histories is holds fits run.printable run.challenge
   has_challenge = (client_event 1, challenges.1)
 
   answers : (slice_get client_replies 1 ≡ Some (Answered run.response.body))
       × (canonical (frames.Response (answer_in exchange).message) ≡ Some run.response.body)
-  answers = step.answers sides password salt count run.offer run.init histories is holds fits run.challenge
+  answers = step.answers sides password salt count run.offer run.init histories is holds fits run.printable run.challenge
       run.response.body has_started has_challenge run.answered
 
-  has_challenged : step.HasChallenged sides password salt count run.offer run.init histories is holds fits
+  has_challenged : step.HasChallenged sides password salt count run.offer run.init histories is holds fits run.printable
   has_challenged = ((server_event 0, starts.1), (run.challenge.body, challenges.0))
 
   open_answer : OpenAnswer login client_events client_replies 2 (step.answering_in exchange)
-  open_answer = step.open_answer sides password salt count run.offer run.init histories is holds fits run.challenge
+  open_answer = step.open_answer sides password salt count run.offer run.init histories is holds fits run.printable run.challenge
       has_started (has_challenge, (run.response.body, answers.0))
 
   accepts_at : AcceptsAt provider server_events server_replies 1 (step.accepted_in exchange)
@@ -67,9 +67,9 @@ module _ (login : Login) (client_events : List Given) (client_replies : List Cli
     run.response,
     frames.Response (answer_in exchange).message,
     server_event 1,
-    step.response_spelled sides password salt count run.offer run.init histories is holds fits run.response
+    step.response_spelled sides password salt count run.offer run.init histories is holds fits run.printable run.response
         (server_event 1, answers.1),
-    step.response_fits sides password salt count run.offer run.init histories is holds fits has_challenged,
+    step.response_fits sides password salt count run.offer run.init histories is holds fits run.printable has_challenged,
   )
 
   pub one_login : OneLogin sides salt count

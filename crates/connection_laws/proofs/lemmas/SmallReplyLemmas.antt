@@ -24,14 +24,16 @@ use Rattle.fe2o3_scram.specs.declared.scram_messages.client_channel.ClientChanne
 use Rattle.fe2o3_scram.specs.declared.scram_messages.client_channel.ClientChannel.TheVariants.{Absent, NotOffered, Bound}
 use Rattle.fe2o3_scram.specs.declared.scram_messages.channel_binding_flag.ChannelBindingFlag.{ChannelBindingFlag}
 use Rattle.fe2o3_scram.specs.declared.scram_messages.channel_binding_flag.ChannelBindingFlag.TheVariants.{NotSupported, ClientSupports, Required}
-use Rattle.fe2o3_scram.specs.ChannelBinding.{cbind_data, cbind_input, flag_of, header_text, is_bound, kind_name, mechanism_of, plus_name}
+use Rattle.fe2o3_scram.specs.ChannelBinding.{cbind_input, flag_of, header_text, is_bound, kind_name, mechanism_of, header_of, flag_text, ClientHeader, Gs2Header, authzid_text}
 use Rattle.fe2o3_scram.specs.ClientFinal.{client_final_of, without_proof_with}
 use Rattle.fe2o3_scram.specs.ClientFirst.{client_first_bare, client_first_with}
 use Rattle.fe2o3_scram.specs.ClientKeys.{ClientKeys, keys_of}
 use Rattle.fe2o3_scram.specs.Credentials.{Provider}
 use Rattle.fe2o3_scram.specs.Exchanges.{Exchange, first_in, nonce_in}
 use Rattle.fe2o3_scram.specs.Escape.{escaped}
+use Rattle.fe2o3_scram.specs.Grammar.{is_nonce}
 use Rattle.fe2o3_scram.specs.Hmac.{mechanism_name, digest_len}
+use Rattle.fe2o3_scram.proofs.lemmas.texts.GrammarLemmas.{is_nonce-base64_text}
 use Rattle.fe2o3_scram.specs.Keys.{auth_message, client_key, client_proof, client_signature, stored_key}
 use Rattle.fe2o3_scram.specs.Pbkdf2Hi.{salted_of}
 use Rattle.fe2o3_scram.specs.Texts.{alphabet, base64_text}
@@ -39,14 +41,14 @@ use Rattle.fe2o3_scram.proofs.lemmas.hashes.DigestLemmas.{length-hmac_of}
 use Rattle.fe2o3_scram.proofs.lemmas.messages.ExchangeLemmas.{length-exclusive_or}
 use Rattle.fe2o3_sasl_core.specs.Bodies.{SpellsBody, carried}
 use Rattle.fe2o3_sasl_core.specs.ClientHistory.{Answering, answer_at, ReadsChallenge, ClientAnswers, ClientAllocates, ClientHistory, IsDue, OpenAnswer, VerifiedAnswer}
-use Rattle.fe2o3_sasl_core.specs.Events.{Given, Login, login_mechanism, ServerSays, Challenged, Concluded, Failed, ClientSays, Started, Answered, Reported, Refused, scram_fault}
+use Rattle.fe2o3_sasl_core.specs.Events.{Given, Login, login_mechanism, ServerSays, Challenged, Concluded, Failed, ClientSays, Started, Answered, Reported, Refused, scram_fault, login_header}
 use Rattle.fe2o3_sasl_core.specs.ServerHistory.{Challenging, Accepted, FitsAsInit, Open, ServerAnswers, ServerAllocates, ServerHistory, first_message, final_message}
 use Rattle.fe2o3_sasl_core.proofs.lemmas.frames.SpellingLemmas.{one_spelling}
 use Rattle.fe2o3_sasl_core.proofs.lemmas.histories.OneServerHistoryLemmas.{one_fits}
 use Rattle.fe2o3_sasl_core.proofs.lemmas.unaltered.UnalteredReplyLemmas.{NoneMaySign, one_answering}
-use Rattle.fe2o3_sasl_negotiation.specs.FrameSizes.{CanBeSent, bytes_for}
+use Rattle.fe2o3_sasl_negotiation.specs.FrameSizes.{CanBeSent, bytes_for, bytes_for_channel}
 use Rattle.fe2o3_sasl_negotiation.proofs.lemmas.FrameSizeLemmas.{inits_fit, outcomes_fit}
-use Rattle.connection_laws.specs.Unaltered.{FitsFrames}
+use Rattle.connection_laws.specs.Unaltered.{FitsFrames, IsNonce}
 use Rattle.fe2o3_sasl_core.specs.declared.sasl_profile.error.ProfileError.TheVariants.{NotImplemented, Frame, OutOfMemory}
 
 -- ---- lengths of texts
@@ -64,6 +66,10 @@ text_length bytes =
     )
 
 -- 32 bytes are written in 44
+-- a nonce is written with printable characters
+pub nonce_is_printable : (nonce : List ℕ) → IsNonce nonce → is_nonce (base64_text nonce) ≡ true
+nonce_is_printable nonce is = is_nonce-base64_text nonce is.0 (omega (arith, is.1))
+
 pub nonce_length : (nonce : List ℕ) → length nonce ≡ 32 → length (base64_text nonce) ≡ 44
 nonce_length nonce long = omega (arith, long, text_length nonce)
 
@@ -110,34 +116,20 @@ proof_length keys version password salt auth count same =
     other : length mac ≡ digest_len version
     other = length-hmac_of version _ _
 
--- a GS2 header
-header_length : (flag : ChannelBindingFlag) → length (header_text flag) ≤ 24
-header_length NotSupported = omega arith
-header_length ClientSupports = omega arith
-header_length (Required TlsUnique) = omega arith
-header_length (Required TlsServerEndPoint) = omega arith
-header_length (Required TlsExporter) = omega arith
-
--- a channel binding with at most 64 bytes of data
-binding_length : (channel : ClientChannel) → length (cbind_data channel) ≤ 64
-    → length (base64_text (cbind_input channel)) ≤ 120
-binding_length channel few = omega (
-  arith,
-  few,
-  length-append (header_text (flag_of channel)) (cbind_data channel),
-  header_length (flag_of channel),
-  text_length (cbind_input channel),
-)
+-- a channel binding of at most 88 bytes
+binding_length : (header : ClientHeader) → length (cbind_input header) ≤ 88
+    → length (base64_text (cbind_input header)) ≤ 120
+binding_length header few = omega (arith, few, text_length (cbind_input header))
 
 -- a response of such a channel binding, two nonces of 44 bytes and a proof of at most 64
-pub response_length : (channel : ClientChannel) (nonce proof : List ℕ) → length (cbind_data channel) ≤ 64
-    → length nonce ≡ 88 → length proof ≤ 64 → length (client_final_of (without_proof_with channel nonce) proof) ≤ 487
-response_length channel nonce proof short long few = omega (
+pub response_length : (header : ClientHeader) (nonce proof : List ℕ) → length (cbind_input header) ≤ 88
+    → length nonce ≡ 88 → length proof ≤ 64 → length (client_final_of (without_proof_with header nonce) proof) ≤ 487
+response_length header nonce proof short long few = omega (
   arith,
   long,
-  length-append (without_proof_with channel nonce) (44 ∷ (codes "p=" ++ base64_text proof)),
-  length-append (codes "c=" ++ base64_text (cbind_input channel)) (44 ∷ (codes "r=" ++ nonce)),
-  binding_length channel short,
+  length-append (without_proof_with header nonce) (44 ∷ (codes "p=" ++ base64_text proof)),
+  length-append (codes "c=" ++ base64_text (cbind_input header)) (44 ∷ (codes "r=" ++ nonce)),
+  binding_length header short,
   digest_text proof few,
 )
 
@@ -168,20 +160,36 @@ short_mechanism Sha1 = omega arith
 short_mechanism Sha256 = omega arith
 short_mechanism Sha512 = omega arith
 
-bound_length : (version : ScramVersion) (kind : ChannelKind)
-    → length (plus_name version) + length (header_text (Required kind)) ≤ length (kind_name kind) + 22
-bound_length version TlsUnique =
-    omega (arith, short_mechanism version, length-append (mechanism_name version) (codes "-PLUS"))
-bound_length version TlsServerEndPoint =
-    omega (arith, short_mechanism version, length-append (mechanism_name version) (codes "-PLUS"))
-bound_length version TlsExporter =
-    omega (arith, short_mechanism version, length-append (mechanism_name version) (codes "-PLUS"))
+-- a header has two commas beside its flag and its identity
+length-header : (header : Gs2Header) → length (header_text header)
+    ≡ length (flag_text header.flag) + length (authzid_text header.acts_for) + 2
+length-header header = omega (
+  arith,
+  length-append (flag_text header.flag) (codes "," ++ (authzid_text header.acts_for ++ codes ",")),
+  length-append (authzid_text header.acts_for) (codes ","),
+)
 
-start_length : (version : ScramVersion) (channel : ClientChannel)
-    → length (mechanism_of version (is_bound channel)) + length (header_text (flag_of channel)) ≤ bytes_for channel + 16
-start_length version Absent = omega (arith, short_mechanism version)
-start_length version NotOffered = omega (arith, short_mechanism version)
-start_length version (Bound binding) = omega (arith, bound_length version binding.kind)
+length-flag : (kind : ChannelKind) → length (flag_text (Required kind)) ≡ length (kind_name kind) + 2
+length-flag TlsUnique = refl
+length-flag TlsServerEndPoint = refl
+length-flag TlsExporter = refl
+
+-- a mechanism and its flag have at most 14 bytes, and those that the channel needs
+start_flag : (version : ScramVersion) (channel : ClientChannel)
+    → length (mechanism_of version (is_bound channel)) + length (flag_text (flag_of channel)) ≤ bytes_for_channel channel + 14
+start_flag version Absent = omega (arith, short_mechanism version)
+start_flag version NotOffered = omega (arith, short_mechanism version)
+start_flag version (Bound binding) = omega (
+  arith,
+  short_mechanism version,
+  length-append (mechanism_name version) (codes "-PLUS"),
+  length-flag binding.kind,
+)
+
+-- a mechanism and its header have at most 16 bytes, and those that the header needs
+start_length : (version : ScramVersion) (header : ClientHeader)
+    → length (mechanism_of version (is_bound header.channel)) + length (header_text (header_of header)) ≤ bytes_for header + 16
+start_length version header = omega (arith, start_flag version header.channel, length-header (header_of header))
 
 -- a client-first message without its header adds five bytes to its name and its nonce
 bare_length : (user nonce : List ℕ) → length (client_first_bare user nonce) ≡ length (escaped user) + length nonce + 5
@@ -195,14 +203,14 @@ bare_length user nonce = omega (
 -- the init of a login whose texts fit is sent, with a nonce of 32 bytes
 pub login_init_fits : (login : Login) (salt nonce : List ℕ) → FitsFrames login salt → length nonce ≡ 32
     → CanBeSent (frames.Init (login_mechanism login)
-    (Some (client_first_with (flag_of login.channel) login.user (base64_text nonce))) login.hostname)
+    (Some (client_first_with (header_of (login_header login)) login.user (base64_text nonce))) login.hostname)
 login_init_fits login salt nonce fits long =
-    inits_fit (login_mechanism login) (Some (client_first_with (flag_of login.channel) login.user (base64_text nonce)))
+    inits_fit (login_mechanism login) (Some (client_first_with (header_of (login_header login)) login.user (base64_text nonce)))
     login.hostname (omega (
       arith,
       fits.names,
-      start_length login.version login.channel,
-      length-append (header_text (flag_of login.channel)) (client_first_bare login.user (base64_text nonce)),
+      start_length login.version (login_header login),
+      length-append (header_text (header_of (login_header login))) (client_first_bare login.user (base64_text nonce)),
       bare_length login.user (base64_text nonce),
       nonce_length nonce long,
     ))
@@ -278,7 +286,7 @@ module _ (login : Login) (events : List Given) (replies : List ClientSays) (k : 
 
   pub start_is_small : SpellsBody event.body (Ok (frames.Mechanisms (login_mechanism login ∷ [])))
       → CanBeSent (frames.Init (login_mechanism login)
-      (Some (client_first_with (flag_of login.channel) login.user (base64_text event.nonce))) login.hostname)
+      (Some (client_first_with (header_of (login_header login)) login.user (base64_text event.nonce))) login.hostname)
       → says ≢ Refused (Frame faults.TooLarge)
   start_is_small spells sent large = go (client_row (frames.Mechanisms (login_mechanism login ∷ [])) spells)
     where

@@ -6,7 +6,7 @@ use Rattle.std.proofs.lemmas.Option.{same_Some}
 use Rattle.fe2o3_sasl_wire.specs.declared.amqp_types.SaslCode.TheVariants as outcomes
 use Rattle.fe2o3_sasl_wire.specs.SaslFrames.{canonical}
 use Rattle.fe2o3_sasl_wire.specs.SaslFrames as frames
-use Rattle.fe2o3_scram.specs.ChannelBinding.{flag_of, is_bound, server_mechanism}
+use Rattle.fe2o3_scram.specs.ChannelBinding.{is_bound, server_mechanism, header_of}
 use Rattle.fe2o3_scram.specs.ClientFirst.{client_first_with}
 use Rattle.fe2o3_scram.specs.ClientFinal.{keys_for, without_proof_with}
 use Rattle.fe2o3_scram.specs.ClientKeys.{ClientKeys, keys_of}
@@ -16,7 +16,7 @@ use Rattle.fe2o3_scram.specs.ScramServer.{Initial}
 use Rattle.fe2o3_scram.specs.Texts.{base64_text}
 use Rattle.fe2o3_scram.proofs.lemmas.messages.ExchangeLemmas.{succeeds, opened}
 use Rattle.fe2o3_sasl_core.specs.ClientHistory.{ReadsChallenge, IsDue, NonceAt, is_start, is_answer}
-use Rattle.fe2o3_sasl_core.specs.Events.{Given, login_mechanism, ServerSays, Challenged, Concluded, ClientSays, Started, Answered}
+use Rattle.fe2o3_sasl_core.specs.Events.{Given, login_mechanism, ServerSays, Challenged, Concluded, ClientSays, Started, Answered, login_header}
 use Rattle.fe2o3_sasl_core.specs.Positions.{IsLastOpen, test_at}
 use Rattle.fe2o3_sasl_core.specs.Profiles.{scram_profile, accepts_signature_by_challenge}
 use Rattle.fe2o3_sasl_core.specs.Runs.{AcceptorSteps, ProfileSteps, Runs}
@@ -40,7 +40,7 @@ use Rattle.fe2o3_sasl_negotiation.proofs.lemmas.FrameSizeLemmas.{texts_fit}
 use Rattle.connection_laws.proofs.lemmas.ReplyListLemmas.{arriving}
 use Rattle.connection_laws.proofs.lemmas.ExactSideLemmas.{Exact, ClientMakes, ServerMakes}
 use Rattle.connection_laws.proofs.lemmas.LoginFrameLemmas.{outcome_in_turn}
-use Rattle.connection_laws.proofs.lemmas.SmallReplyLemmas.{nonce_length, first_length, proof_length, response_length, fits_as, answer_is_small, challenge_is_small, ok_is_small, ok_fits}
+use Rattle.connection_laws.proofs.lemmas.SmallReplyLemmas.{nonce_is_printable, nonce_length, first_length, proof_length, response_length, fits_as, answer_is_small, challenge_is_small, ok_is_small, ok_fits}
 use Rattle.connection_laws.proofs.lemmas.UnalteredSideLemmas.{Case, UpToOk, ClientSends, turn_after_response, ClientFine, ServerFine, ClientTakes, ServerTakes, client_memory, server_memory, authenticated_is_not_in_progress, ended_rests, first_text, event, exchange_by, met, held, suffices, histories, client_goes_on, client_takes, server_goes_on, server_takes, init_fits, zeroth_fine, starts}
 
 module _ (c : Case) where
@@ -50,7 +50,7 @@ module _ (c : Case) where
       (zeroth : ClientTakes c.login c.joined.client_limit turns.Mechanisms (scram_profile c.login) offer server_sends c.joined.client_sent c.client)
       (started : zeroth.says ≡ Started init)
       (sent_init : canonical (frames.Init (login_mechanism c.login)
-      (Some (client_first_with (flag_of c.login.channel) c.login.user (base64_text zeroth.nonce))) c.login.hostname) ≡ Some init)
+      (Some (client_first_with (header_of (login_header c.login)) c.login.user (base64_text zeroth.nonce))) c.login.hostname) ≡ Some init)
       (first : ServerTakes c.joined.server_limit turns.Init (ScramAcceptor c.provider Initial) init client_sends server_sends c.server) where
     abbrev exchange : Exchange
     exchange = exchange_by c zeroth.nonce first.nonce
@@ -79,6 +79,7 @@ module _ (c : Case) where
     sound : IsSound exchange
     sound = step.sound_exchange (met c client_events client_replies server_events server_replies) c.password c.salt c.count
         zeroth.nonce first.nonce c.is (held c client_events client_replies server_events server_replies)
+        (λ _. nonce_is_printable zeroth.nonce zeroth.long, λ _. nonce_is_printable first.nonce first.long)
 
     meets : Succeeds exchange
     meets = succeeds exchange sound
@@ -87,17 +88,17 @@ module _ (c : Case) where
     mechanism = step.one_mechanism (sides_of c.login [] [] c.provider [] []) c.password c.salt c.count c.holds
 
     mine : length (base64_text zeroth.nonce) ≡ 44
-    mine = nonce_length zeroth.nonce zeroth.long
+    mine = nonce_length zeroth.nonce zeroth.long.1
 
     theirs : length (base64_text first.nonce) ≡ 44
-    theirs = nonce_length first.nonce first.long
+    theirs = nonce_length first.nonce first.long.1
 
     challenge_fits : CanBeSent (frames.Challenge (first_in exchange))
     challenge_fits = (texts_fit (first_in exchange)
         (first_length exchange mine theirs c.fits.salt (omega (arith, c.holds.within, c.is.limit)))).0
 
     fits_as_init : FitsAsInit c.provider (event init first.nonce) (frames.Init (login_mechanism c.login)
-        (Some (client_first_with (flag_of c.login.channel) c.login.user (base64_text zeroth.nonce))) c.login.hostname) (step.challenge_in exchange)
+        (Some (client_first_with (header_of (login_header c.login)) c.login.user (base64_text zeroth.nonce))) c.login.hostname) (step.challenge_in exchange)
     fits_as_init = (mechanism, meets.client_first, c.holds.stored, refl)
 
     first_fine : ServerFine first.says
@@ -105,9 +106,9 @@ module _ (c : Case) where
       server_memory first.says turns.Init first.answer first.said,
       challenge_is_small c.provider server_events server_replies 0 (event init first.nonce) first.says
           (acceptor_runs_are_histories c.provider server_events server_replies first.next server_run) refl refl
-          (login_mechanism c.login) (client_first_with (flag_of c.login.channel) c.login.user (base64_text zeroth.nonce)) c.login.hostname
+          (login_mechanism c.login) (client_first_with (header_of (login_header c.login)) c.login.user (base64_text zeroth.nonce)) c.login.hostname
           (step.challenge_in exchange)
-          (spells_init c.login.version (is_bound c.login.channel) (client_first_with (flag_of c.login.channel) c.login.user (base64_text zeroth.nonce)) c.login.hostname init
+          (spells_init c.login.version (is_bound c.login.channel) (client_first_with (header_of (login_header c.login)) c.login.user (base64_text zeroth.nonce)) c.login.hostname init
           c.is.hostname sent_init) fits_as_init challenge_fits,
     )
 
@@ -125,6 +126,7 @@ module _ (c : Case) where
         c.is (held c client_events client_replies events replies)
         (suffices c client_events client_replies events replies (zeroth_is_fine.0, tt) (zeroth_is_fine.1, tt)
         (first_fine.0, tt) (first_fine.1, tt))
+        (λ _. nonce_is_printable zeroth.nonce zeroth.long, λ _. nonce_is_printable first.nonce first.long)
         body (refl, sent_init) arrives in
         (body, same_Some first.says (Challenged body) says, challenge)
 
@@ -176,10 +178,10 @@ module _ (c : Case) where
         response_fits : CanBeSent (frames.Response (answer_in exchange).message)
         response_fits =
             let keys : ClientKeys = keys_for c.login.version c.login.secret (named_in exchange) in
-            let auth : List ℕ = auth_message (bare_in exchange) (first_in exchange) (without_proof_with c.login.channel (nonce_in exchange))
+            let auth : List ℕ = auth_message (bare_in exchange) (first_in exchange) (without_proof_with (login_header c.login) (nonce_in exchange))
             in
             (texts_fit (answer_in exchange).message
-            (response_length c.login.channel (nonce_in exchange) (client_proof keys.version keys.client_key auth) c.fits.channel
+            (response_length (login_header c.login) (nonce_in exchange) (client_proof keys.version keys.client_key auth) c.fits.binding
             (length-append (base64_text zeroth.nonce) (base64_text first.nonce) ∙ omega (arith, mine, theirs))
             (proof_length keys c.login.version c.password c.salt auth c.count by_keys))).1
 
@@ -213,6 +215,7 @@ module _ (c : Case) where
             c.is (held c next_events next_replies server_events server_replies)
             (suffices c next_events next_replies server_events server_replies (zeroth_is_fine.0, (second_fine.0, tt))
             (zeroth_is_fine.1, (second_fine.1, tt)) (first_fine.0, tt) (first_fine.1, tt))
+            (λ _. nonce_is_printable zeroth.nonce zeroth.long, λ _. nonce_is_printable first.nonce first.long)
             (event challenge second.nonce) body ((refl, offered), (init, some_started)) (refl, sent_challenge) arrives
             in
             (body, same_Some second.says (Answered body) says, response)
@@ -272,7 +275,9 @@ module _ (c : Case) where
               let (body, arrives) = arriving (server_body (Some third.says)) in
               let (says, outcome) = step.accepts (met c next_events next_replies last_events last_replies) c.password c.salt
               c.count (event offer zeroth.nonce) (event init first.nonce) histories_then c.is
-              (held c next_events next_replies last_events last_replies) suffices_then (event response third.nonce) body
+              (held c next_events next_replies last_events last_replies) suffices_then
+              (λ _. nonce_is_printable zeroth.nonce zeroth.long, λ _. nonce_is_printable first.nonce first.long)
+              (event response third.nonce) body
               ((refl, sent_init), (challenge, some_challenged)) (refl, sent_response) arrives in
               (body, same_Some third.says (Concluded outcomes.Ok body) says, outcome)
 
@@ -376,7 +381,7 @@ module _ (c : Case) where
       → UpToOk c
   from_offer offer server_sends server_nonces offered zeroth server_all waits =
       let (init, started, sent_init) = starts c offer server_sends c.joined.client_sent offered zeroth in
-      let text : List ℕ = client_first_with (flag_of c.login.channel) c.login.user (base64_text zeroth.nonce) in
+      let text : List ℕ = client_first_with (header_of (login_header c.login)) c.login.user (base64_text zeroth.nonce) in
       let small = fits_as (frames.Init (login_mechanism c.login) (Some text) c.login.hostname) init
       (init_fits c offer server_sends c.joined.client_sent offered zeroth) sent_init in
       let (all, client_waits) = client_goes_on c turns.Mechanisms (scram_profile c.login) offer server_sends c.joined.client_sent

@@ -1,6 +1,8 @@
 -- An unaltered connection whose server has accepted: the client reports, and both have logged in.
-use Rattle.std.proofs.Common.{◌≡◌, ℕ, Some, List, [], ◌∷◌, ◌++◌, refl, sym, ap, ◌∙◌, subst}
-use Rattle.std.specs.Prelude.{slice_get}
+use Rattle.std.proofs.Common.{◌≡◌, ℕ, true, Some, List, [], ◌∷◌, ◌++◌, refl, sym, ap, ◌∙◌, subst}
+use Rattle.std.specs.Prelude.{T, slice_get}
+use Rattle.fe2o3_scram.specs.Grammar.{is_nonce}
+use Rattle.fe2o3_scram.specs.Texts.{base64_text}
 use Rattle.std.proofs.lemmas.Option.{same_Some}
 use Rattle.fe2o3_sasl_wire.specs.declared.amqp_types.SaslCode.TheVariants as outcomes
 use Rattle.fe2o3_sasl_wire.specs.SaslFrames as frames
@@ -30,7 +32,7 @@ use Rattle.fe2o3_sasl_negotiation.proofs.lemmas.UnitLemmas.{behind_answer}
 use Rattle.connection_laws.specs.Unaltered.{BothLogIn}
 use Rattle.connection_laws.proofs.lemmas.ExactSideLemmas.{Exact}
 use Rattle.connection_laws.proofs.lemmas.OneLoginLemmas.{one_login}
-use Rattle.connection_laws.proofs.lemmas.SmallReplyLemmas.{report_is_small}
+use Rattle.connection_laws.proofs.lemmas.SmallReplyLemmas.{nonce_is_printable, report_is_small}
 use Rattle.connection_laws.proofs.lemmas.UnalteredSideLemmas.{Case, UpToOk, ClientSends, turn_after_response, ClientFine, client_memory, authenticated_is_not_in_progress, ended_rests, event, exchange_by, met, held, suffices, histories}
 
 module _ (c : Case) (u : UpToOk c) where
@@ -102,23 +104,9 @@ module _ (c : Case) (u : UpToOk c) where
       (u.client_fine.0.1, (u.client_fine.1.1, (fourth_fine.1, tt)))
       (u.server_fine.0.0, (u.server_fine.1.0, tt)) (u.server_fine.0.1, (u.server_fine.1.1, tt))
 
-  has_started : step.HasStarted (met c all_events all_replies last_events last_replies) c.password c.salt c.count
-      (event u.offer u.zeroth.nonce) (event u.init u.first.nonce) all_histories c.is
-      (held c all_events all_replies last_events last_replies) all_suffices
-  has_started = ((refl, u.offered), (u.init, ap (λ (s : ClientSays). Some s) u.started))
-
-  has_answered : step.HasAnswered (met c all_events all_replies last_events last_replies) c.password c.salt c.count
-      (event u.offer u.zeroth.nonce) (event u.init u.first.nonce) all_histories c.is
-      (held c all_events all_replies last_events last_replies) all_suffices (event u.challenge u.second.nonce)
-  has_answered = ((refl, u.sent_challenge), (u.response, ap (λ (s : ClientSays). Some s) u.answered))
-
-  reports : u.fourth.says ≡ Reported outcomes.Ok (Some final_sent)
-  reports = same_Some u.fourth.says (Reported outcomes.Ok (Some final_sent))
-      (step.reports (met c all_events all_replies last_events last_replies) c.password c.salt c.count
-      (event u.offer u.zeroth.nonce) (event u.init u.first.nonce) all_histories c.is
-      (held c all_events all_replies last_events last_replies) all_suffices
-      (event u.challenge u.second.nonce) (event u.outcome u.fourth.nonce) has_started has_answered
-      (refl, u.sent_outcome))
+  printable : (T c.provider.rules.strict → is_nonce (base64_text u.zeroth.nonce) ≡ true)
+      × (T c.login.strict → is_nonce (base64_text u.first.nonce) ≡ true)
+  printable = (λ _. nonce_is_printable u.zeroth.nonce u.zeroth.long, λ _. nonce_is_printable u.first.nonce u.first.long)
 
   unaltered_run : UnalteredRun (met c all_events all_replies last_events last_replies)
   unaltered_run = record {
@@ -127,6 +115,7 @@ module _ (c : Case) (u : UpToOk c) where
     outcome = event u.outcome u.fourth.nonce;
     init = event u.init u.first.nonce;
     response = event u.response u.third.nonce;
+    printable = printable;
     client_events = refl;
     server_events = refl;
     offered = u.offered;
@@ -135,6 +124,24 @@ module _ (c : Case) (u : UpToOk c) where
     answered = subst (λ (s : ClientSays). Arrives (client_body (Some s)) u.response) (sym u.answered) refl;
     concluded = subst (λ (s : ServerSays). Arrives (server_body (Some s)) u.outcome) (sym u.accepted) refl;
   }
+
+  has_started : step.HasStarted (met c all_events all_replies last_events last_replies) c.password c.salt c.count
+      (event u.offer u.zeroth.nonce) (event u.init u.first.nonce) all_histories c.is
+      (held c all_events all_replies last_events last_replies) all_suffices printable
+  has_started = ((refl, u.offered), (u.init, ap (λ (s : ClientSays). Some s) u.started))
+
+  has_answered : step.HasAnswered (met c all_events all_replies last_events last_replies) c.password c.salt c.count
+      (event u.offer u.zeroth.nonce) (event u.init u.first.nonce) all_histories c.is
+      (held c all_events all_replies last_events last_replies) all_suffices printable (event u.challenge u.second.nonce)
+  has_answered = ((refl, u.sent_challenge), (u.response, ap (λ (s : ClientSays). Some s) u.answered))
+
+  reports : u.fourth.says ≡ Reported outcomes.Ok (Some final_sent)
+  reports = same_Some u.fourth.says (Reported outcomes.Ok (Some final_sent))
+      (step.reports (met c all_events all_replies last_events last_replies) c.password c.salt c.count
+      (event u.offer u.zeroth.nonce) (event u.init u.first.nonce) all_histories c.is
+      (held c all_events all_replies last_events last_replies) all_suffices printable
+      (event u.challenge u.second.nonce) (event u.outcome u.fourth.nonce) has_started has_answered
+      (refl, u.sent_outcome))
 
   client_ends_well : (u.more ≡ []) × (u.client_ends ≡ [])
       × (c.client ≡ record {
@@ -180,7 +187,7 @@ module _ (c : Case) (u : UpToOk c) where
         spells_response (answer_in exchange).message u.response u.sent_response,
         step.response_fits (met c all_events all_replies last_events last_replies) c.password c.salt c.count
             (event u.offer u.zeroth.nonce) (event u.init u.first.nonce) all_histories c.is
-            (held c all_events all_replies last_events last_replies) all_suffices
+            (held c all_events all_replies last_events last_replies) all_suffices printable
             ((refl, u.sent_init), (u.challenge, some_challenged)),
       ),
       refl,

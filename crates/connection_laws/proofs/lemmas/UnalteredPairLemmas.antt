@@ -44,7 +44,8 @@ unaltered_connections_agree login provider client server password salt count is 
     let run = exchanged.run login provider mechanism client.limit server.limit client.last server.last logged_in
     server_logged_in client.pieces server.pieces client.taken client.sent server.taken server.sent bytes.offer
     bytes.offered
-    bytes.small bytes.to_client bytes.to_server client.connection server.connection in
+    bytes.small bytes.to_client bytes.to_server client.connection server.connection bytes.client_nonces
+    bytes.server_nonces in
     let histories = exchanged.histories login provider mechanism client.limit server.limit client.last server.last
     logged_in server_logged_in client.pieces server.pieces client.taken client.sent server.taken server.sent bytes.offer
     bytes.offered bytes.small bytes.to_client bytes.to_server client.connection server.connection in

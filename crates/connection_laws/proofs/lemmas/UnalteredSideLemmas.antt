@@ -9,7 +9,7 @@ use Rattle.fe2o3_sasl_wire.specs.declared.amqp_types.SaslCode.TheVariants as out
 use Rattle.fe2o3_sasl_wire.specs.declared.sasl_frames.error.Error.TheVariants as faults
 use Rattle.fe2o3_sasl_wire.specs.SaslFrames.{SaslFrame, canonical}
 use Rattle.fe2o3_sasl_wire.specs.SaslFrames as frames
-use Rattle.fe2o3_scram.specs.ChannelBinding.{flag_of, is_bound}
+use Rattle.fe2o3_scram.specs.ChannelBinding.{is_bound, header_of}
 use Rattle.fe2o3_scram.specs.ClientFirst.{client_first_with}
 use Rattle.fe2o3_scram.specs.Credentials.{Provider}
 use Rattle.fe2o3_scram.specs.Exchanges.{Exchange, IsSound, nonce_in, first_in, answer_in}
@@ -18,7 +18,7 @@ use Rattle.fe2o3_scram.specs.Texts.{base64_text}
 use Rattle.fe2o3_scram.proofs.lemmas.messages.ExchangeLemmas.{nonce_text}
 use Rattle.fe2o3_scram.proofs.lemmas.texts.AsciiLemmas.{IsUtf8-base64_text, IsUtf8-literal}
 use Rattle.fe2o3_sasl_core.specs.Bodies.{SpellsBody}
-use Rattle.fe2o3_sasl_core.specs.Events.{Given, Login, login_mechanism, IsLogin, ServerSays, Challenged, Concluded, Failed, ClientSays, Started, Answered, Refused}
+use Rattle.fe2o3_sasl_core.specs.Events.{Given, Login, login_mechanism, IsLogin, ServerSays, Challenged, Concluded, Failed, ClientSays, Started, Answered, Refused, login_header}
 use Rattle.fe2o3_sasl_core.specs.declared.sasl_profile.error.ProfileError.TheVariants.{Frame as FrameFault, OutOfMemory}
 use Rattle.fe2o3_sasl_core.specs.Profiles.{Profile, scram_profile, accepts_signature_by_challenge}
 use Rattle.fe2o3_sasl_core.specs.Runs.{AcceptorSteps, ProfileSteps, Runs}
@@ -45,7 +45,7 @@ use Rattle.fe2o3_sasl_negotiation.specs.Negotiations.{Side, SideOutput, Sends, I
 use Rattle.connection_laws.proofs.lemmas.ReplyListLemmas.{NoneIs, none_at, arriving}
 use Rattle.connection_laws.specs.Unaltered.{Joined, FitsFrames, TakesFrames}
 use Rattle.connection_laws.proofs.lemmas.ExactSideLemmas.{Exact, ClientMakes, ServerMakes, Takes, takes, goes_on_with}
-use Rattle.connection_laws.proofs.lemmas.SmallReplyLemmas.{login_init_fits, long_enough, start_is_small}
+use Rattle.connection_laws.proofs.lemmas.SmallReplyLemmas.{login_init_fits, nonce_is_printable, long_enough, start_is_small}
 
 -- ---- what is said is neither that memory ran out nor too large
 
@@ -161,6 +161,7 @@ module _ (c : Case) where
     within = c.holds.within;
     header = c.holds.header;
     channel = c.holds.channel;
+    name = c.holds.name;
   }
 
   pub suffices : (events : List Given) (replies : List ClientSays) (server_events : List Given)
@@ -245,8 +246,8 @@ module _ (c : Case) where
     start_run = (zeroth.says, zeroth.next, [], zeroth.steps, refl, (refl, refl))
 
     pub init_fits : CanBeSent (frames.Init (login_mechanism c.login)
-        (Some (client_first_with (flag_of c.login.channel) c.login.user (base64_text zeroth.nonce))) c.login.hostname)
-    init_fits = login_init_fits c.login c.salt zeroth.nonce c.fits zeroth.long
+        (Some (client_first_with (header_of (login_header c.login)) c.login.user (base64_text zeroth.nonce))) c.login.hostname)
+    init_fits = login_init_fits c.login c.salt zeroth.nonce c.fits zeroth.long.1
 
     pub zeroth_fine : ClientFine zeroth.says
     zeroth_fine = (
@@ -259,7 +260,7 @@ module _ (c : Case) where
 
     pub starts : (body : List ℕ) × (zeroth.says ≡ Started body)
         × (canonical (frames.Init (login_mechanism c.login)
-        (Some (client_first_with (flag_of c.login.channel) c.login.user (base64_text zeroth.nonce))) c.login.hostname) ≡ Some body)
+        (Some (client_first_with (header_of (login_header c.login)) c.login.user (base64_text zeroth.nonce))) c.login.hostname) ≡ Some body)
     starts =
         let (body, arrives) = arriving (client_body (Some zeroth.says)) in
         let events : List Given = offer_event ∷ [] in
@@ -269,6 +270,7 @@ module _ (c : Case) where
         (zeroth.says, zeroth.next, [], zeroth.steps, refl, (refl, refl)) (refl, refl))
         c.is (held events replies [] [])
         (suffices events replies [] [] (zeroth_fine.0, tt) (zeroth_fine.1, tt) tt tt)
+        (λ _. nonce_is_printable zeroth.nonce zeroth.long, λ _. nonce_is_printable zeroth.nonce zeroth.long)
         body (refl, offered) arrives in
         (body, same_Some zeroth.says (Started body) says, init)
 
@@ -300,7 +302,7 @@ pub record UpToOk (c : Case) : Type 0 where
   pub offered : canonical (frames.Mechanisms (login_mechanism c.login ∷ [])) ≡ Some offer
   pub started : zeroth.says ≡ Started init
   pub sent_init : canonical (frames.Init (login_mechanism c.login)
-      (Some (client_first_with (flag_of c.login.channel) c.login.user (base64_text zeroth.nonce))) c.login.hostname) ≡ Some init
+      (Some (client_first_with (header_of (login_header c.login)) c.login.user (base64_text zeroth.nonce))) c.login.hostname) ≡ Some init
   pub challenged : first.says ≡ Challenged challenge
   pub sent_challenge : canonical (frames.Challenge (first_in (exchange_by c zeroth.nonce first.nonce))) ≡ Some challenge
   pub answered : second.says ≡ Answered response

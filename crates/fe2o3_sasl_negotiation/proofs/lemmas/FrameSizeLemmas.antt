@@ -11,7 +11,7 @@ use Rattle.fe2o3_scram.specs.declared.scram_messages.client_channel.ClientChanne
 use Rattle.fe2o3_scram.specs.declared.scram_messages.client_channel.ClientChannel.TheVariants.{Absent, NotOffered, Bound}
 use Rattle.fe2o3_scram.specs.declared.scram_messages.channel_binding_flag.ChannelBindingFlag.{ChannelBindingFlag}
 use Rattle.fe2o3_scram.specs.declared.scram_messages.channel_binding_flag.ChannelBindingFlag.TheVariants.{Required}
-use Rattle.fe2o3_scram.specs.ChannelBinding.{flag_of, header_text, is_bound, kind_name, mechanism_of}
+use Rattle.fe2o3_scram.specs.ChannelBinding.{flag_of, header_text, is_bound, kind_name, mechanism_of, flag_text, ClientHeader, Gs2Header, header_of, authzid_text}
 use Rattle.fe2o3_scram.specs.ClientFirst.{client_first_bare, client_first_with}
 use Rattle.fe2o3_scram.specs.Escape.{escaped}
 use Rattle.fe2o3_scram.specs.Hmac.{mechanism_name}
@@ -22,7 +22,7 @@ use Rattle.fe2o3_sasl_wire.specs.SaslFrames as frames
 use Rattle.fe2o3_sasl_wire.specs.private.Writing.{width, canonical_variable, canonical_list, count_of, items_of}
 use Rattle.fe2o3_sasl_wire.proofs.lemmas.writing.BodyPartsLemmas.{has_body}
 use Rattle.fe2o3_sasl_wire.proofs.lemmas.writing.CanonicalSpellsLemmas.{length-content}
-use Rattle.fe2o3_sasl_negotiation.specs.FrameSizes.{CanBeSent, bytes_for, ScramInitsFit, InitsFit, TextsFit, OutcomesFit}
+use Rattle.fe2o3_sasl_negotiation.specs.FrameSizes.{CanBeSent, bytes_for, bytes_for_channel, ScramInitsFit, InitsFit, TextsFit, OutcomesFit}
 
 most_width : (form : Form) → width form ≤ 4
 most_width Eight = omega arith
@@ -119,41 +119,55 @@ short_mechanism versions.Sha1 = omega arith
 short_mechanism versions.Sha256 = omega arith
 short_mechanism versions.Sha512 = omega arith
 
-length-header : (kind : ChannelKind) → length (header_text (Required kind)) ≡ length (kind_name kind) + 4
-length-header TlsUnique = refl
-length-header TlsServerEndPoint = refl
-length-header TlsExporter = refl
+-- a header has two commas beside its flag and its identity
+length-header : (header : Gs2Header) → length (header_text header)
+    ≡ length (flag_text header.flag) + length (authzid_text header.acts_for) + 2
+length-header header = omega (
+  arith,
+  length-append (flag_text header.flag) (codes "," ++ (authzid_text header.acts_for ++ codes ",")),
+  length-append (authzid_text header.acts_for) (codes ","),
+)
 
--- a mechanism and its header have at most 16 bytes, and those that the channel needs
-short_header : (version : ScramVersion) (channel : ClientChannel)
-    → length (mechanism_of version (is_bound channel)) + length (header_text (flag_of channel)) ≤ bytes_for channel + 16
-short_header version Absent = omega (arith, short_mechanism version)
-short_header version NotOffered = omega (arith, short_mechanism version)
-short_header version (Bound binding) = omega (
+length-flag : (kind : ChannelKind) → length (flag_text (Required kind)) ≡ length (kind_name kind) + 2
+length-flag TlsUnique = refl
+length-flag TlsServerEndPoint = refl
+length-flag TlsExporter = refl
+
+-- a mechanism and its flag have at most 14 bytes, and those that the channel needs
+short_flag : (version : ScramVersion) (channel : ClientChannel)
+    → length (mechanism_of version (is_bound channel)) + length (flag_text (flag_of channel)) ≤ bytes_for_channel channel + 14
+short_flag version Absent = omega (arith, short_mechanism version)
+short_flag version NotOffered = omega (arith, short_mechanism version)
+short_flag version (Bound binding) = omega (
   arith,
   short_mechanism version,
   length-append (mechanism_name version) (codes "-PLUS"),
-  length-header binding.kind,
+  length-flag binding.kind,
 )
 
+-- a mechanism and its header have at most 16 bytes, and those that the header needs
+short_header : (version : ScramVersion) (header : ClientHeader)
+    → length (mechanism_of version (is_bound header.channel)) + length (header_text (header_of header)) ≤ bytes_for header + 16
+short_header version header = omega (arith, short_flag version header.channel, length-header (header_of header))
+
 -- a client-first message adds five bytes to its header, its name and its nonce
-length-client_first : (flag : ChannelBindingFlag) (user nonce : List ℕ) → length (client_first_with flag user nonce)
-    ≡ length (header_text flag) + length (escaped user) + length nonce + 5
-length-client_first flag user nonce = omega (
+length-client_first : (header : Gs2Header) (user nonce : List ℕ) → length (client_first_with header user nonce)
+    ≡ length (header_text header) + length (escaped user) + length nonce + 5
+length-client_first header user nonce = omega (
   arith,
-  length-append (header_text flag) (client_first_bare user nonce),
+  length-append (header_text header) (client_first_bare user nonce),
   length-append (codes "n=" ++ escaped user) (44 ∷ (codes "r=" ++ nonce)),
   length-append (codes "n=") (escaped user),
   length-append (codes "r=") nonce,
 )
 
 pub scram_inits_fit : ScramInitsFit
-scram_inits_fit version channel user nonce hostname long few =
-    inits_fit (mechanism_of version (is_bound channel)) (Some (client_first_with (flag_of channel) user nonce)) hostname
+scram_inits_fit version header user nonce hostname long few =
+    inits_fit (mechanism_of version (is_bound header.channel)) (Some (client_first_with (header_of header) user nonce)) hostname
     (omega (
       arith,
       few,
-      short_header version channel,
-      length-client_first (flag_of channel) user nonce,
+      short_header version header,
+      length-client_first (header_of header) user nonce,
       long,
     ))

@@ -83,6 +83,19 @@ pub fn check_one(row: &mut Row<'_>, run: &Run<'_>, accept_cbind_flag_y: bool) {
     }
 }
 
+/// Checks a strict server of one user: `VERSION USER PASSWORD SALT`.
+pub fn check_strict(row: &mut Row<'_>, run: &Run<'_>) {
+    let version = row.version();
+    let rules = ServerRules {
+        strict: true,
+        ..ServerRules::new()
+    };
+    match credential_of(row, version) {
+        Ok(credential) => check_shared(row, run, rules, credential),
+        Err(error) => row.refuse(error),
+    }
+}
+
 /// Returns the data of a channel, if its kind is this one.
 fn data_of(channel: ChannelBinding, kind: ChannelKind) -> Option<ChannelData> {
     if channel.kind == kind {

@@ -86,6 +86,25 @@ pub fn check_bound(row: &mut Row<'_>, run: &Run<'_>) {
     check_profile(row, run, Some(SaslProfile::from(client)), None);
 }
 
+/// Checks a strict client in a whole run: `VERSION USER PASSWORD`.
+pub fn check_strict(row: &mut Row<'_>, run: &Run<'_>) {
+    let (alloc, version, user, password) = (row.alloc, row.version(), row.text(), row.text());
+    let options = ClientOptions {
+        strict: true,
+        ..ClientOptions::new()
+    };
+    let replies = scram_client_run_with_options(
+        alloc,
+        &user,
+        &password,
+        version,
+        options,
+        &run.events,
+    );
+    let replies = row.made(replies, Vec::new(alloc));
+    agree_all(row, &replies, &run.wanted);
+}
+
 /// Checks a profile, if there is one, with this hostname.
 fn check_profile(
     row: &mut Row<'_>,

@@ -3,9 +3,10 @@ use Rattle.std.proofs.lemmas.List.{append-nil, length-drop, take_rest}
 use Rattle.fe2o3_sasl_negotiation.specs.ClientNegotiation.{ClientSideAnswers, ClientReceives}
 use Rattle.fe2o3_sasl_core.specs.Runs.{ProfileSteps}
 use Rattle.fe2o3_sasl_negotiation.specs.Connections.{ClientConnection}
-use Rattle.fe2o3_sasl_negotiation.specs.Sides.{client_side, hostname_in}
+use Rattle.fe2o3_sasl_negotiation.specs.Sides.{client_side, extended_in, hostname_in}
 use Rattle.fe2o3_sasl_negotiation.proofs.lemmas.ClientConnectionLemmas.{client_call}
 use Rattle.fe2o3_sasl_negotiation.proofs.lemmas.ContinueLemmas.{continues_so_far, continues_further}
+use Rattle.fe2o3_sasl_negotiation.proofs.lemmas.ExtendedLemmas.{receives_plain}
 use Rattle.fe2o3_sasl_negotiation.proofs.pieces.answer_piece.Goals as goal
 
 pub loop-taken-init : goal.loop-taken-init
@@ -13,6 +14,7 @@ loop-taken-init c =
     let host = hostname_in c.args.side.now in
     record {
       within = omega arith;
+      extended = c.requires;
       hostname = refl;
       kept = (
         [],
@@ -29,12 +31,16 @@ loop-taken-preserved c =
     let bytes = c.args.piece.now.bytes.now in
     let nonce = c.args.piece.now.nonce in
     let (more, kept, so_far) = c.loop-taken.invariant.kept in
-    let (first, sent, receives) = c.in_ok-received.ensures.ok in
+    let (first, sent, reads) = c.in_ok-received.ensures.ok in
+    let receives = receives_plain (ClientSideAnswers (hostname_in c.loop-taken.side)) (extended_in c.loop-taken.side)
+    (client_side c.loop-taken.side) (client_side c.receive.new.self) _ nonce first c.in_ok-received.received.taken
+    c.loop-taken.invariant.extended reads in
     let left = take_rest bytes c.loop-taken.taken in
     let few = subst (λ (l : List ℕ). c.in_ok-received.received.taken ≤ length l) left c.in_ok-received.ensures.within in
     let within = c.loop-taken.invariant.within in
     record {
       within = omega (arith, few, within, length-drop c.loop-taken.taken bytes);
+      extended = c.in_ok-received.ensures.extended ∙ c.loop-taken.invariant.extended;
       hostname = c.in_ok-received.ensures.config ∙ c.loop-taken.invariant.hostname;
       kept = (
         more ++ first,

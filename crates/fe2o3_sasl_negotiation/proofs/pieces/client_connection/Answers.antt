@@ -13,6 +13,7 @@ loop-piece-preserved c =
     let (more, sent, continues) = c.in_ok-taken.ensures.ok in
     record {
       count = ap (λ n. n + 1) c.loop-piece.invariant.count;
+      extended = c.in_ok-taken.ensures.extended;
       hostname = c.in_ok-taken.ensures.hostname ∙ c.loop-piece.invariant.hostname;
       so_far = λ are_bytes. whole_piece piece_of (ClientConnection (ProfileSteps host) 512 (profile_of c.args.profile))
           c.args.pieces.now c.loop-piece.piece-index _ c.loop-piece-test.true (client_side c.loop-piece.side)

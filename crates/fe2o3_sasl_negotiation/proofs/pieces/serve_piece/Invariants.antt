@@ -1,6 +1,6 @@
-use Rattle.std.proofs.Common.{length, ◌-◌, ◌≡◌, ◌≤◌, ◌++◌, List, ℕ}
+use Rattle.std.proofs.Common.{false, length, ◌-◌, ◌≡◌, ◌≤◌, ◌++◌, List, ℕ}
 use Rattle.fe2o3_sasl_negotiation.specs.Connections.{ServerConnection}
-use Rattle.fe2o3_sasl_negotiation.specs.Sides.{server_side}
+use Rattle.fe2o3_sasl_negotiation.specs.Sides.{extended_in, server_side}
 use Rattle.fe2o3_sasl_negotiation.specs.private.Pieces.{Continues}
 use Rattle.fe2o3_sasl_negotiation.proofs.pieces.serve_piece.Given as goal
 
@@ -9,6 +9,7 @@ invariant-loop-taken g l =
     let m = g.A.SaslAcceptor in
     record {
       within : l.taken ≤ length l.piece.bytes.now;
+      extended : extended_in l.side ≡ false;
       kept : (more : List ℕ) × (l.sent.items ≡ l.fn.sent.items ++ more)
           × ((limit : ℕ) (state : m.State)
           → Continues (ServerConnection m.names m.machine limit state) (server_side m.state l.fn.side)

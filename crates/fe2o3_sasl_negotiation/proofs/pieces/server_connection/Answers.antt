@@ -11,6 +11,7 @@ loop-piece-preserved g c =
     let (more, sent, continues) = c.in_ok-taken.ensures.ok in
     record {
       count = ap (λ n. n + 1) c.loop-piece.invariant.count;
+      extended = c.in_ok-taken.ensures.extended;
       so_far = λ are_bytes. whole_piece piece_of (ServerConnection m.names m.machine 512 (m.state c.args.acceptor))
           c.args.pieces.now c.loop-piece.piece-index _ c.loop-piece-test.true (server_side m.state c.loop-piece.side)
           (server_side m.state c.serve_piece.new.side) c.loop-piece.sent.items more c.serve_piece.new.sent.items

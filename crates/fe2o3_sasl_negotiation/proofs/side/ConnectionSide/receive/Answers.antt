@@ -1,6 +1,10 @@
-use Rattle.std.proofs.Common.{◌≡◌, List, ℕ, sym, ◌∙◌, subst}
+use Rattle.std.proofs.Common.{◌≡◌, List, [], ℕ, refl, sym, ◌∙◌, subst, arith}
+use Rattle.std.proofs.lemmas.List.{append-nil}
 use Rattle.fe2o3_sasl_negotiation.specs.Framing.{IsPart}
-use Rattle.fe2o3_sasl_negotiation.proofs.lemmas.ReceivingLemmas.{held_before_unit, refused_moves, same_side, whole_moves}
+use Rattle.fe2o3_sasl_negotiation.specs.Negotiations.{Reading}
+use Rattle.fe2o3_sasl_negotiation.specs.Sides.{connection_side, endpoint_in, extended_in}
+use Rattle.fe2o3_sasl_negotiation.proofs.lemmas.ExtendedLemmas.{costs_as_before}
+use Rattle.fe2o3_sasl_negotiation.proofs.lemmas.ReceivingLemmas.{ended_rests, held_before_unit, refused_moves, same_side, whole_moves}
 use Rattle.fe2o3_sasl_negotiation.proofs.side.ConnectionSide.receive.Goals as goal
 
 pub invariant_of-self-in-Err-clause-part : goal.invariant_of-self-in-Err-clause-part
@@ -32,3 +36,29 @@ returns-in-Ok-clause-moves g c = λ going some.
     whole_moves old.expected old.limit old.held.items c.args.bytes.now c.take_unit.new.held.items c.len-had.result
     c.end_unit-taken-in-Ok.result old.part (rw c.in-Whole.is at c.in_ok-take_unit.ensures.ok)
     (c.len-had.ensures ∙ old.held.ok.0) c.end_unit-taken-in-Ok.ensures.taken
+
+pub returns-in_default : goal.returns-in_default
+returns-in_default g c =
+    let old = c.args.self.now in
+    let e = g.E.Endpoint in
+    let side = connection_side e.state old in
+    record {
+      ok = (
+        [],
+        sym (append-nil c.args.out.now.items),
+        ended_rests (Reading (extended_in old) (e.answers (e.config (endpoint_in old)))) side c.args.bytes.now
+            c.args.nonce.now old.progress refl c.in_default.not-InProgress,
+      );
+      within = omega arith;
+      moves = λ going some. absurd (c.in_default.not-InProgress going);
+      progress = refl;
+      unsent = tt;
+      unchanged = tt;
+      config = refl;
+      extended = refl;
+      memory = tt;
+      room = λ going. absurd (c.in_default.not-InProgress going);
+      room_stays = omega arith;
+      cost = costs_as_before (extended_in old) e.costs side c.args.bytes.now c.args.nonce.now c.args.meter.now
+          c.args.meter.now (g.met.E.Endpoint.costs_none side c.args.bytes.now c.args.nonce.now c.args.meter.now);
+    }
