@@ -7,7 +7,8 @@
 #   make callers   compares these, and builds and runs the programs of bindings/c: plain, shared and sanitized, and under
 #                  valgrind (Debian's package valgrind)
 #   make depths    measures the stack of each export, and writes bindings/wiping/depths.h
-#   make rust      tests the crate of bindings/rust, which needs cargo and no other crate
+#   make rust      tests the crate of bindings/rust, which needs cargo and no other crate, and checks its docs; with rustfmt
+#                  and clippy, where cargo has them, also its format and lints
 #   make python    tries the module of bindings/python over the shared library
 #   make install   PREFIX, LIBDIR, INCLUDEDIR, DOCDIR and DESTDIR as usual
 #   make dist      what `install` installs, into build/fe2o3_sasl-VERSION-CPU.tar.gz, whose bytes depend only on the files
@@ -35,7 +36,7 @@ $(if $(HEAP_$(HEAP)),,$(error HEAP is wiping or plain))
 
 WARNINGS = -Wall -Wextra -Wpedantic
 SANITIZERS = -g -O1 -fsanitize=address,undefined -fno-sanitize-recover=all
-PROGRAMS = fits scram steps threads random $(SALTED)
+PROGRAMS = fits scram steps connections threads random $(SALTED)
 # salted.c salts with OpenSSL, and is left out where there is none to compile with.
 SALTED := $(shell printf '\043include <openssl/evp.h>\n' | $(CC) -E -x c - > /dev/null 2>&1 && echo salted)
 KINDS = plain shared sanitized
@@ -175,8 +176,13 @@ callers: header-check $(foreach kind,$(KINDS),$(PROGRAMS:%=build/callers/%_$(kin
 	done
 	python3 -B bindings/c/constant_time.py build/callers/constant_time bindings/c/constant_time.txt
 
+rust: export FE2O3_SASL_LIB = $(abspath build)
+rust: export CARGO_TARGET_DIR = $(abspath build/rust)
 rust: build/libfe2o3_sasl.a
-	cd bindings/rust && FE2O3_SASL_LIB=$(abspath build) CARGO_TARGET_DIR=$(abspath build/rust) cargo test --offline
+	cd bindings/rust && cargo test --offline
+	cd bindings/rust && RUSTDOCFLAGS='-D warnings' cargo doc --no-deps --offline
+	cd bindings/rust && if cargo fmt --version; then cargo fmt --check; fi
+	cd bindings/rust && if cargo clippy --version; then cargo clippy --offline --all-targets -- -D warnings; fi
 
 python: build/libfe2o3_sasl.so
 	for tests in bindings/python/test_*.py; do \

@@ -166,8 +166,8 @@ enum fe2o3_offer {
     /* No mechanism: SCRAM sends the server's signature in a challenge, and the outcome OK follows the client's empty
      * response (RFC 4422, section 5). For clients that do not read the data of an outcome. */
     FE2O3_SIGNATURE_BY_CHALLENGE = 1024,
-    /* No mechanism: SCRAM is strict. It rejects an attribute that RFC 5802 defines in the place of an extension: after
-     * the nonce of the client-first message, or between the nonce and the proof of the client-final message. */
+    /* No mechanism: SCRAM is strict. It reads messages by the grammar of RFC 5802, section 7: see the field `strict` of
+     * struct fe2o3_scram_rules. */
     FE2O3_STRICT = 2048
 };
 
@@ -384,8 +384,8 @@ enum fe2o3_status {
     FE2O3_CLIENT_ILLEGAL_CLIENT_STATE = 35,
     /* The server-final message does not begin with `v=`, or has another signature. */
     FE2O3_CLIENT_SERVER_SIGNATURE_MISMATCH = 36,
-    /* A strict client received an attribute that RFC 5802 defines in the place of an extension: after the iteration count.
-     */
+    /* A part in the place of an extension is none (RFC 5802, section 7): after the iteration count, or after the
+     * signature. Only a client that is strict or binds a channel returns it. */
     FE2O3_CLIENT_MISPLACED_ATTRIBUTE = 37,
     /* The message is not UTF-8. */
     FE2O3_SERVER_UTF8_ERROR = 40,
@@ -417,8 +417,9 @@ enum fe2o3_status {
     FE2O3_SERVER_AUTHENTICATION_FAILED = 52,
     /* No challenge is open. */
     FE2O3_SERVER_ILLEGAL_AUTHENTICATOR_STATE = 53,
-    /* A strict server received an attribute that RFC 5802 defines in the place of an extension: after the nonce of the
-     * client-first message, or between the nonce and the proof of the client-final message. */
+    /* A part in the place of an extension is none (RFC 5802, section 7): after the nonce of the client-first message, or
+     * between the nonce and the proof of the client-final message. Only a server that is strict or binds channels returns
+     * it. */
     FE2O3_SERVER_MISPLACED_ATTRIBUTE = 54,
     /* The text does not have five fields: parts are missing or left over. */
     FE2O3_RECORD_PARTS_MISMATCH = 60,
@@ -483,7 +484,9 @@ enum fe2o3_status {
     /* The data of a channel are empty or have more than 64 bytes (RFC 5802, section 7). */
     FE2O3_CHANNEL_DATA_LENGTH = 91,
     /* The use of a channel is none of enum fe2o3_channel_use, or its kind none of enum fe2o3_channel_kind. */
-    FE2O3_NO_SUCH_CHANNEL = 92
+    FE2O3_NO_SUCH_CHANNEL = 92,
+    /* The password for a message of PLAIN is empty (RFC 4616, section 2). */
+    FE2O3_EMPTY_PASSWORD = 93
 };
 
 /* ---- The library ---- */
@@ -743,9 +746,15 @@ struct fe2o3_login {
      * section 5). 0 means that the signature has to come in the outcome. Any other value accepts it in both. Only
      * `fe2o3_sasl_client_receive` and `fe2o3_sasl_client_step` use this field. */
     uint32_t signature_by_challenge;
-    /* Whether the client is strict: it rejects an attribute that RFC 5802 defines in the place of an extension, after the
-     * iteration count, by FE2O3_CLIENT_MISPLACED_ATTRIBUTE. 0 means that it skips it. Any other value is strict. A
-     * client that binds a channel is strict in any case. */
+    /* Whether the client is strict: it reads messages by the grammar of RFC 5802, section 7. 0 is no, any other value
+     * yes. The server's part of the nonce has to be printable and not empty (FE2O3_CLIENT_CLIENT_NONCE_MISMATCH), the
+     * iteration count without a sign or leading zeros (FE2O3_CLIENT_ITERATION_COUNT_PARSE_ERROR), and what follows the
+     * count or the signature an extension (FE2O3_CLIENT_MISPLACED_ATTRIBUTE). A client that binds a channel tests the
+     * extensions in any case.
+     *
+     * A strict client sends a user name and a password by PLAIN only if a message can have them (RFC 4616, section 2).
+     * Otherwise the call returns FE2O3_NAMES_NO_USER or FE2O3_EMPTY_PASSWORD for an empty one, and
+     * FE2O3_PROHIBITED_CHARACTER for a zero byte. */
     uint32_t strict;
     /* What the client says of its channel (RFC 5802, section 6): one of enum fe2o3_channel_use. */
     uint32_t channel_use;
@@ -872,8 +881,10 @@ struct fe2o3_scram_rules {
      * `-PLUS` (RFC 5802, section 6). 0 is no, any other value yes. Only for a server that offers no such mechanism. It
      * has no effect if the server binds channels. */
     uint32_t accept_cbind_flag_y;
-    /* Whether an attribute that RFC 5802, section 5.1, defines is rejected in the place of an extension, by
-     * FE2O3_SERVER_MISPLACED_ATTRIBUTE. 0 is no, any other value yes. A server that binds channels is always strict. */
+    /* Whether the server is strict: it reads messages by the grammar of RFC 5802, section 7. 0 is no, any other value
+     * yes. A user name has to be of one or more characters and without NUL (FE2O3_SERVER_CANNOT_PARSE_USERNAME), a nonce
+     * printable and not empty (FE2O3_SERVER_CANNOT_PARSE_CLIENT_NONCE), and what follows the nonce an extension
+     * (FE2O3_SERVER_MISPLACED_ATTRIBUTE). A server that binds channels tests the extensions in any case. */
     uint32_t strict;
     /* The server's channel, if it is of the mechanism with `-PLUS`. */
     struct fe2o3_server_channels channels;
@@ -958,7 +969,8 @@ uint32_t fe2o3_scram_server_claimed_user_with_rules(
  * - FE2O3_SERVER_UTF8_ERROR,
  * - FE2O3_SERVER_CANNOT_PARSE_GS2_HEADER if the rules do not accept the header,
  * - FE2O3_SERVER_CANNOT_PARSE_USERNAME and FE2O3_SERVER_CANNOT_PARSE_CLIENT_NONCE,
- * - FE2O3_SERVER_MISPLACED_ATTRIBUTE of a strict server,
+ * - the same two of a strict server, if the name is empty or has NUL, or the nonce is empty or not printable,
+ * - FE2O3_SERVER_MISPLACED_ATTRIBUTE of a server that is strict or binds channels,
  * - FE2O3_NO_SUCH_VERSION and FE2O3_TOO_LONG if `kept` holds no record,
  * - FE2O3_TOO_LONG if a text of the challenge does not fit into the struct,
  * - FE2O3_ROOM_TOO_SMALL. */
@@ -991,7 +1003,7 @@ uint32_t fe2o3_scram_server_first_with_rules(
  *   the rules,
  * - FE2O3_SERVER_CANNOT_PARSE_CLIENT_FINAL_MESSAGE and FE2O3_SERVER_INCORRECT_CLIENT_FINAL_NONCE,
  * - FE2O3_SERVER_PROOF_NOT_FOUND_IN_CLIENT_FINAL and FE2O3_SERVER_BASE64_DECODE_ERROR, of the proof,
- * - FE2O3_SERVER_MISPLACED_ATTRIBUTE of a strict server,
+ * - FE2O3_SERVER_MISPLACED_ATTRIBUTE of a server that is strict or binds channels,
  * - FE2O3_SERVER_XOR_LENGTH_MISMATCH and FE2O3_SERVER_AUTHENTICATION_FAILED if the proof is wrong. */
 uint32_t fe2o3_scram_server_final_with_rules(
     const struct fe2o3_scram_rules *rules,
@@ -1038,9 +1050,8 @@ uint32_t fe2o3_scram_server_error_message(uint32_t status, uint8_t *out, size_t 
  * byte and the password. The authorization identity is empty. The message has the password in clear, so send it over
  * TLS only. Prepare a non-ASCII password first (`fe2o3_saslprep`).
  *
- * Returns FE2O3_NOT_UTF8 if a word is not UTF-8, FE2O3_NAMES_NO_USER if the user name is empty, and
- * FE2O3_PROHIBITED_CHARACTER if a word contains a zero byte. An empty password is written, but RFC 4616 forbids it and
- * servers reject it. */
+ * Returns FE2O3_NOT_UTF8 if a word is not UTF-8, FE2O3_NAMES_NO_USER if the user name is empty, FE2O3_EMPTY_PASSWORD if
+ * the password is, and FE2O3_PROHIBITED_CHARACTER if a word contains a zero byte. */
 uint32_t fe2o3_plain_message(
     const uint8_t *username,
     size_t username_len,
@@ -1092,7 +1103,8 @@ uint32_t fe2o3_external_verify(const uint8_t *authcid, size_t authcid_len, const
 
 /* ---- The client's side of a connection, over bytes ---- */
 
-/* One side of a connection between calls. All zeros is a connection that has received nothing. */
+/* One side of a connection between calls. All zeros is a connection that has received nothing and accepts no extended
+ * headers. */
 struct fe2o3_connection {
     /* How far the login is: one of enum fe2o3_progress.
      *
@@ -1114,6 +1126,11 @@ struct fe2o3_connection {
      * `AMQP 2 1 0 0` for a server that requires TLS first, `AMQP 0 1 0 0` for a client that begins AMQP without SASL.
      */
     uint8_t held[512];
+    /* Whether this side accepts frames with an extended header (AMQP 1.0, part 2, section 2.3.1): 0 is no, any other
+     * value yes. Set it before the first call. The side then reads such a frame without that header. The limit of 512
+     * bytes is that of the frame as received. Otherwise a data offset above 2 ends the login with FE2O3_NO_SASL_FRAME,
+     * as one below 2 or after the end of the frame does in any case. A call that receives bytes writes 0 or 1. */
+    uint32_t extended_headers;
 };
 
 /* How a client logs in on a connection. You lend the struct to each call, always with the same values. */
@@ -1167,8 +1184,8 @@ struct fe2o3_sasl_server_config {
      * or FE2O3_PLAIN_SASLPREP. By the latter it also rejects a password that SASLprep rejects or prepares to the empty
      * text. With FE2O3_SIGNATURE_BY_CHALLENGE SCRAM's outcome OK follows the client's empty response to a challenge.
      * With FE2O3_INITIAL_RESPONSE_BY_CHALLENGE an init for SCRAM or PLAIN without an initial response is answered by
-     * an empty challenge, and the response is the initial response. With FE2O3_STRICT SCRAM rejects an attribute that
-     * RFC 5802 defines in the place of an extension. */
+     * an empty challenge, and the response is the initial response. With FE2O3_STRICT SCRAM is strict, as by the
+     * field `strict` of struct fe2o3_scram_rules. */
     uint32_t mechanisms;
     /* The iteration count with which PLAIN hashes the password of an unknown user. */
     uint32_t iterations;
@@ -1242,8 +1259,9 @@ uint32_t fe2o3_sasl_server_receive(
 uint32_t fe2o3_sasl_wants_nonce(const struct fe2o3_connection *connection);
 
 /* Writes the body of the frame that `bytes` complete with the part that `connection` holds, without the four bytes of
- * the frame's size: at most 508 bytes. `out_len` is 0 if they complete no frame. Nothing is taken: pass the same bytes
- * to `fe2o3_sasl_client_receive` or `fe2o3_sasl_server_receive` after that.
+ * the frame's size: at most 508 bytes. The body has no extended header if `connection` accepts these. `out_len` is 0 if
+ * the bytes complete no frame. Nothing is taken: pass the same bytes to `fe2o3_sasl_client_receive` or
+ * `fe2o3_sasl_server_receive` after that.
  *
  * `expected` of the connection is the frame that has to come next. Parse the body with `fe2o3_sasl_view_frame`: a server
  * reads in it the mechanism and the hostname of an init, and a client the additional data of an outcome. Pass a list of

@@ -416,7 +416,7 @@ static void channels(uint32_t version)
     }
 }
 
-/* An attribute of RFC 5802 in the place of an extension, at a strict side of each kind (RFC 5802, section 5.1). */
+/* What the grammar of RFC 5802, section 7, does not allow, at a side of each kind that is strict and one that is not. */
 static void strict_sides(void)
 {
     const struct fe2o3_scram_rules strict = {.strict = 1}, lax = {0};
@@ -431,12 +431,26 @@ static void strict_sides(void)
             ROOM(one.server_first)) == FE2O3_SERVER_MISPLACED_ATTRIBUTE
             && fe2o3_scram_server_first_with_rules(&lax, &record, &one.server, server_nonce,
                 TEXT("n,,n=user,r=abc,i=4096"), ROOM(one.server_first)) == FE2O3_OK);
+    told(FE2O3_SHA_256, "an empty name",
+        fe2o3_scram_server_first_with_rules(&strict, &record, &one.server, server_nonce, TEXT("n,,n=,r=abc"),
+            ROOM(one.server_first)) == FE2O3_SERVER_CANNOT_PARSE_USERNAME
+            && fe2o3_scram_server_first_with_rules(&lax, &record, &one.server, server_nonce, TEXT("n,,n=,r=abc"),
+                ROOM(one.server_first)) == FE2O3_OK);
     for (login.strict = 0; login.strict <= 1; login.strict++) {
         memset(&one, 0, sizeof one);
         fe2o3_scram_client_first(&login, &one.client, client_nonce, ROOM(one.client_first));
         told(FE2O3_SHA_256, login.strict ? "a strict client" : "a client that is not strict",
             fe2o3_scram_client_final(&login, &one.client, TEXT("r=" BOTH_NONCES ",s=BAQ=,i=4096,c=biws"),
                 ROOM(one.client_final)) == (login.strict ? FE2O3_CLIENT_MISPLACED_ATTRIBUTE : FE2O3_OK));
+        fe2o3_scram_client_first(&login, &one.client, client_nonce, ROOM(one.client_first));
+        told(FE2O3_SHA_256, "a count with a zero before it",
+            fe2o3_scram_client_final(&login, &one.client, TEXT("r=" BOTH_NONCES ",s=BAQ=,i=04096"), ROOM(one.client_final))
+                == (login.strict ? FE2O3_CLIENT_ITERATION_COUNT_PARSE_ERROR : FE2O3_OK));
+        fe2o3_scram_client_first(&login, &one.client, client_nonce, ROOM(one.client_first));
+        fe2o3_scram_client_final(&login, &one.client, TEXT("r=" BOTH_NONCES ",s=BAQ=,i=4096"), ROOM(one.client_final));
+        told(FE2O3_SHA_256, "an attribute after a signature",
+            fe2o3_scram_client_verify(&login, &one.client, TEXT("v=AAAA,m=1"))
+                == (login.strict ? FE2O3_CLIENT_MISPLACED_ATTRIBUTE : FE2O3_CLIENT_SERVER_SIGNATURE_MISMATCH));
     }
 }
 

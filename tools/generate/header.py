@@ -412,7 +412,7 @@ def python_block(reader):
                             " signature in a challenge, and the outcome follows the client's empty\n    response."
                             " INITIAL_RESPONSE_BY_CHALLENGE: SCRAM and PLAIN answer an init without an initial response by"
                             " an\n    empty challenge, and the client's response is then the initial response. STRICT: SCRAM"
-                            " rejects an attribute\n    that RFC 5802 defines in the place of an extension.",
+                            " reads messages by\n    the grammar of RFC 5802, section 7, like a `Server` with `strict`.",
                             [(one.name.replace("OFFER_", ""), one.number) for one in enums["offer"].values]))
     out.append(python_class("IntEnum", "PlainPasswords", "Which password `plain_verify` tests for the one of a message."
                             " TYPED: the password as typed, which has to be\n    printable ASCII. PREPARED: the password as"

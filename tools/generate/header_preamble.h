@@ -166,8 +166,8 @@ enum fe2o3_offer {
     /* No mechanism: SCRAM sends the server's signature in a challenge, and the outcome OK follows the client's empty
      * response (RFC 4422, section 5). For clients that do not read the data of an outcome. */
     FE2O3_SIGNATURE_BY_CHALLENGE = 1024,
-    /* No mechanism: SCRAM is strict. It rejects an attribute that RFC 5802 defines in the place of an extension: after
-     * the nonce of the client-first message, or between the nonce and the proof of the client-final message. */
+    /* No mechanism: SCRAM is strict. It reads messages by the grammar of RFC 5802, section 7: see the field `strict` of
+     * struct fe2o3_scram_rules. */
     FE2O3_STRICT = 2048
 };
 

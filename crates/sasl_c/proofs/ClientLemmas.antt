@@ -3,8 +3,9 @@ use Rattle.std.proofs.Common.{true, false, rules, arith, refl, sym, inl, inr, ap
 use Rattle.std.proofs.Math.Dec.{eqb}
 use Rattle.std.proofs.lemmas.Bool.{cases_lt}
 use Rattle.std.proofs.lemmas.Bool.Decides.{eqb_tells}
-use Rattle.fe2o3_scram.specs.Readings.{NoneHolds}
-use Rattle.std.specs.Prelude.{Option, Some, None, Result, Ok, Err, IfOk, IfErr, codes, slice_get, bit_xor}
+use Rattle.fe2o3_scram.specs.Readings.{IsFirst, NoneHolds}
+use Rattle.fe2o3_scram.proofs.lemmas.messages.TestListLemmas.{first_or_none}
+use Rattle.std.specs.Prelude.{Option, Some, None, Result, Ok, Err, IfOk, IfErr, codes, slice_get, bit_xor, ◌||◌}
 use Rattle.std.specs.List.{zip}
 use Rattle.base64.proofs.ReadLemmas.{take-shorter}
 use Rattle.std.proofs.lemmas.List.{length-append, length-map}
@@ -14,7 +15,7 @@ use Rattle.fe2o3_scram.specs.declared.scram_messages.client_channel.ClientChanne
 use Rattle.fe2o3_scram.specs.declared.scram_messages.channel_binding_flag.ChannelBindingFlag.{ChannelBindingFlag}
 use Rattle.fe2o3_scram.specs.declared.scram_messages.channel_binding_flag.ChannelBindingFlag.TheVariants.{NotSupported, ClientSupports, Required}
 use Rattle.fe2o3_scram.specs.declared.channel_binding.ChannelKind.TheVariants.{TlsUnique, TlsServerEndPoint, TlsExporter}
-use Rattle.fe2o3_scram.specs.ChannelBinding.{cbind_input, data_bytes, header_text}
+use Rattle.fe2o3_scram.specs.ChannelBinding.{cbind_input, data_bytes, header_text, ClientHeader, needs_strict, own_header}
 use Rattle.fe2o3_scram.specs.declared.hmac.ScramVersion.{ScramVersion}
 use Rattle.fe2o3_scram.specs.declared.hmac.ScramVersion.TheVariants as versions
 use Rattle.fe2o3_scram.specs.ClientFinal.{Answer, client_final_of, keys_for, without_proof_with}
@@ -23,7 +24,7 @@ use Rattle.fe2o3_scram.specs.ClientKeys.{ClientKeys}
 use Rattle.fe2o3_scram.specs.ClientSecret.{Secret}
 use Rattle.fe2o3_scram.specs.Hmac.{exclusive_or}
 use Rattle.fe2o3_scram.specs.Keys.{client_proof, client_signature, server_signature, stored_key, auth_message}
-use Rattle.fe2o3_scram.specs.ScramClient.{AnswersIn, VerifiesIn, ClientSide, ClientState, ClientInitial, ClientFirstSent, ClientFinalSent, SignatureVerified, Complete, ChecksSignatureIn, ConcludesIn, with_state}
+use Rattle.fe2o3_scram.specs.ScramClient.{AnswersIn, VerifiesIn, ClientSide, ClientState, ClientInitial, ClientFirstSent, ClientFinalSent, SignatureVerified, Complete, ChecksSignatureIn, ConcludesIn, with_state, header_in}
 use Rattle.fe2o3_scram.specs.ServerFirst.{Client, NamesServerFirst, ReadsServerFirst, ServerFirst, client_of}
 use Rattle.fe2o3_scram.specs.ServerFinal.{ReadsServerFinal}
 use Rattle.fe2o3_scram.specs.ServerFirstAnswers.{AnswersServerFirst}
@@ -42,7 +43,7 @@ use Rattle.sasl_c.specs.Client.{AnswersByMessage, AwaitsSignature, Verifies, Has
 use Rattle.sasl_c.specs.declared.keys.ScramKeys.{ScramKeys as KeysStruct}
 use Rattle.sasl_c.specs.Keys.{shown_keys}
 use Rattle.sasl_c.specs.Records.{IsVersion}
-use Rattle.sasl_c.specs.Channels.{answer_more}
+use Rattle.sasl_c.specs.Channels.{answer_more, channel_tests, header_with}
 use Rattle.sasl_c.proofs.ChannelLemmas.{some_channel}
 use Rattle.sasl_c.proofs.LoginLemmas.{no_secrets}
 use Rattle.sasl_c.proofs.StatusLemmas.{carried}
@@ -76,7 +77,7 @@ part_short text part held = go held.0 held.1.whole held.2 where
     same = search rules
 
 -- a GS2 header has at most 24 bytes, and that of a client that binds no channel has 3
-short_header : (flag : ChannelBindingFlag) → length (header_text flag) ≤ 24
+short_header : (flag : ChannelBindingFlag) → length (header_text (own_header flag)) ≤ 24
 short_header NotSupported = omega arith
 short_header ClientSupports = omega arith
 short_header (Required TlsUnique) = omega arith
@@ -84,42 +85,42 @@ short_header (Required TlsServerEndPoint) = omega arith
 short_header (Required TlsExporter) = omega arith
 
 -- the first part of a client-final message, where no channel is bound, and where one is
-no_data_binding : (channel : ClientChannel) → length (cbind_input channel) ≤ 3
-    → length (codes "c=" ++ base64_text (cbind_input channel)) ≤ 6
-no_data_binding channel fits =
+no_data_binding : (header : ClientHeader) → length (cbind_input header) ≤ 3
+    → length (codes "c=" ++ base64_text (cbind_input header)) ≤ 6
+no_data_binding header fits =
     let two : length (codes "c=") ≡ 2 = refl in
     omega (
       arith,
       fits,
       two,
-      text_length (cbind_input channel),
-      length-append (codes "c=") (base64_text (cbind_input channel)),
+      text_length (cbind_input header),
+      length-append (codes "c=") (base64_text (cbind_input header)),
     )
 
-data_binding : (channel : ClientChannel) → length (cbind_input channel) ≤ 88
-    → length (codes "c=" ++ base64_text (cbind_input channel)) ≤ 122
-data_binding channel fits =
+data_binding : (header : ClientHeader) → length (cbind_input header) ≤ 88
+    → length (codes "c=" ++ base64_text (cbind_input header)) ≤ 122
+data_binding header fits =
     let two : length (codes "c=") ≡ 2 = refl in
     omega (
       arith,
       fits,
       two,
-      text_length (cbind_input channel),
-      length-append (codes "c=") (base64_text (cbind_input channel)),
+      text_length (cbind_input header),
+      length-append (codes "c=") (base64_text (cbind_input header)),
     )
 
 -- the client-final message has at most 92 bytes more than the server-first message and its first part
-short_answer : (version : ScramVersion) (channel : ClientChannel) (key auth nonce text : List ℕ)
+short_answer : (version : ScramVersion) (header : ClientHeader) (key auth nonce text : List ℕ)
     → length nonce + 2 ≤ length text
-    → length (client_final_of (without_proof_with channel nonce) (client_proof version key auth))
-    ≤ length text + length (codes "c=" ++ base64_text (cbind_input channel)) + 92
-short_answer version channel key auth nonce text fits =
+    → length (client_final_of (without_proof_with header nonce) (client_proof version key auth))
+    ≤ length text + length (codes "c=" ++ base64_text (cbind_input header)) + 92
+short_answer version header key auth nonce text fits =
     let proof = client_proof version key auth in
     omega (
       arith,
       fits,
-      length-append (codes "c=" ++ base64_text (cbind_input channel)) (44 ∷ (codes "r=" ++ nonce)),
-      length-append (without_proof_with channel nonce) (44 ∷ (codes "p=" ++ base64_text proof)),
+      length-append (codes "c=" ++ base64_text (cbind_input header)) (44 ∷ (codes "r=" ++ nonce)),
+      length-append (without_proof_with header nonce) (44 ∷ (codes "p=" ++ base64_text proof)),
       short_text proof (short_proof version key auth),
     )
 
@@ -132,14 +133,14 @@ named client text first held = held.1
 -- what a client answers: a message of this length, and a signature that a struct can hold
 pub answer_fits : (state : ClientState) (side next : ClientSide) (text message : List ℕ)
     → AnswersIn state side text (Ok message) next
-    → (length message ≤ length text + length (codes "c=" ++ base64_text (cbind_input side.channel)) + 92)
+    → (length message ≤ length text + length (codes "c=" ++ base64_text (cbind_input (header_in side))) + 92)
     × ((signature : List ℕ) × (keys : Option ClientKeys)
     × (next.state ≡ ClientFinalSent signature keys) × (length signature ≤ 64))
 answer_fits (ClientFirstSent nonce bare) side next text message held =
     let first = held.1.0 in
     let names = named _ text first held.1.1 in
     let keys = keys_for side.version side.secret first in
-    let without = without_proof_with side.channel first.nonce in
+    let without = without_proof_with (header_in side) first.nonce in
     let auth = auth_message bare text without in
     let fits = part_short text (codes "r=" ++ first.nonce) names.nonce in
     let said : message ≡ client_final_of without (client_proof keys.version keys.client_key auth) =
@@ -147,7 +148,7 @@ answer_fits (ClientFirstSent nonce bare) side next text message held =
     let kept : next.state ≡ ClientFinalSent (server_signature keys.version keys.server_key auth) (Some keys) =
     ap (λ (moved : ClientSide). moved.state) held.3
     ∙ ap (λ (answer : Answer). ClientFinalSent answer.signature (Some answer.keys)) held.1.2 in (
-      rw said (short_answer keys.version side.channel keys.client_key auth first.nonce text (omega (arith, fits))),
+      rw said (short_answer keys.version (header_in side) keys.client_key auth first.nonce text (omega (arith, fits))),
       (
         server_signature keys.version keys.server_key auth,
         Some keys,
@@ -162,9 +163,9 @@ answer_fits (Complete keys) side next text message held = absurd held
 
 -- the first part of the answer of a client of a login
 binding_fits : (login : Login) (channel : ClientChannel) → IsChannelOf login channel
-    → length (codes "c=" ++ base64_text (cbind_input channel)) + 92 ≤ answer_more login.channel_use
-binding_fits login Absent is = rw is (omega (arith, no_data_binding Absent (omega arith)))
-binding_fits login NotOffered is = rw is (omega (arith, no_data_binding NotOffered (omega arith)))
+    → length (codes "c=" ++ base64_text (cbind_input (header_with channel))) + 92 ≤ answer_more login.channel_use
+binding_fits login Absent is = rw is (omega (arith, no_data_binding (header_with Absent) (omega arith)))
+binding_fits login NotOffered is = rw is (omega (arith, no_data_binding (header_with NotOffered) (omega arith)))
 binding_fits login (Bound binding) is =
     let few : length (data_bytes binding.cbind_data) ≤ 64 = omega (
       arith,
@@ -172,8 +173,8 @@ binding_fits login (Bound binding) is =
       is.4,
       take-shorter login.channel_data_len login.channel_data,
     ) in
-    let whole = length-append (header_text (Required binding.kind)) (data_bytes binding.cbind_data) in
-    let fits = data_binding (Bound binding) (omega (arith, few, whole, short_header (Required binding.kind))) in
+    let whole = length-append (header_text (own_header (Required binding.kind))) (data_bytes binding.cbind_data) in
+    let fits = data_binding (header_with (Bound binding)) (omega (arith, few, whole, short_header (Required binding.kind))) in
     rw is.0 (omega (arith, fits))
 
 -- the client is of the same login in another state
@@ -186,6 +187,7 @@ moved_login login side state is = record {
   least = is.least;
   most = is.most;
   channel = is.channel;
+  own = is.own;
   strict = is.strict;
   signed = is.signed;
 }
@@ -211,6 +213,7 @@ first_side login before version secret channel = record {
   version = version;
   limits = limits_of login;
   channel = channel;
+  acts_for = None;
   strict = is_set login.strict;
   signature_by_challenge = is_set login.signature_by_challenge;
   state =
@@ -228,6 +231,7 @@ is_first_side login before version secret channel known has binds sent = (
     least = refl;
     most = refl;
     channel = binds;
+    own = refl;
     strict = refl;
     signed = refl;
   },
@@ -236,7 +240,7 @@ is_first_side login before version secret channel known has binds sent = (
 
 -- what such a client knows
 abbrev client_by : Login → Secret → ClientChannel → List ℕ → Client
-client_by login secret channel nonce = client_of nonce secret (limits_of login) channel (is_set login.strict)
+client_by login secret channel nonce = client_of nonce secret (limits_of login) (header_with channel) (is_set login.strict)
 
 -- what is held against a text is what that client holds
 as_sent : (login : Login) (before : Struct) (version : ScramVersion) (secret : Secret) (channel : ClientChannel)
@@ -262,7 +266,7 @@ pub answered_by : (login : Login) (before : Struct) (version : ScramVersion) (se
     → nonce ≡ base64_text before.nonce → bare ≡ client_first_bare login.username.now nonce
     → AnswersServerFirst version
     (client_of nonce secret (record { min_iterations = login.min_iterations; max_iterations = login.max_iterations })
-    channel (is_set login.strict)) bare text (Ok answer)
+    (header_with channel) (is_set login.strict)) bare text (Ok answer)
     → IsAnswer login before text answer
 unfolding AnswersByMessage
 answered_by login before version secret channel nonce bare text answer known has binds sent spelled first held =
@@ -283,7 +287,7 @@ pub refused_by : (login : Login) (before : Struct) (version : ScramVersion) (sec
     → before.state ≡ 1 → nonce ≡ base64_text before.nonce → bare ≡ client_first_bare login.username.now nonce
     → (why ≢ NoMemory → AnswersServerFirst version
     (client_of nonce secret (record { min_iterations = login.min_iterations; max_iterations = login.max_iterations })
-    channel (is_set login.strict)) bare text (Err why)) → status ≡ client_status why → status ≢ statuses.OutOfMemory
+    (header_with channel) (is_set login.strict)) bare text (Err why)) → status ≡ client_status why → status ≢ statuses.OutOfMemory
     → NotAnswered login before text status
 unfolding NotAnswered
 refused_by login before version secret channel nonce bare text why status known has binds sent spelled first held gives other =
@@ -358,6 +362,7 @@ side_with login version secret channel state = record {
   version = version;
   limits = limits_of login;
   channel = channel;
+  acts_for = None;
   strict = is_set login.strict;
   signature_by_challenge = is_set login.signature_by_challenge;
   state = state;
@@ -374,6 +379,7 @@ is_side_with login before version secret channel state known has binds is = (
     least = refl;
     most = refl;
     channel = binds;
+    own = refl;
     strict = refl;
     signed = refl;
   },
@@ -415,9 +421,12 @@ pub answer_has_room : (login : Login) (before : Struct) (text message signature 
 unfolding AnswersByMessage
 answer_has_room login before text message signature keys held =
     let given = held.1.0 in
+    let own : header_in given ≡ header_with given.channel =
+    λ i. record { channel = given.channel; acts_for = held.1.1.0.own i } in
     omega (
       arith,
-      (answer_fits given.state given held.0 text message held.1.2).0,
+      carried (λ (header : ClientHeader). length message ≤ length text + length (codes "c=" ++ base64_text (cbind_input header)) + 92)
+          (header_in given) (header_with given.channel) own (answer_fits given.state given held.0 text message held.1.2).0,
       binding_fits login given.channel held.1.1.0.channel,
     )
 
@@ -529,16 +538,16 @@ verifies login before after side next text verified is held written = (
 )
 
 pub server_verified : (login : Login) (before after : Struct) (text signature : List ℕ) (version : ScramVersion)
-    (verified : Unit {0}) → IsVersion login.version version → IsTestedLogin login → AwaitsSignature before
-    → signature ≡ take before.signature_len before.signature → ReadsServerFinal signature text (Ok verified)
+    (channel : ClientChannel) (verified : Unit {0}) → IsVersion login.version version → IsTestedLogin login
+    → IsChannelOf login channel → AwaitsSignature before → signature ≡ take before.signature_len before.signature
+    → ReadsServerFinal (needs_strict (header_with channel) || is_set login.strict) signature text (Ok verified)
     → after ≡ complete_struct before.keys → Verifies login text before after (Ok tt)
-server_verified login before after text signature version verified known is waits same reads written =
+server_verified login before after text signature version channel verified known is binds waits same reads written =
     let secret = secret_of_login login is.1 in
     let keys = holds before.keys in
-    let channel = channel_of login is.0 in
-    let side = side_with login version secret.0 channel.0 (ClientFinalSent signature keys.0) in
+    let side = side_with login version secret.0 channel (ClientFinalSent signature keys.0) in
     verifies login before after side (with_state side (Complete keys.0)) text verified
-    (is_side_with login before version secret.0 channel.0 (ClientFinalSent signature keys.0) known secret.1 channel.1
+    (is_side_with login before version secret.0 channel (ClientFinalSent signature keys.0) known secret.1 binds
     (waits.0, waits.1, same, keys.1))
     (reads, refl)
     written
@@ -549,26 +558,31 @@ verify_memory : (text : List ℕ) (why : ScramErrorKind) (status : Status) → I
 verify_memory text why status is other same =
     other (carried (λ (kind : ScramErrorKind). IsVerifyStatus text kind status) why NoMemory same is)
 
+-- the channel of a tested login is one
+pub tested_channel : (login : Login) (status : Status) → IsTestedLogin login
+    → IsFirst (channel_tests login.channel_use login.channel_kind login.channel_data_len) status → ⊥
+tested_channel login status is first =
+    first_or_none (channel_tests login.channel_use login.channel_kind login.channel_data_len) status first is.0.1.1
+
 pub unverified : (login : Login) (before : Struct) (text signature : List ℕ) (version : ScramVersion)
-    (why : ScramErrorKind) (status : Status) → IsVersion login.version version → IsTestedLogin login
-    → AwaitsSignature before → signature ≡ take before.signature_len before.signature
-    → (why ≢ NoMemory → ReadsServerFinal signature text (Err why)) → IsVerifyStatus text why status
+    (channel : ClientChannel) (why : ScramErrorKind) (status : Status) → IsVersion login.version version
+    → IsTestedLogin login → IsChannelOf login channel → AwaitsSignature before → signature ≡ take before.signature_len before.signature
+    → (why ≢ NoMemory → ReadsServerFinal (needs_strict (header_with channel) || is_set login.strict) signature text (Err why)) → IsVerifyStatus text why status
     → Verifies login text before before (Err status)
 unfolding Verifies
-unverified login before text signature version why status known is waits same held gives = (
+unverified login before text signature version channel why status known is binds waits same held gives = (
   refl,
   λ other.
       let told : why ≢ NoMemory = verify_memory text why status gives other in
       let secret = secret_of_login login is.1 in
       let keys = holds before.keys in
-      let channel = channel_of login is.0 in
-      let side = side_with login version secret.0 channel.0 (ClientFinalSent signature keys.0) in
+      let side = side_with login version secret.0 channel (ClientFinalSent signature keys.0) in
       inr (
         why,
         gives,
         (
           side,
-          is_side_with login before version secret.0 channel.0 (ClientFinalSent signature keys.0) known secret.1 channel.1
+          is_side_with login before version secret.0 channel (ClientFinalSent signature keys.0) known secret.1 binds
               (waits.0, waits.1, same, keys.1),
           (held told, refl),
         ),

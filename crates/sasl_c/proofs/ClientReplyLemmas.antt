@@ -1,6 +1,6 @@
 -- What a call sends for a client, and the side after it (AMQP 1.0, part 5, section 5.3.1).
 use Rattle.std.proofs.Common.{arith, refl, sym, ap, inl, inr, ◌∙◌, ◌≡◌, ◌≤◌, ◌<◌, ◌⊎◌, ◌+◌, ◌++◌, ℕ, List, [], length}
-use Rattle.std.specs.Prelude.{Option, Bool, Ok, Err}
+use Rattle.std.specs.Prelude.{Option, Bool, true, false, Ok, Err}
 use Rattle.std.proofs.lemmas.Bool.{cases_lt}
 use Rattle.fe2o3_sasl_wire.specs.declared.amqp_types.SaslCode.TheVariants as outcomes
 use Rattle.fe2o3_sasl_core.specs.Events.{ClientSays, Started, Answered, Reported, Refused}
@@ -11,13 +11,13 @@ use Rattle.fe2o3_sasl_negotiation.specs.declared.progress.Progress.{Progress}
 use Rattle.fe2o3_sasl_negotiation.specs.declared.progress.Progress.TheVariants.{InProgress}
 use Rattle.fe2o3_sasl_negotiation.specs.declared.progress.FrameKind.{FrameKind}
 use Rattle.fe2o3_sasl_negotiation.specs.declared.progress.FrameKind.TheVariants as turns
-use Rattle.fe2o3_sasl_negotiation.specs.ClientNegotiation.{ClientSideAnswers, ClientReceives, ClientOutputs}
-use Rattle.fe2o3_sasl_negotiation.specs.Framing.{IsPart}
-use Rattle.fe2o3_sasl_negotiation.specs.Negotiations.{Side, SideOutput, Sends, ReceivesAt}
+use Rattle.fe2o3_sasl_negotiation.specs.ClientNegotiation.{ClientSideAnswers, ClientOutputs}
+use Rattle.fe2o3_sasl_negotiation.specs.Framing.{IsPart, unit_read}
+use Rattle.fe2o3_sasl_negotiation.specs.Negotiations.{Reading, Side, SideOutput, Sends, ReceivesAt}
 use Rattle.fe2o3_sasl_negotiation.proofs.lemmas.UnitLemmas.{length-framed}
 use Rattle.sasl_c.specs.declared.sasl_client.SaslClient.{SaslClient as Struct}
 use Rattle.sasl_c.specs.declared.sasl_client.SaslLogin.{SaslLogin as Login}
-use Rattle.sasl_c.specs.SaslClient.{ProfileIsReached, IsClient}
+use Rattle.sasl_c.specs.SaslClient.{ClientTakes, ProfileIsReached, IsClient}
 use Rattle.sasl_c.proofs.StatusLemmas.{carried}
 use Rattle.fe2o3_sasl_core.specs.declared.sasl_profile.error.ProfileError.TheVariants.{NotImplemented, Scram, StaleKeys, Frame as FrameFault, OutOfMemory}
 use Rattle.sasl_c.proofs.ClientReachLemmas.{answers_comes, profile_comes}
@@ -78,6 +78,14 @@ answers_short hostname (Frame turn) profile next nonce unit answer
 
 -- ---- a call
 
+-- what a side answers to a unit, it answers to what it reads of the unit
+pub answers_read : {S : Type 0} (Answers : Expected → S → List ℕ → List ℕ → SideOutput → S → Type 0) (accepts : Bool)
+    (expected : Expected) (state next : S) (nonce unit : List ℕ) (answer : SideOutput)
+    → Reading accepts Answers expected state nonce unit answer next
+    → (read : List ℕ) × Answers expected state nonce read answer next
+answers_read Answers false expected state next nonce unit answer is = (unit, is)
+answers_read Answers true expected state next nonce unit answer is = (unit_read true expected unit, is)
+
 -- what has come of a unit
 pub part_short : (expected : Expected) (come : List ℕ) → IsPart expected 512 come → length come ≤ 512
 part_short Header come part = omega (arith, part)
@@ -105,39 +113,41 @@ behind login next other sent more same is comes limit held short =
       short = carried (λ (s : List ℕ). length s ≤ 512) more sent (sym is) short;
     })
 
-wanting_behind : (login : Login) (hostname : Option (List ℕ)) (side next : Side Profile) (bytes nonce : List ℕ)
-    (taken : ℕ) (sent : List ℕ) → ReceivesAt InProgress (ClientSideAnswers hostname) side bytes nonce taken sent next
+wanting_behind : (login : Login) (accepts : Bool) (hostname : Option (List ℕ)) (side next : Side Profile)
+    (bytes nonce : List ℕ) (taken : ℕ) (sent : List ℕ)
+    → ReceivesAt InProgress (Reading accepts (ClientSideAnswers hostname)) side bytes nonce taken sent next
     → side.limit ≡ 512 → ProfileIsReached login side.state → Behind login next sent
-wanting_behind login hostname side next bytes nonce taken sent (inl (part, waits)) limit comes =
+wanting_behind login accepts hostname side next bytes nonce taken sent (inl (part, waits)) limit comes =
     behind login next _ sent [] waits.2 waits.1 comes limit
     (part_short side.expected (side.held ++ bytes)
     (carried (λ n. IsPart side.expected n (side.held ++ bytes)) side.limit 512 limit part)) (omega arith)
-wanting_behind login hostname side next bytes nonce taken sent (inr (inl (refused, ends))) limit comes =
+wanting_behind login accepts hostname side next bytes nonce taken sent (inr (inl (refused, ends))) limit comes =
     behind login next _ sent [] ends.2 ends.1 comes limit (omega arith) (omega arith)
-wanting_behind login hostname side next bytes nonce taken sent (inr (inr (answer, state, whole, answers, ends))) limit
-    comes =
+wanting_behind login accepts hostname side next bytes nonce taken sent (inr (inr (answer, state, whole, answers, ends)))
+    limit comes =
+    let reads = answers_read (ClientSideAnswers hostname) accepts side.expected side.state state nonce _ answer answers in
     behind login next _ sent answer.sent ends.2 ends.1
-    (answers_comes login hostname side.expected side.state state nonce _ answer answers comes) limit (omega arith)
-    (answers_short hostname side.expected side.state state nonce _ answer answers)
+    (answers_comes login hostname side.expected side.state state nonce reads.0 answer reads.1 comes) limit (omega arith)
+    (answers_short hostname side.expected side.state state nonce reads.0 answer reads.1)
 
-receives_behind : (login : Login) (hostname : Option (List ℕ)) (side next : Side Profile) (bytes nonce : List ℕ)
-    (taken : ℕ) (sent : List ℕ) → side.progress ≡ InProgress
-    → ClientReceives hostname side bytes nonce taken sent next → side.limit ≡ 512 → ProfileIsReached login side.state
-    → Behind login next sent
-receives_behind login hostname side next bytes nonce taken sent wanting is limit comes =
-    wanting_behind login hostname side next bytes nonce taken sent
-    (carried (λ s. ReceivesAt s (ClientSideAnswers hostname) side bytes nonce taken sent next) side.progress InProgress
-    wanting is) limit comes
+receives_behind : (login : Login) (accepts : Bool) (hostname : Option (List ℕ)) (side next : Side Profile)
+    (bytes nonce : List ℕ) (taken : ℕ) (sent : List ℕ) → side.progress ≡ InProgress
+    → ClientTakes accepts hostname side bytes nonce taken sent next → side.limit ≡ 512
+    → ProfileIsReached login side.state → Behind login next sent
+receives_behind login accepts hostname side next bytes nonce taken sent wanting is limit comes =
+    wanting_behind login accepts hostname side next bytes nonce taken sent
+    (carried (λ s. ReceivesAt s (Reading accepts (ClientSideAnswers hostname)) side bytes nonce taken sent next)
+    side.progress InProgress wanting is) limit comes
 
 -- what the side after a call is, and what is sent
-pub behind_all : (login : Login) (before : Struct) (hostname : Option (List ℕ)) (side next : Side Profile)
+pub behind_all : (login : Login) (before : Struct) (accepts : Bool) (hostname : Option (List ℕ)) (side next : Side Profile)
     (bytes nonce old items : List ℕ) (taken : ℕ) → IsClient login before side → side.progress ≡ InProgress → old ≡ []
-    → (sent : List ℕ) × (items ≡ old ++ sent) × ClientReceives hostname side bytes nonce taken sent next
-    → ClientReceives hostname side bytes nonce taken items next × ProfileIsReached login next.state × (next.limit ≡ 512)
-    × (length next.held ≤ 512) × (length items ≤ 512)
-behind_all login before hostname side next bytes nonce old items taken is wanting empty (sent, all, held) =
+    → (sent : List ℕ) × (items ≡ old ++ sent) × ClientTakes accepts hostname side bytes nonce taken sent next
+    → ClientTakes accepts hostname side bytes nonce taken items next × ProfileIsReached login next.state
+    × (next.limit ≡ 512) × (length next.held ≤ 512) × (length items ≤ 512)
+behind_all login before accepts hostname side next bytes nonce old items taken is wanting empty (sent, all, held) =
     let same : items ≡ sent = all ∙ ap (λ (o : List ℕ). o ++ sent) empty in
-    let whole = carried (λ s. ClientReceives hostname side bytes nonce taken s next) sent items (sym same) held in
-    let last = receives_behind login hostname side next bytes nonce taken items wanting whole is.0.1
+    let whole = carried (λ s. ClientTakes accepts hostname side bytes nonce taken s next) sent items (sym same) held in
+    let last = receives_behind login accepts hostname side next bytes nonce taken items wanting whole is.0.1
     (profile_comes login before.scram side.state is.1) in
     (whole, last.comes, last.limit, last.held, last.short)

@@ -49,7 +49,7 @@ never_asked scram (Some hostname) fresh asks = absurd (omega (arith, fresh, asks
 pub keeps_nothing : (scram : ScramStruct) (exchange : KeptExchange) → exchange ≡ NothingKept → scram.state ≡ 0
     → ShowsExchange scram exchange
 keeps_nothing scram exchange is fresh = carried (ShowsExchange scram) NothingKept exchange (sym is) (
-  (λ version challenge shown. never_zero challenge.header (sym fresh ∙ shown.1.0)),
+  (λ version challenge shown. never_zero challenge.header.flag (sym fresh ∙ shown.1.0)),
   (λ user shown. absurd (omega (arith, fresh, shown.0))),
   λ init shown. never_asked scram init.hostname fresh shown.0,
 )

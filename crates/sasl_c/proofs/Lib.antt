@@ -15,6 +15,7 @@ pub mod ExchangeLemmas
 pub mod SaslServerLemmas
 pub mod ServerReplyLemmas
 pub mod ServerCallLemmas
+pub mod ReadingLemmas
 pub mod ServerUserLemmas
 pub mod PeekLemmas
 pub mod LoginLemmas

@@ -20,32 +20,32 @@ no_header state one three seven eight nine (Required TlsUnique) same = seven (sy
 no_header state one three seven eight nine (Required TlsServerEndPoint) same = eight (sym same)
 no_header state one three seven eight nine (Required TlsExporter) same = nine (sym same)
 
--- the header of a number
-header_of : ℕ → Option ChannelBindingFlag
-header_of state = if nat_eq state 1 then Some NotSupported else
+-- the flag of a number
+flag_at_number : ℕ → Option ChannelBindingFlag
+flag_at_number state = if nat_eq state 1 then Some NotSupported else
     if nat_eq state 3 then Some ClientSupports else
     if nat_eq state 7 then Some (Required TlsUnique) else
     if nat_eq state 8 then Some (Required TlsServerEndPoint) else
     if nat_eq state 9 then Some (Required TlsExporter) else None
 
-read_again : (header : ChannelBindingFlag) → header_of (open_number header) ≡ Some header
-unfolding header_of
+read_again : (header : ChannelBindingFlag) → flag_at_number (open_number header) ≡ Some header
+unfolding flag_at_number
 read_again NotSupported = refl
 read_again ClientSupports = refl
 read_again (Required TlsUnique) = refl
 read_again (Required TlsServerEndPoint) = refl
 read_again (Required TlsExporter) = refl
 
--- two open challenges of a struct have one header
+-- two open challenges of a struct have one flag
 one_header : (server : Struct) (challenge other : ServerChallenge) → IsOpen server challenge → IsOpen server other
-    → other.header ≡ challenge.header
+    → other.header.flag ≡ challenge.header.flag
 one_header server challenge other shown too =
-    let same : Some other.header ≡ Some challenge.header = sym (read_again other.header)
-    ∙ ap header_of (sym too.0 ∙ shown.0) ∙ read_again challenge.header in
+    let same : Some other.header.flag ≡ Some challenge.header.flag = sym (read_again other.header.flag)
+    ∙ ap flag_at_number (sym too.0 ∙ shown.0) ∙ read_again challenge.header.flag in
     cc
 
 pub never_for : (rules : ServerRules) (server : Struct) (challenge : ServerChallenge) → IsOpen server challenge
-    → ¬ TakesFlag rules.channels true challenge.header → (other : ServerChallenge) → ¬ IsOpenFor rules server other
+    → ¬ TakesFlag rules.channels true challenge.header.flag → (other : ServerChallenge) → ¬ IsOpenFor rules server other
 never_for rules server challenge shown refused other too =
-    refused (carried (TakesFlag rules.channels true) other.header challenge.header
+    refused (carried (TakesFlag rules.channels true) other.header.flag challenge.header.flag
     (one_header server challenge other shown too.0) too.1)

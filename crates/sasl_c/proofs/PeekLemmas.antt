@@ -1,5 +1,5 @@
 -- What a struct of a connection and the next bytes show before they are received (AMQP 1.0, part 5, section 5.3.2).
-use Rattle.std.proofs.Common.{arith, refl, sym, inl, inr, ◌∙◌, ◌≡◌, ◌≢◌, ◌⊎◌, ℕ, List, []}
+use Rattle.std.proofs.Common.{arith, ap, Bool, refl, sym, inl, inr, ◌∙◌, ◌≡◌, ◌≢◌, ◌⊎◌, ℕ, List, []}
 use Rattle.std.specs.Prelude.{◌||◌}
 use Rattle.fe2o3_scram.specs.Readings.{IsFirst}
 use Rattle.fe2o3_sasl_negotiation.specs.declared.snapshot.Snapshot.{Snapshot}
@@ -9,14 +9,14 @@ use Rattle.fe2o3_sasl_negotiation.specs.declared.progress.Progress.{Progress}
 use Rattle.fe2o3_sasl_negotiation.specs.declared.progress.Progress.TheVariants.{InProgress, Authenticated, Failed}
 use Rattle.fe2o3_sasl_negotiation.specs.declared.progress.FrameKind.{FrameKind}
 use Rattle.fe2o3_sasl_negotiation.specs.declared.progress.FrameKind.TheVariants as turns
-use Rattle.fe2o3_sasl_negotiation.specs.Framing.{IsPart}
+use Rattle.fe2o3_sasl_negotiation.specs.Framing.{IsPart, body_read}
 use Rattle.fe2o3_sasl_negotiation.specs.Negotiations.{Completes}
 use Rattle.fe2o3_sasl_negotiation.specs.Nonces.{client_nonce_at, server_nonce_at}
 use Rattle.fe2o3_sasl_negotiation.specs.Snapshot.{IsKept, side_kept}
 use Rattle.sasl_c.specs.declared.connection.Connection.{Connection}
 use Rattle.sasl_c.specs.declared.status.Status.{Status}
 use Rattle.sasl_c.specs.declared.status.Status.TheVariants as statuses
-use Rattle.sasl_c.specs.Connection.{IsSideOf, Keeps, SaysProgress, expected_number, side_tests}
+use Rattle.sasl_c.specs.Connection.{IsSideOf, Keeps, SaysProgress, accepts_extended, expected_number, side_tests}
 use Rattle.sasl_c.specs.Peeks.{AnySide, AwaitsFrame, IsNonceNumber, NotPeeked, Peeked, ShowsNonceUse, uses_nonce}
 use Rattle.sasl_c.specs.SaslServer.{one_where}
 use Rattle.sasl_c.proofs.ServerCallLemmas.{keeps_no_part, none_holds}
@@ -68,12 +68,19 @@ pub ruleset nonces = (used_by_side, uses, uses_none)
 part_kept : (kept : Snapshot) → kept.limit ≡ 512 → IsKept kept → IsPart kept.expected 512 kept.held.now
 part_kept kept limit is = carried (λ n. IsPart kept.expected n kept.held.now) kept.limit 512 limit is.1
 
-pub completes_body : (connection : Connection) (kept : Snapshot) (bytes body : List ℕ) (turn : FrameKind)
+pub completes_body : (connection : Connection) (kept : Snapshot) (bytes received body : List ℕ) (turn : FrameKind)
     → Keeps connection kept.progress kept.expected kept.held.now → kept.progress ≡ InProgress → kept.limit ≡ 512
-    → IsKept kept → Completes (side_kept kept) bytes turn body → Peeked connection bytes body
+    → kept.extended_headers ≡ accepts_extended connection → IsKept kept
+    → Completes (side_kept kept) bytes turn received → body ≡ body_read kept.extended_headers received
+    → Peeked connection bytes body
 unfolding Peeked
-completes_body connection kept bytes body turn keeps wants limit is done =
-    (side_kept kept, (keeps, limit), wants, part_kept kept limit is, inl (turn, done))
+completes_body connection kept bytes received body turn keeps wants limit flag is done reads = (
+  side_kept kept,
+  (keeps, limit),
+  wants,
+  part_kept kept limit is,
+  inl (turn, received, done, reads ∙ ap (λ (b : Bool). body_read b received) flag),
+)
 
 pub completes_no_body : (connection : Connection) (kept : Snapshot) (bytes body : List ℕ)
     → Keeps connection kept.progress kept.expected kept.held.now → kept.progress ≡ InProgress → kept.limit ≡ 512

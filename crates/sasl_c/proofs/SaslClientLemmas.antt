@@ -1,6 +1,7 @@
 -- The structs of a client's side, and why there is none (AMQP 1.0, part 5, section 5.3.2).
 use Rattle.std.proofs.Common.{arith, refl, sym, ap, inl, inr, ◌∙◌, ◌≡◌, ◌≢◌, ◌≤◌, ◌<◌, ◌⊎◌, ℕ, List, length, IsTrue, true}
-use Rattle.std.specs.Prelude.{Option, Some, None, false, replicate, IfSome, MatchOption, Ok, Err, nat_eq, if◌then◌else◌}
+use Rattle.std.specs.Prelude.{Bool, Option, Some, None, false, replicate, IfSome, MatchOption, Ok, Err, nat_eq, if◌then◌else◌}
+use Rattle.std.specs.Str.{IsUtf8}
 use Rattle.fe2o3_sasl_wire.specs.FrameView.{shown}
 use Rattle.fe2o3_scram.specs.Readings.{IsFirst, NoneHolds}
 use Rattle.fe2o3_scram.specs.ScramClient.{ClientSide}
@@ -12,7 +13,6 @@ use Rattle.fe2o3_sasl_negotiation.specs.declared.progress.Expected.TheVariants.{
 use Rattle.fe2o3_sasl_negotiation.specs.declared.progress.Progress.{Progress}
 use Rattle.fe2o3_sasl_negotiation.specs.declared.progress.Progress.TheVariants.{InProgress}
 use Rattle.fe2o3_sasl_negotiation.specs.declared.progress.FrameKind.TheVariants as turns
-use Rattle.fe2o3_sasl_negotiation.specs.ClientNegotiation.{ClientReceives}
 use Rattle.fe2o3_sasl_negotiation.specs.Framing.{IsPart}
 use Rattle.fe2o3_sasl_negotiation.specs.Negotiations.{Side}
 use Rattle.fe2o3_sasl_negotiation.specs.Snapshot.{client_fits, client_due, IsClientKept, side_of}
@@ -23,8 +23,8 @@ use Rattle.sasl_c.specs.declared.sasl_client.SaslLogin.{SaslLogin as Login}
 use Rattle.sasl_c.specs.declared.status.Status.{Status}
 use Rattle.sasl_c.specs.declared.status.Status.TheVariants as statuses
 use Rattle.sasl_c.specs.Client.{IsNoLogin, IsReached, IsState, WritesClient, fresh_client_struct, started_struct}
-use Rattle.sasl_c.specs.Connection.{Keeps, KeepsNoPartOf, expected_number, side_tests, connection_struct}
-use Rattle.sasl_c.specs.SaslClient.{ProfileIsReached, HasNoHostname, HasNoClientWords, HasNoMessage, IsClient, IsDueIn, message_number, IsHostname, IsNoClient, IsNoProfile, IsProfile, ReadsClient, ReceivesAsClient, WritesProfile, WritesSide}
+use Rattle.sasl_c.specs.Connection.{Keeps, KeepsNoPartOf, accepts_extended, expected_number, side_tests, connection_struct}
+use Rattle.sasl_c.specs.SaslClient.{ClientTakes, ProfileIsReached, HasNoHostname, HasNoClientWords, HasNoMessage, IsClient, IsDueIn, message_number, IsHostname, IsNoClient, IsNoProfile, IsProfile, client_word_tests, ReadsClient, ReceivesAsClient, WritesProfile, WritesSide}
 use Rattle.sasl_c.proofs.StatusLemmas.{carried}
 use Rattle.fe2o3_sasl_core.specs.declared.sasl_profile.error.ProfileError.TheVariants.{OutOfMemory}
 
@@ -78,11 +78,15 @@ writes_due (MessageProfile mechanism message true) scram same due = same
 writes_due (MessageProfile mechanism message false) scram same due = absurd (cc)
 
 -- and those that are written for a side
-pub writes_side : (connection : Kept) (scram : ScramStruct) (side : Side Profile) (kept : Snapshot)
-    → side_of kept side.state ≡ side → connection ≡ connection_struct kept.progress kept.expected kept.held.now
-    → WritesProfile scram side.state → WritesSide (record { connection = connection; scram = scram }) side
-writes_side connection scram side kept same is written = (
-  carried (λ (s : Side Profile). connection ≡ connection_struct s.progress s.expected s.held) (side_of kept side.state) side same is,
+pub writes_side : (connection : Kept) (scram : ScramStruct) (accepts : Bool) (side : Side Profile) (kept : Snapshot)
+    → side_of kept side.state ≡ side → kept.extended_headers ≡ accepts
+    → connection ≡ connection_struct kept.extended_headers kept.progress kept.expected kept.held.now
+    → WritesProfile scram side.state → WritesSide accepts (record { connection = connection; scram = scram }) side
+writes_side connection scram accepts side kept same flag is written = (
+  carried (λ (s : Side Profile). connection ≡ connection_struct accepts s.progress s.expected s.held)
+      (side_of kept side.state) side same
+      (carried (λ (b : Bool). connection ≡ connection_struct b kept.progress kept.expected kept.held.now)
+      kept.extended_headers accepts flag is),
   written,
 )
 
@@ -195,6 +199,17 @@ is_not_kept login client kept profile keeps wanting limit mock named is wrong = 
   inr (named, inr (refl, keeps_no_part client kept keeps wanting limit mock wrong, (profile, is))),
 )
 
+-- the words of a client for PLAIN
+pub no_user_text : (user password : List ℕ) → ¬ IsUtf8 user
+    → IsFirst (client_word_tests false user password) statuses.NotUtf8
+no_user_text user password wrong = inl (inl wrong, refl)
+
+pub no_password_text : (user password : List ℕ) → ¬ IsUtf8 password
+    → IsFirst (client_word_tests false user password) statuses.NotUtf8
+no_password_text user password wrong = inl (inr wrong, refl)
+
+pub ruleset client_words = (no_user_text, no_password_text)
+
 -- why a login has no profile
 pub no_scram : (login : Login) (status : Status) → login.mechanism ≡ 0 → IsNoLogin login.login status
     → IsNoProfile login status
@@ -236,13 +251,25 @@ message_begun login scram mechanism message begun after number same is sent not_
         (sym (not_sent other ∙ is)) (number, same, other)
 
 -- what a call makes of bytes
-pub received : (login : Login) (bytes nonce : List ℕ) (before after : Struct) (hostname : Option (List ℕ))
-    (side next : Side Profile) (taken : ℕ) (sent : List ℕ) → IsHostname login hostname → IsClient login before side
-    → side.progress ≡ InProgress → ClientReceives hostname side bytes nonce taken sent next
-    → IsClient login after next → WritesSide after next → ReceivesAsClient login bytes nonce before after taken (Ok sent)
+pub received : (login : Login) (bytes nonce : List ℕ) (before after : Struct) (accepts : Bool)
+    (hostname : Option (List ℕ)) (side next : Side Profile) (taken : ℕ) (sent : List ℕ)
+    → accepts ≡ accepts_extended before.connection → IsHostname login hostname → IsClient login before side
+    → side.progress ≡ InProgress → ClientTakes accepts hostname side bytes nonce taken sent next
+    → IsClient login after next → WritesSide accepts after next
+    → ReceivesAsClient login bytes nonce before after taken (Ok sent)
 unfolding ReceivesAsClient
-received login bytes nonce before after hostname side next taken sent named is wanting held last written =
-    (hostname, side, next, named, is, wanting, held, last, written)
+received login bytes nonce before after accepts hostname side next taken sent same named is wanting held last written = (
+  hostname,
+  side,
+  next,
+  named,
+  is,
+  wanting,
+  carried (λ (b : Bool). ClientTakes b hostname side bytes nonce taken sent next) accepts
+      (accepts_extended before.connection) same held,
+  last,
+  carried (λ (b : Bool). WritesSide b after next) accepts (accepts_extended before.connection) same written,
+)
 
 pub not_received : (login : Login) (bytes nonce : List ℕ) (before after : Struct) (taken : ℕ) (status : Status)
     → IsNoClient login before status → ReceivesAsClient login bytes nonce before after taken (Err status)

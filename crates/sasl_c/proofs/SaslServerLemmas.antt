@@ -17,7 +17,7 @@ use Rattle.fe2o3_scram.specs.ServerFirst.{ServerChallenge}
 use Rattle.fe2o3_sasl_core.specs.declared.any_mechanism.Selected.TheVariants.{First}
 use Rattle.fe2o3_sasl_core.specs.declared.plain_server.passwords.PlainPasswords.{PlainPasswords}
 use Rattle.fe2o3_sasl_core.specs.declared.plain_server.passwords.PlainPasswords.TheVariants as forms
-use Rattle.fe2o3_sasl_negotiation.specs.Sides.{ServerConnectionSide}
+use Rattle.fe2o3_sasl_negotiation.specs.Sides.{ServerConnectionSide, extended_in}
 use Rattle.fe2o3_sasl_negotiation.specs.declared.progress.CloseReason.{CloseReason}
 use Rattle.fe2o3_sasl_negotiation.specs.declared.progress.Progress.{Progress}
 use Rattle.fe2o3_sasl_negotiation.specs.declared.progress.Progress.TheVariants.{InProgress, Authenticated, Failed}
@@ -156,6 +156,7 @@ shows_none kept statuses.ServerError shown wrong is = absurd wrong
 shows_none kept statuses.EndOfInput shown wrong is = absurd wrong
 shows_none kept statuses.ChannelDataLength shown wrong is = absurd wrong
 shows_none kept statuses.NoSuchChannel shown wrong is = absurd wrong
+shows_none kept statuses.EmptyPassword shown wrong is = absurd wrong
 shows_none kept statuses.MixedDirections shown wrong is = absurd wrong
 shows_none kept statuses.ProhibitedCharacter shown wrong is = absurd wrong
 shows_none kept statuses.NoSuchChoice shown wrong is = absurd wrong
@@ -272,7 +273,7 @@ module _ (config : Config) (choice : Choice) (records : MultiRecords) (signed : 
 
   stands : (exchange : KeptExchange) → StandsSo (saved exchange)
   stands NothingKept = (fresh, fresh, refl)
-  stands (ChallengeOpen version challenge) = stands_at version (is_required challenge.header) _
+  stands (ChallengeOpen version challenge) = stands_at version (is_required challenge.header.flag) _
   stands (SignatureSent user) = stands_at signed false _
   stands (InitialResponseAsked init) = (fresh, fresh, refl)
 
@@ -302,7 +303,7 @@ module _ (config : Config) (choice : Choice) (records : MultiRecords) (signed : 
   keeps_open : (version : ScramVersion) (challenge : ServerChallenge)
       → kept_exchange (extended (ChallengeOpen version challenge)) ≡ ChallengeOpen version challenge
   keeps_open version challenge =
-      keeps_at version (is_required challenge.header) challenge (record_for records version challenge.user)
+      keeps_at version (is_required challenge.header.flag) challenge (record_for records version challenge.user)
 
   keeps_user : (version : ScramVersion) (user : List ℕ)
       → signed_exchange (password_user (password_server (settings_for config choice records
@@ -470,7 +471,7 @@ abbrev pub written_for : Progress → Served → ScramStruct
 written_for progress acceptor = state_struct progress (state_of acceptor)
 
 pub writes_side : (server : Struct) (next : ServerConnectionSide Served) → server ≡ struct_by state_of written_for next
-    → server ≡ side_struct (side_in next)
+    → server ≡ side_struct (extended_in next) (side_in next)
 writes_side server next written = written
 
 pub shows_side : (server : Struct) (next : ServerConnectionSide Served) → ShowsBy state_of Shown server next

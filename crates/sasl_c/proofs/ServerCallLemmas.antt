@@ -1,5 +1,5 @@
 -- What a call makes of a server's side of a connection (AMQP 1.0, part 5, section 5.3.2).
-use Rattle.std.proofs.Common.{arith, refl, sym, ap, inl, inr, ◌∙◌, ◌≡◌, ◌≢◌, ◌≤◌, ◌⊎◌, ◌++◌, ℕ, List, [], length, IsTrue}
+use Rattle.std.proofs.Common.{arith, Bool, refl, sym, ap, inl, inr, ◌∙◌, ◌≡◌, ◌≢◌, ◌≤◌, ◌⊎◌, ◌++◌, ℕ, List, [], length, IsTrue}
 use Rattle.std.specs.Prelude.{Option, Some, None, Result, Ok, Err, drop}
 use Rattle.std.proofs.lemmas.List.{length-append}
 use Rattle.fe2o3_sasl_wire.specs.declared.amqp_types.SaslCode.TheVariants as outcomes
@@ -12,7 +12,7 @@ use Rattle.fe2o3_scram.specs.Readings.{IsFirst, NoneHolds}
 use Rattle.fe2o3_sasl_core.specs.Bodies.{carried as sent_or_not, server_says}
 use Rattle.fe2o3_sasl_core.specs.Events.{Given, ServerSays, Challenged, Concluded, Failed}
 use Rattle.fe2o3_sasl_core.specs.Runs.{AcceptorGives}
-use Rattle.fe2o3_sasl_negotiation.specs.Sides.{ServerConnectionSide}
+use Rattle.fe2o3_sasl_negotiation.specs.Sides.{ServerConnectionSide, extended_in}
 use Rattle.fe2o3_sasl_negotiation.specs.declared.snapshot.Snapshot.{Snapshot}
 use Rattle.fe2o3_sasl_negotiation.specs.declared.progress.CloseReason.{CloseReason}
 use Rattle.fe2o3_sasl_negotiation.specs.declared.progress.CloseReason.TheVariants.{ProtocolHeaderMismatch, ReplyTooLarge}
@@ -23,8 +23,8 @@ use Rattle.fe2o3_sasl_negotiation.specs.declared.progress.Progress.TheVariants.{
 use Rattle.fe2o3_sasl_negotiation.specs.declared.progress.FrameKind.{FrameKind}
 use Rattle.fe2o3_sasl_negotiation.specs.declared.progress.FrameKind.TheVariants as turns
 use Rattle.fe2o3_sasl_negotiation.specs.Framing.{IsPart, framed, sasl_header}
-use Rattle.fe2o3_sasl_negotiation.specs.Negotiations.{Side, SideOutput, Sends, ReceivesAt, closes}
-use Rattle.fe2o3_sasl_negotiation.specs.ServerNegotiation.{Offers, ServerOutputs, ServerSideAnswers, ServerReceives, behind_header, offer_body}
+use Rattle.fe2o3_sasl_negotiation.specs.Negotiations.{Reading, Side, SideOutput, Sends, ReceivesAt, closes}
+use Rattle.fe2o3_sasl_negotiation.specs.ServerNegotiation.{Offers, ServerOutputs, ServerSideAnswers, behind_header, offer_body}
 use Rattle.fe2o3_sasl_negotiation.specs.Snapshot.{server_fits, server_due, IsKept, IsServerKept, side_of}
 use Rattle.fe2o3_sasl_negotiation.proofs.lemmas.UnitLemmas.{length-framed}
 use Rattle.sasl_c.specs.declared.connection.Connection.{Connection}
@@ -32,9 +32,9 @@ use Rattle.sasl_c.specs.declared.sasl_server.SaslServerConfig.{SaslServerConfig 
 use Rattle.sasl_c.specs.declared.sasl_server.SaslServer.{SaslServer as Struct}
 use Rattle.sasl_c.specs.declared.status.Status.{Status}
 use Rattle.sasl_c.specs.declared.status.Status.TheVariants as statuses
-use Rattle.sasl_c.specs.Connection.{Keeps, KeepsNoPart, side_tests, KeepsNoPartOf}
-use Rattle.sasl_c.specs.SaslServer.{HasNone, IsNoConfig, IsNoServer, IsServer, NotReceived, Received, ServerIsReached, ShowsBy, ShowsSide, ShowsState, State, server_machine, server_names, side_in, side_struct, state_of, struct_by}
-use Rattle.sasl_c.proofs.ClientReplyLemmas.{part_short}
+use Rattle.sasl_c.specs.Connection.{Keeps, KeepsNoPart, accepts_extended, side_tests, KeepsNoPartOf}
+use Rattle.sasl_c.specs.SaslServer.{HasNone, IsNoConfig, IsNoServer, IsServer, NotReceived, Received, ServerIsReached, ServerTakes, ShowsBy, ShowsSide, ShowsState, State, server_machine, server_names, side_in, side_struct, state_of, struct_by}
+use Rattle.sasl_c.proofs.ClientReplyLemmas.{answers_read, part_short}
 use Rattle.sasl_c.proofs.SaslClientLemmas.{one_due, tests_without_memory}
 use Rattle.sasl_c.proofs.SaslServerLemmas.{Served, Shown, is_server, no_server, shows_nothing, shows_side, writes_side, written_for}
 use Rattle.sasl_c.proofs.ServerReplyLemmas.{Closes, Goes, comes_goes}
@@ -195,55 +195,58 @@ behind config next other sent more same is comes limit held short =
       short = carried (λ (s : List ℕ). length s ≤ 520) more sent (sym is) short;
     })
 
-wanting_behind : (config : Config) (side next : Side State) (bytes nonce : List ℕ) (taken : ℕ) (sent : List ℕ)
-    → ReceivesAt InProgress (ServerSideAnswers server_names server_machine) side bytes nonce taken sent next
+wanting_behind : (config : Config) (accepts : Bool) (side next : Side State) (bytes nonce : List ℕ) (taken : ℕ)
+    (sent : List ℕ)
+    → ReceivesAt InProgress (Reading accepts (ServerSideAnswers server_names server_machine)) side bytes nonce taken sent next
     → side.progress ≡ InProgress → side.limit ≡ 512 → ServerIsReached config InProgress side.state → BehindCall config next sent
-wanting_behind config side next bytes nonce taken sent (inl (part, waits)) wants limit comes =
+wanting_behind config accepts side next bytes nonce taken sent (inl (part, waits)) wants limit comes =
     behind config next _ sent [] waits.2 waits.1
     (carried (λ (s : Progress). ServerIsReached config s side.state) InProgress side.progress (sym wants) comes) limit
     (part_short side.expected (side.held ++ bytes)
     (carried (λ n. IsPart side.expected n (side.held ++ bytes)) side.limit 512 limit part)) (omega arith)
-wanting_behind config side next bytes nonce taken sent (inr (inl (refused, ends))) wants limit comes =
+wanting_behind config accepts side next bytes nonce taken sent (inr (inl (refused, ends))) wants limit comes =
     behind config next _ sent [] ends.2 ends.1 tt limit (omega arith) (omega arith)
-wanting_behind config side next bytes nonce taken sent (inr (inr (answer, state, whole, answers, ends))) wants limit
-    comes =
-    let fine = answers_fine config side.expected side.state state nonce _ answer comes answers in
+wanting_behind config accepts side next bytes nonce taken sent (inr (inr (answer, state, whole, answers, ends))) wants
+    limit comes =
+    let reads = answers_read (ServerSideAnswers server_names server_machine) accepts side.expected side.state state nonce _
+    answer answers in
+    let fine = answers_fine config side.expected side.state state nonce reads.0 answer comes reads.1 in
     behind config next _ sent answer.sent ends.2 ends.1 fine.comes limit (omega arith) fine.short
 
-receives_behind : (config : Config) (before : Struct) (side next : Side State) (bytes nonce : List ℕ) (taken : ℕ)
-    (sent : List ℕ) → IsServer config before side → side.progress ≡ InProgress
-    → ServerReceives server_names server_machine side bytes nonce taken sent next → BehindCall config next sent
+receives_behind : (config : Config) (before : Struct) (accepts : Bool) (side next : Side State) (bytes nonce : List ℕ)
+    (taken : ℕ) (sent : List ℕ) → IsServer config before side → side.progress ≡ InProgress
+    → ServerTakes accepts server_names server_machine side bytes nonce taken sent next → BehindCall config next sent
 unfolding IsServer
-receives_behind config before side next bytes nonce taken sent is wants held =
-    wanting_behind config side next bytes nonce taken sent
-    (carried (λ s. ReceivesAt s (ServerSideAnswers server_names server_machine) side bytes nonce taken sent next)
-    side.progress InProgress wants held) wants is.1
+receives_behind config before accepts side next bytes nonce taken sent is wants held =
+    wanting_behind config accepts side next bytes nonce taken sent
+    (carried (λ s. ReceivesAt s (Reading accepts (ServerSideAnswers server_names server_machine)) side bytes nonce taken
+    sent next) side.progress InProgress wants held) wants is.1
     (carried (λ (s : Progress). ServerIsReached config s side.state) side.progress InProgress wants is.2)
 
-pub behind_comes : (config : Config) (before : Struct) (side next : Side State) (bytes nonce : List ℕ) (taken : ℕ)
-    (sent : List ℕ) → IsServer config before side → side.progress ≡ InProgress
-    → ServerReceives server_names server_machine side bytes nonce taken sent next
+pub behind_comes : (config : Config) (before : Struct) (accepts : Bool) (side next : Side State) (bytes nonce : List ℕ)
+    (taken : ℕ) (sent : List ℕ) → IsServer config before side → side.progress ≡ InProgress
+    → ServerTakes accepts server_names server_machine side bytes nonce taken sent next
     → ServerIsReached config next.progress next.state
-behind_comes config before side next bytes nonce taken sent is wants held =
-    (receives_behind config before side next bytes nonce taken sent is wants held).comes
+behind_comes config before accepts side next bytes nonce taken sent is wants held =
+    (receives_behind config before accepts side next bytes nonce taken sent is wants held).comes
 
-pub behind_limit : (config : Config) (before : Struct) (side next : Side State) (bytes nonce : List ℕ) (taken : ℕ)
-    (sent : List ℕ) → IsServer config before side → side.progress ≡ InProgress
-    → ServerReceives server_names server_machine side bytes nonce taken sent next → next.limit ≡ 512
-behind_limit config before side next bytes nonce taken sent is wants held =
-    (receives_behind config before side next bytes nonce taken sent is wants held).limit
+pub behind_limit : (config : Config) (before : Struct) (accepts : Bool) (side next : Side State) (bytes nonce : List ℕ)
+    (taken : ℕ) (sent : List ℕ) → IsServer config before side → side.progress ≡ InProgress
+    → ServerTakes accepts server_names server_machine side bytes nonce taken sent next → next.limit ≡ 512
+behind_limit config before accepts side next bytes nonce taken sent is wants held =
+    (receives_behind config before accepts side next bytes nonce taken sent is wants held).limit
 
-pub behind_held : (config : Config) (before : Struct) (side next : Side State) (bytes nonce : List ℕ) (taken : ℕ)
-    (sent : List ℕ) → IsServer config before side → side.progress ≡ InProgress
-    → ServerReceives server_names server_machine side bytes nonce taken sent next → length next.held ≤ 512
-behind_held config before side next bytes nonce taken sent is wants held =
-    (receives_behind config before side next bytes nonce taken sent is wants held).held
+pub behind_held : (config : Config) (before : Struct) (accepts : Bool) (side next : Side State) (bytes nonce : List ℕ)
+    (taken : ℕ) (sent : List ℕ) → IsServer config before side → side.progress ≡ InProgress
+    → ServerTakes accepts server_names server_machine side bytes nonce taken sent next → length next.held ≤ 512
+behind_held config before accepts side next bytes nonce taken sent is wants held =
+    (receives_behind config before accepts side next bytes nonce taken sent is wants held).held
 
-pub behind_short : (config : Config) (before : Struct) (side next : Side State) (bytes nonce : List ℕ) (taken : ℕ)
-    (sent : List ℕ) → IsServer config before side → side.progress ≡ InProgress
-    → ServerReceives server_names server_machine side bytes nonce taken sent next → length sent ≤ 520
-behind_short config before side next bytes nonce taken sent is wants held =
-    (receives_behind config before side next bytes nonce taken sent is wants held).short
+pub behind_short : (config : Config) (before : Struct) (accepts : Bool) (side next : Side State) (bytes nonce : List ℕ)
+    (taken : ℕ) (sent : List ℕ) → IsServer config before side → side.progress ≡ InProgress
+    → ServerTakes accepts server_names server_machine side bytes nonce taken sent next → length sent ≤ 520
+behind_short config before accepts side next bytes nonce taken sent is wants held =
+    (receives_behind config before accepts side next bytes nonce taken sent is wants held).short
 
 -- ---- the structs of a call
 
@@ -261,15 +264,15 @@ taken_up config before kept state keeps wants limit comes shows = (
 
 pub received : (config : Config) (bytes nonce : List ℕ) (before after : Struct) (side next : Side State) (taken : ℕ)
     (sent : List ℕ) → IsServer config before side → side.progress ≡ InProgress
-    → ServerReceives server_names server_machine side bytes nonce taken sent next → IsServer config after next
-    → after ≡ side_struct next → Received config bytes nonce before after taken sent
+    → ServerTakes (accepts_extended before.connection) server_names server_machine side bytes nonce taken sent next → IsServer config after next
+    → after ≡ side_struct (accepts_extended before.connection) next → Received config bytes nonce before after taken sent
 unfolding Received
 received config bytes nonce before after side next taken sent is wants held then written =
     (side, next, is, wants, held, then, written)
 
 pub too_long : (config : Config) (bytes nonce : List ℕ) (before : Struct) (side next : Side State) (taken : ℕ)
     (sent : List ℕ) → IsServer config before side → side.progress ≡ InProgress
-    → ServerReceives server_names server_machine side bytes nonce taken sent next
+    → ServerTakes (accepts_extended before.connection) server_names server_machine side bytes nonce taken sent next
     → ((other : Struct) → ¬ IsServer config other next)
     → NotReceived config bytes nonce before statuses.TooLong
 unfolding NotReceived
@@ -339,7 +342,8 @@ not_kept config bytes nonce before kept state status keeps wants limit mock come
 -- what comes of a side that was taken up
 module _ (config : Config) (bytes nonce : List ℕ) (before : Struct) (kept : Snapshot) (state : State)
     (keeps : Keeps before.connection kept.progress kept.expected kept.held.now) (wants : kept.progress ≡ InProgress)
-    (limit : kept.limit ≡ 512) (known : ServerIsReached config InProgress state × ShowsState before.scram InProgress state) where
+    (limit : kept.limit ≡ 512) (extended : kept.extended_headers ≡ accepts_extended before.connection)
+    (known : ServerIsReached config InProgress state × ShowsState before.scram InProgress state) where
   abbrev taken_side : Side State
   taken_side = side_of kept state
 
@@ -349,23 +353,33 @@ module _ (config : Config) (bytes nonce : List ℕ) (before : Struct) (kept : Sn
   -- a side that it can be behind these bytes
   abbrev Follows : ℕ → List ℕ → ServerConnectionSide Served → Type 0
   Follows taken sent next =
-      ServerReceives server_names server_machine taken_side bytes nonce taken sent (side_in next)
+      ServerTakes kept.extended_headers server_names server_machine taken_side bytes nonce taken sent (side_in next)
+
+  -- what it takes by the struct
+  takes : (taken : ℕ) (sent : List ℕ) (next : ServerConnectionSide Served) → Follows taken sent next
+      → ServerTakes (accepts_extended before.connection) server_names server_machine taken_side bytes nonce taken sent
+      (side_in next)
+  takes taken sent next held =
+      carried (λ (b : Bool). ServerTakes b server_names server_machine taken_side bytes nonce taken sent (side_in next))
+      kept.extended_headers (accepts_extended before.connection) extended held
 
   pub answered : (after : Struct) (taken : ℕ) (sent : List ℕ)
-      → (next : ServerConnectionSide Served) × Follows taken sent next × ShowsBy state_of Shown after next
-      × (after ≡ struct_by state_of written_for next) → Received config bytes nonce before after taken sent
-  answered after taken sent (next, held, shows, written) =
-      received config bytes nonce before after taken_side (side_in next) taken sent is wants held
+      → (next : ServerConnectionSide Served) × Follows taken sent next × (extended_in next ≡ kept.extended_headers)
+      × ShowsBy state_of Shown after next × (after ≡ struct_by state_of written_for next)
+      → Received config bytes nonce before after taken sent
+  answered after taken sent (next, held, flag, shows, written) =
+      received config bytes nonce before after taken_side (side_in next) taken sent is wants (takes taken sent next held)
       (is_server config after (side_in next) (shows_side after next shows)
-      (behind_comes config before taken_side (side_in next) bytes nonce taken sent is wants held)
-      (behind_limit config before taken_side (side_in next) bytes nonce taken sent is wants held))
-      (writes_side after next written)
+      (behind_comes config before kept.extended_headers taken_side (side_in next) bytes nonce taken sent is wants held)
+      (behind_limit config before kept.extended_headers taken_side (side_in next) bytes nonce taken sent is wants held))
+      (carried (λ (b : Bool). after ≡ side_struct b (side_in next)) (extended_in next) (accepts_extended before.connection)
+      (flag ∙ extended) (writes_side after next written))
 
   pub short_answer : (after : Struct) (taken : ℕ) (sent : List ℕ)
-      → (next : ServerConnectionSide Served) × Follows taken sent next × ShowsBy state_of Shown after next
-      × (after ≡ struct_by state_of written_for next) → length sent ≤ 520
-  short_answer after taken sent (next, held, shows, written) =
-      behind_short config before taken_side (side_in next) bytes nonce taken sent is wants held
+      → (next : ServerConnectionSide Served) × Follows taken sent next × (extended_in next ≡ kept.extended_headers)
+      × ShowsBy state_of Shown after next × (after ≡ struct_by state_of written_for next) → length sent ≤ 520
+  short_answer after taken sent (next, held, flag, shows, written) =
+      behind_short config before kept.extended_headers taken_side (side_in next) bytes nonce taken sent is wants held
 
   pub unanswered : (status : Status) → shown kept.user ≡ None → ((status ≡ statuses.InvalidSnapshot) × ¬ IsServerKept kept)
       ⊎ ((status ≡ statuses.TooLong) × ((next : ServerConnectionSide Served) × (taken : ℕ) × (sent : List ℕ)
@@ -374,6 +388,6 @@ module _ (config : Config) (bytes nonce : List ℕ) (before : Struct) (kept : Sn
       not_kept config bytes nonce before kept state status keeps wants limit mock known.0 wrong
   unanswered status mock (inr (same, (next, taken, sent, held, none))) =
       carried (NotReceived config bytes nonce before) statuses.TooLong status (sym same)
-      (too_long config bytes nonce before taken_side (side_in next) taken sent is wants held
+      (too_long config bytes nonce before taken_side (side_in next) taken sent is wants (takes taken sent next held)
       (no_server config (side_in next) (shows_nothing next none)
-      (behind_held config before taken_side (side_in next) bytes nonce taken sent is wants held)))
+      (behind_held config before kept.extended_headers taken_side (side_in next) bytes nonce taken sent is wants held)))

@@ -9,8 +9,7 @@ use Rattle.std.proofs.lemmas.Slice.Eq.{bytes_eq-Decides}
 use Rattle.std.specs.Cmp.Lexicographic.{pointwise}
 use Rattle.std.specs.Prelude.{Bool, cond, nat_eq, true}
 use Rattle.fe2o3_scram.proofs.lemmas.messages.OneValueLemmas.{one_client_first_value}
-use Rattle.fe2o3_scram.specs.declared.scram_messages.client_channel.ClientChannel.{ClientChannel}
-use Rattle.fe2o3_scram.specs.ChannelBinding.{expected_channel, is_strict}
+use Rattle.fe2o3_scram.specs.ChannelBinding.{is_strict, ClientHeader, expected_header}
 use Rattle.fe2o3_scram.specs.ClientFinal.{ReachesBase64, Server, server_of}
 use Rattle.fe2o3_scram.specs.ClientFirst.{ClientFirst, ReadsClientFirst}
 use Rattle.fe2o3_scram.specs.declared.scram_messages.server_rules.ServerRules.{ServerRules}
@@ -194,26 +193,26 @@ keeps_none rules kept before text challenge status is wrong = inr (inl (challeng
 -- memory is requested where the message reaches a base64 text
 pub final_asks : (rules : ServerRules) (kept : Kept) (before : Struct) (text : List ℕ) (challenge : ServerChallenge)
     (shown : VersionedRecord) (why : ServerScramErrorKind) (status : Status) → IsOpenFor rules before challenge → ShowsRecord kept shown
-    → (why ≡ NoMemory → ReachesBase64 (expected_channel rules.channels challenge.header) challenge.nonce text)
+    → (why ≡ NoMemory → ReachesBase64 (expected_header rules.channels challenge.header) challenge.nonce text)
     → status ≡ server_status why → status ≡ statuses.OutOfMemory → FinalAsks rules kept text before
 final_asks rules kept before text challenge shown why status is shows comes gives memory =
     ((challenge, is, comes (server_is_memory why status gives memory)), (shown, shows))
 
 -- and costs no HMAC value for a message that is rejected
 pub memory_costs : (A : Type 0) (rules : ServerRules) (kept : Kept) (before : Struct) (text : List ℕ)
-    (challenge : ServerChallenge) (channel : ClientChannel) (strict : Bool) (shown : VersionedRecord)
+    (challenge : ServerChallenge) (header : ClientHeader) (strict : Bool) (shown : VersionedRecord)
     (why : ServerScramErrorKind) (status : Status) (counted after : ℕ) → IsOpenFor rules before challenge
-    → ShowsRecord kept shown → channel ≡ expected_channel rules.channels challenge.header → strict ≡ is_strict rules
+    → ShowsRecord kept shown → header ≡ expected_header rules.channels challenge.header → strict ≡ is_strict rules
     → FinalCosts {A = A}
-    (server_of shown.version channel strict challenge.bare challenge.first challenge.nonce shown.stored) text
+    (server_of shown.version header strict challenge.bare challenge.first challenge.nonce shown.stored) text
     (Err why) counted after → status ≡ server_status why → status ≡ statuses.OutOfMemory
     → MemoryCosts rules kept text before counted after
-memory_costs A rules kept before text challenge channel strict shown why status counted after is shows same too costs
+memory_costs A rules kept before text challenge header strict shown why status counted after is shows same too costs
     gives memory =
-    let server : ClientChannel → Bool → Server =
+    let server : ClientHeader → Bool → Server =
     λ known s. server_of shown.version known s challenge.bare challenge.first challenge.nonce shown.stored in
-    let asked = expected_channel rules.channels challenge.header in
-    let expected = carried (λ known. FinalCosts {A = A} (server known strict) text (Err why) counted after) channel
+    let asked = expected_header rules.channels challenge.header in
+    let expected = carried (λ known. FinalCosts {A = A} (server known strict) text (Err why) counted after) header
     asked same costs in
     let tested = carried (λ s. FinalCosts {A = A} (server asked s) text (Err why) counted after) strict
     (is_strict rules) too expected in (

@@ -11,7 +11,7 @@ use Rattle.fe2o3_scram.specs.declared.scram_messages.channel_binding_flag.Channe
 use Rattle.fe2o3_scram.specs.declared.scram_messages.channel_binding_flag.ChannelBindingFlag.TheVariants.{NotSupported, ClientSupports, Required}
 use Rattle.fe2o3_scram.specs.declared.scram_messages.error.ServerScramErrorKind.{ServerScramErrorKind}
 use Rattle.fe2o3_scram.specs.declared.scram_messages.server_rules.ServerRules.{ServerRules}
-use Rattle.fe2o3_scram.specs.ChannelBinding.{TakesHeader, is_required}
+use Rattle.fe2o3_scram.specs.ChannelBinding.{is_required, AcceptsFlag}
 use Rattle.fe2o3_scram.specs.ClientFirst.{ClientFirst, ReadsClientFirst}
 use Rattle.fe2o3_scram.specs.Credentials.{Provider, Record}
 use Rattle.fe2o3_scram.specs.Mixed.{MultiRecords}
@@ -95,8 +95,8 @@ with_state versions.Sha512 state states versions.Sha512 = state
 with_state version state states other = states other
 
 -- a client's header binds a channel exactly at a server with -PLUS
-binds_with : (plus : Bool) (rules : ServerRules) (header : ChannelBindingFlag)
-    → TakesHeader (scram_rules plus rules) header → is_required header ≡ plus
+binds_with : (plus : Bool) (rules : ServerRules) (flag : ChannelBindingFlag)
+    → AcceptsFlag (scram_rules plus rules) flag → is_required flag ≡ plus
 binds_with true rules NotSupported takes = absurd takes
 binds_with true rules ClientSupports takes = absurd takes
 binds_with true rules (Required kind) takes = refl
@@ -105,9 +105,9 @@ binds_with false rules ClientSupports takes = refl
 binds_with false rules (Required kind) takes = absurd takes
 
 read_with : (plus : Bool) (rules : ServerRules) (text : List ℕ) (client : ClientFirst)
-    → ReadsClientFirst (scram_rules plus rules) text (Ok client) → is_required client.header ≡ plus
+    → ReadsClientFirst (scram_rules plus rules) text (Ok client) → is_required client.header.flag ≡ plus
 unfolding ReadsClientFirst
-read_with plus rules text client (none, names) = binds_with plus rules client.header names.header
+read_with plus rules text client (none, names) = binds_with plus rules client.header.flag names.header.0
 
 module _ (config : Config) (choice : Choice) (records : MultiRecords) where
   abbrev settings : PasswordSettings
@@ -121,7 +121,7 @@ module _ (config : Config) (choice : Choice) (records : MultiRecords) where
   Reaches plus version reply state =
       ((challenge : ServerChallenge) × (text : List ℕ) × (reply ≡ frames.Challenge text)
       × (state ≡ ServerFirstSent challenge (record_for records version challenge.user))
-      × (is_required challenge.header ≡ plus))
+      × (is_required challenge.header.flag ≡ plus))
       ⊎ ((user text : List ℕ) × (reply ≡ frames.Outcome outcomes.Ok (Some text)) × (state ≡ ServerFinalSent user))
 
   abbrev ReachesBy : Bool → ScramVersion → SaslFrame → Acceptor → Type 0
@@ -159,7 +159,7 @@ module _ (config : Config) (choice : Choice) (records : MultiRecords) where
           message,
           same,
           then ∙ ap (opened challenge) (sym (ap or_no_record found)),
-          ap (λ (c : ServerChallenge). is_required c.header) made ∙ read_with plus settings.rules text client read,
+          ap (λ (c : ServerChallenge). is_required c.header.flag) made ∙ read_with plus settings.rules text client read,
         ),
         is,
       )
@@ -453,7 +453,7 @@ module _ (config : Config) (choice : Choice) (records : MultiRecords) (sum : sum
   reached_open : (version : ScramVersion) (plus : Bool) (challenge : ServerChallenge) (state : ServerState)
       (moved : PasswordState) (phase : Phase)
       → state ≡ ServerFirstSent challenge (record_for records version challenge.user)
-      → is_required challenge.header ≡ plus → OfChallenge phase → Behind config choice records version plus state moved
+      → is_required challenge.header.flag ≡ plus → OfChallenge phase → Behind config choice records version plus state moved
       → ServerIsReached config InProgress (moved_to moved phase)
   unfolding IsOf
   reached_open version plus challenge state moved phase same binds in_phase behind =
@@ -461,7 +461,7 @@ module _ (config : Config) (choice : Choice) (records : MultiRecords) (sum : sum
     where
       go : InExchange (record {
         version = version;
-        plus = is_required challenge.header;
+        plus = is_required challenge.header.flag;
         state = ServerFirstSent challenge (record_for records version challenge.user);
       }) moved → ServerIsReached config InProgress (moved_to moved phase)
       go (bound, plain, selected, stands, is) = (

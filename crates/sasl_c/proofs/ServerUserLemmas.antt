@@ -1,5 +1,5 @@
 -- The user name that a frame claims to a server (RFC 5802, section 7; RFC 4616, section 2).
-use Rattle.std.proofs.Common.{arith, refl, sym, inl, inr, ◌∙◌, ◌≡◌, ◌≢◌, ℕ, List}
+use Rattle.std.proofs.Common.{arith, ap, Bool, refl, sym, inl, inr, ◌∙◌, ◌≡◌, ◌≢◌, ℕ, List}
 use Rattle.std.specs.Prelude.{IfOk, MatchOption, Option, Some, None, Result, Ok, Err}
 use Rattle.fe2o3_sasl_wire.specs.declared.sasl_frames.error.Error.{Error}
 use Rattle.fe2o3_sasl_wire.specs.SaslFrames as frames
@@ -16,14 +16,15 @@ use Rattle.fe2o3_sasl_negotiation.specs.declared.progress.Expected.TheVariants.{
 use Rattle.fe2o3_sasl_negotiation.specs.declared.progress.Progress.TheVariants.{InProgress}
 use Rattle.fe2o3_sasl_negotiation.specs.declared.progress.FrameKind.{FrameKind}
 use Rattle.fe2o3_sasl_negotiation.specs.declared.progress.FrameKind.TheVariants as turns
+use Rattle.fe2o3_sasl_negotiation.specs.Framing.{body_read}
 use Rattle.fe2o3_sasl_negotiation.specs.Negotiations.{Completes}
 use Rattle.fe2o3_sasl_negotiation.specs.Snapshot.{IsKept, side_kept}
 use Rattle.sasl_c.specs.declared.sasl_server.SaslServer.{SaslServer as Struct}
 use Rattle.sasl_c.specs.declared.server.ScramServer.{ScramServer as ScramStruct}
 use Rattle.sasl_c.specs.declared.status.Status.{Status}
 use Rattle.sasl_c.specs.declared.status.Status.TheVariants as statuses
-use Rattle.sasl_c.specs.Connection.{Keeps, side_tests}
-use Rattle.sasl_c.specs.SaslServer.{AnswerNeedsMemory, AnswerNames, BodyAsks, BodyNames, BodyNamesNoUser, FrameAsks, FrameNames, Named, NotNamed, ResponseAsks}
+use Rattle.sasl_c.specs.Connection.{Keeps, accepts_extended, side_tests}
+use Rattle.sasl_c.specs.SaslServer.{AnswerNeedsMemory, AnswerNames, BodyAsks, BodyNames, BodyNamesNoUser, FrameAsks, FrameNames, Named, NotNamed, ResponseAsks, read_by}
 use Rattle.sasl_c.specs.Peeks.{AwaitsFrame}
 use Rattle.sasl_c.specs.Server.{AsksHostname, HasAsked, IsOpen, PendingInit, open_number}
 use Rattle.sasl_c.proofs.PeekLemmas.{awaits}
@@ -55,7 +56,7 @@ pub ruleset response_user = (response_claims, response_claims_none, response_ask
 -- a struct in which a challenge is open shows no init that was asked
 other_states : (scram : ScramStruct) (challenge : ServerChallenge) (init : PendingInit) → IsOpen scram challenge
     → HasAsked scram init → ⊥
-other_states scram challenge init shows asked = differ challenge.header init.hostname shows.0 asked.0
+other_states scram challenge init shows asked = differ challenge.header.flag init.hostname shows.0 asked.0
   where
     differ : (header : ChannelBindingFlag) (hostname : Option (List ℕ)) → scram.state ≡ open_number header
         → AsksHostname scram hostname → ⊥
@@ -148,18 +149,28 @@ pub ruleset body_user = (body_asks, body_names, body_names_no_user, body_unread)
 one_turn : (expected : Expected) (turn other : FrameKind) → expected ≡ Frame turn → expected ≡ Frame other → turn ≡ other
 one_turn expected turn other is too = let same : Frame turn ≡ Frame other = sym is ∙ too in cc
 
-pub bytes_name : (server : Struct) (kept : Snapshot) (bytes body name : List ℕ) (turn other : FrameKind)
-    → Keeps server.connection kept.progress kept.expected kept.held.now → kept.limit ≡ 512 → kept.expected ≡ Frame turn
-    → Completes (side_kept kept) bytes other body → BodyNames server.scram turn body name
-    → Named server bytes name
+-- the body that a side reads, by what the struct says of extended headers
+read_body : (server : Struct) (kept : Snapshot) (received body : List ℕ)
+    → kept.extended_headers ≡ accepts_extended server.connection → body ≡ body_read kept.extended_headers received
+    → body ≡ read_by server received
+read_body server kept received body flag reads = reads ∙ ap (λ (b : Bool). body_read b received) flag
+
+pub bytes_name : (server : Struct) (kept : Snapshot) (bytes received body name : List ℕ) (turn other : FrameKind)
+    → Keeps server.connection kept.progress kept.expected kept.held.now → kept.limit ≡ 512
+    → kept.extended_headers ≡ accepts_extended server.connection → kept.expected ≡ Frame turn
+    → Completes (side_kept kept) bytes other received → body ≡ body_read kept.extended_headers received
+    → BodyNames server.scram turn body name → Named server bytes name
 unfolding Named
-bytes_name server kept bytes body name turn other keeps limit expected done names = (
+bytes_name server kept bytes received body name turn other keeps limit flag expected done reads names = (
   side_kept kept,
   other,
-  body,
+  received,
   (keeps, limit),
   done,
-  carried (λ (t : FrameKind). BodyNames server.scram t body name) turn other (one_turn kept.expected turn other expected done.1) names,
+  carried (λ (t : FrameKind). BodyNames server.scram t (read_by server received) name) turn other
+      (one_turn kept.expected turn other expected done.1)
+      (carried (λ (b : List ℕ). BodyNames server.scram turn b name) body (read_by server received)
+      (read_body server kept received body flag reads) names),
 )
 
 pub no_connection : (server : Struct) (bytes : List ℕ) (status : Status)
@@ -186,12 +197,13 @@ completes_none server kept bytes keeps wants limit none = inr (
   inr (refl, (side_kept kept, (keeps, limit), wants, inl none)),
 )
 
-pub names_no_user : (server : Struct) (kept : Snapshot) (bytes body : List ℕ) (turn other : FrameKind)
+pub names_no_user : (server : Struct) (kept : Snapshot) (bytes received body : List ℕ) (turn other : FrameKind)
     → Keeps server.connection kept.progress kept.expected kept.held.now → kept.progress ≡ InProgress → kept.limit ≡ 512
-    → kept.expected ≡ Frame turn → Completes (side_kept kept) bytes other body
+    → kept.extended_headers ≡ accepts_extended server.connection → kept.expected ≡ Frame turn
+    → Completes (side_kept kept) bytes other received → body ≡ body_read kept.extended_headers received
     → BodyNamesNoUser server.scram turn body → NotNamed server bytes statuses.NamesNoUser
 unfolding NotNamed
-names_no_user server kept bytes body turn other keeps wants limit expected done mock = inr (
+names_no_user server kept bytes received body turn other keeps wants limit flag expected done reads mock = inr (
   none_holds server.connection kept keeps wants,
   inr (
     refl,
@@ -201,10 +213,12 @@ names_no_user server kept bytes body turn other keeps wants limit expected done 
       wants,
       inr (
         other,
-        body,
+        received,
         done,
-        carried (λ (t : FrameKind). BodyNamesNoUser server.scram t body) turn other (one_turn kept.expected turn other expected done.1)
-            mock,
+        carried (λ (t : FrameKind). BodyNamesNoUser server.scram t (read_by server received)) turn other
+            (one_turn kept.expected turn other expected done.1)
+            (carried (λ (b : List ℕ). BodyNamesNoUser server.scram turn b) body (read_by server received)
+            (read_body server kept received body flag reads) mock),
       ),
     ),
   ),

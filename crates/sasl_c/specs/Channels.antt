@@ -1,6 +1,6 @@
 -- What a client says of its channel, as C passes it (RFC 5802, section 6).
-use Rattle.std.specs.Prelude.{◌≡◌, ◌≢◌, ◌<◌, ◌≤◌, ◌⊎◌, ℕ, List, [], ◌∷◌, take, nat_eq, if◌then◌else◌}
-use Rattle.fe2o3_scram.specs.ChannelBinding.{data_bytes}
+use Rattle.std.specs.Prelude.{◌≡◌, ◌≢◌, ◌<◌, ◌≤◌, ◌⊎◌, ℕ, None, List, [], ◌∷◌, take, nat_eq, if◌then◌else◌}
+use Rattle.fe2o3_scram.specs.ChannelBinding.{data_bytes, ClientHeader}
 use Rattle.fe2o3_scram.specs.declared.channel_binding.ChannelKind.{ChannelKind}
 use Rattle.fe2o3_scram.specs.declared.channel_binding.ChannelKind.TheVariants.{TlsUnique, TlsServerEndPoint, TlsExporter}
 use Rattle.fe2o3_scram.specs.declared.scram_messages.client_channel.ClientChannel.{ClientChannel}
@@ -22,6 +22,10 @@ IsChannel number kind len array Absent = number ≡ 0
 IsChannel number kind len array NotOffered = number ≡ 1
 IsChannel number kind len array (Bound binding) = (number ≡ 2) × (kind ≡ kind_number binding.kind)
     × (data_bytes binding.cbind_data ≡ take len array) × (1 ≤ len) × (len ≤ 64)
+
+-- the header of a client that says this of its channel and acts for itself
+abbrev pub header_with : ClientChannel → ClientHeader
+header_with channel = record { channel = channel; acts_for = None }
 
 -- they say nothing of a channel: the first number is none of these, or is that of a channel of an unknown kind
 abbrev pub NamesNoChannel : ℕ → ℕ → Type 0

@@ -2,7 +2,7 @@
 use Rattle.std.specs.Prelude.{◌≡◌, ◌≢◌, ◌<◌, ◌≤◌, ◌⊎◌, ℕ, Bool, true, false, nat_eq, if◌then◌else◌, List, [], ◌∷◌, length, replicate, take, Option, Some, None, Result, Ok, Err}
 use Rattle.std.specs.Str.{IsUtf8}
 use Rattle.fe2o3_scram.specs.declared.scram_messages.client_channel.ClientChannel.{ClientChannel}
-use Rattle.fe2o3_scram.specs.ChannelBinding.{flag_of}
+use Rattle.fe2o3_scram.specs.ChannelBinding.{header_of}
 use Rattle.fe2o3_scram.specs.declared.hmac.ScramVersion.{ScramVersion}
 use Rattle.fe2o3_scram.specs.declared.scram_messages.error.ScramErrorKind.{ScramErrorKind}
 use Rattle.fe2o3_scram.specs.declared.scram_messages.error.ScramErrorKind.TheVariants.{IllegalClientState, ServerSignatureMismatch, Utf8Error}
@@ -10,7 +10,7 @@ use Rattle.fe2o3_scram.specs.ClientFinal.{Answer}
 use Rattle.fe2o3_scram.specs.ClientFirst.{client_first_bare, client_first_with}
 use Rattle.fe2o3_scram.specs.ClientKeys.{ClientKeys}
 use Rattle.fe2o3_scram.specs.ClientSecret.{Secret, Password, Keys, Both}
-use Rattle.fe2o3_scram.specs.ScramClient.{AnswersIn, VerifiesIn, ClientSide, ClientState, ClientInitial, ClientFirstSent, ClientFinalSent, SignatureVerified, Complete, started}
+use Rattle.fe2o3_scram.specs.ScramClient.{AnswersIn, VerifiesIn, ClientSide, ClientState, ClientInitial, ClientFirstSent, ClientFinalSent, SignatureVerified, Complete, started, header_in}
 use Rattle.fe2o3_scram.specs.Hmac.{zero_filled}
 use Rattle.fe2o3_scram.specs.Readings.{IsFirst, NoneHolds}
 use Rattle.fe2o3_scram.specs.ServerFinal.{ReachesVerifier}
@@ -40,6 +40,11 @@ IsSecretOf login (Both password keys) = (login.secret ≡ 2) × IsPassword login
 abbrev pub is_set : ℕ → Bool
 is_set flag = if nat_eq flag 0 then false else true
 
+-- the number that a call writes for a flag
+abbrev pub flag_number : Bool → ℕ
+flag_number true = 1
+flag_number false = 0
+
 -- what a login says of its channel
 abbrev pub IsChannelOf : Login → ClientChannel → Type 0
 IsChannelOf login channel = IsChannel login.channel_use login.channel_kind login.channel_data_len login.channel_data channel
@@ -52,6 +57,7 @@ pub record IsClientOf (login : Login) (side : ClientSide) : Type 0 where
   pub least : side.limits.min_iterations ≡ login.min_iterations
   pub most : side.limits.max_iterations ≡ login.max_iterations
   pub channel : IsChannelOf login side.channel
+  pub own : side.acts_for ≡ None
   pub strict : side.strict ≡ is_set login.strict
   pub signed : side.signature_by_challenge ≡ is_set login.signature_by_challenge
 
@@ -191,7 +197,7 @@ WritesClient written (Complete keys) = (kept : KeysStruct) × WritesKeys kept ke
 -- the client-first message
 abbrev pub Starts : Login → List ℕ → Result (List ℕ) Status → Type 0
 Starts login nonce (Ok message) = (side : ClientSide) × IsClientOf login side
-    × (message ≡ client_first_with (flag_of side.channel) side.user (base64_text nonce))
+    × (message ≡ client_first_with (header_of (header_in side)) side.user (base64_text nonce))
 Starts login nonce (Err status) = IsNoLogin login status
 
 -- the struct after it

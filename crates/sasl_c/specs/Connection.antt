@@ -20,6 +20,7 @@ use Rattle.fe2o3_sasl_negotiation.specs.Negotiations.{Side}
 use Rattle.sasl_c.specs.declared.connection.Connection.{Connection as Struct}
 use Rattle.sasl_c.specs.declared.status.Status.{Status}
 use Rattle.sasl_c.specs.declared.status.Status.TheVariants as statuses
+use Rattle.sasl_c.specs.Client.{flag_number, is_set}
 use Rattle.sasl_c.specs.Status.{client_status, status_number}
 
 -- the number of what is expected
@@ -85,14 +86,19 @@ kept_bytes Authenticated held = held
 kept_bytes (Failed (closed.ProtocolHeaderMismatch received)) held = received
 kept_bytes (Failed why) held = held
 
--- the struct that a call writes for a side: zeros after the bytes that are held
-abbrev pub connection_struct : Progress → Expected → List ℕ → Struct
-connection_struct progress expected held = record {
+-- whether the side of a struct accepts frames with an extended header (part 2, section 2.3.1)
+abbrev pub accepts_extended : Struct → Bool
+accepts_extended kept = is_set kept.extended_headers
+
+-- the struct that a call writes for a side, by whether it accepts extended headers: zeros after the bytes that are held
+abbrev pub connection_struct : Bool → Progress → Expected → List ℕ → Struct
+connection_struct accepts progress expected held = record {
   progress = progress_code progress;
   why = why_code progress;
   expected = expected_number expected;
   held_len = length (kept_bytes progress held);
   held = zero_filled 512 (kept_bytes progress held);
+  extended_headers = flag_number accepts;
 }
 
 -- the struct has this progress of a side

@@ -6,13 +6,13 @@ use Rattle.fe2o3_sasl_negotiation.specs.declared.progress.Expected.TheVariants.{
 use Rattle.fe2o3_sasl_negotiation.specs.declared.progress.FrameKind.{FrameKind}
 use Rattle.fe2o3_sasl_negotiation.specs.declared.progress.FrameKind.TheVariants as turns
 use Rattle.fe2o3_sasl_negotiation.specs.declared.progress.Progress.TheVariants.{InProgress}
-use Rattle.fe2o3_sasl_negotiation.specs.Framing.{IsPart}
+use Rattle.fe2o3_sasl_negotiation.specs.Framing.{IsPart, body_read}
 use Rattle.fe2o3_sasl_negotiation.specs.Negotiations.{Completes, Side}
 use Rattle.fe2o3_sasl_negotiation.specs.Nonces.{client_uses_nonce, server_uses_nonce}
 use Rattle.sasl_c.specs.declared.connection.Connection.{Connection}
 use Rattle.sasl_c.specs.declared.status.Status.{Status}
 use Rattle.sasl_c.specs.declared.status.Status.TheVariants as statuses
-use Rattle.sasl_c.specs.Connection.{IsSideOf, Keeps, KeepsNoPart, expected_number, progress_code, side_tests}
+use Rattle.sasl_c.specs.Connection.{IsSideOf, accepts_extended, Keeps, KeepsNoPart, expected_number, progress_code, side_tests}
 
 -- a side with no machine
 abbrev pub AnySide : Type 0
@@ -40,15 +40,17 @@ abbrev pub AwaitsFrame : Connection → Type 0
 AwaitsFrame kept = (expected : Expected) × (held : List ℕ) × Keeps kept InProgress expected held
     × IsPart expected 512 held × (expected ≢ Header)
 
--- the body of the frame that these bytes complete, which has at least four bytes; empty if they complete none
-abbrev pub CompletedBody : {S : Type 0} → Side S → List ℕ → List ℕ → Type 0
-CompletedBody side bytes body = ((turn : FrameKind) × Completes side bytes turn body)
+-- the body of the frame that these bytes complete, as a side reads it that may accept extended headers (part 2, section
+-- 2.3.1), which has at least four bytes; empty if they complete none
+abbrev pub CompletedBody : {S : Type 0} → Bool → Side S → List ℕ → List ℕ → Type 0
+CompletedBody accepts side bytes body =
+    ((turn : FrameKind) × (received : List ℕ) × Completes side bytes turn received × (body ≡ body_read accepts received))
     ⊎ (((turn : FrameKind) (other : List ℕ) → ¬ Completes side bytes turn other) × (body ≡ []))
 
 -- the body for the side of a struct
 unfoldable pub Peeked : Connection → List ℕ → List ℕ → Type 0
 Peeked kept bytes body = (side : AnySide) × IsSideOf kept side × (side.progress ≡ InProgress)
-    × IsPart side.expected 512 side.held × CompletedBody side bytes body
+    × IsPart side.expected 512 side.held × CompletedBody (accepts_extended kept) side bytes body
 
 -- or why there is none: the struct is of no side that expects more bytes
 unfoldable pub NotPeeked : Connection → Status → Type 0

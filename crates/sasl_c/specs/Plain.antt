@@ -20,10 +20,11 @@ use Rattle.sasl_c.specs.Server.{one_user}
 
 -- ---- the message of a client
 
--- the tests of the words of a message, in their order: `authcid` is one or more characters other than NUL in UTF-8, and
--- `passwd` has no NUL; an empty `passwd` is left to the server
+-- the tests of the words of a message, in their order: `authcid` and `passwd` are each one or more characters other than
+-- NUL in UTF-8
 abbrev pub word_tests : List ℕ → List ℕ → List (Status × Type 0)
 word_tests user password = (statuses.NotUtf8, ¬ IsUtf8 user ⊎ ¬ IsUtf8 password) ∷ (statuses.NamesNoUser, user ≡ [])
+    ∷ (statuses.EmptyPassword, password ≡ [])
     ∷ (statuses.ProhibitedCharacter, ¬ Without 0 user ⊎ ¬ Without 0 password) ∷ []
 
 -- the message without an authorization identity, or the first error that holds

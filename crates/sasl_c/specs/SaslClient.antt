@@ -1,13 +1,14 @@
 -- The client's side of a connection that is kept in structs of C between its calls (AMQP 1.0, part 5, section 5.3.2).
-use Rattle.std.specs.Prelude.{◌≡◌, ◌≢◌, ◌<◌, ◌⊎◌, ℕ, Bool, true, false, Option, Some, None, List, [], replicate, Result, Ok, Err}
+use Rattle.std.specs.Prelude.{◌≡◌, ◌≢◌, ◌<◌, ◌⊎◌, ℕ, Bool, true, false, Option, Some, None, List, [], ◌∷◌, replicate, Result, Ok, Err}
 use Rattle.std.specs.Str.{IsUtf8}
 use Rattle.fe2o3_scram.specs.Readings.{IsFirst, NoneHolds}
 use Rattle.fe2o3_scram.specs.ScramClient.{ClientSide}
 use Rattle.fe2o3_sasl_core.specs.Profiles.{Profile, ScramProfile, PlainProfile, AnonymousProfile, ExternalProfile, MessageProfile, MessageMechanism, AnonymousMessage, ExternalMessage}
+use Rattle.fe2o3_sasl_core.specs.PlainWords.{ArePlainWords}
 use Rattle.fe2o3_sasl_negotiation.specs.declared.progress.Progress.TheVariants.{InProgress}
-use Rattle.fe2o3_sasl_negotiation.specs.ClientNegotiation.{ClientReceives}
+use Rattle.fe2o3_sasl_negotiation.specs.ClientNegotiation.{ClientSideAnswers}
 use Rattle.fe2o3_sasl_negotiation.specs.Framing.{sasl_header}
-use Rattle.fe2o3_sasl_negotiation.specs.Negotiations.{Side}
+use Rattle.fe2o3_sasl_negotiation.specs.Negotiations.{Reading, Receives, Receiving, Side}
 use Rattle.fe2o3_sasl_negotiation.specs.Snapshot.{client_due}
 use Rattle.sasl_c.specs.declared.login.Login.{Login as Words}
 use Rattle.sasl_c.specs.declared.client.ScramClient.{ScramClient as ScramStruct}
@@ -15,8 +16,9 @@ use Rattle.sasl_c.specs.declared.sasl_client.SaslClient.{SaslClient as Struct}
 use Rattle.sasl_c.specs.declared.sasl_client.SaslLogin.{SaslLogin as Login}
 use Rattle.sasl_c.specs.declared.status.Status.{Status}
 use Rattle.sasl_c.specs.declared.status.Status.TheVariants as statuses
-use Rattle.sasl_c.specs.Client.{IsClientOf, IsNoLogin, IsReached, IsSide, WritesClient, fresh_client_struct, started_struct}
-use Rattle.sasl_c.specs.Connection.{IsSideOf, KeepsNoPartOf, side_tests, connection_struct}
+use Rattle.sasl_c.specs.Client.{IsClientOf, IsNoLogin, IsReached, IsSide, WritesClient, fresh_client_struct, is_set, started_struct}
+use Rattle.sasl_c.specs.Plain.{word_tests}
+use Rattle.sasl_c.specs.Connection.{IsSideOf, KeepsNoPartOf, accepts_extended, side_tests, connection_struct}
 
 -- the hostname of a login: none where it is empty
 abbrev pub IsHostname : Login → Option (List ℕ) → Type 0
@@ -37,19 +39,34 @@ abbrev pub IsDueIn : ScramStruct → Bool → Type 0
 IsDueIn scram true = scram.state ≡ 1
 IsDueIn scram false = scram.state ≢ 1
 
+-- a user name and a password that a client sends by PLAIN, by whether it is strict (RFC 4616, section 2)
+abbrev pub CanSendWords : Bool → List ℕ → List ℕ → Type 0
+CanSendWords false user password = Unit {0}
+CanSendWords true user password = ArePlainWords user password
+
+-- the tests of these, in their order: by a strict client, those of a message
+abbrev pub client_word_tests : Bool → List ℕ → List ℕ → List (Status × Type 0)
+client_word_tests false user password = (statuses.NotUtf8, ¬ IsUtf8 user ⊎ ¬ IsUtf8 password) ∷ []
+client_word_tests true user password = word_tests user password
+
+-- PLAIN of a login has this user name and this password
+abbrev pub IsPlainOf : Words → List ℕ → List ℕ → Type 0
+IsPlainOf words user password = (user ≡ words.username.now) × (password ≡ words.password.now)
+    × CanSendWords (is_set words.strict) user password
+
 -- the profile of a login; that of SCRAM has the client of the struct (RFC 4616, RFC 4505, RFC 4422, RFC 5802)
 abbrev pub IsProfile : Login → ScramStruct → Profile → Type 0
 IsProfile login scram (ScramProfile side) = (login.mechanism ≡ 0) × IsSide login.login scram side
-IsProfile login scram (PlainProfile user password) = (login.mechanism ≡ 1) × (user ≡ login.login.username.now)
-    × (password ≡ login.login.password.now)
+IsProfile login scram (PlainProfile user password) = (login.mechanism ≡ 1) × IsPlainOf login.login user password
 IsProfile login scram AnonymousProfile = login.mechanism ≡ 2
 IsProfile login scram ExternalProfile = login.mechanism ≡ 3
 IsProfile login scram (MessageProfile mechanism message is_due) = (login.mechanism ≡ message_number mechanism)
     × (message ≡ login.login.username.now) × IsDueIn scram is_due
 
--- why the words of a login give no PLAIN: they are not UTF-8
+-- why the words of a login give no PLAIN
 abbrev pub HasNoClientWords : Words → Status → Type 0
-HasNoClientWords words status = (status ≡ statuses.NotUtf8) × (¬ IsUtf8 words.username.now ⊎ ¬ IsUtf8 words.password.now)
+HasNoClientWords words status =
+    IsFirst (client_word_tests (is_set words.strict) words.username.now words.password.now) status
 
 -- why they give no message: the user name is not UTF-8
 abbrev pub HasNoMessage : Words → Status → Type 0
@@ -76,9 +93,10 @@ WritesProfile written ExternalProfile = written ≡ fresh_client_struct
 WritesProfile written (MessageProfile mechanism message true) = written ≡ started_struct (replicate 32 0)
 WritesProfile written (MessageProfile mechanism message false) = written ≡ fresh_client_struct
 
--- the structs that a call writes for a side
-abbrev pub WritesSide : Struct → Side Profile → Type 0
-WritesSide written side = (written.connection ≡ connection_struct side.progress side.expected side.held)
+-- the structs that a call writes for a side, by whether it accepts extended headers
+abbrev pub WritesSide : Bool → Struct → Side Profile → Type 0
+WritesSide accepts written side =
+    (written.connection ≡ connection_struct accepts side.progress side.expected side.held)
     × WritesProfile written.scram side.state
 
 -- why the structs are those of no side that expects more bytes: the tests of the connection, those of the hostname and of
@@ -100,8 +118,7 @@ ClientIsReached words side = IsClientOf words side × IsReached side.user side.s
 -- the profile that a login reaches
 abbrev pub ProfileIsReached : Login → Profile → Type 0
 ProfileIsReached login (ScramProfile side) = (login.mechanism ≡ 0) × ClientIsReached login.login side
-ProfileIsReached login (PlainProfile user password) = (login.mechanism ≡ 1) × (user ≡ login.login.username.now)
-    × (password ≡ login.login.password.now)
+ProfileIsReached login (PlainProfile user password) = (login.mechanism ≡ 1) × IsPlainOf login.login user password
 ProfileIsReached login AnonymousProfile = login.mechanism ≡ 2
 ProfileIsReached login ExternalProfile = login.mechanism ≡ 3
 ProfileIsReached login (MessageProfile mechanism message is_due) = (login.mechanism ≡ message_number mechanism)
@@ -112,10 +129,16 @@ abbrev pub OpensConnection : Result (List ℕ) Status → Type 0
 OpensConnection (Ok header) = header ≡ sasl_header
 OpensConnection (Err status) = ⊥
 
--- what a call makes of bytes: between two structs, what the library's side of the connection makes of them
+-- what a side of a client makes of bytes, by whether it accepts extended headers
+abbrev pub ClientTakes : Bool → Option (List ℕ) → Receiving Profile
+ClientTakes accepts hostname = Receives (Reading accepts (ClientSideAnswers hostname))
+
+-- what a call makes of bytes: between two structs, what the library's side of the connection makes of them, which accepts
+-- extended headers if the struct says so
 unfoldable pub ReceivesAsClient : Login → List ℕ → List ℕ → Struct → Struct → ℕ → Result (List ℕ) Status → Type 0
 ReceivesAsClient login bytes nonce before after taken (Ok sent) =
     (hostname : Option (List ℕ)) × (side next : Side Profile) × IsHostname login hostname
     × IsClient login before side × (side.progress ≡ InProgress)
-    × ClientReceives hostname side bytes nonce taken sent next × IsClient login after next × WritesSide after next
+    × ClientTakes (accepts_extended before.connection) hostname side bytes nonce taken sent next
+    × IsClient login after next × WritesSide (accepts_extended before.connection) after next
 ReceivesAsClient login bytes nonce before after taken (Err status) = IsNoClient login before status

@@ -28,17 +28,18 @@ use Rattle.fe2o3_sasl_negotiation.specs.declared.progress.Progress.{Progress}
 use Rattle.fe2o3_sasl_negotiation.specs.declared.progress.Progress.TheVariants.{InProgress, Authenticated, Failed}
 use Rattle.fe2o3_sasl_negotiation.specs.declared.progress.FrameKind.{FrameKind}
 use Rattle.fe2o3_sasl_negotiation.specs.declared.progress.FrameKind.TheVariants as turns
-use Rattle.fe2o3_sasl_negotiation.specs.Negotiations.{Completes, Side}
-use Rattle.fe2o3_sasl_negotiation.specs.ServerNegotiation.{ServerReceives}
+use Rattle.fe2o3_sasl_negotiation.specs.Framing.{body_read}
+use Rattle.fe2o3_sasl_negotiation.specs.Negotiations.{Completes, Reading, Receives, Receiving, Side}
+use Rattle.fe2o3_sasl_negotiation.specs.ServerNegotiation.{ServerSideAnswers}
 use Rattle.fe2o3_sasl_negotiation.specs.Snapshot.{server_due}
-use Rattle.fe2o3_sasl_negotiation.specs.Sides.{ServerConnectionSide, acceptor_in, server_side}
+use Rattle.fe2o3_sasl_negotiation.specs.Sides.{ServerConnectionSide, acceptor_in, extended_in, server_side}
 use Rattle.sasl_c.specs.declared.sasl_server.Choice.{Choice}
 use Rattle.sasl_c.specs.declared.sasl_server.SaslServerConfig.{SaslServerConfig as Config}
 use Rattle.sasl_c.specs.declared.sasl_server.SaslServer.{SaslServer as Struct}
 use Rattle.sasl_c.specs.declared.server.ScramServer.{ScramServer as ScramStruct}
 use Rattle.sasl_c.specs.declared.status.Status.{Status}
 use Rattle.sasl_c.specs.declared.status.Status.TheVariants as statuses
-use Rattle.sasl_c.specs.Connection.{IsSideOf, Keeps, KeepsNoPart, side_tests, connection_struct, KeepsNoPartOf}
+use Rattle.sasl_c.specs.Connection.{IsSideOf, Keeps, KeepsNoPart, accepts_extended, side_tests, connection_struct, KeepsNoPartOf}
 use Rattle.sasl_c.specs.Peeks.{AnySide}
 use Rattle.sasl_c.specs.Records.{ShowsRecord}
 use Rattle.sasl_c.specs.Rules.{HasLongData, channels_of}
@@ -164,7 +165,7 @@ abbrev pub saved_for : MultiRecords → ScramVersion → Bool → KeptExchange �
 saved_for records signed bound NothingKept = None
 saved_for records signed bound (ChallengeOpen version challenge) = Some (record {
   version = version;
-  plus = is_required challenge.header;
+  plus = is_required challenge.header.flag;
   state = ServerFirstSent challenge (record_for records version challenge.user);
 })
 saved_for records signed bound (InitialResponseAsked init) = None
@@ -254,7 +255,7 @@ ShowsBy state shows server next = let side = server_side state next in
 -- the structs that a call writes for a side
 abbrev pub struct_by : {A S : Type 0} → (A → S) → (Progress → A → ScramStruct) → ServerConnectionSide A → Struct
 struct_by state written next = let side = server_side state next in record {
-  connection = connection_struct side.progress side.expected side.held;
+  connection = connection_struct (extended_in next) side.progress side.expected side.held;
   scram = written side.progress (acceptor_in next);
 }
 
@@ -268,10 +269,10 @@ unfoldable pub ShowsSide : Struct → Side State → Type 0
 ShowsSide server side = Keeps server.connection side.progress side.expected side.held
     × ShowsState server.scram side.progress side.state
 
--- the structs that a call writes for a side of the library's acceptor
-abbrev pub side_struct : Side State → Struct
-side_struct side = record {
-  connection = connection_struct side.progress side.expected side.held;
+-- the structs that a call writes for a side of the library's acceptor, by whether the side accepts extended headers
+abbrev pub side_struct : Bool → Side State → Struct
+side_struct accepts side = record {
+  connection = connection_struct accepts side.progress side.expected side.held;
   scram = state_struct side.progress side.state;
 }
 
@@ -309,18 +310,25 @@ IsNoServer config server status = IsFirst (side_tests server.connection) status
     ⊎ ((status ≡ statuses.InvalidSnapshot) × KeepsNoPartOf server_due server.connection
     × ((exchange : KeptExchange) × (kept : State) × IsOf config exchange kept))))
 
--- a call answers bytes: between two structs, what the library's side of the connection makes of them
+-- what a side of a server makes of bytes, by whether it accepts extended headers
+abbrev pub ServerTakes : {S : Type 0} → Bool → (S → List (List ℕ)) → (S → List ℕ → SaslFrame → SaslFrame → S → Type 0)
+    → Receiving S
+ServerTakes accepts names machine = Receives (Reading accepts (ServerSideAnswers names machine))
+
+-- a call answers bytes: between two structs, what the library's side of the connection makes of them, which accepts
+-- extended headers if the struct says so
 unfoldable pub Received : Config → List ℕ → List ℕ → Struct → Struct → ℕ → List ℕ → Type 0
 Received config bytes nonce before after taken sent = (side next : Side State) × IsServer config before side
-    × (side.progress ≡ InProgress) × ServerReceives server_names server_machine side bytes nonce taken sent next
-    × IsServer config after next × (after ≡ side_struct next)
+    × (side.progress ≡ InProgress)
+    × ServerTakes (accepts_extended before.connection) server_names server_machine side bytes nonce taken sent next
+    × IsServer config after next × (after ≡ side_struct (accepts_extended before.connection) next)
 
 -- or it does not, because the structs are those of no side, or no struct is that of the side after the call
 unfoldable pub NotReceived : Config → List ℕ → List ℕ → Struct → Status → Type 0
 NotReceived config bytes nonce before status = IsNoServer config before status
     ⊎ ((status ≡ statuses.TooLong) × ((side next : Side State) × (taken : ℕ) × (sent : List ℕ)
     × IsServer config before side × (side.progress ≡ InProgress)
-    × ServerReceives server_names server_machine side bytes nonce taken sent next
+    × ServerTakes (accepts_extended before.connection) server_names server_machine side bytes nonce taken sent next
     × ((other : Struct) → ¬ IsServer config other next)))
 
 -- what a call makes of bytes
@@ -371,10 +379,14 @@ FrameAsks scram turn frame = ⊥
 abbrev pub BodyAsks : ScramStruct → FrameKind → List ℕ → Type 0
 BodyAsks scram turn body = (frame : SaslFrame) × SpellsBody body (Ok frame) × FrameAsks scram turn frame
 
+-- the body that the side of the structs reads of a frame: without its extended header, if it accepts these
+abbrev pub read_by : Struct → List ℕ → List ℕ
+read_by server body = body_read (accepts_extended server.connection) body
+
 -- the user that the frame claims which these bytes complete
 unfoldable pub Named : Struct → List ℕ → List ℕ → Type 0
 Named server bytes name = (side : AnySide) × (turn : FrameKind) × (body : List ℕ) × IsSideOf server.connection side
-    × Completes side bytes turn body × BodyNames server.scram turn body name
+    × Completes side bytes turn body × BodyNames server.scram turn (read_by server body) name
 
 -- or why there is none: the structs are of no side that expects more bytes, or these complete no frame, or one that
 -- claims no user name
@@ -384,7 +396,7 @@ NotNamed server bytes status = IsFirst (side_tests server.connection) status
     ⊎ ((status ≡ statuses.NamesNoUser) × ((side : AnySide) × IsSideOf server.connection side
     × (side.progress ≡ InProgress) × (((turn : FrameKind) (body : List ℕ) → ¬ Completes side bytes turn body)
     ⊎ ((turn : FrameKind) × (body : List ℕ) × Completes side bytes turn body
-    × BodyNamesNoUser server.scram turn body))))))
+    × BodyNamesNoUser server.scram turn (read_by server body)))))))
 
 -- what a call returns
 abbrev pub Names : Struct → List ℕ → Result (List ℕ) Status → Type 0

@@ -5,7 +5,7 @@ use Rattle.fe2o3_sasl_wire.specs.FrameView.{shown}
 use Rattle.fe2o3_scram.specs.declared.hmac.ScramVersion.{ScramVersion}
 use Rattle.fe2o3_scram.specs.declared.scram_messages.error.ServerScramErrorKind.{ServerScramErrorKind}
 use Rattle.fe2o3_scram.specs.declared.scram_messages.error.ServerScramErrorKind.TheVariants.{IllegalAuthenticatorState, OutOfMemory}
-use Rattle.fe2o3_scram.specs.ChannelBinding.{TakesFlag, expected_channel}
+use Rattle.fe2o3_scram.specs.ChannelBinding.{TakesFlag, expected_header, own_header}
 use Rattle.fe2o3_scram.specs.ClientFinal.{ReachesBase64}
 use Rattle.fe2o3_scram.specs.declared.channel_binding.ChannelKind.TheVariants.{TlsUnique, TlsServerEndPoint, TlsExporter}
 use Rattle.fe2o3_scram.specs.ClientFirst.{ClientFirst, HasEscapes, ReadsClientFirst}
@@ -53,11 +53,11 @@ open_number (Required TlsUnique) = 7
 open_number (Required TlsServerEndPoint) = 8
 open_number (Required TlsExporter) = 9
 
--- the challenge that a struct shows, to a client with this header
+-- the challenge that a struct shows, to a client with this flag that acts for itself
 abbrev pub struct_challenge : ChannelBindingFlag → Struct → ServerChallenge
-struct_challenge header server = record {
+struct_challenge flag server = record {
   user = take server.user_len server.user;
-  header = header;
+  header = own_header flag;
   bare = take server.bare_len server.bare;
   first = take server.first_len server.first;
   nonce = take server.nonce_len server.nonce;
@@ -65,14 +65,14 @@ struct_challenge header server = record {
 
 -- the struct is that of a server whose challenge is open
 abbrev pub IsOpen : Struct → ServerChallenge → Type 0
-IsOpen server challenge = (server.state ≡ open_number challenge.header) × AreLengths server
-    × (challenge ≡ struct_challenge challenge.header server) × IsUtf8 challenge.user
+IsOpen server challenge = (server.state ≡ open_number challenge.header.flag) × AreLengths server
+    × (challenge ≡ struct_challenge challenge.header.flag server) × IsUtf8 challenge.user
 
 -- the struct's open challenge is one for a server with these rules: a server that binds channels has the data of the
 -- client's kind, and one that binds none has a client that binds none; which of `n,,` and `y,,` the server accepts plays
 -- no part once the challenge is open
 abbrev pub IsOpenFor : ServerRules → Struct → ServerChallenge → Type 0
-IsOpenFor rules server challenge = IsOpen server challenge × TakesFlag rules.channels true challenge.header
+IsOpenFor rules server challenge = IsOpen server challenge × TakesFlag rules.channels true challenge.header.flag
 
 -- with this hash
 abbrev pub IsOpenBy : Struct → ScramVersion → ServerChallenge → Type 0
@@ -188,7 +188,7 @@ fresh_server_struct = record {
 -- of one whose challenge is open, by the hash of this number
 abbrev pub open_struct : ℕ → ServerChallenge → Struct
 open_struct version challenge = record {
-  state = open_number challenge.header;
+  state = open_number challenge.header.flag;
   version = version;
   user_len = length challenge.user;
   bare_len = length challenge.bare;
@@ -319,7 +319,7 @@ ConcludesLogin rules kept before text message user = (challenge : ServerChalleng
 -- the message is read as far as its first base64 text
 abbrev pub FinalAsks : ServerRules → Kept → List ℕ → Struct → Type 0
 FinalAsks rules kept text before = ((challenge : ServerChallenge) × IsOpenFor rules before challenge
-    × ReachesBase64 (expected_channel rules.channels challenge.header) challenge.nonce text) × ShowsSomeRecord kept
+    × ReachesBase64 (expected_header rules.channels challenge.header) challenge.nonce text) × ShowsSomeRecord kept
 
 -- the HMAC values of an answer that is out of memory, as a meter shows them before and after: none for a message that
 -- is rejected, and at most two

@@ -116,6 +116,7 @@ status_number statuses.ServerError = 89
 status_number statuses.EndOfInput = 90
 status_number statuses.ChannelDataLength = 91
 status_number statuses.NoSuchChannel = 92
+status_number statuses.EmptyPassword = 93
 
 -- the status of an error of a client
 abbrev pub client_status : ScramErrorKind → Status

@@ -81,7 +81,8 @@ status_texts = (0, codes "Done")
     ∷ (89, codes "Client: The server sent an error")
     ∷ (90, codes "Connection: The other side ended the stream before the negotiation was complete")
     ∷ (91, codes "Channel binding data of a wrong length")
-    ∷ (92, codes "No such channel") ∷ []
+    ∷ (92, codes "No such channel")
+    ∷ (93, codes "The password is empty") ∷ []
 
 -- the text of a number in a table, and of every other number that of an unknown status
 abbrev pub text_in : List (ℕ × List ℕ) → ℕ → List ℕ
@@ -114,7 +115,7 @@ abbrev pub server_size : ℕ
 server_size = 6 * word + 256 + 1024 + 512 + 1024
 
 abbrev pub connection_size : ℕ
-connection_size = 4 * word + 512
+connection_size = 4 * word + 512 + word
 
 abbrev pub login_size : ℕ
 login_size = (5 * word + 4) + slice + slice + 8 + (5 * word + 64 + 4)

@@ -9,11 +9,12 @@ ghost use Rattle.sasl_c.specs.declared.status.WriteError.TheVariants.{RoomTooSma
 
 use crate::arrays::{put, store};
 use crate::client::ScramClient;
+use crate::flags::is_set;
 use crate::keys::ScramKeys;
 use crate::login::Login;
 use crate::status::{Status, WriteError, number, text_number};
 use bytes::Bytes;
-use fe2o3_scram::{ScramErrorKind, ServerError};
+use fe2o3_scram::{ClientHeader, ScramErrorKind, ServerError};
 use std::alloc::Global;
 
 /// Returns the client-first message.
@@ -126,10 +127,21 @@ fn verify(
         Ok(version) => version,
         Err(status) => return Err(status),
     };
+    let channel = match login.channel() {
+        Ok(channel) => channel,
+        Err(status) => return Err(status),
+    };
     let Some(signature) = client.awaited() else {
         return Err(Status::Client(ScramErrorKind::IllegalClientState));
     };
-    if let Err(why) = version.validate_server_final(alloc, server_final, signature) {
+    let strict = is_set(login.strict);
+    if let Err(why) = version.validate_server_final_with_header(
+        alloc,
+        &ClientHeader::new(channel, None),
+        strict,
+        server_final,
+        signature,
+    ) {
         return Err(verify_status(why, server_final));
     }
     client.complete();

@@ -20,7 +20,9 @@ use crate::login::Login;
 use crate::passwords::password_in;
 use crate::status::{Status, WriteError, text_number};
 use base64::engine::general_purpose::STANDARD;
-use fe2o3_scram::{ClientAnswer, ClientChannel, ClientSecret, Meter, ScramErrorKind, ScramVersion};
+use fe2o3_scram::{
+    ClientAnswer, ClientChannel, ClientHeader, ClientSecret, Meter, ScramErrorKind, ScramVersion,
+};
 use std::alloc::Global;
 
 /// Returns the maximum number of bytes that an answer has more than its server-first message, by the use of the channel.
@@ -76,7 +78,7 @@ fn answered_by(
         server_first,
         bare.as_slice(),
         login.limits(),
-        channel,
+        &ClientHeader::new(*channel, None),
         is_set(login.strict),
         meter,
     ) {

@@ -1,21 +1,23 @@
 //! A side of a connection as a struct between calls (AMQP 1.0, part 5, section 5.3.2).
 
-ghost use Rattle.std.specs.Prelude.{◌≡◌, ◌≢◌, ◌<◌, length, IfOk, IfErr, IfSome, MatchOption, None};
+ghost use Rattle.std.specs.Prelude.{◌≡◌, ◌≢◌, ◌<◌, Bool, length, IfOk, IfErr, IfSome, MatchOption, None};
 ghost use Rattle.fe2o3_sasl_wire.specs.FrameView.{shown};
 ghost use Rattle.fe2o3_sasl_negotiation.specs.declared.progress.Expected.{Expected as ExpectedUnit};
 ghost use Rattle.fe2o3_sasl_negotiation.specs.declared.progress.Progress.TheVariants.{InProgress};
 ghost use Rattle.fe2o3_sasl_negotiation.specs.Negotiations.{Side, after_end_of_input};
 ghost use Rattle.fe2o3_scram.specs.Readings.{IsFirst};
-ghost use Rattle.sasl_c.specs.Connection.{Keeps, kept_bytes, with_end_of_input, closed_status, code_status, expected_number, frame_status, profile_status, side_tests, connection_struct};
+ghost use Rattle.sasl_c.specs.Connection.{Keeps, accepts_extended, kept_bytes, with_end_of_input, closed_status, code_status, expected_number, frame_status, profile_status, side_tests, connection_struct};
 
 use crate::arrays::{head, padded};
+use crate::flags::{flag_number, is_set};
 use crate::status::Status;
 use fe2o3_sasl_core::ProfileError;
 use fe2o3_sasl_negotiation::{CloseReason, Expected, FrameKind, Progress, Snapshot};
 use fe2o3_sasl_wire::{Error, SaslCode};
 use fe2o3_scram::ScramErrorKind;
 
-/// One side of a connection between calls. All zeros is a connection that has received nothing.
+/// One side of a connection between calls. All zeros is a connection that has received nothing and accepts no extended
+/// headers.
 #[repr(C)]
 #[derive(Drop)]
 pub struct Connection {
@@ -42,6 +44,12 @@ pub struct Connection {
     /// FE2O3_PROTOCOL_HEADER_MISMATCH, the 8 bytes that were received in the place of the header of SASL:
     /// `AMQP 2 1 0 0` for a server that requires TLS first, `AMQP 0 1 0 0` for a client that begins AMQP without SASL.
     pub held: [u8; 512],
+
+    /// Whether this side accepts frames with an extended header (AMQP 1.0, part 2, section 2.3.1): 0 is no, any other
+    /// value yes. Set it before the first call. The side then reads such a frame without that header. The limit of 512
+    /// bytes is that of the frame as received. Otherwise a data offset above 2 ends the login with FE2O3_NO_SASL_FRAME,
+    /// as one below 2 or after the end of the frame does in any case. A call that receives bytes writes 0 or 1.
+    pub extended_headers: u32,
 }
 
 /// The number of what is expected.
@@ -153,9 +161,10 @@ fn kept_bytes<'a>(progress: &'a Progress, held: &'a [u8]) -> &'a [u8]
 #[unsafe(no_mangle)]
 pub extern "C" fn fe2o3_sasl_end_of_input(connection: &mut Connection)
     ensures ends { connection.new ≡ with_end_of_input connection.old }
-    ensures side { (side : Side (Unit {0})) → connection.old ≡ connection_struct side.progress side.expected side.held
+    ensures side { (side : Side (Unit {0})) (accepts : Bool)
+        → connection.old ≡ connection_struct accepts side.progress side.expected side.held
         → let next = after_end_of_input side in
-        connection.new ≡ connection_struct next.progress next.expected next.held }
+        connection.new ≡ connection_struct accepts next.progress next.expected next.held }
 {
     if connection.progress == 0 {
         connection.progress = 2;
@@ -171,7 +180,8 @@ impl Connection {
         ensures keeps { MatchOption result (512 < length kept.now.held.now)
             (λ connection. Keeps connection kept.now.progress kept.now.expected kept.now.held.now) }
         ensures writes { IfSome result (λ connection.
-            connection ≡ connection_struct kept.now.progress kept.now.expected kept.now.held.now) }
+            connection ≡ connection_struct kept.now.extended_headers kept.now.progress kept.now.expected
+            kept.now.held.now) }
     {
         let (progress, why) = match kept.progress {
             Progress::InProgress => (0, 0),
@@ -185,6 +195,7 @@ impl Connection {
             expected: number_of(kept.expected),
             held: padded(held)?,
             held_len: held.len() as u32,
+            extended_headers: flag_number(kept.extended_headers),
         })
     }
 
@@ -194,6 +205,7 @@ impl Connection {
         ensures kept { IfOk result (λ kept. Keeps self.now kept.progress kept.expected kept.held.now) }
         ensures wanting { IfOk result (λ kept. (kept.progress ≡ InProgress) × (kept.limit ≡ 512)) }
         ensures mock { IfOk result (λ kept. shown kept.user ≡ None) }
+        ensures extended { IfOk result (λ kept. kept.extended_headers ≡ accepts_extended self.now) }
         ensures err { IfErr result (λ status. IsFirst (side_tests self.now) status) }
     {
         if self.progress != 0 {
@@ -205,6 +217,7 @@ impl Connection {
             progress: Progress::InProgress,
             expected,
             limit: 512,
+            extended_headers: is_set(self.extended_headers),
             held,
             user: None,
         })

@@ -1,7 +1,6 @@
 //! What a client logs in with, as a struct, and the client of it that has sent nothing.
 
-ghost use Rattle.std.specs.Prelude.{false, ◌≡◌, ◌≢◌, IfOk, IfErr, OnErr, MatchOption, MatchResult};
-ghost use Rattle.std.specs.Str.{IsUtf8};
+ghost use Rattle.std.specs.Prelude.{None, false, ◌≡◌, ◌≢◌, IfOk, IfErr, OnErr, MatchOption, MatchResult};
 ghost use Rattle.std.specs.String.{string_bytes};
 ghost use Rattle.fe2o3_scram.specs.ClientSecret.{IsOfVersion, secret_of};
 ghost use Rattle.fe2o3_scram.specs.ScramClient.{ClientInitial};
@@ -11,7 +10,7 @@ ghost use Rattle.sasl_c.specs.Client.{HasSecret, HoldsNone, IsChannelOf, IsClien
 ghost use Rattle.sasl_c.specs.Channels.{channel_tests};
 ghost use Rattle.sasl_c.specs.Keys.{ShowsKeys, ShowsSomeKeys};
 ghost use Rattle.sasl_c.specs.Status.{AsksWhere};
-ghost use Rattle.sasl_c.specs.declared.status.Status.TheVariants.{OutOfMemory as StatusOutOfMemory, NotUtf8 as StatusNotUtf8};
+ghost use Rattle.sasl_c.specs.declared.status.Status.TheVariants.{OutOfMemory as StatusOutOfMemory};
 
 use crate::channels::channel_in;
 use crate::flags::is_set;
@@ -57,9 +56,15 @@ pub struct Login<'a> {
     /// `fe2o3_sasl_client_receive` and `fe2o3_sasl_client_step` use this field.
     pub signature_by_challenge: u32,
 
-    /// Whether the client is strict: it rejects an attribute that RFC 5802 defines in the place of an extension, after the
-    /// iteration count, by FE2O3_CLIENT_MISPLACED_ATTRIBUTE. 0 means that it skips it. Any other value is strict. A
-    /// client that binds a channel is strict in any case.
+    /// Whether the client is strict: it reads messages by the grammar of RFC 5802, section 7. 0 is no, any other value
+    /// yes. The server's part of the nonce has to be printable and not empty (FE2O3_CLIENT_CLIENT_NONCE_MISMATCH), the
+    /// iteration count without a sign or leading zeros (FE2O3_CLIENT_ITERATION_COUNT_PARSE_ERROR), and what follows the
+    /// count or the signature an extension (FE2O3_CLIENT_MISPLACED_ATTRIBUTE). A client that binds a channel tests the
+    /// extensions in any case.
+    ///
+    /// A strict client sends a user name and a password by PLAIN only if a message can have them (RFC 4616, section 2).
+    /// Otherwise the call returns FE2O3_NAMES_NO_USER or FE2O3_EMPTY_PASSWORD for an empty one, and
+    /// FE2O3_PROHIBITED_CHARACTER for a zero byte.
     pub strict: u32,
 
     /// What the client says of its channel (RFC 5802, section 6): one of enum fe2o3_channel_use.
@@ -102,6 +107,7 @@ fn client_by(
     requires { IsOfVersion version (secret_of secret) }
     ensures ok { IfOk result (λ side. (side.secret ≡ secret_of secret.entry) × (side.user ≡ string_bytes username)
         × (side.version ≡ version) × (side.state ≡ ClientInitial)) }
+    ensures own { IfOk result (λ side. side.acts_for ≡ None) }
     ensures err { IfErr result (λ status. status ≡ StatusOutOfMemory) }
 {
     match Machine::with_secret(alloc, username, secret, version) {
@@ -111,16 +117,6 @@ fn client_by(
 }
 
 impl Login<'_> {
-    /// Returns the password as a text.
-    pub fn password(&self, alloc: Global) -> Result<String, Status>
-        ensures ok { IfOk result (λ password. string_bytes password ≡ self.now.password.now) }
-        ensures utf8 { IfOk result (λ _. IsUtf8 self.now.password.now) }
-        ensures err { IfErr result (λ status. status ≢ StatusOutOfMemory
-            → (status ≡ StatusNotUtf8) × ¬ IsUtf8 self.now.password.now) }
-    {
-        Ok(text(self.password)?.to_string(alloc)?)
-    }
-
     /// Returns the iteration counts that the client accepts.
     pub fn limits(&self) -> IterationLimits
         ensures { result ≡ record { min_iterations = self.now.min_iterations; max_iterations = self.now.max_iterations } }
@@ -249,6 +245,7 @@ impl Login<'_> {
         ensures ok { IfOk result (λ side. IsSecretOf self.now side.secret × (side.user ≡ string_bytes username)
             × (side.state ≡ ClientInitial)) }
         ensures version { IfOk result (λ side. IsVersion self.now.version side.version) }
+        ensures own { IfOk result (λ side. side.acts_for ≡ None) }
         ensures err { IfErr result (λ status. status ≢ StatusOutOfMemory → IsNoSecret self.now status) }
     {
         match self.secret {

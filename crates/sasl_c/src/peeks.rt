@@ -46,8 +46,9 @@ fn compute_peeked(alloc: Global, connection: &Connection, bytes: &[u8]) -> Resul
 }
 
 /// Writes the body of the frame that `bytes` complete with the part that `connection` holds, without the four bytes of
-/// the frame's size: at most 508 bytes. `out_len` is 0 if they complete no frame. Nothing is taken: pass the same bytes
-/// to `fe2o3_sasl_client_receive` or `fe2o3_sasl_server_receive` after that.
+/// the frame's size: at most 508 bytes. The body has no extended header if `connection` accepts these. `out_len` is 0 if
+/// the bytes complete no frame. Nothing is taken: pass the same bytes to `fe2o3_sasl_client_receive` or
+/// `fe2o3_sasl_server_receive` after that.
 ///
 /// `expected` of the connection is the frame that has to come next. Parse the body with `fe2o3_sasl_view_frame`: a server
 /// reads in it the mechanism and the hostname of an init, and a client the additional data of an outcome. Pass a list of

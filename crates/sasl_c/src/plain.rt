@@ -3,6 +3,7 @@
 ghost use Rattle.std.specs.Prelude.{◌↔◌, ◌≡◌, ◌≢◌, ◌≤◌, ◌∷◌, ◌++◌, ℕ, List, [], IfErr, IfOk, IsTrue, MatchOption, MatchResult, Err, Ok};
 ghost use Rattle.fe2o3_scram.specs.Readings.{IsFirst, NoneHolds};
 ghost use Rattle.fe2o3_scram.specs.Texts.{Cut, Without};
+ghost use Rattle.fe2o3_sasl_core.specs.PlainWords.{ArePlainWords};
 ghost use Rattle.sasl_c.specs.Plain.{ClaimsPlainUser, WritesPlain, word_tests};
 ghost use Rattle.sasl_c.specs.Status.{AnswersText, AsksText, AsksWhere, Fills};
 ghost use Rattle.sasl_c.specs.declared.status.Status.TheVariants.{OutOfMemory as StatusOutOfMemory};
@@ -28,19 +29,23 @@ fn has_no_zero(text: &str) -> bool
     cut_at_zero(text).is_none()
 }
 
-/// Returns the words of a message as texts.
+/// Returns the words of a message as texts. `NotUtf8`, `NamesNoUser`, `EmptyPassword` and `ProhibitedCharacter`.
 #[tactic(auto, using(crate::proofs::PlainLemmas::words))]
-fn words_of<'a>(username: &'a [u8], password: &'a [u8]) -> Result<(&'a str, &'a str), Status>
+pub fn words_of<'a>(username: &'a [u8], password: &'a [u8]) -> Result<(&'a str, &'a str), Status>
     ensures tested { MatchResult result
         (λ words. NoneHolds (word_tests username.now password.now) × (words.0.now ≡ username.now)
         × (words.1.now ≡ password.now))
         (λ status. IsFirst (word_tests username.now password.now) status) }
+    ensures words { IfOk result (λ _. ArePlainWords username.now password.now) }
     ensures memory { IfErr result (λ status. status ≢ StatusOutOfMemory) }
 {
     let username = text(username)?;
     let password = text(password)?;
     if username.is_empty() {
         return Err(Status::NamesNoUser);
+    }
+    if password.is_empty() {
+        return Err(Status::EmptyPassword);
     }
     if !has_no_zero(username) || !has_no_zero(password) {
         return Err(Status::ProhibitedCharacter);
@@ -79,9 +84,8 @@ fn compute_message(alloc: Global, username: &[u8], password: &[u8]) -> Result<Ve
 /// byte and the password. The authorization identity is empty. The message has the password in clear, so send it over
 /// TLS only. Prepare a non-ASCII password first (`fe2o3_saslprep`).
 ///
-/// Returns FE2O3_NOT_UTF8 if a word is not UTF-8, FE2O3_NAMES_NO_USER if the user name is empty, and
-/// FE2O3_PROHIBITED_CHARACTER if a word contains a zero byte. An empty password is written, but RFC 4616 forbids it and
-/// servers reject it.
+/// Returns FE2O3_NOT_UTF8 if a word is not UTF-8, FE2O3_NAMES_NO_USER if the user name is empty, FE2O3_EMPTY_PASSWORD if
+/// the password is, and FE2O3_PROHIBITED_CHARACTER if a word contains a zero byte.
 #[unsafe(no_mangle)]
 #[tactic(auto, using(crate::proofs::StatusLemmas::written))]
 pub extern "C" fn fe2o3_plain_message(

@@ -51,8 +51,10 @@ pub struct ScramRules {
     /// has no effect if the server binds channels.
     pub accept_cbind_flag_y: u32,
 
-    /// Whether an attribute that RFC 5802, section 5.1, defines is rejected in the place of an extension, by
-    /// FE2O3_SERVER_MISPLACED_ATTRIBUTE. 0 is no, any other value yes. A server that binds channels is always strict.
+    /// Whether the server is strict: it reads messages by the grammar of RFC 5802, section 7. 0 is no, any other value
+    /// yes. A user name has to be of one or more characters and without NUL (FE2O3_SERVER_CANNOT_PARSE_USERNAME), a nonce
+    /// printable and not empty (FE2O3_SERVER_CANNOT_PARSE_CLIENT_NONCE), and what follows the nonce an extension
+    /// (FE2O3_SERVER_MISPLACED_ATTRIBUTE). A server that binds channels tests the extensions in any case.
     pub strict: u32,
 
     /// The server's channel, if it is of the mechanism with `-PLUS`.

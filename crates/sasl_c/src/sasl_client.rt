@@ -4,9 +4,10 @@ ghost use Rattle.std.specs.Prelude.{◌≡◌, ◌≢◌, ◌≤◌, ◌^◌, Li
 ghost use Rattle.fe2o3_sasl_core.specs.Profiles.{PlainProfile, after_init};
 ghost use Rattle.fe2o3_sasl_core.specs.SaslProfile.{profile_of};
 ghost use Rattle.fe2o3_sasl_negotiation.specs.declared.progress.Progress.TheVariants.{InProgress};
-ghost use Rattle.fe2o3_sasl_negotiation.specs.ClientNegotiation.{ClientReceives};
-ghost use Rattle.fe2o3_sasl_negotiation.specs.Sides.{client_side, hostname_in};
-ghost use Rattle.sasl_c.specs.SaslClient.{ProfileIsReached, HasNoClientWords, HasNoMessage, IsClient, IsHostname, IsNoClient, HasNoHostname, IsNoProfile, ReadsClient, IsProfile, OpensConnection, ReceivesAsClient, WritesProfile, WritesSide};
+ghost use Rattle.fe2o3_sasl_negotiation.specs.Sides.{client_side, extended_in, hostname_in};
+ghost use Rattle.fe2o3_scram.specs.Readings.{IsFirst};
+ghost use Rattle.sasl_c.specs.Connection.{accepts_extended};
+ghost use Rattle.sasl_c.specs.SaslClient.{CanSendWords, ClientTakes, client_word_tests, ProfileIsReached, HasNoClientWords, HasNoMessage, IsClient, IsHostname, IsNoClient, HasNoHostname, IsNoProfile, IsPlainOf, ReadsClient, IsProfile, OpensConnection, ReceivesAsClient, WritesProfile, WritesSide};
 ghost use Rattle.sasl_c.specs.declared.sasl_client.SaslClient.{SaslClient as Structs};
 ghost use Rattle.sasl_c.specs.declared.sasl_client.SaslLogin.{SaslLogin as LoginStruct};
 ghost use Rattle.sasl_c.specs.Status.{AnswersText, AsksText, AsksWhere, Fills, FillsWithin};
@@ -16,7 +17,9 @@ ghost use Rattle.sasl_c.specs.declared.status.WriteError.TheVariants.{RoomTooSma
 use crate::arrays::put;
 use crate::client::ScramClient;
 use crate::connection::Connection;
+use crate::flags::is_set;
 use crate::login::Login;
+use crate::plain::words_of;
 use crate::status::{Status, WriteError, text, text_number};
 use bytes::BytesMut;
 use fe2o3_sasl_core::SaslProfile;
@@ -52,6 +55,24 @@ pub struct SaslClient {
     pub scram: ScramClient,
 }
 
+/// Returns the words for PLAIN as texts. The errors are `NotUtf8`, and for a strict client those of `words_of`.
+#[tactic(auto, using(crate::proofs::SaslClientLemmas::client_words))]
+fn client_words<'a>(
+    is_strict: bool,
+    username: &'a [u8],
+    password: &'a [u8],
+) -> Result<(&'a str, &'a str), Status>
+    ensures ok { IfOk result (λ words. (words.0.now ≡ username.now) × (words.1.now ≡ password.now)
+        × CanSendWords is_strict username.now password.now) }
+    ensures err { IfErr result (λ status.
+        IsFirst (client_word_tests is_strict username.now password.now) status) }
+{
+    match is_strict {
+        true => words_of(username, password),
+        false => Ok((text(username)?, text(password)?)),
+    }
+}
+
 impl SaslLogin<'_> {
     /// Returns the hostname, if there is one.
     pub fn hostname(&self, alloc: Global) -> Result<Option<String>, Status>
@@ -66,14 +87,22 @@ impl SaslLogin<'_> {
         Ok(Some(text(self.hostname)?.to_string(alloc)?))
     }
 
-    /// Returns PLAIN of the login. The errors are `NotUtf8` and `OutOfMemory`.
+    /// Returns PLAIN of the login. The errors are those of `client_words`, and `OutOfMemory`.
     fn plain(&self, alloc: Global) -> Result<SaslProfile, Status>
         ensures ok { IfOk result (λ profile.
             profile_of profile ≡ PlainProfile self.now.login.username.now self.now.login.password.now) }
+        ensures words { IfOk result (λ _.
+            IsPlainOf self.now.login self.now.login.username.now self.now.login.password.now) }
         ensures err { IfErr result (λ status. status ≢ StatusOutOfMemory → HasNoClientWords self.now.login status) }
     {
-        let username = text(self.login.username)?.to_string(alloc)?;
-        let password = self.login.password(alloc)?;
+        let is_strict = is_set(self.login.strict);
+        let (username, password) = client_words(
+            is_strict,
+            self.login.username,
+            self.login.password,
+        )?;
+        let username = username.to_string(alloc)?;
+        let password = password.to_string(alloc)?;
         Ok(SaslProfile::plain(username, password))
     }
 
@@ -161,7 +190,7 @@ impl SaslClient {
         ensures state { (login : LoginStruct) → ProfileIsReached login (client_side side.now).state
             → (client_side side.now).limit ≡ 512 → length (client_side side.now).held ≤ 512
             → MatchOption result ⊥ (λ client. IsClient login client (client_side side.now)) }
-        ensures writes { IfSome result (λ client. WritesSide client (client_side side.now)) }
+        ensures writes { IfSome result (λ client. WritesSide (extended_in side.now) client (client_side side.now)) }
     {
         let kept = side.snapshot();
         let Some(connection) = Connection::of(&kept) else {
@@ -178,6 +207,7 @@ impl SaslClient {
     fn read(&self, alloc: Global, login: &SaslLogin<'_>) -> Result<ClientNegotiation, Status>
         ensures ok { IfOk result (λ side. IsHostname login.now (hostname_in side)
             × IsClient login.now self.now (client_side side) × ((client_side side).progress ≡ InProgress)) }
+        ensures extended { IfOk result (λ side. extended_in side ≡ accepts_extended self.now.connection) }
         ensures reads { IfOk result (λ _. ReadsClient login.now self.now) }
         ensures err { IfErr result (λ status. status ≢ StatusOutOfMemory → IsNoClient login.now self.now status) }
         ensures memory { AsksWhere (ReadsClient login.now self.now) result }
@@ -230,9 +260,10 @@ fn taken(
 ) -> Result<Made, Status>
     requires { meter.old ≤ 2 ^ 63 }
     ensures ok { IfOk result (λ made. (login : LoginStruct) (before : Structs) → IsClient login before (client_side side.old)
-        → (client_side side.old).progress ≡ InProgress → ClientReceives (hostname_in side.old) (client_side side.old) bytes.now
-        nonce.now made.taken made.sent.items (client_side side.new) × IsClient login made.next (client_side side.new)
-        × (length made.sent.items ≤ 512) × WritesSide made.next (client_side side.new)) }
+        → (client_side side.old).progress ≡ InProgress → ClientTakes (extended_in side.old) (hostname_in side.old)
+        (client_side side.old) bytes.now nonce.now made.taken made.sent.items (client_side side.new)
+        × IsClient login made.next (client_side side.new) × (length made.sent.items ≤ 512)
+        × WritesSide (extended_in side.old) made.next (client_side side.new)) }
     ensures err { IfErr result (λ status. status ≢ StatusOutOfMemory → (login : LoginStruct) (before : Structs)
         → IsClient login before (client_side side.old) → (client_side side.old).progress ≢ InProgress) }
 {

@@ -9,11 +9,10 @@ ghost use Rattle.fe2o3_sasl_core.specs.ExtraChallenges.{phase_of};
 ghost use Rattle.fe2o3_sasl_core.specs.PasswordServer.{password_names, password_server, password_state};
 ghost use Rattle.fe2o3_sasl_core.specs.declared.password_server.builder.BuildError.TheVariants.{NoMechanism as BuildNoMechanism, SaltTooLong as BuildSaltTooLong};
 ghost use Rattle.fe2o3_sasl_negotiation.specs.declared.progress.Progress.TheVariants.{InProgress};
-ghost use Rattle.fe2o3_sasl_negotiation.specs.ServerNegotiation.{ServerReceives};
 ghost use Rattle.fe2o3_sasl_negotiation.specs.Snapshot.{IsServerKept, side_of};
-ghost use Rattle.fe2o3_sasl_negotiation.specs.Sides.{ServerConnectionSide, server_side};
+ghost use Rattle.fe2o3_sasl_negotiation.specs.Sides.{ServerConnectionSide, extended_in, server_side};
 ghost use Rattle.sasl_c.specs.Rules.{channels_of};
-ghost use Rattle.sasl_c.specs.SaslServer.{AddsRecord, HasNoServerWords, HasNone, IsNoConfig, NoRecordIsUnmet, NotReceived, Received, ReceivesAsServer, ServerIsReached, ShowRecords, ShowsBy, ShowsState, config_tests, extra_for, one_where, passwords_number, record_for, saved_for, settings_for, state_of, struct_by, sum_of, version_of_first};
+ghost use Rattle.sasl_c.specs.SaslServer.{AddsRecord, HasNoServerWords, HasNone, IsNoConfig, NoRecordIsUnmet, NotReceived, Received, ReceivesAsServer, ServerIsReached, ServerTakes, ShowRecords, ShowsBy, ShowsState, config_tests, extra_for, one_where, passwords_number, record_for, saved_for, settings_for, state_of, struct_by, sum_of, version_of_first};
 ghost use Rattle.sasl_c.specs.Server.{exchange_shown, phase_for};
 ghost use Rattle.sasl_c.specs.declared.sasl_server.Choice.{Choice as Choices};
 ghost use Rattle.sasl_c.specs.Connection.{side_tests};
@@ -49,8 +48,8 @@ pub struct SaslServerConfig<'a> {
     /// or FE2O3_PLAIN_SASLPREP. By the latter it also rejects a password that SASLprep rejects or prepares to the empty
     /// text. With FE2O3_SIGNATURE_BY_CHALLENGE SCRAM's outcome OK follows the client's empty response to a challenge.
     /// With FE2O3_INITIAL_RESPONSE_BY_CHALLENGE an init for SCRAM or PLAIN without an initial response is answered by
-    /// an empty challenge, and the response is the initial response. With FE2O3_STRICT SCRAM rejects an attribute that
-    /// RFC 5802 defines in the place of an extension.
+    /// an empty challenge, and the response is the initial response. With FE2O3_STRICT SCRAM is strict, as by the
+    /// field `strict` of struct fe2o3_scram_rules.
     pub mechanisms: u32,
 
     /// The iteration count with which PLAIN hashes the password of an unknown user.
@@ -99,7 +98,7 @@ struct Choice {
     /// Whether SCRAM accepts the GS2 flag `y`.
     cbind_flag_y: bool,
 
-    /// Whether SCRAM rejects an attribute that RFC 5802 defines in the place of an extension.
+    /// Whether SCRAM reads messages by the grammar of RFC 5802, section 7.
     strict: bool,
 
     /// Whether an init without an initial response is answered by an empty challenge.
@@ -385,6 +384,7 @@ struct TakenUp<A> {
 }
 
 /// Restores a side that waits, which takes bytes.
+#[tactic(auto, using(crate::proofs::ReadingLemmas::read_as_kept))]
 fn restore<A: AuthenticatedUser + Drop>(
     alloc: Global,
     acceptor: A,
@@ -396,8 +396,9 @@ fn restore<A: AuthenticatedUser + Drop>(
     requires meter { meter.old ≤ 2 ^ 63 }
     requires wanting { kept.now.progress ≡ InProgress }
     ensures ok { IfOk result (λ call. IsServerKept kept.now
-        × ServerReceives A.names A.machine (side_of kept.now (A.state acceptor)) bytes.now nonce.now call.taken
-        call.sent.items (server_side A.state call.side)) }
+        × ServerTakes kept.now.extended_headers A.names A.machine (side_of kept.now (A.state acceptor)) bytes.now nonce.now
+        call.taken call.sent.items (server_side A.state call.side)
+        × (extended_in call.side ≡ kept.now.extended_headers)) }
     ensures err { IfErr result (λ status. status ≢ StatusOutOfMemory → (status ≡ StatusInvalidSnapshot) × ¬ IsServerKept kept.now) }
 {
     let mut side = match ServerNegotiation::restore(alloc, acceptor, kept) {
@@ -456,12 +457,13 @@ fn taken<A: Shows + Drop>(
 ) -> Result<Made, Status>
     requires meter { meter.old ≤ 2 ^ 63 }
     requires wanting { kept.now.progress ≡ InProgress }
-    ensures ok { IfOk result (λ made. (next : ServerConnectionSide A) × ServerReceives A.names A.machine
+    ensures ok { IfOk result (λ made. (next : ServerConnectionSide A) × ServerTakes kept.now.extended_headers A.names A.machine
         (side_of kept.now (A.state acceptor)) bytes.now nonce.now made.taken made.sent.items (server_side A.state next)
-        × ShowsBy A.state A.shows made.next next × (made.next ≡ struct_by A.state A.written_for next)) }
+        × (extended_in next ≡ kept.now.extended_headers) × ShowsBy A.state A.shows made.next next
+        × (made.next ≡ struct_by A.state A.written_for next)) }
     ensures err { IfErr result (λ status. status ≢ StatusOutOfMemory → ((status ≡ StatusInvalidSnapshot) × ¬ IsServerKept kept.now)
         ⊎ ((status ≡ StatusTooLong) × ((next : ServerConnectionSide A) × (taken : ℕ) × (sent : List ℕ)
-        × ServerReceives A.names A.machine (side_of kept.now (A.state acceptor)) bytes.now nonce.now taken sent
+        × ServerTakes kept.now.extended_headers A.names A.machine (side_of kept.now (A.state acceptor)) bytes.now nonce.now taken sent
         (server_side A.state next) × HasNone A.state A.shows next))) }
 {
     let call = match restore(alloc, acceptor, kept, bytes, nonce, meter) {

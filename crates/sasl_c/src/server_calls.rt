@@ -17,8 +17,8 @@ use crate::rules::{ScramRules, with_cbind_flag_y};
 use crate::server::{ScramServer, fits};
 use crate::status::{Status, WriteError, text_number};
 use fe2o3_scram::{
-    ClientFirst, Meter, OpenChallenge, ScramAuthenticator, ScramCredentialProvider, ServerRules,
-    ServerScramErrorKind, UserRecord,
+    ClientFirst, ClientHeader, Meter, OpenChallenge, ScramAuthenticator, ScramCredentialProvider,
+    ServerRules, ServerScramErrorKind, UserRecord,
 };
 use std::alloc::Global;
 
@@ -201,7 +201,8 @@ pub extern "C" fn fe2o3_scram_server_first_with_cbind_flag_y(
 /// - FE2O3_SERVER_UTF8_ERROR,
 /// - FE2O3_SERVER_CANNOT_PARSE_GS2_HEADER if the rules do not accept the header,
 /// - FE2O3_SERVER_CANNOT_PARSE_USERNAME and FE2O3_SERVER_CANNOT_PARSE_CLIENT_NONCE,
-/// - FE2O3_SERVER_MISPLACED_ATTRIBUTE of a strict server,
+/// - the same two of a strict server, if the name is empty or has NUL, or the nonce is empty or not printable,
+/// - FE2O3_SERVER_MISPLACED_ATTRIBUTE of a server that is strict or binds channels,
 /// - FE2O3_NO_SUCH_VERSION and FE2O3_TOO_LONG if `kept` holds no record,
 /// - FE2O3_TOO_LONG if a text of the challenge does not fit into the struct,
 /// - FE2O3_ROOM_TOO_SMALL.
@@ -372,11 +373,11 @@ fn concluded(
         Ok(shown) => shown,
         Err(status) => return Err(status),
     };
-    let channel = rules.expected_channel(challenge.header);
+    let header = ClientHeader::new(rules.expected_channel(challenge.header), None);
     let strict = rules.is_strict();
-    match version.compute_server_final_message_with_channel(
+    match version.compute_server_final_message_with_header(
         alloc,
-        &channel,
+        &header,
         strict,
         client_final,
         challenge.client_server_nonce,
@@ -472,7 +473,7 @@ pub extern "C" fn fe2o3_scram_server_final(
 ///   the rules,
 /// - FE2O3_SERVER_CANNOT_PARSE_CLIENT_FINAL_MESSAGE and FE2O3_SERVER_INCORRECT_CLIENT_FINAL_NONCE,
 /// - FE2O3_SERVER_PROOF_NOT_FOUND_IN_CLIENT_FINAL and FE2O3_SERVER_BASE64_DECODE_ERROR, of the proof,
-/// - FE2O3_SERVER_MISPLACED_ATTRIBUTE of a strict server,
+/// - FE2O3_SERVER_MISPLACED_ATTRIBUTE of a server that is strict or binds channels,
 /// - FE2O3_SERVER_XOR_LENGTH_MISMATCH and FE2O3_SERVER_AUTHENTICATION_FAILED if the proof is wrong.
 #[unsafe(no_mangle)]
 pub extern "C" fn fe2o3_scram_server_final_with_rules(

@@ -145,6 +145,9 @@ pub enum Status {
 
     /// The use of a channel is none of enum fe2o3_channel_use, or its kind none of enum fe2o3_channel_kind.
     NoSuchChannel,
+
+    /// The password for a message of PLAIN is empty (RFC 4616, section 2).
+    EmptyPassword,
 }
 
 /// Why a call that writes a text fails.
@@ -243,6 +246,7 @@ impl Status {
             Status::EndOfInput => 90,
             Status::ChannelDataLength => 91,
             Status::NoSuchChannel => 92,
+            Status::EmptyPassword => 93,
         }
     }
 }

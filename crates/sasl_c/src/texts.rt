@@ -107,6 +107,7 @@ fn text_of(status: u32) -> &'static [u8]
         90 => b"Connection: The other side ended the stream before the negotiation was complete\0",
         91 => b"Channel binding data of a wrong length\0",
         92 => b"No such channel\0",
+        93 => b"The password is empty\0",
         _ => b"Unknown status\0",
     }
 }

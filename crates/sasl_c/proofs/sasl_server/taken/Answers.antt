@@ -8,4 +8,10 @@ returns-in_default-clause-err g c = λ other. inr (
 )
 
 pub returns-clause-ok : goal.returns-clause-ok
-returns-clause-ok g c = (c.in-Ok.call.side, c.in-Ok.ensures.ok.1, c.in-Some.ensures.shows, c.in-Some.ensures.writes)
+returns-clause-ok g c = (
+  c.in-Ok.call.side,
+  c.in-Ok.ensures.ok.1,
+  c.in-Ok.ensures.ok.2,
+  c.in-Some.ensures.shows,
+  c.in-Some.ensures.writes,
+)

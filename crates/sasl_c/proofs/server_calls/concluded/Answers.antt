@@ -1,6 +1,7 @@
-use Rattle.std.proofs.Common.{rules}
+use Rattle.std.proofs.Common.{rules, ap, ◌∙◌}
 use Rattle.fe2o3_scram.specs.Credentials.{kept, versioned}
 use Rattle.fe2o3_scram.specs.ScramServer.{challenge_kept}
+use Rattle.sasl_c.specs.Channels.{header_with}
 use Rattle.sasl_c.proofs.ServerLemmas.{concluded, final_asks, keeps_none, memory_costs, not_open, refuses}
 use Rattle.sasl_c.proofs.server_calls.concluded.Goals as goal
 
@@ -13,52 +14,52 @@ returns-in-Err-clause-err c = λ _.
     (challenge_kept c.in-Some.challenge) c.in-Err.status
     c.in-Some.ensures c.in-Err.ensures.err
 
-pub returns-in-Ok-compute_server_final_message_with_channel-clause-ok :
-    goal.returns-in-Ok-compute_server_final_message_with_channel-clause-ok
-returns-in-Ok-compute_server_final_message_with_channel-clause-ok c =
-    let answered = rw (c.expected_channel-channel.ensures, c.is_strict-strict.ensures)
-    at c.in-Ok-compute_server_final_message_with_channel.ensures.answer in
+pub returns-in-Ok-compute_server_final_message_with_header-clause-ok :
+    goal.returns-in-Ok-compute_server_final_message_with_header-clause-ok
+returns-in-Ok-compute_server_final_message_with_header-clause-ok c =
+    let answered = rw (c.new-header.ensures, c.expected_channel.ensures, c.is_strict-strict.ensures)
+    at c.in-Ok-compute_server_final_message_with_header.ensures.answer in
     let all = concluded c.args.rules c.args.kept.now c.args.server.now c.args.client_final.now
-    c.in-Ok-compute_server_final_message_with_channel.message.items
+    c.in-Ok-compute_server_final_message_with_header.message.items
     (challenge_kept c.in-Some.challenge) (versioned c.in-Ok.shown.0 (kept c.in-Ok.shown.1)) c.in-Some.ensures
     c.in-Ok.ensures.ok answered in
     (c.in-Some.challenge.username.now, all.0)
 
-pub returns-in-Ok-compute_server_final_message_with_channel-clause-fits :
-    goal.returns-in-Ok-compute_server_final_message_with_channel-clause-fits
-returns-in-Ok-compute_server_final_message_with_channel-clause-fits c =
-    let answered = rw (c.expected_channel-channel.ensures, c.is_strict-strict.ensures)
-    at c.in-Ok-compute_server_final_message_with_channel.ensures.answer in
+pub returns-in-Ok-compute_server_final_message_with_header-clause-fits :
+    goal.returns-in-Ok-compute_server_final_message_with_header-clause-fits
+returns-in-Ok-compute_server_final_message_with_header-clause-fits c =
+    let answered = rw (c.new-header.ensures, c.expected_channel.ensures, c.is_strict-strict.ensures)
+    at c.in-Ok-compute_server_final_message_with_header.ensures.answer in
     let all = concluded c.args.rules c.args.kept.now c.args.server.now c.args.client_final.now
-    c.in-Ok-compute_server_final_message_with_channel.message.items
+    c.in-Ok-compute_server_final_message_with_header.message.items
     (challenge_kept c.in-Some.challenge) (versioned c.in-Ok.shown.0 (kept c.in-Ok.shown.1)) c.in-Some.ensures
     c.in-Ok.ensures.ok answered in
     all.1
 
-pub returns-in-Err-compute_server_final_message_with_channel-clause-err :
-    goal.returns-in-Err-compute_server_final_message_with_channel-clause-err
-returns-in-Err-compute_server_final_message_with_channel-clause-err c =
-    let answered = rw (c.expected_channel-channel.ensures, c.is_strict-strict.ensures)
-    at c.in-Err-compute_server_final_message_with_channel.ensures.answer.1 in
+pub returns-in-Err-compute_server_final_message_with_header-clause-err :
+    goal.returns-in-Err-compute_server_final_message_with_header-clause-err
+returns-in-Err-compute_server_final_message_with_header-clause-err c =
+    let answered = rw (c.new-header.ensures, c.expected_channel.ensures, c.is_strict-strict.ensures)
+    at c.in-Err-compute_server_final_message_with_header.ensures.answer.1 in
     refuses c.args.rules c.args.kept.now c.args.server.now c.args.client_final.now (challenge_kept c.in-Some.challenge)
     (versioned c.in-Ok.shown.0 (kept c.in-Ok.shown.1))
-    c.in-Err-compute_server_final_message_with_channel.why c.from.result c.in-Some.ensures c.in-Ok.ensures.ok
+    c.in-Err-compute_server_final_message_with_header.why c.from.result c.in-Some.ensures c.in-Ok.ensures.ok
     answered c.from.ensures
 
-pub returns-in-Err-compute_server_final_message_with_channel-clause-memory :
-    goal.returns-in-Err-compute_server_final_message_with_channel-clause-memory
-returns-in-Err-compute_server_final_message_with_channel-clause-memory c =
-    let reaches = rw c.expected_channel-channel.ensures
-    at c.in-Err-compute_server_final_message_with_channel.ensures.answer.0 in
+pub returns-in-Err-compute_server_final_message_with_header-clause-memory :
+    goal.returns-in-Err-compute_server_final_message_with_header-clause-memory
+returns-in-Err-compute_server_final_message_with_header-clause-memory c =
+    let reaches = rw (c.new-header.ensures, c.expected_channel.ensures)
+    at c.in-Err-compute_server_final_message_with_header.ensures.answer.0 in
     final_asks c.args.rules c.args.kept.now c.args.server.now c.args.client_final.now (challenge_kept c.in-Some.challenge)
     (versioned c.in-Ok.shown.0 (kept c.in-Ok.shown.1))
-    c.in-Err-compute_server_final_message_with_channel.why c.from.result c.in-Some.ensures c.in-Ok.ensures.ok
+    c.in-Err-compute_server_final_message_with_header.why c.from.result c.in-Some.ensures c.in-Ok.ensures.ok
     reaches c.from.ensures
 
-pub returns-in-Err-compute_server_final_message_with_channel-clause-cost :
-    goal.returns-in-Err-compute_server_final_message_with_channel-clause-cost
-returns-in-Err-compute_server_final_message_with_channel-clause-cost c =
+pub returns-in-Err-compute_server_final_message_with_header-clause-cost :
+    goal.returns-in-Err-compute_server_final_message_with_header-clause-cost
+returns-in-Err-compute_server_final_message_with_header-clause-cost c =
     memory_costs (Unit {0}) c.args.rules c.args.kept.now c.args.server.now c.args.client_final.now (challenge_kept c.in-Some.challenge)
-    c.expected_channel-channel.result c.is_strict-strict.result (versioned c.in-Ok.shown.0 (kept c.in-Ok.shown.1))
-    c.in-Err-compute_server_final_message_with_channel.why c.from.result _ _ c.in-Some.ensures c.in-Ok.ensures.ok
-    c.expected_channel-channel.ensures c.is_strict-strict.ensures c.in-Err-compute_server_final_message_with_channel.ensures.cost c.from.ensures
+    c.new-header.result c.is_strict-strict.result (versioned c.in-Ok.shown.0 (kept c.in-Ok.shown.1))
+    c.in-Err-compute_server_final_message_with_header.why c.from.result _ _ c.in-Some.ensures c.in-Ok.ensures.ok
+    (c.new-header.ensures ∙ ap header_with c.expected_channel.ensures) c.is_strict-strict.ensures c.in-Err-compute_server_final_message_with_header.ensures.cost c.from.ensures

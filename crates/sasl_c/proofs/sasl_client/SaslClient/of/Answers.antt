@@ -1,6 +1,6 @@
 use Rattle.std.proofs.Common.{sym}
 use Rattle.fe2o3_sasl_core.specs.SaslProfile.{profile_of}
-use Rattle.fe2o3_sasl_negotiation.specs.Sides.{client_side}
+use Rattle.fe2o3_sasl_negotiation.specs.Sides.{client_side, extended_in}
 use Rattle.sasl_c.specs.SaslClient.{ProfileIsReached, IsProfile, WritesProfile}
 use Rattle.sasl_c.proofs.SaslClientLemmas.{shows_side, writes_side}
 use Rattle.sasl_c.proofs.StatusLemmas.{carried}
@@ -19,8 +19,8 @@ pub returns-clause-writes : goal.returns-clause-writes
 returns-clause-writes c =
     let shown = profile_of c.profile.result.now in
     let state = (client_side c.args.side.now).state in
-    writes_side c.in-Some.connection c.in-Some-scram_of.scram (client_side c.args.side.now) c.snapshot-kept.result
-    c.snapshot-kept.ensures.side c.in-Some.ensures.writes
+    writes_side c.in-Some.connection c.in-Some-scram_of.scram (extended_in c.args.side.now) (client_side c.args.side.now)
+    c.snapshot-kept.result c.snapshot-kept.ensures.side c.snapshot-kept.ensures.extended c.in-Some.ensures.writes
     (carried (WritesProfile c.in-Some-scram_of.scram) shown state c.profile.ensures c.in-Some-scram_of.ensures.writes)
 
 pub returns-in_default-scram_of-clause-state : goal.returns-in_default-scram_of-clause-state
