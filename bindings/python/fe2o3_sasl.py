@@ -267,6 +267,7 @@ class Status(enum.IntEnum):
     END_OF_INPUT = 90
     CHANNEL_DATA_LENGTH = 91
     NO_SUCH_CHANNEL = 92
+    EMPTY_PASSWORD = 93
 
 
 class Progress(enum.IntEnum):
@@ -284,8 +285,8 @@ class Offer(enum.IntFlag):
     or as the server prepares it by SASLprep. Without them it rejects non-ASCII passwords.
     SIGNATURE_BY_CHALLENGE: SCRAM sends the server's signature in a challenge, and the outcome follows the client's empty
     response. INITIAL_RESPONSE_BY_CHALLENGE: SCRAM and PLAIN answer an init without an initial response by an
-    empty challenge, and the client's response is then the initial response. STRICT: SCRAM rejects an attribute
-    that RFC 5802 defines in the place of an extension."""
+    empty challenge, and the client's response is then the initial response. STRICT: SCRAM reads messages by
+    the grammar of RFC 5802, section 7, like a `Server` with `strict`."""
 
     SCRAM_SHA_512 = 1
     SCRAM_SHA_256 = 2
@@ -479,6 +480,7 @@ class _ConnectionStruct(ctypes.Structure):
         ("expected", ctypes.c_uint32),
         ("held_len", ctypes.c_uint32),
         ("held", ctypes.c_uint8 * 512),
+        ("extended_headers", ctypes.c_uint32),
     ]
 
 
@@ -1206,6 +1208,7 @@ _STATUSES: dict[type[Refused], tuple[Status, ...]] = {
         Status.OTHER_VERSION,
         Status.NO_SUCH_MECHANISM,
         Status.NO_SUCH_CHOICE,
+        Status.EMPTY_PASSWORD,
     ),
     PreparationError: (
         Status.NOT_PRINTABLE,
@@ -1906,8 +1909,9 @@ class Client(_Guarded):
         it rejects this header, so that nobody on the way can remove the mechanism from the offer (RFC 5802, section 6).
         Without a channel the GS2 header is `n,,`.
 
-        With `strict`, the client rejects an attribute that RFC 5802 defines in the place of an extension, after the
-        iteration count. A client that binds a channel is strict in any case."""
+        With `strict`, the client reads messages by the grammar of RFC 5802, section 7. The server's part of the nonce has
+        to be printable and not empty, the iteration count without a sign or leading zeros, and what follows the count
+        or the signature an extension. A client that binds a channel tests the extensions in any case."""
         if password is None and keys is None:
             raise ValueError("a login takes a password, keys, or both")
         name = _text(username)
@@ -2113,6 +2117,13 @@ class _Connection(_Login):
         connection = self._struct.connection
         return int(connection.progress), int(connection.why)
 
+    def accept_extended_headers(self, accept: bool = True) -> None:
+        """Sets whether this side accepts frames with an extended header, which a new connection does not. It then reads
+        such a frame without that header (AMQP 1.0, part 2, section 2.3.1). Otherwise the frame fails the login: the status
+        of `why` is `Status.NO_SASL_FRAME`."""
+        with self._lock:
+            self._struct.connection.extended_headers = bool(accept)
+
     def end_of_input(self) -> None:
         """Ends the login, because the other side ended its stream. A login in progress fails: `why` is an `EndOfInput`.
         Otherwise nothing changes."""
@@ -2232,9 +2243,11 @@ class _ClientSide(_Login):
         raise NotImplementedError
 
     @classmethod
-    def _by(cls: type[_Side], mechanism: int, username: Text, password: Text, hostname: Text) -> _Side:
+    def _by(
+        cls: type[_Side], mechanism: int, username: Text, password: Text, hostname: Text, strict: bool = False
+    ) -> _Side:
         side = cls.__new__(cls)
-        with Client(SHA_256, username, password) as client:
+        with Client(SHA_256, username, password, strict=strict) as client:
             side._begin(cls._login_of(mechanism, client._login, hostname))
         return side
 
@@ -2309,9 +2322,13 @@ class _ClientSide(_Login):
             self._refusal_data = view_frame(body).message
 
     @classmethod
-    def plain(cls: type[_Side], username: Text, password: Text, *, hostname: Text = "") -> _Side:
-        """A login by PLAIN (RFC 4616), which sends the password in clear."""
-        return cls._by(_Mechanism.PLAIN, username, password, hostname)
+    def plain(cls: type[_Side], username: Text, password: Text, *, hostname: Text = "", strict: bool = False) -> _Side:
+        """A login by PLAIN (RFC 4616), which sends the password in clear.
+
+        With `strict`, the user name and the password have to be ones that a message can have (RFC 4616, section 2).
+        Otherwise the first call raises `Refused`, with NAMES_NO_USER or EMPTY_PASSWORD for an empty one, and with
+        PROHIBITED_CHARACTER for a zero byte."""
+        return cls._by(_Mechanism.PLAIN, username, password, hostname, strict)
 
     @classmethod
     def anonymous(cls: type[_Side], *, hostname: Text = "") -> _Side:
@@ -2668,9 +2685,9 @@ class Server(_Guarded):
         With `channels` it is a server of the mechanism with `-PLUS`, and accepts only clients that bind one of these
         channels. Pass a channel for each kind that you accept. If the list is empty, it accepts no client.
 
-        With `strict`, it rejects an attribute that RFC 5802 defines in the place of an extension: after the nonce of
-        the client-first message, or between the nonce and the proof of the client-final message. A server with
-        `channels` is strict in any case."""
+        With `strict`, it reads messages by the grammar of RFC 5802, section 7. A user name has to be of one or more
+        characters and without NUL, a nonce printable and not empty, and what follows the nonce an extension. A server
+        with `channels` tests the extensions in any case."""
         self._rules = _rules_of(accept_cbind_flag_y, strict, channels)
         # The record of a challenge, its struct, and its rules: set together, so that a challenge is never answered with
         # those of another.
@@ -2725,8 +2742,8 @@ def plain_message(username: Text, password: Text) -> bytes:
     """Returns the message by which a client logs in with PLAIN (RFC 4616, section 2). It has the password in clear, so
     send it over TLS only. Prepare a non-ASCII password first (`saslprep`).
 
-    Raises `Refused` with NOT_UTF8 if a word is not UTF-8, with NAMES_NO_USER if the user name is empty, and with
-    PROHIBITED_CHARACTER if a word contains a zero byte. An empty password is written, but servers reject it."""
+    Raises `Refused` with NOT_UTF8 if a word is not UTF-8, with NAMES_NO_USER if the user name is empty, with
+    EMPTY_PASSWORD if the password is, and with PROHIBITED_CHARACTER if a word contains a zero byte."""
     name = _text(username)
     with _passing(_hidden(password)) as given:
         return _written(

@@ -49,7 +49,7 @@ SALT = b"a salt of bytes!"
 EXPECTED: dict[type[Refused], list[int]] = {
     Refused: [2, 33, 34, 44],
     OutOfMemory: [1],
-    InvalidArgument: [3, 4, *range(7, 11), 12, 85],
+    InvalidArgument: [3, 4, *range(7, 11), 12, 85, 93],
     TooLong: [5],
     PreparationError: [6, 31, 46, 86, 87, 88],
     AuthenticationFailed: [11, 45, 52],

@@ -429,6 +429,23 @@ class Strict(Case):
                         self.assertEqual(side.why.status, Status.REFUSED_AUTH)
 
 
+    def test_grammar(self) -> None:
+        record = Record.make(SHA_256, "pencil", salt=SALT)
+        for strict in (False, True):
+            client, server = Client(SHA_256, "user", "pencil", strict=strict), Server(strict=strict)
+            client.first()
+            nonce = client.first().split(b",r=")[1]
+            for call, message, status in (
+                (lambda said: server.first(record, said), b"n,,n=,r=nonce", Status.SERVER_CANNOT_PARSE_USERNAME),
+                (lambda said: server.first(record, said), b"n,,n=user,r=", Status.SERVER_CANNOT_PARSE_CLIENT_NONCE),
+                (client.final, b"r=" + nonce + b"x,s=BAQ=,i=04096", Status.CLIENT_ITERATION_COUNT_PARSE_ERROR),
+            ):
+                with self.subTest(strict=strict, message=message):
+                    if strict:
+                        self.refused(status, call, message)
+                    else:
+                        call(message)
+
     def test_messages(self) -> None:
         for version in VERSIONS:
             known, record = Secret(version, "pencil", SALT, 4096), Record.make(version, "pencil", salt=SALT)
@@ -1033,6 +1050,60 @@ class Connections(Case):
                 one = side()
                 self.assertEqual(one.receive(data)[0], b"")
                 self.closed(one, status)
+
+    # Data offsets in words of four bytes, the bytes of the extended header (AMQP 1.0, part 2, section 2.3.1), and why the
+    # frame is not read, without the option and with it.
+    OFFSETS: tuple[tuple[int, bytes, Optional[Status], Optional[Status]], ...] = (
+        (2, b"", None, None),
+        (3, b"\xde\xad\xbe\xef", Status.NO_SASL_FRAME, None),
+        (4, b"\0\x53\x41\xc0\0\0\0\x0a", Status.NO_SASL_FRAME, None),
+        (1, b"", Status.NO_SASL_FRAME, Status.NO_SASL_FRAME),
+        (40, b"", Status.NO_SASL_FRAME, Status.NO_SASL_FRAME),
+    )
+
+    def test_extended_headers(self) -> None:
+        # (an init of PLAIN, and a list of the one mechanism, from the byte after the frame's header)
+        init = bytes.fromhex("005341c01602a305504c41494ea00c00757365720070656e63696c")
+        offer = bytes.fromhex("005340c00b01e00801a305504c41494e")
+        record = Record.parse(Secret(SHA_256, "pencil", SALT, 4096).record_text())
+
+        def passed(side: Any, body: bytes, offset: int, header: bytes, accepts: bool) -> tuple[bytes, Optional[int]]:
+            frame = struct.pack(">IBBH", 8 + len(header) + len(body), offset, 1, 0) + header + body
+            side.accept_extended_headers(not accepts)
+            side.accept_extended_headers(accepts)
+            sent, rest = side.receive(SASL_HEADER + frame)
+            self.assertEqual(rest, b"")
+            return sent, None if side.why is None else side.why.status
+
+        for offset, header, *rows in self.OFFSETS:
+            for accepts, why in zip((False, True), rows):
+                with self.subTest(offset=offset, accepts=accepts):
+                    server = ServerConnection(lambda name: [record], mechanisms=Offer.PLAIN)
+                    self.assertEqual(passed(server, init, offset, header, accepts)[1], why)
+                    if why is None:
+                        self.assertEqual(server.authenticated_user(), "user")
+                        self.assertEqual(server.last_attempt(), ("PLAIN", "user", None))
+                    for client in (
+                        ClientConnection.plain("user", "pencil"),
+                        ClientConnection.plain("user", "pencil", strict=True),
+                        ClientConnection.select("user", "pencil", ["SCRAM-SHA-256", "PLAIN"]),
+                    ):
+                        sent = b"" if why is not None else b"\0\0\0\x23\2\1\0\0" + init
+                        self.assertEqual(passed(client, offer, offset, header, accepts), (sent, why))
+
+    def test_words_of_plain(self) -> None:
+        for status, name, password in (
+            (Status.NAMES_NO_USER, "", "pencil"),
+            (Status.EMPTY_PASSWORD, "user", ""),
+            (Status.PROHIBITED_CHARACTER, "us\0er", "pencil"),
+            (Status.PROHIBITED_CHARACTER, "user", "pencil\0"),
+        ):
+            with self.subTest(name=name, password=password):
+                offer = SASL_HEADER + mechanisms_frame("PLAIN")
+                self.refused(status, ClientConnection.plain(name, password, strict=True).receive, offer)
+                self.refused(status, ClientSteps.plain(name, password, strict=True).on_frame, offer[12:])
+                sent, _ = ClientConnection.plain(name, password).receive(offer)
+                self.assertEqual(fields_of(sent), (INIT, [b"PLAIN", f"\0{name}\0{password}".encode()]))
 
     def test_a_message_that_is_asked_for(self) -> None:
         for side, name, message in (
@@ -2119,8 +2190,10 @@ class Messages(Case):
                 self.assertEqual(message, f"\0{name}\0{password}".encode())
                 self.assertEqual(fe2o3_sasl.plain_claimed_user(message), name)
                 self.assertEqual(fe2o3_sasl.plain_claimed_user(name.encode() + message), name)
-        self.assertEqual(fe2o3_sasl.plain_message("user", ""), b"\0user\0")
         for status, name, password in (
+            (Status.EMPTY_PASSWORD, "user", ""),
+            (Status.EMPTY_PASSWORD, "us\0er", ""),
+            (Status.NAMES_NO_USER, "", ""),
             (Status.NOT_UTF8, b"\xff", "a"),
             (Status.NOT_UTF8, "", b"\xff"),
             (Status.NAMES_NO_USER, "", "\0"),

@@ -1,13 +1,14 @@
 //! Serves logins over TCP on the loopback, for the user `user` with the password `pencil`, and closes each connection
-//! after its login. `server PORT`; it prints how each login ended.
+//! after its login. `server PORT`; it prints the port, which is a free one for 0, and how each login ended.
 
+use fe2o3_sasl_proved::io::{serve, LoginError, Served};
 use fe2o3_sasl_proved::*;
 use std::collections::HashMap;
 use std::error::Error;
-use std::io::{self, Read, Write};
+use std::io::{self, ErrorKind, Read, Write};
 use std::net::{Shutdown, TcpListener, TcpStream};
-use std::thread;
 use std::time::{Duration, Instant};
+use std::{iter, thread};
 
 type Users = HashMap<String, Vec<ScramRecord>>;
 
@@ -15,45 +16,46 @@ type Users = HashMap<String, Vec<ScramRecord>>;
 const LOGIN: Duration = Duration::from_secs(10);
 const CLOSE: (Duration, usize) = (Duration::from_secs(2), 65536);
 
-/// Reads some bytes, none if the client has ended. Returns an error after this instant.
-fn read(socket: &mut TcpStream, room: &mut [u8], until: Instant) -> io::Result<usize> {
-    let left = until.saturating_duration_since(Instant::now());
-    if left.is_zero() {
-        return Err(io::ErrorKind::TimedOut.into());
+/// A socket whose reads and writes fail after an instant.
+struct Until<'a>(&'a TcpStream, Instant);
+
+impl Until<'_> {
+    /// Returns the time that is left.
+    fn left(&self) -> io::Result<Option<Duration>> {
+        match self.1.saturating_duration_since(Instant::now()) {
+            Duration::ZERO => Err(ErrorKind::TimedOut.into()),
+            left => Ok(Some(left)),
+        }
     }
-    socket.set_read_timeout(Some(left))?;
-    socket.read(room)
 }
 
-/// Serves a login. Returns the user, and the bytes that belong to AMQP.
-fn serve(socket: &mut TcpStream, server: PasswordServer<Users>) -> Result<(Option<String>, Vec<u8>), Box<dyn Error>> {
-    let (mut side, mut room, mut rest) = (ServerNegotiation::new(server), [0; 4096], Vec::new());
-    let until = Instant::now() + LOGIN;
-    while side.progress() == Progress::InProgress {
-        let len = read(socket, &mut room, until)?;
-        if len == 0 {
-            side.end_of_input();
-            break;
-        }
-        let received = side.receive(&room[..len])?;
-        socket.write_all(&received.sent)?;
-        rest = room[received.taken..len].to_vec();
+impl Read for Until<'_> {
+    fn read(&mut self, room: &mut [u8]) -> io::Result<usize> {
+        self.0.set_read_timeout(self.left()?)?;
+        self.0.read(room)
     }
-    match side.progress() {
-        Progress::Failed(why) => Err(why.into()),
-        _ => Ok((side.authenticated_user(), rest)),
+}
+
+impl Write for Until<'_> {
+    fn write(&mut self, bytes: &[u8]) -> io::Result<usize> {
+        self.0.set_write_timeout(self.left()?)?;
+        self.0.write(bytes)
+    }
+
+    fn flush(&mut self) -> io::Result<()> {
+        self.0.flush()
     }
 }
 
 /// Closes a connection: ends the sending side, and discards what arrives until the client ends, up to a time and a
 /// number of bytes. A close with unread bytes resets the connection (RFC 1122, section 4.2.2.13), and the client can
 /// lose the outcome.
-pub fn hang_up(mut socket: TcpStream) {
-    let (until, mut left, mut room) = (Instant::now() + CLOSE.0, CLOSE.1, [0; 4096]);
+pub fn hang_up(socket: TcpStream) {
+    let (mut input, mut left, mut room) = (Until(&socket, Instant::now() + CLOSE.0), CLOSE.1, [0; 4096]);
     if socket.shutdown(Shutdown::Write).is_err() {
         return;
     }
-    while let Ok(len @ 1..) = read(&mut socket, &mut room, until) {
+    while let Ok(len @ 1..) = input.read(&mut room) {
         if len >= left {
             return;
         }
@@ -61,14 +63,20 @@ pub fn hang_up(mut socket: TcpStream) {
     }
 }
 
+/// Returns an error with its causes.
+fn with_causes(why: &LoginError) -> String {
+    let why: &dyn Error = why;
+    iter::successors(Some(why), |why| (*why).source()).map(|why| why.to_string()).collect::<Vec<_>>().join(": ")
+}
+
 /// Serves each connection in a thread.
 pub fn listen(listener: &TcpListener, server: &PasswordServer<Users>) -> io::Result<()> {
     for socket in listener.incoming() {
-        let (mut socket, server) = (socket?, server.clone());
+        let (socket, mut side) = (socket?, ServerNegotiation::new(server.clone()));
         thread::spawn(move || {
-            match serve(&mut socket, server) {
-                Ok((user, _)) => println!("logged in: {user:?}"),
-                Err(why) => println!("not logged in: {why}"),
+            match serve(Until(&socket, Instant::now() + LOGIN), &mut side) {
+                Ok(Served { user, .. }) => println!("logged in: {user:?}"),
+                Err(why) => println!("not logged in: {}", with_causes(&why)),
             }
             hang_up(socket);
         });
@@ -76,16 +84,18 @@ pub fn listen(listener: &TcpListener, server: &PasswordServer<Users>) -> io::Res
     Ok(())
 }
 
-/// Returns a server that knows one user.
+/// Returns a server that knows one user. It offers only the hash of which every user has a record.
 pub fn example_server() -> Result<PasswordServer<Users>, Box<dyn Error>> {
     let record = ScramRecord::from_password(ScramVersion::Sha256, "pencil", &generate_nonce(), 4096)?;
     let users = HashMap::from([("user".to_owned(), vec![record])]);
-    Ok(PasswordServer::new(users).mock_unknown_users(generate_nonce(), 32, 4096))
+    let server = PasswordServer::new(users).hashes(&[ScramVersion::Sha256]);
+    Ok(server.mock_unknown_users(generate_nonce(), 32, 4096))
 }
 
 fn main() -> Result<(), Box<dyn Error>> {
     let port = std::env::args().nth(1).ok_or("server PORT")?.parse()?;
     let listener = TcpListener::bind(("127.0.0.1", port))?;
+    println!("{}", listener.local_addr()?.port());
     listen(&listener, &example_server()?)?;
     Ok(())
 }

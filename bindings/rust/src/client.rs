@@ -193,9 +193,10 @@ impl ScramClient {
         self
     }
 
-    /// With `is_strict`, makes the client reject an attribute that RFC 5802 defines in the place of an extension, after
-    /// the iteration count, by [`ScramErrorKind::MisplacedAttribute`]. A client that binds a channel is strict in any
-    /// case.
+    /// With `is_strict`, makes the client read messages by the grammar of RFC 5802, section 7. The server's part of the
+    /// nonce has to be printable and not empty, and the iteration count without a sign or leading zeros. What follows the
+    /// count or the signature has to be an extension, or [`ScramErrorKind::MisplacedAttribute`] is returned. A client that
+    /// binds a channel tests the extensions in any case.
     pub fn strict(mut self, is_strict: bool) -> Self {
         self.who.strict = is_strict;
         self

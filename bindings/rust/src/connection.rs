@@ -4,15 +4,16 @@ use crate::calls::filled;
 use crate::client::{Who, INITIAL};
 use crate::frames::view_frame;
 use crate::keys::NO_KEYS;
+use crate::messages::plain_message;
 use crate::peeks::{end_of_input, foreign_header, nonce_for, peek_body, wants_nonce};
 use crate::policies::{refusal_data, Choice};
-use crate::{sys, CachedKeys, ClientPolicy, ConnectionError, Frame, ScramClient, ScramVersion};
+use crate::{sys, CachedKeys, ClientPolicy, ConnectionError, Frame, PlainError, ScramClient, ScramVersion};
 use std::fmt;
 use std::marker::PhantomData;
 
-/// A connection that has received nothing.
+/// A connection that has received nothing, and accepts no extended headers.
 pub(crate) const FRESH: sys::Connection =
-    sys::Connection { progress: 0, why: 0, expected: 0, held_len: 0, held: [0; 512] };
+    sys::Connection { progress: 0, why: 0, expected: 0, held_len: 0, held: [0; 512], extended_headers: 0 };
 
 const NEW: sys::SaslClient = sys::SaslClient { connection: FRESH, scram: INITIAL };
 
@@ -49,6 +50,15 @@ pub enum SaslProfile {
 
     /// SCRAM. The client's own exchange is not affected.
     Scram(ScramClient),
+}
+
+impl SaslProfile {
+    /// Returns PLAIN with this user name and this password, if a message can have them (RFC 4616, section 2): like
+    /// [`plain_message`], an empty word and a zero byte are errors. `SaslProfile::Plain` sends every word.
+    pub fn plain_checked(username: &str, password: &str) -> Result<Self, PlainError> {
+        plain_message(username, password)?;
+        Ok(SaslProfile::Plain { username: username.to_owned(), password: password.to_owned() })
+    }
 }
 
 impl From<ScramClient> for SaslProfile {
@@ -209,6 +219,13 @@ impl ClientNegotiation {
     /// [`ConnectionError::NotImplemented`]. The init has the hostname, if it is not empty.
     pub fn select(policy: ClientPolicy, hostname: Option<&str>) -> Self {
         Self { choice: Choice::among(policy, hostname), state: NEW, refusal_data: None }
+    }
+
+    /// Sets whether the client accepts frames with an extended header, which a new connection does not. It then reads such
+    /// a frame without that header (AMQP 1.0, part 2, section 2.3.1). Otherwise the frame fails the login with
+    /// [`ConnectionError::NoSaslFrame`].
+    pub fn accept_extended_headers(&mut self, accept: bool) {
+        self.state.connection.extended_headers = accept.into();
     }
 
     /// Returns the SASL protocol header, which a client sends first.

@@ -111,8 +111,8 @@ kinds! {
         IllegalClientState = CLIENT_ILLEGAL_CLIENT_STATE,
         /// The server-final message is no error of the server, and does not begin with `v=` or has another signature.
         ServerSignatureMismatch = CLIENT_SERVER_SIGNATURE_MISMATCH,
-        /// A strict client received an attribute that RFC 5802 defines in the place of an extension: after the iteration
-        /// count.
+        /// A part in the place of an extension is none: after the iteration count, or after the signature. Only a client
+        /// that is strict or binds a channel returns it.
         MisplacedAttribute = CLIENT_MISPLACED_ATTRIBUTE,
         /// The server sent this error in the place of its signature, such as `invalid-proof` for a wrong password.
         ServerError(ServerError) = SERVER_ERROR,
@@ -154,8 +154,8 @@ kinds! {
         AuthenticationFailed = SERVER_AUTHENTICATION_FAILED,
         /// No challenge is open.
         IllegalAuthenticatorState = SERVER_ILLEGAL_AUTHENTICATOR_STATE,
-        /// A strict server received an attribute that RFC 5802 defines in the place of an extension: after the nonce of
-        /// the client-first message, or between the nonce and the proof of the client-final message.
+        /// A part in the place of an extension is none: after the nonce of the client-first message, or between the nonce
+        /// and the proof of the client-final message. Only a server that is strict or binds channels returns it.
         MisplacedAttribute = SERVER_MISPLACED_ATTRIBUTE,
         /// A name or a message does not fit into the struct, or the salt of the record has more than 128 bytes.
         TooLong = TOO_LONG,
@@ -189,6 +189,8 @@ kinds! {
     PlainError {
         /// The user name is empty.
         NamesNoUser = NAMES_NO_USER,
+        /// The password is empty.
+        EmptyPassword = EMPTY_PASSWORD,
         /// The user name or the password contains a zero byte.
         ProhibitedCharacter = PROHIBITED_CHARACTER,
         /// An allocation failed.

@@ -4,7 +4,7 @@
 //! No proof covers this crate. Each of its calls of the library is an `unsafe` block that says why its pointers are
 //! what the library's C header asks for.
 //!
-//! A login, both sides in one program:
+//! [`io`] has whole logins over `std::io`. A login over messages, both sides in one program:
 //!
 //! ```
 //! use fe2o3_sasl_proved::{ScramAuthenticator, ScramClient, ScramVersion, SingleScramCredential};
@@ -36,6 +36,7 @@ mod client;
 mod connection;
 mod errors;
 mod frames;
+pub mod io;
 mod keys;
 mod messages;
 mod password;

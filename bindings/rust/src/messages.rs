@@ -15,7 +15,7 @@ fn number_of(passwords: PlainPasswords) -> u32 {
 /// Returns the message by which a client logs in with PLAIN (RFC 4616, section 2). It has the password in clear, so send
 /// it over TLS only. Prepare a non-ASCII password first ([`saslprep`](crate::saslprep)).
 ///
-/// An empty user name and a zero byte in a word are errors. An empty password is written, but servers reject it.
+/// An empty user name, an empty password and a zero byte in a word are errors.
 ///
 /// ```
 /// use fe2o3_sasl_proved::*;

@@ -182,9 +182,10 @@ impl<C: ScramCredentialProvider + Clone> ScramAuthenticator<C> {
         self
     }
 
-    /// With `is_strict`, makes the server reject an attribute that RFC 5802 defines in the place of an extension, by
-    /// [`ServerScramErrorKind::MisplacedAttribute`]. Other extensions are ignored in any case. A server with channels is
-    /// strict in any case.
+    /// With `is_strict`, makes the server read messages by the grammar of RFC 5802, section 7. A user name has to be of
+    /// one or more characters and without NUL, and a nonce printable and not empty. What follows the nonce has to be an
+    /// extension, or [`ServerScramErrorKind::MisplacedAttribute`] is returned. A server with channels tests the extensions
+    /// in any case.
     pub fn strict(mut self, is_strict: bool) -> Self {
         self.rules.strict = is_strict.into();
         self

@@ -79,7 +79,8 @@ pub enum PlainPasswords {
 /// let mut records = HashMap::new();
 /// let record = ScramRecord::from_password(ScramVersion::Sha256, "pencil", &generate_nonce(), 4096)?;
 /// records.insert("user".to_owned(), vec![record]);
-/// let server = PasswordServer::new(records).mock_unknown_users(secret, 32, 4096).plain_under_tls(is_tls);
+/// let server = PasswordServer::new(records).hashes(&[ScramVersion::Sha256]);
+/// let server = server.mock_unknown_users(secret, 32, 4096).plain_under_tls(is_tls);
 /// let side = ServerNegotiation::new(server);
 /// # drop(side);
 /// # Ok(())
@@ -113,7 +114,8 @@ impl<R: UserRecords + Clone> PasswordServer<R> {
         self
     }
 
-    /// Makes the server offer SCRAM with these hashes.
+    /// Makes the server offer SCRAM with these hashes. Offer only those of which every user has a record: a user without one
+    /// cannot log in by that hash, and many clients select the strongest.
     pub fn hashes(self, hashes: &[ScramVersion]) -> Self {
         HASHES.into_iter().fold(self, |server, version| server.with(offer_of(version), hashes.contains(&version)))
     }
@@ -166,9 +168,9 @@ impl<R: UserRecords + Clone> PasswordServer<R> {
         self.with(sys::ACCEPT_CBIND_FLAG_Y, true)
     }
 
-    /// With `is_strict`, makes SCRAM reject an attribute that RFC 5802 defines in the place of an extension: after the
-    /// nonce of the client-first message, or between the nonce and the proof of the client-final message. Other extensions
-    /// are ignored in any case. Clients that follow RFC 5802 send no such attribute.
+    /// With `is_strict`, makes SCRAM read messages by the grammar of RFC 5802, section 7: see
+    /// [`ScramAuthenticator::strict`](crate::ScramAuthenticator::strict). libpq sends an empty user name, which is rejected
+    /// then.
     pub fn strict(self, is_strict: bool) -> Self {
         self.with(sys::STRICT, is_strict)
     }
@@ -262,6 +264,12 @@ impl<R: UserRecords + Clone> ServerNegotiation<R> {
     pub fn new(server: PasswordServer<R>) -> Self {
         let state = sys::SaslServer { connection: FRESH, scram: NO_CHALLENGE };
         Self { config: server, state, attempt: None }
+    }
+
+    /// Sets whether the server accepts frames with an extended header, like
+    /// [`ClientNegotiation::accept_extended_headers`](crate::ClientNegotiation::accept_extended_headers).
+    pub fn accept_extended_headers(&mut self, accept: bool) {
+        self.state.connection.extended_headers = accept.into();
     }
 
     /// Takes received bytes, until all are used or the login ends. After an error the frames before the one that failed

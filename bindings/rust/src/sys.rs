@@ -102,7 +102,8 @@ pub const CLIENT_ILLEGAL_CLIENT_STATE: u32 = 35;
 /// The server-final message does not begin with `v=`, or has another signature.
 pub const CLIENT_SERVER_SIGNATURE_MISMATCH: u32 = 36;
 
-/// A strict client received an attribute that RFC 5802 defines in the place of an extension: after the iteration count.
+/// A part in the place of an extension is none (RFC 5802, section 7): after the iteration count, or after the
+/// signature. Only a client that is strict or binds a channel returns it.
 pub const CLIENT_MISPLACED_ATTRIBUTE: u32 = 37;
 
 /// The message is not UTF-8.
@@ -148,8 +149,9 @@ pub const SERVER_AUTHENTICATION_FAILED: u32 = 52;
 /// No challenge is open.
 pub const SERVER_ILLEGAL_AUTHENTICATOR_STATE: u32 = 53;
 
-/// A strict server received an attribute that RFC 5802 defines in the place of an extension: after the nonce of the
-/// client-first message, or between the nonce and the proof of the client-final message.
+/// A part in the place of an extension is none (RFC 5802, section 7): after the nonce of the client-first message, or
+/// between the nonce and the proof of the client-final message. Only a server that is strict or binds channels returns
+/// it.
 pub const SERVER_MISPLACED_ATTRIBUTE: u32 = 54;
 
 /// The text does not have five fields: parts are missing or left over.
@@ -245,6 +247,9 @@ pub const CHANNEL_DATA_LENGTH: u32 = 91;
 
 /// The use of a channel is none of the `channel_use` constants, or its kind none of the `channel_kind` constants.
 pub const NO_SUCH_CHANNEL: u32 = 92;
+
+/// The password for a message of PLAIN is empty (RFC 4616, section 2).
+pub const EMPTY_PASSWORD: u32 = 93;
 
 /// `scram_version`: SCRAM-SHA-1.
 pub const SHA_1: u32 = 1;
@@ -363,8 +368,8 @@ pub const INITIAL_RESPONSE_BY_CHALLENGE: u32 = 512;
 /// empty response (RFC 4422, section 5). For clients that do not read the data of an outcome.
 pub const SIGNATURE_BY_CHALLENGE: u32 = 1024;
 
-/// `offer`: No mechanism: SCRAM is strict. It rejects an attribute that RFC 5802 defines in the place of an extension:
-/// after the nonce of the client-first message, or between the nonce and the proof of the client-final message.
+/// `offer`: No mechanism: SCRAM is strict. It reads messages by the grammar of RFC 5802, section 7: see the field
+/// `strict` of struct fe2o3_scram_rules.
 pub const STRICT: u32 = 2048;
 
 /// `progress`: The login goes on: the other side has to send more.
@@ -585,9 +590,15 @@ pub struct Login {
     /// section 5). 0 means that the signature has to come in the outcome. Any other value accepts it in both. Only
     /// `fe2o3_sasl_client_receive` and `fe2o3_sasl_client_step` use this field.
     pub signature_by_challenge: u32,
-    /// Whether the client is strict: it rejects an attribute that RFC 5802 defines in the place of an extension, after
-    /// the iteration count, by CLIENT_MISPLACED_ATTRIBUTE. 0 means that it skips it. Any other value is strict. A
-    /// client that binds a channel is strict in any case.
+    /// Whether the client is strict: it reads messages by the grammar of RFC 5802, section 7. 0 is no, any other value
+    /// yes. The server's part of the nonce has to be printable and not empty (CLIENT_CLIENT_NONCE_MISMATCH), the
+    /// iteration count without a sign or leading zeros (CLIENT_ITERATION_COUNT_PARSE_ERROR), and what follows the count
+    /// or the signature an extension (CLIENT_MISPLACED_ATTRIBUTE). A client that binds a channel tests the extensions
+    /// in any case.
+    ///
+    /// A strict client sends a user name and a password by PLAIN only if a message can have them (RFC 4616, section 2).
+    /// Otherwise the call returns NAMES_NO_USER or EMPTY_PASSWORD for an empty one, and PROHIBITED_CHARACTER for a zero
+    /// byte.
     pub strict: u32,
     /// What the client says of its channel (RFC 5802, section 6): one of the `channel_use` constants.
     pub channel_use: u32,
@@ -681,14 +692,17 @@ pub struct ScramRules {
     /// `-PLUS` (RFC 5802, section 6). 0 is no, any other value yes. Only for a server that offers no such mechanism. It
     /// has no effect if the server binds channels.
     pub accept_cbind_flag_y: u32,
-    /// Whether an attribute that RFC 5802, section 5.1, defines is rejected in the place of an extension, by
-    /// SERVER_MISPLACED_ATTRIBUTE. 0 is no, any other value yes. A server that binds channels is always strict.
+    /// Whether the server is strict: it reads messages by the grammar of RFC 5802, section 7. 0 is no, any other value
+    /// yes. A user name has to be of one or more characters and without NUL (SERVER_CANNOT_PARSE_USERNAME), a nonce
+    /// printable and not empty (SERVER_CANNOT_PARSE_CLIENT_NONCE), and what follows the nonce an extension
+    /// (SERVER_MISPLACED_ATTRIBUTE). A server that binds channels tests the extensions in any case.
     pub strict: u32,
     /// The server's channel, if it is of the mechanism with `-PLUS`.
     pub channels: ServerChannels,
 }
 
-/// One side of a connection between calls. All zeros is a connection that has received nothing.
+/// One side of a connection between calls. All zeros is a connection that has received nothing and accepts no extended
+/// headers.
 #[repr(C)]
 #[derive(Clone, Copy)]
 pub struct Connection {
@@ -709,6 +723,11 @@ pub struct Connection {
     /// PROTOCOL_HEADER_MISMATCH, the 8 bytes that were received in the place of the header of SASL: `AMQP 2 1 0 0` for
     /// a server that requires TLS first, `AMQP 0 1 0 0` for a client that begins AMQP without SASL.
     pub held: [u8; 512],
+    /// Whether this side accepts frames with an extended header (AMQP 1.0, part 2, section 2.3.1): 0 is no, any other
+    /// value yes. Set it before the first call. The side then reads such a frame without that header. The limit of 512
+    /// bytes is that of the frame as received. Otherwise a data offset above 2 ends the login with NO_SASL_FRAME, as
+    /// one below 2 or after the end of the frame does in any case. A call that receives bytes writes 0 or 1.
+    pub extended_headers: u32,
 }
 
 /// How a client logs in on a connection. You lend the struct to each call, always with the same values.
@@ -745,8 +764,8 @@ pub struct SaslServerConfig {
     /// PLAIN_SASLPREP. By the latter it also rejects a password that SASLprep rejects or prepares to the empty text.
     /// With SIGNATURE_BY_CHALLENGE SCRAM's outcome OK follows the client's empty response to a challenge. With
     /// INITIAL_RESPONSE_BY_CHALLENGE an init for SCRAM or PLAIN without an initial response is answered by an empty
-    /// challenge, and the response is the initial response. With STRICT SCRAM rejects an attribute that RFC 5802
-    /// defines in the place of an extension.
+    /// challenge, and the response is the initial response. With STRICT SCRAM is strict, as by the field `strict` of
+    /// struct fe2o3_scram_rules.
     pub mechanisms: u32,
     /// The iteration count with which PLAIN hashes the password of an unknown user.
     pub iterations: u32,
@@ -1114,7 +1133,8 @@ extern "C" {
     /// - SERVER_UTF8_ERROR,
     /// - SERVER_CANNOT_PARSE_GS2_HEADER if the rules do not accept the header,
     /// - SERVER_CANNOT_PARSE_USERNAME and SERVER_CANNOT_PARSE_CLIENT_NONCE,
-    /// - SERVER_MISPLACED_ATTRIBUTE of a strict server,
+    /// - the same two of a strict server, if the name is empty or has NUL, or the nonce is empty or not printable,
+    /// - SERVER_MISPLACED_ATTRIBUTE of a server that is strict or binds channels,
     /// - NO_SUCH_VERSION and TOO_LONG if `kept` holds no record,
     /// - TOO_LONG if a text of the challenge does not fit into the struct,
     /// - ROOM_TOO_SMALL.
@@ -1147,7 +1167,7 @@ extern "C" {
     ///   rules,
     /// - SERVER_CANNOT_PARSE_CLIENT_FINAL_MESSAGE and SERVER_INCORRECT_CLIENT_FINAL_NONCE,
     /// - SERVER_PROOF_NOT_FOUND_IN_CLIENT_FINAL and SERVER_BASE64_DECODE_ERROR, of the proof,
-    /// - SERVER_MISPLACED_ATTRIBUTE of a strict server,
+    /// - SERVER_MISPLACED_ATTRIBUTE of a server that is strict or binds channels,
     /// - SERVER_XOR_LENGTH_MISMATCH and SERVER_AUTHENTICATION_FAILED if the proof is wrong.
     pub fn fe2o3_scram_server_final_with_rules(
         rules: *const ScramRules,
@@ -1190,8 +1210,8 @@ extern "C" {
     /// zero byte and the password. The authorization identity is empty. The message has the password in clear, so send
     /// it over TLS only. Prepare a non-ASCII password first (`fe2o3_saslprep`).
     ///
-    /// Returns NOT_UTF8 if a word is not UTF-8, NAMES_NO_USER if the user name is empty, and PROHIBITED_CHARACTER if a
-    /// word contains a zero byte. An empty password is written, but RFC 4616 forbids it and servers reject it.
+    /// Returns NOT_UTF8 if a word is not UTF-8, NAMES_NO_USER if the user name is empty, EMPTY_PASSWORD if the password
+    /// is, and PROHIBITED_CHARACTER if a word contains a zero byte.
     pub fn fe2o3_plain_message(
         username: *const u8,
         username_len: usize,
@@ -1305,8 +1325,9 @@ extern "C" {
     pub fn fe2o3_sasl_wants_nonce(connection: *const Connection) -> u32;
 
     /// Writes the body of the frame that `bytes` complete with the part that `connection` holds, without the four bytes
-    /// of the frame's size: at most 508 bytes. `out_len` is 0 if they complete no frame. Nothing is taken: pass the
-    /// same bytes to `fe2o3_sasl_client_receive` or `fe2o3_sasl_server_receive` after that.
+    /// of the frame's size: at most 508 bytes. The body has no extended header if `connection` accepts these. `out_len`
+    /// is 0 if the bytes complete no frame. Nothing is taken: pass the same bytes to `fe2o3_sasl_client_receive` or
+    /// `fe2o3_sasl_server_receive` after that.
     ///
     /// `expected` of the connection is the frame that has to come next. Parse the body with `fe2o3_sasl_view_frame`: a
     /// server reads in it the mechanism and the hostname of an init, and a client the additional data of an outcome.

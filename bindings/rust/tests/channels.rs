@@ -383,7 +383,7 @@ fn servers_on_connections() {
         let server = || PasswordServer::new(credential.clone()).hashes(&[version]);
         for kind in &KINDS {
             let (own, bound) = (channel(kind), client(version).with_channel(channel(kind)));
-            let others: Vec<Channel> = all().into_iter().filter(|other| other.kind() != own.kind()).collect();
+            let others: Vec<Channel> = all().filter(|other| other.kind() != own.kind()).collect();
             let other_data = Channel::new(own.kind(), b"other").unwrap();
             for (server, progress) in [
                 (server().channels([own]), Progress::Authenticated),
@@ -397,7 +397,8 @@ fn servers_on_connections() {
             // Without a channel, and with one but without -PLUS in the offer that arrives.
             let unaware = log_in_over_frames(&client(version), server().channels([own]));
             assert_eq!(unaware, (name.to_owned(), Progress::Authenticated));
-            let told_none = log_in_over_frames(&bound.channel_not_offered(), server().channels([own]).accept_cbind_flag_y());
+            let told_none =
+                log_in_over_frames(&bound.channel_not_offered(), server().channels([own]).accept_cbind_flag_y());
             assert_eq!(told_none, (name.to_owned(), rejected));
         }
     }

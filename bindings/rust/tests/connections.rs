@@ -286,6 +286,95 @@ fn strict_servers() {
     }
 }
 
+/// A frame with this data offset, in words of four bytes, and these bytes between its header and the list (AMQP 1.0, part
+/// 2, section 2.3.1).
+fn extended(data_offset: u8, header: &[u8], frame: &[u8]) -> Vec<u8> {
+    let size = (frame.len() + header.len()) as u32;
+    [&size.to_be_bytes(), &[data_offset, 1, 0, 0], header, &frame[8..]].concat()
+}
+
+/// Data offsets: the frame's extended header, and whether it is read without it.
+const OFFSETS: [(u8, &[u8], bool); 5] = [
+    (3, &[0xde, 0xad, 0xbe, 0xef], true),
+    (4, &[0, 0x53, 0x41, 0xc0, 0, 0, 0, 10], true),
+    (2, &[0xde, 0xad, 0xbe, 0xef], false),
+    (1, &[], false),
+    (10, &[], false),
+];
+
+#[test]
+fn servers_of_extended_headers() {
+    let init = frame(INIT, &[b"\xa3\x05PLAIN", &binary(b"\0user\0pencil")]);
+    assert_eq!(init.len(), 35);
+    for (data_offset, header, is_read) in OFFSETS {
+        let came = extended(data_offset, header, &init);
+        let closed = if data_offset == 2 { ConnectionError::MalformedFrame } else { ConnectionError::NoSaslFrame };
+        for accepts in [false, true] {
+            let server = offering(ScramVersion::Sha256).plain_under_tls(true);
+            let mut side = ServerNegotiation::new(server);
+            side.accept_extended_headers(!accepts);
+            side.accept_extended_headers(accepts);
+            side.receive(&[HEADER, &came[..9]].concat()).unwrap();
+            let frame = side.peek_frame(&came[9..]);
+            side.receive(&came[9..]).unwrap();
+            if accepts && is_read {
+                assert!(matches!(frame, Ok(Some(Frame::Init { .. }))));
+                assert_eq!(side.progress(), Progress::Authenticated);
+                assert_eq!(side.authenticated_user().as_deref(), Some("user"));
+                assert_eq!(side.last_attempt().unwrap().claimed_user.as_deref(), Some("user"));
+            } else {
+                assert_eq!(frame.unwrap_err(), closed);
+                assert_eq!(side.progress(), Progress::Failed(closed));
+                assert!(side.last_attempt().is_none());
+            }
+        }
+    }
+}
+
+#[test]
+fn clients_of_extended_headers() {
+    let refusal = frame(OUTCOME, &[&[0x50, 1], &binary(b"hi")]);
+    for (data_offset, header, is_read) in OFFSETS {
+        let came = [HEADER, &extended(data_offset, header, &offer("PLAIN")[8..])].concat();
+        let plain = SaslProfile::plain_checked("user", "pencil").unwrap();
+        let policy = ClientPolicy::scram("user", "pencil").or(plain.clone());
+        let sides = [ClientNegotiation::new(plain, None), ClientNegotiation::select(policy, None)];
+        for mut side in sides {
+            let mut other = side.clone();
+            other.receive(&came).unwrap();
+            assert!(matches!(other.progress(), Progress::Failed(_)));
+            side.accept_extended_headers(true);
+            let sent = side.receive(&came).unwrap().sent;
+            if is_read {
+                assert_eq!(fields(&sent)[1].as_deref(), Some(&b"\0user\0pencil"[..]));
+                side.receive(&extended(data_offset, header, &refusal)).unwrap();
+                assert_eq!(side.progress(), Progress::Failed(ConnectionError::RefusedAuth));
+                assert_eq!(side.refusal_data(), Some(&b"hi"[..]));
+            } else {
+                assert!(sent.is_empty() && matches!(side.progress(), Progress::Failed(_)));
+            }
+        }
+    }
+}
+
+/// RFC 4616, section 2: a user name and a password of one or more characters, of which none is NUL.
+#[test]
+fn plain_words() {
+    for (username, password, why) in [
+        ("", "pencil", PlainError::NamesNoUser),
+        ("user", "", PlainError::EmptyPassword),
+        ("us\0er", "pencil", PlainError::ProhibitedCharacter),
+        ("user", "pencil\0", PlainError::ProhibitedCharacter),
+    ] {
+        assert_eq!(SaslProfile::plain_checked(username, password).unwrap_err(), why);
+    }
+    let checked = SaslProfile::plain_checked("user", "pencil").unwrap();
+    assert!(matches!(checked, SaslProfile::Plain { username, password } if username == "user" && password == "pencil"));
+    let plain = SaslProfile::Plain { username: String::new(), password: String::new() };
+    let sent = ClientNegotiation::new(plain, None).receive(&offer("PLAIN")).unwrap().sent;
+    assert_eq!(fields(&sent)[1].as_deref(), Some(&[0, 0][..]));
+}
+
 #[test]
 fn a_server_that_offers_nothing() {
     let mut side = ServerNegotiation::new(offering(ScramVersion::Sha1).hashes(&[]));

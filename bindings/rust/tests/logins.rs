@@ -225,7 +225,9 @@ fn plain_over_messages() {
     assert_eq!(plain_message("", "\0"), Err(PlainError::NamesNoUser));
     assert_eq!(plain_message("us\0er", "pencil"), Err(PlainError::ProhibitedCharacter));
     assert_eq!(plain_message("user", "pencil\0"), Err(PlainError::ProhibitedCharacter));
-    assert_eq!(plain_message("user", "").as_deref(), Ok(&b"\0user\0"[..]));
+    assert_eq!(plain_message("user", ""), Err(PlainError::EmptyPassword));
+    assert_eq!(plain_message("us\0er", ""), Err(PlainError::EmptyPassword));
+    assert_eq!(PlainError::EmptyPassword.to_string(), "The password is empty");
 }
 
 #[test]
