@@ -12,6 +12,7 @@ import shutil
 import subprocess
 import sys
 import tempfile
+import threading
 from pathlib import Path
 
 TOP = Path(__file__).resolve().parent.parent
@@ -97,23 +98,36 @@ def over_bytes(mechanism, users, password):
     return client.wait(timeout=SECONDS), server.wait(timeout=SECONDS)
 
 
+def relay(source, sink, last=b""):
+    """Passes all that a process writes to another one, and then these last bytes."""
+    for line in iter(source.stdout.readline, b""):
+        tell(sink, line)
+    tell(sink, last)
+    sink.stdin.close()
+
+
+def joined(program, gsasl):
+    """Statuses of the program and of `gsasl`, each of which reads all that the other one writes."""
+    ways = [threading.Thread(target=relay, args=(gsasl, program)),
+            threading.Thread(target=relay, args=(program, gsasl, b"\n"))]  # `gsasl` ends its exchange by an empty line
+    for way in ways:
+        way.start()
+    for way in ways:
+        way.join()
+    return program.wait(timeout=SECONDS), gsasl.wait(timeout=SECONDS)
+
+
 def against_gsasl_server(mechanism, _users, password):
     """Statuses of the program's client and of `gsasl` as server."""
     client = start(PROGRAM, "client", mechanism, USER)
-    server = start("gsasl", "--server", "--quiet", "-m", mechanism, "-p", PASSWORD)
     tell(client, password.encode() + b"\n")
-    tell(server, b"\n\n")  # no channel is bound
-    carry(client, server)
-    return end(client), end(server, b"\n")  # `gsasl` ends its exchange by an empty line
+    return joined(client, start("gsasl", "--server", "--quiet", "--no-cb", "-m", mechanism, "-p", PASSWORD))
 
 
 def against_gsasl_client(mechanism, users, password):
-    """Statuses of `gsasl` as client and of the program's server."""
-    client = start("gsasl", "--client", "--quiet", "-m", mechanism, "-a", USER, "-p", password)
+    """Statuses of the program's server and of `gsasl` as client."""
     server = start(PROGRAM, "server", mechanism, users)
-    tell(client, b"\n\n")  # no channel is bound
-    carry(client, server)
-    return end(client, b"\n"), end(server)
+    return joined(server, start("gsasl", "--client", "--quiet", "--no-cb", "-m", mechanism, "-a", USER, "-p", password))
 
 
 def main():

@@ -1,9 +1,12 @@
 //! The program `scram`: `scram_lib` and the audit of `scram_audit_lib` over the process's arguments and streams.
 #![tactic(auto)]
 
+mod database;
+
+use crate::database::SqliteFile;
 use scram_audit_lib::audit::audit;
 use scram_base_lib::stop::Stop;
-use std::io::BufReader;
+use std::io::{BufReader, IsTerminal};
 use std::process::ExitCode;
 use std::rt::Env;
 use std::{env, io};
@@ -22,7 +25,17 @@ fn run(rt: &HostRuntime) -> Result<u8, Stop> {
     let words = words(rt)?;
     let mut input = BufReader::new(rt.alloc(), rt.reader()).map_err(Stop::of_input)?;
     let (mut output, mut errors) = (io::writer(rt), rt.stderr());
-    Ok(scram_lib::run(rt, &words, &mut input, &mut output, &mut errors, audit))
+    let is_terminal = rt.stdin().is_terminal();
+    Ok(scram_lib::run(
+        rt,
+        &words,
+        is_terminal,
+        &mut input,
+        &mut output,
+        &mut errors,
+        audit,
+        &SqliteFile,
+    ))
 }
 
 fn main(rt: HostRuntime) -> ExitCode {

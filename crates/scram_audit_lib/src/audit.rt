@@ -50,7 +50,7 @@ where
 {
     let alloc = rt.alloc();
     let password = input::password(alloc, input)?;
-    if saslprep(&password).is_err() {
+    if saslprep(password.as_str()).is_err() {
         return Err(Stop::WrongPassword);
     }
     let users = lines::users(rt, asked.file)?;
@@ -60,7 +60,7 @@ where
     };
     sides.run(
         alloc,
-        &password,
+        password.as_str(),
         &users,
         asked.max_iterations,
         input,
@@ -95,7 +95,8 @@ impl Sides {
             let Some(line) = input::next_line(alloc, input)? else {
                 break;
             };
-            self.take(alloc, number, &line, output)?;
+            let taken = self.take(alloc, number, &line, output);
+            taken.map_err(|stop| stop.at_line(number))?;
         }
         Ok(())
     }

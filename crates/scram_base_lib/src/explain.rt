@@ -163,14 +163,28 @@ impl Heard {
             let Some(line) = input::next_line(alloc, input)? else {
                 return Ok(());
             };
-            let message = wire::bytes_of(alloc, &line)?;
-            let told = self.tell(alloc, place, &message);
-            self.print(NAMES[place], told, output)?;
+            let told = self.text(alloc, place, &line, output);
+            told.map_err(|stop| stop.at_line(place as u64 + 1))?;
         }
         match input::next_line(alloc, input)? {
             Some(_) => Err(Stop::ExtraLine),
             None => Ok(()),
         }
+    }
+
+    /// Prints what the message at a place says. The line has it in base64.
+    fn text<O: Write>(
+        &mut self,
+        alloc: Global,
+        place: usize,
+        line: &str,
+        output: &mut O,
+    ) -> Result<(), Stop>
+        requires { place < 4 }
+    {
+        let message = wire::bytes_of(alloc, line)?;
+        let told = self.tell(alloc, place, &message);
+        self.print(NAMES[place], told, output)
     }
 
     /// Prints what each frame body says, and the message in it.
@@ -180,14 +194,20 @@ impl Heard {
         input: &mut I,
         output: &mut O,
     ) -> Result<(), Stop> {
-        for _ in 0..u64::MAX {
+        for number in 1..u64::MAX {
             let Some(line) = input::next_line(alloc, input)? else {
                 break;
             };
-            let body = body_of(alloc, &line)?;
-            self.body(alloc, &body, output)?;
+            let told = self.body_in(alloc, &line, output);
+            told.map_err(|stop| stop.at_line(number))?;
         }
         Ok(())
+    }
+
+    /// Prints what a frame body says, and the message in it. The line has it in hexadecimal.
+    fn body_in<O: Write>(&mut self, alloc: Global, line: &str, output: &mut O) -> Result<(), Stop> {
+        let body = body_of(alloc, line)?;
+        self.body(alloc, &body, output)
     }
 
     /// Prints what a frame body says, and the message in it.

@@ -4,9 +4,12 @@
 
 pub mod audited;
 pub mod channel;
+pub mod database;
+pub mod database_fault;
 pub mod explain;
 pub mod input;
 pub mod lines;
+pub mod shown;
 pub mod stop;
 pub mod store;
 pub mod wire;

@@ -2,7 +2,10 @@
 
 use crate::stop::Stop;
 use crate::store;
-use fe2o3_scram::{MultiRecordStore, ScramRecord, WriteLinesError, escape_username};
+use fe2o3_scram::{
+    MultiRecordStore, ScramRecord, UnescapeError, WriteLinesError, escape_username,
+    unescape_username,
+};
 use std::alloc::Global;
 use std::rt::Files;
 
@@ -43,6 +46,42 @@ pub fn users<R: Files + AllocGlobal>(rt: &R, file: &str) -> Result<MultiRecordSt
 pub fn test(alloc: Global, text: &str) -> Result<(), Stop> {
     MultiRecordStore::parse_lines(alloc, text)?;
     Ok(())
+}
+
+/// Returns the lines of a user in a text. The name is not escaped.
+pub fn of_user(alloc: Global, text: &str, name: &str) -> Result<String, Stop> {
+    let name = escaped(alloc, name)?;
+    let mut own = String::new(alloc);
+    for line in text.split_inclusive('\n') {
+        // The first test is quick, and fails for most lines.
+        if line.starts_with(name.as_str()) && UserLine::of(line).name == name.as_str() {
+            own.push_str(line)?;
+        }
+    }
+    Ok(own)
+}
+
+/// Returns the lines of a user with another name in place of the user's. The names are not escaped.
+pub fn renamed(alloc: Global, lines: &str, name: &str, other: &str) -> Result<String, Stop> {
+    let name = escaped(alloc, name)?;
+    let other = escaped(alloc, other)?;
+    let mut renamed = String::new(alloc);
+    for line in lines.split_inclusive('\n') {
+        if let Some(record) = line.strip_prefix(name.as_str()) {
+            renamed.push_str(&other)?;
+            renamed.push_str(record)?;
+        }
+    }
+    Ok(renamed)
+}
+
+/// Returns the name of a valid line, not escaped.
+pub fn unescaped(alloc: Global, name: &str) -> Result<String, Stop> {
+    match unescape_username(alloc, name) {
+        Ok(plain) => Ok(plain.into_owned(alloc)?),
+        Err(UnescapeError::OutOfMemory) => Err(Stop::OutOfMemory),
+        Err(UnescapeError::Invalid) => Err(Stop::WrongName),
+    }
 }
 
 /// Returns the name as it is in lines, escaped (RFC 5802, section 5.1).

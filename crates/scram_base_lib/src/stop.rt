@@ -1,8 +1,9 @@
 //! Why the program stops early.
 
-ghost use Rattle.std.specs.Prelude.{◌≡◌, ◌≤◌};
-ghost use Rattle.scram_base_lib.specs.Stop.{status_of};
+ghost use Rattle.std.specs.Prelude.{◌≡◌, ◌≤◌, option_map};
+ghost use Rattle.scram_base_lib.specs.Stop.{at_line, status_of, suffix_of};
 
+use crate::database_fault::DatabaseFault;
 use fe2o3_sasl_negotiation::CloseReason;
 use fe2o3_scram::{
     ClientSecretError, ReadLinesError, ReadLinesErrorKind, RecordError, ScramErrorKind,
@@ -37,9 +38,21 @@ pub enum Stop {
     #[error("A line of standard input is longer than 65536 bytes.")]
     LongLine,
 
+    /// Standard input is a terminal, and no option asks for a password that the terminal shows.
+    #[error("Standard input is a terminal, which shows the password. Use a file or a pipe, or --echo.")]
+    Terminal,
+
+    /// Standard input is closed.
+    #[error("Standard input is closed.")]
+    InputClosed,
+
     /// A read of the input failed.
     #[error("Standard input cannot be read: {0}.")]
     Input(ErrorKind),
+
+    /// Standard output is closed.
+    #[error("Standard output is closed.")]
+    OutputClosed,
 
     /// A write to the output failed.
     #[error("Standard output cannot be written: {0}.")]
@@ -49,32 +62,64 @@ pub enum Stop {
     #[error("The system did not return random bytes: {0}.")]
     Random(ErrorKind),
 
+    /// The file is changed, and a write to the output failed.
+    #[error("The file is changed, but standard output cannot be written: {0}.")]
+    Unreported(ErrorKind),
+
+    /// The file is changed, and the output is closed.
+    #[error("The file is changed, but standard output is closed.")]
+    UnreportedClosed,
+
     /// The file cannot be read.
-    #[error("The file cannot be read: {0}.")]
+    #[error("The file cannot be read: {0}. Check its name and its mode.")]
     Unreadable(ErrorKind),
 
     /// The file is not UTF-8.
-    #[error("The file cannot be read: it is not UTF-8.")]
+    #[error("The file cannot be read: it is not UTF-8. Save it as UTF-8.")]
     NotUtf8,
 
+    /// The file begins with a byte order mark.
+    #[error("The file cannot be read: it begins with a byte order mark. Save it without one.")]
+    Marked,
+
     /// A line of the file is not valid.
-    #[error("The file cannot be read. {0}.")]
+    #[error("The file cannot be read. {0}. Correct or remove that line.")]
     Line(ReadLinesError),
 
-    /// Another program is writing the file, or was stopped while it was writing.
-    #[error("The file is being changed: FILE.new exists. Remove FILE.new if no other program is changing the file.")]
+    /// The file to change is a folder, a pipe or a device.
+    #[error("The file is not changed: it is not a regular file. Name a regular file.")]
+    NotRegular,
+
+    /// The file to change is a link, and the file that it names does not exist.
+    #[error("The file is a link to a file that does not exist. Make that file, or remove the link.")]
+    DanglingLink,
+
+    /// Another program is writing the new file, or was stopped while it was writing.
+    #[error("This new file exists: a change is under way, or was stopped. Wait with --wait, or remove it if no program is changing the file.")]
     Busy,
 
     /// The new file cannot be written. The old one stays.
-    #[error("The file cannot be written: {0}.")]
+    #[error("The file is not changed: the new one beside it cannot be written: {0}. Check the folder and its space.")]
     Unwritten(ErrorKind),
 
+    /// The new file cannot have the owner and the group of the old one. The old one stays.
+    #[error("The file is not changed: its owner and group cannot be kept: {0}. Run scram as its owner or as root.")]
+    OwnerLost(ErrorKind),
+
+    /// The file is changed, and its folder cannot be synced.
+    #[error("The file is changed, but its folder cannot be synced: {0}. A power failure may undo the change.")]
+    Unsynced(ErrorKind),
+
     /// The secret for mock records cannot be read or made, or its file is not valid.
-    #[error("The secret for mock records, FILE.secret, cannot be used: {0}.")]
+    #[error("The secret for mock records cannot be used: {0}. Correct its file, or remove it for a new secret.")]
     Secret(SecretError),
 
+    /// The database of users cannot be used.
+    #[error("The database cannot be used: {0}.")]
+    Database(DatabaseFault),
+
     /// No record has the name.
-    #[error("The file has no such record.")]
+    #[error("The file has no such record. scram users list shows its records.")]
     NoSuchRecord,
 
     /// The password is wrong for a record.
@@ -84,6 +129,10 @@ pub enum Stop {
     /// The nonce is not 64 hexadecimal digits.
     #[error("The nonce is not 64 hexadecimal digits.")]
     WrongNonce,
+
+    /// The minimum iteration count is above the maximum.
+    #[error("The minimum iteration count, {0}, is above the maximum, {1}.")]
+    NoIterations(u32, u32),
 
     /// The kind of the channel is none that the program knows.
     #[error("The kind of the channel is not tls-unique, tls-server-end-point or tls-exporter.")]
@@ -101,20 +150,28 @@ pub enum Stop {
     #[error("A line of standard input is not in hexadecimal.")]
     NotHex,
 
+    /// This line of the input is not in hexadecimal.
+    #[error("Line {0} of standard input is not in hexadecimal.")]
+    NotHexAt(u64),
+
     /// A line of the input is not in base64.
     #[error("A line of standard input is not in base64.")]
     NotBase64,
+
+    /// This line of the input is not in base64.
+    #[error("Line {0} of standard input is not in base64.")]
+    NotBase64At(u64),
 
     /// The input has a line after the last message of the exchange.
     #[error("Standard input has a line after the four messages.")]
     ExtraLine,
 
     /// The key file is not one line of keys.
-    #[error("The key file cannot be read: it is not one line of keys.")]
+    #[error("The key file cannot be read: it is not one line of keys. Remove it, and log in with the password.")]
     WrongKeys,
 
     /// The keys are for another mechanism.
-    #[error("The key file is for another mechanism.")]
+    #[error("The key file is for another mechanism. Use its mechanism, or another file.")]
     OtherMechanism,
 
     /// The other side closed before its message.
@@ -133,6 +190,10 @@ pub enum Stop {
     #[error("The client's message is rejected: {0}.")]
     Server(ServerScramErrorKind),
 
+    /// The proof or the signature has the length of another mechanism.
+    #[error("The other side uses another mechanism.")]
+    OtherHash,
+
     /// The file has no record of the client's user for the mechanism.
     #[error("The user is unknown.")]
     UnknownUser,
@@ -144,6 +205,10 @@ pub enum Stop {
     /// A message in the input of `explain` is rejected.
     #[error("A message is rejected.")]
     MessageRefused,
+
+    /// The message in this line of the input of `explain` is rejected.
+    #[error("The message in line {0} of standard input is rejected.")]
+    MessageRefusedAt(u64),
 
     /// A line does not name its side.
     #[error("A line of standard input does not begin with client or server and a space.")]
@@ -183,13 +248,25 @@ impl Stop {
     pub fn of_input(error: io::Error) -> Stop {
         match error.kind() {
             ErrorKind::OutOfMemory => Stop::OutOfMemory,
+            _ if is_closed(&error) => Stop::InputClosed,
             kind => Stop::Input(kind),
         }
     }
 
     /// Converts the error of a write to the output.
     pub fn of_output(error: io::Error) -> Stop {
+        if is_closed(&error) {
+            return Stop::OutputClosed;
+        }
         Stop::Output(error.kind())
+    }
+
+    /// Converts the error of a write to the output after a file was changed.
+    pub fn of_report(error: io::Error) -> Stop {
+        if is_closed(&error) {
+            return Stop::UnreportedClosed;
+        }
+        Stop::Unreported(error.kind())
     }
 
     /// Converts the error of the random source.
@@ -206,21 +283,71 @@ impl Stop {
         }
     }
 
-    /// Converts the error of a write to a file.
+    /// Converts the error of a write to a new file.
     pub fn of_writing(error: io::Error) -> Stop {
         Stop::Unwritten(error.kind())
+    }
+
+    /// Converts the error of a change of a new file's owner.
+    pub fn of_owner(error: io::Error) -> Stop {
+        Stop::OwnerLost(error.kind())
+    }
+
+    /// Converts the error of a sync of a folder.
+    pub fn of_sync(error: io::Error) -> Stop {
+        Stop::Unsynced(error.kind())
+    }
+
+    /// Returns the error with the line of the input at which it occurred, counted from 1.
+    pub fn at_line(self, line: u64) -> Stop
+        ensures { result ≡ at_line self line }
+    {
+        match self {
+            Stop::NotBase64 => Stop::NotBase64At(line),
+            Stop::NotHex => Stop::NotHexAt(line),
+            Stop::MessageRefused => Stop::MessageRefusedAt(line),
+            other => other,
+        }
+    }
+
+    /// Returns what follows the file's name in the name of the file at fault, or `None` if no file is at fault.
+    pub fn suffix(self) -> Option<&'static str>
+        ensures { option_map (λ suffix. suffix.now) result ≡ suffix_of self }
+    {
+        match self {
+            Stop::Busy => Some(".new"),
+            Stop::Secret(_) => Some(".secret"),
+            Stop::Unreported(_)
+            | Stop::UnreportedClosed
+            | Stop::Unreadable(_)
+            | Stop::NotUtf8
+            | Stop::Marked
+            | Stop::Line(_)
+            | Stop::NotRegular
+            | Stop::DanglingLink
+            | Stop::Unwritten(_)
+            | Stop::OwnerLost(_)
+            | Stop::Unsynced(_)
+            | Stop::Database(_)
+            | Stop::NoSuchRecord
+            | Stop::WrongKeys
+            | Stop::OtherMechanism => Some(""),
+            _ => None,
+        }
     }
 
     /// Returns the exit status.
     pub fn status(self) -> u8
         ensures exactly { result ≡ status_of self }
-        ensures within { result ≤ 4 }
+        ensures within { (1 ≤ result) × (result ≤ 4) }
     {
         match self {
             Stop::Ended | Stop::RefusedByServer => 1,
             Stop::WrongSalt
             | Stop::WrongNonce
             | Stop::WrongName
+            | Stop::Terminal
+            | Stop::NoIterations(_, _)
             | Stop::WrongChannelKind
             | Stop::WrongChannelData
             | Stop::WrongChannelLength => 2,
@@ -230,23 +357,37 @@ impl Stop {
             | Stop::Server(_)
             | Stop::UnknownUser
             | Stop::Closed(_)
+            | Stop::OtherHash
             | Stop::MessageRefused
+            | Stop::MessageRefusedAt(_)
             | Stop::NothingInCommon
             | Stop::NotVerified
             | Stop::OneProofOfTwo => 3,
             Stop::NoPassword
             | Stop::WrongPassword
             | Stop::LongLine
+            | Stop::InputClosed
             | Stop::Input(_)
+            | Stop::OutputClosed
             | Stop::Output(_)
             | Stop::Random(_)
+            | Stop::Unreported(_)
+            | Stop::UnreportedClosed
             | Stop::Unreadable(_)
             | Stop::NotUtf8
+            | Stop::Marked
             | Stop::Line(_)
+            | Stop::NotRegular
+            | Stop::DanglingLink
             | Stop::Busy
+            | Stop::OwnerLost(_)
+            | Stop::Unsynced(_)
             | Stop::Secret(_)
+            | Stop::Database(_)
             | Stop::NotBase64
+            | Stop::NotBase64At(_)
             | Stop::NotHex
+            | Stop::NotHexAt(_)
             | Stop::ExtraLine
             | Stop::NoSide
             | Stop::OtherNonces
@@ -258,6 +399,14 @@ impl Stop {
             | Stop::OutOfMemory => 4,
         }
     }
+}
+
+/// The system's number for a descriptor that is not open (`EBADF`).
+const NOT_OPEN: i32 = 9;
+
+/// Returns whether a stream is closed.
+fn is_closed(error: &io::Error) -> bool {
+    error.raw_os_error() == Some(NOT_OPEN)
 }
 
 impl From<RecordError> for Stop {
@@ -302,6 +451,7 @@ impl From<ScramErrorKind> for Stop {
     fn from(kind: ScramErrorKind) -> Stop {
         match kind {
             ScramErrorKind::OutOfMemory => Stop::OutOfMemory,
+            ScramErrorKind::XorLengthMismatch => Stop::OtherHash,
             _ => Stop::Client(kind),
         }
     }
@@ -311,6 +461,7 @@ impl From<ServerScramErrorKind> for Stop {
     fn from(kind: ServerScramErrorKind) -> Stop {
         match kind {
             ServerScramErrorKind::OutOfMemory => Stop::OutOfMemory,
+            ServerScramErrorKind::XorLengthMismatch => Stop::OtherHash,
             _ => Stop::Server(kind),
         }
     }

@@ -21,10 +21,39 @@ fn print<O: Write>(output: &mut O, line: &str) -> Written<()> {
 
 /// Receives a message. The end of the input is the error `Ended`.
 pub fn receive<I: BufRead>(alloc: Global, input: &mut I) -> Result<Vec<u8>, Stop> {
-    match next_line(alloc, input)? {
-        Some(line) => bytes_of(alloc, &line),
-        None => Err(Stop::Ended),
+    bytes_of(alloc, &line(alloc, input)?)
+}
+
+/// Receives a message, after a line with the name of this mechanism, if there is one. The name of another SCRAM mechanism
+/// is the error `OtherHash`.
+pub fn receive_first<I: BufRead>(
+    alloc: Global,
+    mechanism: &str,
+    input: &mut I,
+) -> Result<Vec<u8>, Stop> {
+    let line = line(alloc, input)?;
+    if line.as_str() == mechanism {
+        return receive_named(alloc, input);
     }
+    if line.starts_with("SCRAM-") {
+        return Err(Stop::OtherHash);
+    }
+    bytes_of(alloc, &line)
+}
+
+/// Receives the message after the name of the mechanism. An empty line may come before it: a server that waits for the
+/// client's first message sends an empty challenge (RFC 4422, section 3).
+fn receive_named<I: BufRead>(alloc: Global, input: &mut I) -> Result<Vec<u8>, Stop> {
+    let line = line(alloc, input)?;
+    if line.is_empty() {
+        return receive(alloc, input);
+    }
+    bytes_of(alloc, &line)
+}
+
+/// Receives a line. The end of the input is the error `Ended`.
+fn line<I: BufRead>(alloc: Global, input: &mut I) -> Result<String, Stop> {
+    next_line(alloc, input)?.ok_or(Stop::Ended)
 }
 
 /// Decodes a line in base64.

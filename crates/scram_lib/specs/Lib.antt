@@ -1,1 +1,3 @@
+pub mod Done
+pub mod Names
 pub mod private

@@ -1,10 +1,12 @@
 //! `client`: the client side of a login. The input has the server's messages.
 
-ghost use Rattle.std.specs.Prelude.{◌≡◌, true, IfOk, OnOk, box_value, option_map};
-ghost use Rattle.fe2o3_scram.specs.ScramClient.{is_complete};
-ghost use Rattle.scram_base_lib.specs.Channel.{SaysChannel};
+ghost use Rattle.std.specs.Prelude.{◌≡◌, ◌≤◌, ◌↔◌, Ok, IfOk, IfErr, IsOk, OnOk, box_value};
+ghost use Rattle.fe2o3_scram.specs.ScramClient.{AnswersIn, VerifiesIn};
+ghost use Rattle.scram_lib.specs.Done.{HasVerified, IsClientAsked, HasLoggedIn};
 
+use crate::done::Done;
 use crate::{frames, keys, nonces};
+use fe2o3_scram::secrets::SecretText;
 use fe2o3_scram::{CachedKeys, ClientSecret, Password, ScramClient, ScramErrorKind, ScramVersion};
 use scram_base_lib::channel::client_channel;
 use scram_base_lib::stop::Stop;
@@ -12,7 +14,7 @@ use scram_base_lib::{input, wire};
 use std::alloc::Global;
 use std::io::{BufRead, Write};
 use std::random::RandomSource;
-use std::rt::Files;
+use std::rt::{Clock, Files};
 
 /// The arguments of a login.
 #[derive(Clone, Copy)]
@@ -51,16 +53,22 @@ pub struct Login<'a> {
 /// The client's secret: the password, if the first line of the input has one, and the keys, if there are any.
 #[derive(Drop)]
 struct Secret {
-    password: Option<String>,
+    password: Option<SecretText>,
     keys: Option<CachedKeys>,
 }
 
 /// Logs in, and stores the keys of the login if there is a key file.
-pub fn log_in<R, I, O>(rt: &R, login: &Login<'_>, input: &mut I, output: &mut O) -> Result<(), Stop>
+pub fn log_in<R, I, O>(
+    rt: &R,
+    login: &Login<'_>,
+    input: &mut I,
+    output: &mut O,
+) -> Result<Done, Stop>
 where
-    R: Files + RandomSource + AllocGlobal,
+    R: Files + Clock + RandomSource + AllocGlobal,
     I: BufRead,
     O: Write,
+    ensures { IfOk result (λ done. HasLoggedIn login.now done) }
 {
     let client = login.client(rt, input)?;
     if login.frames {
@@ -76,32 +84,30 @@ fn over_lines<R, I, O>(
     mut client: Box<ScramClient>,
     input: &mut I,
     output: &mut O,
-) -> Result<(), Stop>
+) -> Result<Done, Stop>
 where
-    R: Files + RandomSource + AllocGlobal,
+    R: Files + Clock + RandomSource + AllocGlobal,
     I: BufRead,
     O: Write,
+    ensures { IsClientAsked login.now (box_value client) → IfOk result (λ done. HasLoggedIn login.now done) }
 {
     let nonce = nonces::nonce(rt, login.nonce)?;
     exchange(rt.alloc(), &mut client, &nonce, input, output)?;
-    login.keep(rt, client.keys())
+    login.keep(rt, client.keys())?;
+    Ok(Done::Client(client))
 }
 
 impl Login<'_> {
-    /// Returns the client. Its password is the first line of the input, which is read only if the channel is valid.
+    /// Returns the client. Its password is the first line of the input, which is read only if the iteration counts and the
+    /// channel are valid.
     fn client<R: Files + AllocGlobal, I: BufRead>(
         &self,
         rt: &R,
         input: &mut I,
     ) -> Result<Box<ScramClient>, Stop>
-        ensures channel { IfOk result (λ client. SaysChannel (option_map (λ word. word.now) self.now.channel)
-            self.now.channel_not_offered (box_value client).channel) }
-        ensures strict { IfOk result (λ client. (box_value client).strict ≡ self.now.strict) }
-        ensures limits { IfOk result (λ client. ((box_value client).limits.min_iterations ≡ self.now.min_iterations)
-            × ((box_value client).limits.max_iterations ≡ self.now.max_iterations)) }
-        ensures login { IfOk result (λ client. ((box_value client).user ≡ self.now.user.now)
-            × ((box_value client).version ≡ self.now.version)) }
+        ensures { IfOk result (λ client. IsClientAsked self.now (box_value client)) }
     {
+        self.test_limits()?;
         let channel = client_channel(rt.alloc(), self.channel, self.channel_not_offered)?;
         let secret = self.secret(rt, input)?;
         let secret = secret.lent().ok_or(Stop::NoPassword)?;
@@ -115,6 +121,18 @@ impl Login<'_> {
         Ok(Box::new(rt.alloc(), client)?)
     }
 
+    /// Checks that the minimum iteration count is not above the maximum.
+    fn test_limits(&self) -> Result<(), Stop>
+        ensures ok { IsOk result ↔ (self.now.min_iterations ≤ self.now.max_iterations) }
+        ensures err { IfErr result (λ stop.
+            stop ≡ Stop.NoIterations self.now.min_iterations self.now.max_iterations) }
+    {
+        if self.min_iterations > self.max_iterations {
+            return Err(Stop::NoIterations(self.min_iterations, self.max_iterations));
+        }
+        Ok(())
+    }
+
     /// Returns the secret. Its password is the first line of the input, unless that is empty.
     fn secret<R: Files + AllocGlobal, I: BufRead>(
         &self,
@@ -126,12 +144,12 @@ impl Login<'_> {
             Some(file) => keys::read(rt, file, self.version)?,
             None => None,
         };
-        let password = line.filter(|line| !line.is_empty());
+        let password = line.filter(|line| !line.is_empty()).map(SecretText::new);
         Ok(Secret { password, keys })
     }
 
     /// Stores the keys of the login if there is a key file.
-    pub(crate) fn keep<R: Files + AllocGlobal>(
+    pub(crate) fn keep<R: Files + Clock + AllocGlobal>(
         &self,
         rt: &R,
         keys: Option<&CachedKeys>,
@@ -148,17 +166,19 @@ impl Secret {
     fn lent(&self) -> Option<ClientSecret<'_>> {
         match (&self.password, &self.keys) {
             (Some(password), Some(keys)) => {
-                let password = Password::Typed(password);
+                let password = Password::Typed(password.as_str());
                 Some(ClientSecret::PasswordAndKeys { password, keys })
             }
-            (Some(password), None) => Some(ClientSecret::Password(Password::Typed(password))),
+            (Some(password), None) => {
+                Some(ClientSecret::Password(Password::Typed(password.as_str())))
+            }
             (None, Some(keys)) => Some(ClientSecret::Keys(keys)),
             (None, None) => None,
         }
     }
 }
 
-/// Runs the exchange, one line for each message. After `Ok` the client has verified the server's signature.
+/// Runs the exchange, one line for each message. After `Ok` the client has authenticated the server.
 fn exchange<I: BufRead, O: Write>(
     alloc: Global,
     client: &mut ScramClient,
@@ -166,20 +186,40 @@ fn exchange<I: BufRead, O: Write>(
     input: &mut I,
     output: &mut O,
 ) -> Result<(), Stop>
-    ensures { OnOk result (is_complete client.new.state ≡ true) }
+    ensures { OnOk result (HasVerified client.old client.new) }
 {
     let first = client.compute_client_first_message(alloc, nonce)?;
     wire::send(alloc, output, &first)?;
-    let server_first = receive(alloc, input)?;
+    let server_first = receive_first(alloc, client.mechanism(), input)?;
     let last = answer(alloc, client, &server_first)?;
     wire::send(alloc, output, &last)?;
     let server_final = receive(alloc, input)?;
-    Ok(client.validate_server_final(alloc, &server_final)?)
+    verify(alloc, client, &server_final)
 }
 
-/// Receives a message of the server. It can be an error (RFC 5802, section 7, `server-error`).
+/// Tests the signature of the server's last message (RFC 5802, section 3).
+fn verify(alloc: Global, client: &mut ScramClient, server_final: &[u8]) -> Result<(), Stop>
+    ensures { OnOk result (VerifiesIn client.old.state client.old server_final.now (Ok tt) client.new) }
+{
+    Ok(client.validate_server_final(alloc, server_final)?)
+}
+
+/// Receives the first message of the server, after a line with the name of the mechanism, if there is one.
+fn receive_first<I: BufRead>(
+    alloc: Global,
+    mechanism: &str,
+    input: &mut I,
+) -> Result<Vec<u8>, Stop> {
+    accepted(wire::receive_first(alloc, mechanism, input)?)
+}
+
+/// Receives a message of the server.
 fn receive<I: BufRead>(alloc: Global, input: &mut I) -> Result<Vec<u8>, Stop> {
-    let message = wire::receive(alloc, input)?;
+    accepted(wire::receive(alloc, input)?)
+}
+
+/// Returns a message of the server. It can be an error (RFC 5802, section 7, `server-error`).
+fn accepted(message: Vec<u8>) -> Result<Vec<u8>, Stop> {
     if message.starts_with(b"e=") {
         return Err(Stop::RefusedByServer);
     }
@@ -187,7 +227,10 @@ fn receive<I: BufRead>(alloc: Global, input: &mut I) -> Result<Vec<u8>, Stop> {
 }
 
 /// Returns the answer to the server's challenge.
-fn answer(alloc: Global, client: &mut ScramClient, server_first: &[u8]) -> Result<Vec<u8>, Stop> {
+fn answer(alloc: Global, client: &mut ScramClient, server_first: &[u8]) -> Result<Vec<u8>, Stop>
+    ensures { IfOk result (λ message.
+        AnswersIn client.old.state client.old server_first.now (Ok message.items) client.new) }
+{
     match str::from_utf8(server_first) {
         Ok(text) => Ok(client.compute_client_final_message(alloc, text)?),
         Err(_) => Err(Stop::Client(ScramErrorKind::Utf8Error)),

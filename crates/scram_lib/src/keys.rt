@@ -8,7 +8,7 @@ use scram_base_lib::store;
 use scram_base_lib::store::{Change, Changed};
 use scram_base_lib::wire::bytes_of;
 use std::alloc::{AllocError, Global};
-use std::rt::Files;
+use std::rt::{Clock, Files};
 
 /// Reads the keys of a file, or returns `None` if there is no file.
 pub fn read<R: Files + AllocGlobal>(
@@ -69,8 +69,12 @@ impl Change for Kept {
 }
 
 /// Stores the keys of a login.
-pub fn keep<R: Files + AllocGlobal>(rt: &R, file: &str, keys: &CachedKeys) -> Result<(), Stop> {
+pub fn keep<R: Files + Clock + AllocGlobal>(
+    rt: &R,
+    file: &str,
+    keys: &CachedKeys,
+) -> Result<(), Stop> {
     let line = line_of(rt.alloc(), keys)?;
-    store::make_change(rt, file, &Kept { line })?;
+    store::make_change(rt, file, 0, &Kept { line })?;
     Ok(())
 }

@@ -35,7 +35,7 @@ fn print_word<O: Write>(output: &mut O, word: &Word) -> Result<()> {
     };
     match word.kind {
         Kind::Place | Kind::MechanismPlace => write!(output, ".TP\n.I {name}\n{help}.\n"),
-        Kind::Flag | Kind::FlagWithout(_) => {
+        Kind::Flag | Kind::FlagWithout(_) | Kind::FlagOf(_) => {
             print_option(output, ".B", name)?;
             write!(output, "\n{help}.\n")
         }

@@ -36,6 +36,12 @@ pub enum Kind {
 
     /// An option without a value that cannot be used with another option.
     FlagWithout(&'static str),
+
+    /// An option without a value that requires another option.
+    FlagOf(&'static str),
+
+    /// An option with a number of seconds.
+    Seconds,
 }
 
 /// A word of a command: an argument or an option.
@@ -76,7 +82,8 @@ pub static ABOUT: &str =
 
 /// What applies to every command.
 pub static NOTES: &str = "\
-A password is the first line of standard input, in printable ASCII. It is never an argument. Exit status: 0 success,
+A password is the first line of standard input, in printable ASCII. It is never an argument. At a terminal that line is
+read only with --echo, since the terminal shows it. Exit status: 0 success,
 1 the other side rejects the login or closes, 2 wrong arguments, 3 this side rejects the login or an audit finds no
 complete login, 4 the input cannot be read or audited, or a file, the output, memory or the random source fails.";
 
@@ -88,6 +95,20 @@ const FILE: Word = Word {
     name: "FILE",
     value: "FILE",
     help: "The file of records",
+};
+
+const DB: Word = Word {
+    kind: Kind::Flag,
+    name: "db",
+    value: "",
+    help: "FILE is a SQLite database of users; a change waits up to 5 seconds for another program, or as --wait says",
+};
+
+const SERVER_DB: Word = Word {
+    kind: Kind::Flag,
+    name: "db",
+    value: "",
+    help: "FILE is a SQLite database of users, of which only the client's record is read",
 };
 
 const NAME: Word = Word {
@@ -102,6 +123,41 @@ const MECHANISM: Word = Word {
     name: "mechanism",
     value: "M",
     help: "The mechanism of the record; default all",
+};
+
+const CHANGED_MECHANISM: Word = Word {
+    kind: Kind::Mechanism,
+    name: "mechanism",
+    value: "M",
+    help: "The mechanism of the record; default SCRAM-SHA-256",
+};
+
+const ALL: Word = Word {
+    kind: Kind::FlagWithout("mechanism"),
+    name: "all",
+    value: "",
+    help: "Changes every record of the user",
+};
+
+const ECHO: Word = Word {
+    kind: Kind::Flag,
+    name: "echo",
+    value: "",
+    help: "Reads the password from a terminal too, which shows it",
+};
+
+const AUDIT_ECHO: Word = Word {
+    kind: Kind::FlagOf("audit"),
+    name: "echo",
+    value: "",
+    help: "Reads the password from a terminal too, which shows it",
+};
+
+const WAIT: Word = Word {
+    kind: Kind::Seconds,
+    name: "wait",
+    value: "SECONDS",
+    help: "Waits this long for another change of the file; default 0",
 };
 
 const NEW_MECHANISM: Word = Word {
@@ -194,7 +250,7 @@ const STRICT: Word = Word {
     kind: Kind::Flag,
     name: "strict",
     value: "",
-    help: "Rejects an attribute of RFC 5802 in the place of an extension, as --channel does",
+    help: "Reads messages by the grammar of RFC 5802, section 7",
 };
 
 const NONCE: Word = Word {
@@ -209,6 +265,13 @@ const FRAMES: Word = Word {
     name: "frames",
     value: "",
     help: "Uses the bytes of an AMQP connection in place of lines",
+};
+
+const SASLPREP: Word = Word {
+    kind: Kind::Flag,
+    name: "saslprep",
+    value: "",
+    help: "Prepares the name that the client sends by SASLprep (RFC 4013) before the look-up; default as sent",
 };
 
 const TELL_UNKNOWN_USERS: Word = Word {
@@ -245,7 +308,7 @@ pub static COMMANDS: [Words; 5] = [
     Words {
         name: "record",
         about: "Prints the record of a password (RFC 5803)",
-        words: &[NEW_MECHANISM, ITERATIONS, SALT],
+        words: &[NEW_MECHANISM, ITERATIONS, SALT, ECHO],
     },
     Words {
         name: "client",
@@ -259,6 +322,7 @@ pub static COMMANDS: [Words; 5] = [
             CHANNEL,
             CHANNEL_NOT_OFFERED,
             STRICT,
+            ECHO,
             NONCE,
             FRAMES,
         ],
@@ -269,6 +333,8 @@ pub static COMMANDS: [Words; 5] = [
         words: &[
             M,
             FILE,
+            SERVER_DB,
+            SASLPREP,
             TELL_UNKNOWN_USERS,
             CHANNEL_ACCEPTED,
             ACCEPT_Y,
@@ -280,7 +346,7 @@ pub static COMMANDS: [Words; 5] = [
     Words {
         name: "explain",
         about: "Explains the messages of a login: each line is a message in base64",
-        words: &[BODIES, AUDIT, AUDITED_ITERATIONS],
+        words: &[BODIES, AUDIT, AUDITED_ITERATIONS, AUDIT_ECHO],
     },
     Words {
         name: "man",
@@ -290,26 +356,31 @@ pub static COMMANDS: [Words; 5] = [
 ];
 
 /// The commands of `users`.
-pub static USERS_COMMANDS: [Words; 4] = [
+pub static USERS_COMMANDS: [Words; 5] = [
     Words {
         name: "add",
         about: "Adds a record of a user, or replaces the one for the same mechanism",
-        words: &[FILE, NAME, NEW_MECHANISM, ITERATIONS, SALT],
+        words: &[FILE, NAME, DB, NEW_MECHANISM, ITERATIONS, SALT, ECHO, WAIT],
+    },
+    Words {
+        name: "passwd",
+        about: "Changes the password in a user's record for one mechanism, or in all",
+        words: &[FILE, NAME, DB, CHANGED_MECHANISM, ALL, ECHO, WAIT],
     },
     Words {
         name: "remove",
         about: "Removes the records of a user, for all mechanisms or for one",
-        words: &[FILE, NAME, MECHANISM],
+        words: &[FILE, NAME, DB, MECHANISM, WAIT],
     },
     Words {
         name: "list",
-        about: "Prints the mechanism, the iteration count and the name of each record, as stored",
-        words: &[FILE],
+        about: "Prints the mechanism, the iteration count and the name of each record, quoted for a shell",
+        words: &[FILE, DB],
     },
     Words {
         name: "check",
         about: "Checks a password against the records of a user",
-        words: &[FILE, NAME, MECHANISM],
+        words: &[FILE, NAME, DB, MECHANISM, ECHO],
     },
 ];
 
@@ -322,11 +393,13 @@ impl Word {
             Kind::MechanismPlace => mechanism(arg.required(true)),
             Kind::Flag => self.flag(arg),
             Kind::FlagWithout(other) => return self.flag(arg).conflicts_with(other),
+            Kind::FlagOf(other) => return self.flag(arg).requires_arg(other),
             Kind::Text => self.option(arg),
             Kind::Mechanism => mechanism(self.option(arg)),
             Kind::DefaultMechanism => mechanism(self.option(arg)).default_value("SCRAM-SHA-256"),
             Kind::Iterations => count(self.option(arg)).default_value("4096"),
             Kind::Count => count(self.option(arg)),
+            Kind::Seconds => seconds(self.option(arg)),
             Kind::CountOf(other) => return count(self.option(arg)).requires_arg(other),
         })
     }
@@ -357,6 +430,11 @@ fn mechanism<'a>(arg: Arg<'a>) -> Arg<'a> {
 /// Returns a word whose value is an iteration count.
 fn count<'a>(arg: Arg<'a>) -> Arg<'a> {
     arg.value_parser(ValueParser::unsigned(1, 4294967295))
+}
+
+/// Returns a word whose value is a number of seconds, up to a day.
+fn seconds<'a>(arg: Arg<'a>) -> Arg<'a> {
+    arg.value_parser(ValueParser::unsigned(0, 86400))
 }
 
 impl Words {

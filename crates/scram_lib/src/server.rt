@@ -1,24 +1,30 @@
 //! `server`: the server side of a login, for the users of a file. The input has the client's messages.
 
-ghost use Rattle.std.specs.Prelude.{◌≡◌, ℕ, List, Some, IfOk, IsOk, OnOk, option_map};
-ghost use Rattle.fe2o3_scram.specs.ScramServer.{logged_in, rules_in, state_in};
-ghost use Rattle.scram_base_lib.specs.Channel.{BindsOnly};
+ghost use Rattle.std.specs.Prelude.{◌≡◌, ◌↔◌, ℕ, List, Ok, Some, IsSome, IfOk, OnOk, false};
+ghost use Rattle.fe2o3_scram.specs.ScramServer.{ChallengesFrom, ConcludesFrom, provider_in, rules_in, state_in};
+ghost use Rattle.scram_lib.specs.Done.{AreRulesOf, AreUsers, HasAccepted, IsMessage, IsSameServer, IsServerAsked, HasServed, provider_of};
 
 pub mod mock;
+mod names;
+pub mod source;
 
+use crate::done::Done;
 use crate::server::mock::Shape;
+use crate::server::source::Source;
 use crate::{frames, nonces};
-use fe2o3_sasl_negotiation::AuthenticatedUser;
+use fe2o3_sasl_negotiation::{AuthenticatedUser, claimed_user};
 use fe2o3_scram::{
     MultiRecordStore, RecordStore, ScramAuthenticator, ScramVersion, ServerError, ServerRules,
     ServerScramErrorKind,
 };
 use mock_secret::secret_of;
 use scram_base_lib::channel::server_rules;
+use scram_base_lib::database::Database;
+use scram_base_lib::shown::shown;
 use scram_base_lib::stop::Stop;
-use scram_base_lib::{store, wire};
+use scram_base_lib::wire;
 use std::alloc::Global;
-use std::io::{BufRead, Write};
+use std::io::{BufRead, Result as Written, Write};
 use std::random::RandomSource;
 use std::rt::Files;
 
@@ -30,6 +36,12 @@ pub struct Service<'a> {
 
     /// The file of records.
     pub file: &'a str,
+
+    /// Whether the file is a database.
+    pub is_db: bool,
+
+    /// Whether the names that clients send are prepared by SASLprep before the look-up.
+    pub saslprep: bool,
 
     /// Whether an unknown user is answered with an error, and not like a known one.
     pub tells_unknown_users: bool,
@@ -50,126 +62,256 @@ pub struct Service<'a> {
     pub frames: bool,
 }
 
-/// Serves a login.
-pub fn serve<R, I, O>(
+/// Serves a login, and prints on the errors who has logged in.
+pub fn serve<R, I, O, E, D>(
     rt: &R,
+    db: &D,
     service: &Service<'_>,
     input: &mut I,
     output: &mut O,
-) -> Result<(), Stop>
+    errors: &mut E,
+) -> Result<Done, Stop>
 where
     R: Files + RandomSource + AllocGlobal,
     I: BufRead,
     O: Write,
+    E: Write,
+    D: Database<R>,
+    ensures { IfOk result (λ done. HasServed service.now done) }
 {
     let rules = service.rules(rt.alloc())?;
-    let server = server(rt, service, rules)?;
+    let source = Source::open(rt, db, service)?;
+    let secret = service.secret(rt)?;
     if service.frames {
-        return frames::serve(rt, service, server, input, output);
+        return frames::serve(rt, service, rules, secret, &source, input, output, errors);
     }
-    over_lines(rt, service, server, input, output)
+    over_lines(rt, service, rules, secret, &source, input, output, errors)
+}
+
+/// Prints on the errors who has logged in: the name of the record of the user who sent this name.
+pub(crate) fn tell_user<E: Write>(
+    alloc: Global,
+    service: &Service<'_>,
+    sent: Option<&str>,
+    errors: &mut E,
+) {
+    let Some(sent) = sent else {
+        return;
+    };
+    // The user has logged in, whether or not that can be written.
+    if let Ok(user) = shown_user(alloc, service, sent) {
+        let _ = print_user(&user, errors);
+    }
+}
+
+/// Returns the name of the record of the user who sent this name, as it is printed.
+fn shown_user(alloc: Global, service: &Service<'_>, sent: &str) -> Result<Vec<u8>, Stop> {
+    let name = service.name_of(alloc, sent)?;
+    Ok(shown(alloc, name.as_deref().unwrap_or(sent).as_bytes())?)
+}
+
+/// Prints who has logged in.
+fn print_user<E: Write>(user: &[u8], errors: &mut E) -> Written<()> {
+    errors.write_all(b"scram: ")?;
+    errors.write_all(user)?;
+    errors.write_all(b" logged in\n")
 }
 
 impl Service<'_> {
+    /// Returns the name of the mechanism, with `-PLUS` if the server binds a channel.
+    fn mechanism(&self) -> &'static str {
+        self.version.mechanism_with(self.channel.is_some())
+    }
+
     /// Returns what the server accepts.
     fn rules(&self, alloc: Global) -> Result<ServerRules, Stop>
-        ensures channels { IfOk result (λ rules. BindsOnly (option_map (λ word. word.now) self.now.channel)
-            rules.channels) }
-        ensures options { IfOk result (λ rules. (rules.accept_cbind_flag_y ≡ self.now.accept_y)
-            × (rules.strict ≡ self.now.strict)) }
+        ensures { IfOk result (λ rules. AreRulesOf self.now rules) }
     {
         server_rules(alloc, self.channel, self.accept_y, self.strict)
     }
+
+    /// Returns the secret of mock records, or `None` if mock authentication is off.
+    fn secret<R: Files + RandomSource + AllocGlobal>(&self, rt: &R) -> Result<Option<Vec<u8>>, Stop>
+        ensures off { IfOk result (λ secret. IsSome secret ↔ (self.now.tells_unknown_users ≡ false)) }
+    {
+        if self.tells_unknown_users {
+            return Ok(None);
+        }
+        Ok(Some(secret_of(rt, self.file)?))
+    }
 }
 
-/// Returns the server of the users of a file, with these rules.
-fn server<R: Files + RandomSource + AllocGlobal>(
+/// Returns the server for a client that claims this name, if any. It has only the records of that user.
+pub(crate) fn server_for<R: AllocGlobal, D: Database<R>>(
     rt: &R,
     service: &Service<'_>,
     rules: ServerRules,
+    secret: Option<Vec<u8>>,
+    source: &Source<'_, D>,
+    claimed: Option<&str>,
 ) -> Result<ScramAuthenticator<RecordStore>, Stop>
-    ensures { IfOk result (λ server. rules_in server ≡ rules) }
+    ensures { AreRulesOf service.now rules → IfOk result (λ server. IsServerAsked service.now server) }
 {
-    Ok(authenticator(rt, service)?.with_rules(rules))
+    let own = source.lines_for(rt, service, claimed)?;
+    let text = match source {
+        Source::Text(text) => text.as_str(),
+        Source::Database(_) => own.as_str(),
+    };
+    server(rt.alloc(), service, rules, secret, text, &own)
 }
 
-/// Returns the server of the users of a file. Unless mock authentication is off, it answers an unknown user like a
-/// known one.
-fn authenticator<R: Files + RandomSource + AllocGlobal>(
-    rt: &R,
+/// Returns the server of the users in these lines, with these rules. Mock records have the shape of those in the text.
+fn server(
+    alloc: Global,
     service: &Service<'_>,
-) -> Result<ScramAuthenticator<RecordStore>, Stop> {
-    let text = store::read(rt, service.file)?;
-    let users = users(rt.alloc(), service, &text)?;
-    if service.tells_unknown_users {
-        return Ok(ScramAuthenticator::new(users));
+    rules: ServerRules,
+    secret: Option<Vec<u8>>,
+    text: &str,
+    lines: &str,
+) -> Result<ScramAuthenticator<RecordStore>, Stop>
+    ensures { AreRulesOf service.now rules → IfOk result (λ server. IsServerAsked service.now server) }
+{
+    let users = users_of(alloc, service, text, lines)?;
+    let server = with_mock(alloc, service, ScramAuthenticator::new(users), secret, text)?;
+    Ok(server.with_rules(rules))
+}
+
+/// Returns this server, with mock authentication if there is a secret.
+fn with_mock(
+    alloc: Global,
+    service: &Service<'_>,
+    server: ScramAuthenticator<RecordStore>,
+    secret: Option<Vec<u8>>,
+    text: &str,
+) -> Result<ScramAuthenticator<RecordStore>, Stop>
+    ensures { IfOk result (λ hiding. (provider_in hiding ≡ provider_in server) × (state_in hiding ≡ state_in server)) }
+{
+    let Some(secret) = secret else {
+        return Ok(server);
+    };
+    let shape = Shape::of(alloc, text, service.version)?;
+    Ok(shape.hide(server, secret))
+}
+
+/// Parses the users in these lines of a text that have records for the mechanism. The error at a malformed line is that of
+/// the whole text, which has the line's number.
+fn users_of(
+    alloc: Global,
+    service: &Service<'_>,
+    text: &str,
+    lines: &str,
+) -> Result<RecordStore, Stop>
+    ensures { IfOk result (λ users. (lines : List ℕ) × AreUsers service.now.version lines users) }
+{
+    match users(alloc, service, lines) {
+        Err(Stop::Line(_)) => users(alloc, service, text),
+        found => found,
     }
-    let shape = Shape::of(rt.alloc(), &text, service.version)?;
-    let secret = secret_of(rt, service.file)?;
-    Ok(shape.hide(users, secret))
 }
 
 /// Parses the users of a text that have records for the mechanism.
-fn users(alloc: Global, service: &Service<'_>, text: &str) -> Result<RecordStore, Stop> {
+fn users(alloc: Global, service: &Service<'_>, text: &str) -> Result<RecordStore, Stop>
+    ensures { IfOk result (λ users. AreUsers service.now.version text.now users) }
+{
     let users = MultiRecordStore::parse_lines(alloc, text)?;
     Ok(users.for_version(service.version).clone()?)
 }
 
 /// Serves a login over lines.
-fn over_lines<R, I, O>(
+fn over_lines<R, I, O, E, D>(
     rt: &R,
     service: &Service<'_>,
-    server: ScramAuthenticator<RecordStore>,
+    rules: ServerRules,
+    secret: Option<Vec<u8>>,
+    source: &Source<'_, D>,
     input: &mut I,
     output: &mut O,
-) -> Result<(), Stop>
+    errors: &mut E,
+) -> Result<Done, Stop>
 where
     R: RandomSource + AllocGlobal,
     I: BufRead,
     O: Write,
+    E: Write,
+    D: Database<R>,
+    ensures { AreRulesOf service.now rules → IfOk result (λ done. HasServed service.now done) }
 {
-    let mut server = Box::new(rt.alloc(), server)?;
-    let nonce = nonces::nonce(rt, service.nonce)?;
-    challenge(rt.alloc(), &mut *server, &nonce, input, output)?;
-    conclude(rt.alloc(), &mut *server, input, output)
+    let message = wire::receive_first(rt.alloc(), service.mechanism(), input)?;
+    let claimed = claimed_user(rt.alloc(), service.mechanism(), &message)?;
+    let server = server_for(rt, service, rules, secret, source, claimed.as_deref())?;
+    log_in(rt, service, server, &message, input, output, errors)
 }
 
-/// Answers the client's first message with a challenge.
-fn challenge<I: BufRead, O: Write>(
+/// Answers the messages of a login, of which the first is received.
+fn log_in<R, I, O, E>(
+    rt: &R,
+    service: &Service<'_>,
+    server: ScramAuthenticator<RecordStore>,
+    message: &[u8],
+    input: &mut I,
+    output: &mut O,
+    errors: &mut E,
+) -> Result<Done, Stop>
+where
+    R: RandomSource + AllocGlobal,
+    I: BufRead,
+    O: Write,
+    E: Write,
+    ensures { IsServerAsked service.now server → IfOk result (λ done. HasServed service.now done) }
+{
+    let alloc = rt.alloc();
+    let mut server = Box::new(alloc, server)?;
+    let nonce = nonces::nonce(rt, service.nonce)?;
+    exchange(alloc, &mut *server, message, &nonce, input, output)?;
+    tell_user(alloc, service, server.authenticated_user(), errors);
+    Ok(Done::Server(server))
+}
+
+/// Runs the exchange, of which the first message is received. After `Ok` the server has accepted a proof.
+fn exchange<I: BufRead, O: Write>(
     alloc: Global,
     server: &mut ScramAuthenticator<RecordStore>,
+    message: &[u8],
     nonce: &[u8; 32],
     input: &mut I,
     output: &mut O,
-) -> Result<(), Stop> {
-    let message = wire::receive(alloc, input)?;
-    let answer = server.compute_server_first_message(alloc, &message, nonce);
+) -> Result<(), Stop>
+    ensures { OnOk result (HasAccepted server.old server.new) }
+{
+    challenge(alloc, server, message, nonce, output)?;
+    conclude(alloc, server, input, output)?;
+    Ok(())
+}
+
+/// Answers the client's first message with a challenge.
+fn challenge<O: Write>(
+    alloc: Global,
+    server: &mut ScramAuthenticator<RecordStore>,
+    message: &[u8],
+    nonce: &[u8; 32],
+    output: &mut O,
+) -> Result<(), Stop>
+    ensures opens { OnOk result ((challenge : List ℕ) × ChallengesFrom (state_in server.old) (provider_of server.old)
+        nonce.now message.now (Ok (Some challenge)) (state_in server.new)) }
+    ensures keeps { IsSameServer server.old server.new }
+{
+    let answer = server.compute_server_first_message(alloc, message, nonce);
     reply(alloc, answer, output)
 }
 
-/// Answers the client's response with the signature. After `Ok` the server names the user who has logged in.
+/// Answers the client's response with the signature. After `Ok` the server has accepted a proof.
 fn conclude<I: BufRead, O: Write>(
     alloc: Global,
     server: &mut ScramAuthenticator<RecordStore>,
     input: &mut I,
     output: &mut O,
 ) -> Result<(), Stop>
-    ensures { OnOk result ((user : List ℕ) × (logged_in (state_in server.new) ≡ Some user)) }
+    ensures { OnOk result ((text : List ℕ) × (signature : List ℕ) × ConcludesFrom (state_in server.old)
+        (provider_of server.old).version (rules_in server.old) text (Ok (Some signature)) (state_in server.new)) }
 {
     let message = wire::receive(alloc, input)?;
-    let answer = answer(alloc, server, &message);
+    let answer = server.compute_server_final_message(alloc, &message);
     reply(alloc, answer, output)
-}
-
-/// Answers a client-final message. After `Ok` a user has logged in.
-fn answer(
-    alloc: Global,
-    server: &mut ScramAuthenticator<RecordStore>,
-    message: &[u8],
-) -> Result<Option<Vec<u8>>, ServerScramErrorKind>
-    ensures { IfOk result (λ _. (user : List ℕ) × (logged_in (state_in server.new) ≡ Some user)) }
-{
-    server.compute_server_final_message(alloc, message)
 }
 
 /// Sends an answer, or the error (RFC 5802, section 7, `server-error`).
@@ -178,7 +320,7 @@ fn reply<O: Write>(
     answer: Result<Option<Vec<u8>>, ServerScramErrorKind>,
     output: &mut O,
 ) -> Result<(), Stop>
-    ensures { OnOk result (IsOk answer) }
+    ensures { OnOk result (IsMessage answer) }
 {
     match answer {
         Ok(Some(message)) => wire::send(alloc, output, &message),

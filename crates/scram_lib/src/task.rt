@@ -1,28 +1,37 @@
 //! The task that the arguments ask for.
 
-ghost use Rattle.std.specs.Prelude.{◌≡◌, true, false, Some, codes, option_map};
+ghost use Rattle.std.specs.Prelude.{◌≡◌, true, false, Some, None, IfOk, codes, option_map};
 ghost use Rattle.clap.specs.Matches.{first_value, found_of, one_text};
+ghost use Rattle.scram_lib.specs.Done.{IsDone};
 
 use crate::client::{Login, log_in};
+use crate::done::Done;
 use crate::record::{ITERATIONS, NewRecord};
 use crate::server::{Service, serve};
-use crate::users::{Named, add, check, list, remove};
+use crate::users::{Listed, Named, add, change_password, check, list, remove};
 use crate::{man, record};
 use clap::ArgMatches;
 use fe2o3_scram::ScramVersion;
 use scram_base_lib::audited::Audited;
+use scram_base_lib::database::Database;
 use scram_base_lib::explain::explain;
 use scram_base_lib::input;
 use scram_base_lib::stop::Stop;
 use std::io::{BufRead, Write};
 use std::random::RandomSource;
-use std::rt::Files;
+use std::rt::{Clock, Files};
 
-/// The input and the output.
+/// The input and the output, and the databases.
 #[derive(Drop)]
-pub struct Streams<'a, I, O> {
+pub struct Streams<'a, 'd, I, O, D> {
+    /// Whether the input is a terminal.
+    pub is_terminal: bool,
+
     pub input: &'a mut I,
     pub output: &'a mut O,
+
+    /// The databases of `--db`.
+    pub db: &'d D,
 }
 
 /// The command that the arguments ask for.
@@ -44,11 +53,14 @@ pub enum Task<'a> {
     /// Adds a user's record to a file.
     Add(Named<'a>, NewRecord<'a>),
 
+    /// Changes a user's password in a file.
+    ChangePassword(Named<'a>),
+
     /// Removes a user's records from a file.
     Remove(Named<'a>),
 
     /// Lists the records of a file.
-    List(&'a str),
+    List(Listed<'a>),
 
     /// Checks a password.
     Check(Named<'a>),
@@ -72,6 +84,14 @@ impl<'a> Command<'a> {
         match matches.subcommand() {
             Some(("explain", found)) => Command::of_explain(found),
             _ => Command::Task(Task::of(matches)),
+        }
+    }
+
+    /// Returns the file of the command, or an empty text if it has none.
+    pub fn file(&self) -> &'a str {
+        match self {
+            Command::Task(task) => task.file(),
+            Command::Audit(asked) => asked.file,
         }
     }
 
@@ -104,40 +124,101 @@ impl<'a> Task<'a> {
     fn of_users(matches: &ArgMatches<'a>) -> Task<'a> {
         match matches.subcommand() {
             Some(("add", found)) => Task::Add(named(found), new_record(found)),
+            Some(("passwd", found)) => Task::ChangePassword(password_of(found)),
             Some(("remove", found)) => Task::Remove(named(found)),
             Some(("check", found)) => Task::Check(named(found)),
-            Some((_, found)) => Task::List(text(found, "FILE")),
-            None => Task::List(text(matches, "FILE")),
+            Some((_, found)) => Task::List(listed(found)),
+            None => Task::List(listed(matches)),
+        }
+    }
+
+    /// Returns the file of the task, or an empty text if it has none.
+    fn file(&self) -> &'a str {
+        match self {
+            Task::Add(named, _)
+            | Task::ChangePassword(named)
+            | Task::Remove(named)
+            | Task::Check(named) => named.file,
+            Task::List(listed) => listed.file,
+            Task::Client(login) => login.keys.unwrap_or(""),
+            Task::Server(service) => service.file,
+            Task::Record(_) | Task::Explain(_) | Task::Man => "",
         }
     }
 
     /// Does the task.
-    pub fn run<R, I, O>(&self, rt: &R, streams: &mut Streams<'_, I, O>) -> Result<(), Stop>
+    pub fn run<R, I, O, E, D>(
+        &self,
+        rt: &R,
+        streams: &mut Streams<'_, '_, I, O, D>,
+        errors: &mut E,
+    ) -> Result<Done, Stop>
     where
-        R: Files + RandomSource + AllocGlobal,
+        R: Files + Clock + RandomSource + AllocGlobal,
         I: BufRead,
         O: Write,
+        E: Write,
+        D: Database<R>,
+        ensures { IfOk result (λ done. IsDone self.now done) }
     {
-        let alloc = rt.alloc();
+        match self {
+            Task::Client(login) => log_in(rt, login, streams.input, streams.output),
+            Task::Server(service) => {
+                let db = streams.db;
+                serve(rt, db, service, streams.input, streams.output, errors)
+            }
+            Task::Check(named) => {
+                let password = input::password(rt.alloc(), streams.input)?;
+                check(rt, streams.db, named, password, streams.output)
+            }
+            other => {
+                other.run_other(rt, streams, errors)?;
+                Ok(Done::Other)
+            }
+        }
+    }
+
+    /// Does a task that is no login and no check.
+    fn run_other<R, I, O, E, D>(
+        &self,
+        rt: &R,
+        streams: &mut Streams<'_, '_, I, O, D>,
+        errors: &mut E,
+    ) -> Result<(), Stop>
+    where
+        R: Files + Clock + RandomSource + AllocGlobal,
+        I: BufRead,
+        O: Write,
+        E: Write,
+        D: Database<R>,
+    {
+        let (alloc, db) = (rt.alloc(), streams.db);
         match self {
             Task::Record(record) => {
                 let password = input::password(alloc, streams.input)?;
-                record::print(rt, record, &password, streams.output)
+                record::print(rt, record, password.as_str(), streams.output)
             }
             Task::Add(named, record) => {
                 let password = input::password(alloc, streams.input)?;
-                add(rt, named, record, &password, streams.output)
+                add(
+                    rt,
+                    db,
+                    named,
+                    record,
+                    password.as_str(),
+                    streams.output,
+                    errors,
+                )
             }
-            Task::Remove(named) => remove(rt, named, streams.output),
-            Task::List(file) => list(rt, file, streams.output),
-            Task::Check(named) => {
+            Task::ChangePassword(named) => {
                 let password = input::password(alloc, streams.input)?;
-                check(rt, named, &password, streams.output)
+                change_password(rt, db, named, password, streams.output, errors)
             }
-            Task::Client(login) => log_in(rt, login, streams.input, streams.output),
-            Task::Server(service) => serve(rt, service, streams.input, streams.output),
+            Task::Remove(named) => remove(rt, db, named, streams.output),
+            Task::List(listed) => list(rt, db, listed, streams.output),
             Task::Explain(frames) => explain(alloc, *frames, streams.input, streams.output),
             Task::Man => man::print(streams.output).map_err(Stop::of_output),
+            Task::Client(_) | Task::Server(_) | Task::Check(_) => Ok(()),
         }
     }
 }
@@ -176,6 +257,8 @@ fn max_iterations(matches: &ArgMatches<'_>) -> u32 {
 fn service<'a>(matches: &ArgMatches<'a>) -> Service<'a>
     ensures channel { option_map (λ word. word.now) result.channel
         ≡ first_value (found_of matches.now) (codes "channel") }
+    ensures saslprep { (one_text (found_of matches.now) (codes "saslprep") ≡ Some (codes "true"))
+        → result.saslprep ≡ true }
     ensures no_y { (one_text (found_of matches.now) (codes "accept-y") ≡ Some (codes "false"))
         → result.accept_y ≡ false }
     ensures strict { (one_text (found_of matches.now) (codes "strict") ≡ Some (codes "true"))
@@ -184,6 +267,8 @@ fn service<'a>(matches: &ArgMatches<'a>) -> Service<'a>
     Service {
         version: version_of(matches, "M").unwrap_or(ScramVersion::Sha256),
         file: text(matches, "FILE"),
+        is_db: matches.get_flag("db"),
+        saslprep: matches.get_flag("saslprep"),
         tells_unknown_users: matches.get_flag("tell-unknown-users"),
         channel: matches.get_str("channel"),
         accept_y: matches.get_flag("accept-y"),
@@ -202,12 +287,56 @@ fn new_record<'a>(matches: &ArgMatches<'a>) -> NewRecord<'a> {
     }
 }
 
+/// Returns the file to list.
+fn listed<'a>(matches: &ArgMatches<'a>) -> Listed<'a> {
+    Listed {
+        file: text(matches, "FILE"),
+        is_db: matches.get_flag("db"),
+    }
+}
+
 /// Returns the file, the user name and the mechanism, if any.
 fn named<'a>(matches: &ArgMatches<'a>) -> Named<'a> {
     Named {
         file: text(matches, "FILE"),
+        is_db: matches.get_flag("db"),
         name: text(matches, "NAME"),
         version: version_of(matches, "mechanism"),
+        wait: matches.get_one::<u32>("wait").unwrap_or(0),
+    }
+}
+
+/// Returns the file, the user name and the mechanism of a new password, or no mechanism with `--all`.
+fn password_of<'a>(matches: &ArgMatches<'a>) -> Named<'a>
+    ensures all { (one_text (found_of matches.now) (codes "all") ≡ Some (codes "true"))
+        → result.version ≡ None }
+{
+    let mut named = named(matches);
+    if matches.get_flag("all") {
+        named.version = None;
+    } else if named.version.is_none() {
+        named.version = Some(ScramVersion::Sha256);
+    }
+    named
+}
+
+/// Returns whether `--echo` is given, or `None` for a command that reads no password.
+pub fn echo_of(matches: &ArgMatches<'_>) -> Option<bool> {
+    match matches.subcommand() {
+        Some(("users", found)) => echo_of_users(found),
+        Some(("record" | "client", found)) => Some(found.get_flag("echo")),
+        Some(("explain", found)) if found.get_str("audit").is_some() => {
+            Some(found.get_flag("echo"))
+        }
+        _ => None,
+    }
+}
+
+/// Returns whether `--echo` is given to a command of `users`, or `None` if the command reads no password.
+fn echo_of_users(matches: &ArgMatches<'_>) -> Option<bool> {
+    match matches.subcommand() {
+        Some(("add" | "passwd" | "check", found)) => Some(found.get_flag("echo")),
+        _ => None,
     }
 }
 

@@ -1,22 +1,29 @@
 //! `users`: a file of records. Each line has the user name, escaped (RFC 5802, section 5.1), a space, and the record
 //! (RFC 5803, section 2).
 
-ghost use Rattle.std.specs.Prelude.{◌↔◌, true, false, Some, [], ◌∷◌, IsTrue, OnOk};
+ghost use Rattle.std.specs.Prelude.{◌↔◌, true, false, Some, [], ◌∷◌, IfOk, IsTrue, OnOk};
 ghost use Rattle.std.specs.List.{Contains};
 ghost use Rattle.fe2o3_scram.specs.declared.hmac.ScramVersion.TheVariants.{Sha1, Sha256, Sha512};
+ghost use Rattle.scram_lib.specs.Done.{HasChecked, HasItsPassword};
 ghost use Rattle.scram_lib.specs.private.Passwords.{IsAsked, Tells, TellsEach};
 
 pub mod changes;
+pub mod source;
 
+use crate::done::Done;
 use crate::record::NewRecord;
-use crate::users::changes::{Put, Taken};
+use crate::users::changes::{NewPassword, Put, Salts, Taken};
+use fe2o3_scram::secrets::SecretText;
 use fe2o3_scram::{Meter, MultiRecordStore, Password, ScramCredentialProvider, ScramVersion};
+use scram_base_lib::database::Database;
+use scram_base_lib::lines;
 use scram_base_lib::lines::UserLine;
+use scram_base_lib::shown::shown;
 use scram_base_lib::stop::Stop;
-use scram_base_lib::{lines, store};
-use std::io::Write;
+use std::alloc::Global;
+use std::io::{Result as Written, Write};
 use std::random::RandomSource;
-use std::rt::Files;
+use std::rt::{Clock, Files};
 
 /// A user of a file, for one mechanism or for all.
 #[derive(Clone, Copy)]
@@ -24,11 +31,27 @@ pub struct Named<'a> {
     /// The file.
     pub file: &'a str,
 
+    /// Whether the file is a database.
+    pub is_db: bool,
+
     /// The user name, not escaped.
     pub name: &'a str,
 
     /// The mechanism, or `None` for all.
     pub version: Option<ScramVersion>,
+
+    /// How long a change waits for another one, in seconds.
+    pub wait: u32,
+}
+
+/// A file of records to list.
+#[derive(Clone, Copy)]
+pub struct Listed<'a> {
+    /// The file.
+    pub file: &'a str,
+
+    /// Whether the file is a database.
+    pub is_db: bool,
 }
 
 /// The versions, in the order in which `check` prints their answers.
@@ -39,25 +62,69 @@ static VERSIONS: [ScramVersion; 3] = [
 ];
 
 /// Adds a user's record at the end of the file, or replaces the first one for the mechanism.
-pub fn add<R: Files + RandomSource + AllocGlobal, O: Write>(
+pub fn add<R, O, E, D>(
     rt: &R,
+    db: &D,
     named: &Named<'_>,
     record: &NewRecord<'_>,
     password: &str,
     output: &mut O,
-) -> Result<(), Stop> {
+    errors: &mut E,
+) -> Result<(), Stop>
+where
+    R: Files + Clock + RandomSource + AllocGlobal,
+    O: Write,
+    E: Write,
+    D: Database<R>,
+{
     let line = lines::line_of(rt.alloc(), named.name, record.of(rt, password)?)?;
     let put = Put {
         line,
         version: record.version,
     };
-    let done = store::make_change(rt, named.file, &put)?;
-    writeln!(output, "{done}").map_err(Stop::of_output)
+    let changed = source::make_change(rt, db, named, &put)?;
+    report(changed.done, output)?;
+    tell_others(rt.alloc(), &changed.text, named.name, password, errors)
+}
+
+/// Changes the password in a user's records. They keep their iteration counts, and get new salts.
+pub fn change_password<R, O, E, D>(
+    rt: &R,
+    db: &D,
+    named: &Named<'_>,
+    password: SecretText,
+    output: &mut O,
+    errors: &mut E,
+) -> Result<(), Stop>
+where
+    R: Files + Clock + RandomSource + AllocGlobal,
+    O: Write,
+    E: Write,
+    D: Database<R>,
+{
+    let name = lines::escaped(rt.alloc(), named.name)?;
+    let salts = Salts::random(rt)?;
+    let new = NewPassword {
+        name,
+        version: named.version,
+        password,
+        salts,
+    };
+    let changed = source::make_change(rt, db, named, &new)?;
+    report(changed.done, output)?;
+    tell_others(
+        rt.alloc(),
+        &changed.text,
+        named.name,
+        new.password.as_str(),
+        errors,
+    )
 }
 
 /// Removes a user's records.
-pub fn remove<R: Files + AllocGlobal, O: Write>(
+pub fn remove<R: Files + Clock + AllocGlobal, O: Write, D: Database<R>>(
     rt: &R,
+    db: &D,
     named: &Named<'_>,
     output: &mut O,
 ) -> Result<(), Stop> {
@@ -66,39 +133,95 @@ pub fn remove<R: Files + AllocGlobal, O: Write>(
         name,
         version: named.version,
     };
-    let done = store::make_change(rt, named.file, &taken)?;
-    writeln!(output, "{done}").map_err(Stop::of_output)
+    let changed = source::make_change(rt, db, named, &taken)?;
+    report(changed.done, output)
 }
 
-/// Prints the mechanism, the iteration count and the name of each line.
-pub fn list<R: Files + AllocGlobal, O: Write>(
-    rt: &R,
-    file: &str,
-    output: &mut O,
+/// Prints what a change did.
+fn report<O: Write>(done: &str, output: &mut O) -> Result<(), Stop> {
+    writeln!(output, "{done}").map_err(Stop::of_report)
+}
+
+/// Prints, on the errors, which records of a user have another password.
+fn tell_others<E: Write>(
+    alloc: Global,
+    text: &str,
+    name: &str,
+    password: &str,
+    errors: &mut E,
 ) -> Result<(), Stop> {
-    let text = store::read(rt, file)?;
-    lines::test(rt.alloc(), &text)?;
-    for line in text.lines() {
-        print_line(line, output)?;
+    let own = lines::of_user(alloc, text, name)?;
+    let users = MultiRecordStore::parse_lines(alloc, &own)?;
+    for version in &VERSIONS {
+        if answer(&users, None, name, password, *version) == Some(false) {
+            let mechanism = version.mechanism();
+            // The file is changed, whether or not that can be written.
+            let _ = writeln!(
+                errors,
+                "scram: the record for {mechanism} keeps another password; passwd --all changes it"
+            );
+        }
     }
     Ok(())
 }
 
-/// Prints the mechanism, the iteration count and the name of a line.
-fn print_line<O: Write>(line: &str, output: &mut O) -> Result<(), Stop> {
+/// Prints the mechanism, the iteration count and the name of each line.
+pub fn list<R: Files + AllocGlobal, O: Write, D: Database<R>>(
+    rt: &R,
+    db: &D,
+    listed: &Listed<'_>,
+    output: &mut O,
+) -> Result<(), Stop> {
+    let text = source::lines(rt, db, listed)?;
+    lines::test(rt.alloc(), &text)?;
+    for line in text.lines() {
+        print_line(rt.alloc(), line, output)?;
+    }
+    Ok(())
+}
+
+/// Prints the mechanism, the iteration count and the name of a line. The name is as `remove` takes it in a shell.
+fn print_line<O: Write>(alloc: Global, line: &str, output: &mut O) -> Result<(), Stop> {
     let line = UserLine::of(line);
-    let (mechanism, iterations, name) = (line.mechanism, line.iterations, line.name);
-    writeln!(output, "{mechanism} {iterations} {name}").map_err(Stop::of_output)
+    let name = lines::unescaped(alloc, line.name)?;
+    let name = shown(alloc, name.as_bytes())?;
+    print_parts(&line, &name, output).map_err(Stop::of_output)
+}
+
+/// Prints the parts of a line.
+fn print_parts<O: Write>(line: &UserLine<'_>, name: &[u8], output: &mut O) -> Written<()> {
+    let (mechanism, iterations) = (line.mechanism, line.iterations);
+    write!(output, "{mechanism} {iterations} ")?;
+    output.write_all(name)?;
+    output.write_all(b"\n")
 }
 
 /// Checks the password against the first record of the user for each mechanism, and prints the answers.
-pub fn check<R: Files + AllocGlobal, O: Write>(
+pub fn check<R: Files + AllocGlobal, O: Write, D: Database<R>>(
     rt: &R,
+    db: &D,
+    named: &Named<'_>,
+    password: SecretText,
+    output: &mut O,
+) -> Result<Done, Stop>
+    ensures { IfOk result (λ done. HasChecked named.now done) }
+{
+    let text = source::lines_for(rt, db, named)?;
+    check_text(rt.alloc(), &text, named, password.as_str(), output)?;
+    Ok(Done::Check(text, password))
+}
+
+/// Checks the password against the first record of the user in a text for each mechanism, and prints the answers.
+fn check_text<O: Write>(
+    alloc: Global,
+    text: &str,
     named: &Named<'_>,
     password: &str,
     output: &mut O,
-) -> Result<(), Stop> {
-    let users = lines::users(rt, named.file)?;
+) -> Result<(), Stop>
+    ensures { OnOk result (HasItsPassword named.now text.now password.now) }
+{
+    let users = MultiRecordStore::parse_lines(alloc, text)?;
     conclude(&answers(&users, named, password), output)
 }
 
@@ -108,9 +231,27 @@ fn answers(users: &MultiRecordStore, named: &Named<'_>, password: &str) -> [Opti
         (Sha1 ∷ Sha256 ∷ Sha512 ∷ []) result }
 {
     [
-        answer(users, named, password, ScramVersion::Sha1),
-        answer(users, named, password, ScramVersion::Sha256),
-        answer(users, named, password, ScramVersion::Sha512),
+        answer(
+            users,
+            named.version,
+            named.name,
+            password,
+            ScramVersion::Sha1,
+        ),
+        answer(
+            users,
+            named.version,
+            named.name,
+            password,
+            ScramVersion::Sha256,
+        ),
+        answer(
+            users,
+            named.version,
+            named.name,
+            password,
+            ScramVersion::Sha512,
+        ),
     ]
 }
 
@@ -118,16 +259,17 @@ fn answers(users: &MultiRecordStore, named: &Named<'_>, password: &str) -> [Opti
 /// version is not asked for.
 fn answer(
     users: &MultiRecordStore,
-    named: &Named<'_>,
+    asked: Option<ScramVersion>,
+    name: &str,
     password: &str,
     version: ScramVersion,
 ) -> Option<bool>
-    ensures { Tells users.now named.now.version named.now.name.now password.now version result }
+    ensures { Tells users.now asked name.now password.now version result }
 {
-    if !is_asked(named.version, version) {
+    if !is_asked(asked, version) {
         return None;
     }
-    let kept = users.for_version(version).get_stored_password(named.name)?;
+    let kept = users.for_version(version).get_stored_password(name)?;
     Some(kept.verify_password(version, Password::Typed(password), &mut Meter::new()))
 }
 

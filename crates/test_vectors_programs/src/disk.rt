@@ -7,7 +7,8 @@ use std::io::{Error, ErrorKind, Read, Result, Seek, SeekFrom, Write};
 use std::os::unix::fs::PermissionsExt;
 use std::random::RandomSource;
 use std::rc::Rc;
-use std::rt::Files;
+use std::rt::{Clock, Files};
+use std::time::Duration;
 
 /// The number of calls, and the number of the failing one, counted from 1.
 #[derive(Drop)]
@@ -136,6 +137,18 @@ impl Disk {
         is_less
     }
 
+    /// Opens the folder of all files.
+    fn open_folder(&self) -> Result<Open> {
+        let bytes = Cell::new(Vec::new(self.alloc));
+        let (mode, is_folder) = (Cell::new(0o755), Cell::new(true));
+        let node = Node {
+            bytes,
+            mode,
+            is_folder,
+        };
+        self.open(Rc::new(self.alloc, node)?)
+    }
+
     /// Opens a file.
     fn open(&self, node: Rc<Node>) -> Result<Open> {
         Ok(Open {
@@ -212,6 +225,16 @@ impl RandomSource for Disk {
     }
 }
 
+impl Clock for Disk {
+    fn monotonic(&self) -> Result<Duration> {
+        Err(Error::from(ErrorKind::Unsupported))
+    }
+
+    fn since_1970(&self) -> Result<Duration> {
+        Err(Error::from(ErrorKind::Unsupported))
+    }
+}
+
 impl Files for Disk {
     type File = Open;
 
@@ -220,6 +243,9 @@ impl Files for Disk {
     fn open_file(&self, how: &OpenOptions, path: &str) -> Result<Open> {
         how.check()?;
         self.calls.count()?;
+        if path == "." {
+            return self.open_folder();
+        }
         let found = self.find(path)?;
         if how.asks_create_new() {
             return match found {
@@ -246,8 +272,12 @@ impl Files for Disk {
         }
     }
 
-    fn symlink_metadata(&self, _path: &str) -> Result<Metadata> {
-        Err(Error::from(ErrorKind::Unsupported))
+    fn symlink_metadata(&self, path: &str) -> Result<Metadata> {
+        self.metadata(path)
+    }
+
+    fn lchown(&self, _path: &str, _uid: Option<u32>, _gid: Option<u32>) -> Result<()> {
+        self.calls.count()
     }
 
     fn copy(&self, _from: &str, _to: &str) -> Result<u64> {

@@ -36,11 +36,12 @@ fn replay<W: Write>(
 }
 
 /// The files of runs.
-static FILES: [&str; 10] = [
+static FILES: [&str; 11] = [
     "words.txt",
     "records.txt",
     "users.txt",
     "logins.txt",
+    "names.txt",
     "frames.txt",
     "channels.txt",
     "explained.txt",

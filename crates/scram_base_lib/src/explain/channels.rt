@@ -1,7 +1,7 @@
 //! What the messages of a login say of its channel (RFC 5802, sections 6 and 7).
 
-ghost use Rattle.std.specs.Prelude.{◌≡◌, ◌≤◌, true, false, length, Ok, IfOk};
-ghost use Rattle.fe2o3_scram.specs.ChannelBinding.{TakesHeader, data_bytes, flag_of, is_bound};
+ghost use Rattle.std.specs.Prelude.{None, ◌≡◌, ◌≤◌, true, false, length, Ok, IfOk};
+ghost use Rattle.fe2o3_scram.specs.ChannelBinding.{AcceptsFlag, data_bytes, flag_of, is_bound};
 ghost use Rattle.fe2o3_scram.specs.ClientFinal.{ReadsFinalText, client_final_values};
 ghost use Rattle.fe2o3_scram.specs.ClientFirst.{default_rules};
 ghost use Rattle.fe2o3_scram.specs.declared.channel_binding.ChannelKind.TheVariants.{TlsUnique, TlsServerEndPoint, TlsExporter};
@@ -11,7 +11,7 @@ use base64::DecodeAllocError;
 use base64::engine::general_purpose::STANDARD;
 use fe2o3_scram::{
     ChannelBinding, ChannelBindingFlag, ChannelBindings, ChannelData, ClientChannel, ClientFinal,
-    ServerRules, ServerScramErrorKind,
+    ClientHeader, ServerRules, ServerScramErrorKind,
 };
 use std::alloc::{AllocError, Global};
 
@@ -19,10 +19,10 @@ use std::alloc::{AllocError, Global};
 /// otherwise `n,,` and, with `any_header`, `y,,`.
 pub fn rules_for(any_header: bool, bound: bool) -> ServerRules
     ensures plain { any_header ≡ false → result ≡ default_rules }
-    ensures unbound { any_header ≡ true → bound ≡ false → TakesHeader result NotSupported
-        × TakesHeader result ClientSupports }
-    ensures bound { any_header ≡ true → bound ≡ true → TakesHeader result (Required TlsUnique)
-        × TakesHeader result (Required TlsServerEndPoint) × TakesHeader result (Required TlsExporter) }
+    ensures unbound { any_header ≡ true → bound ≡ false → AcceptsFlag result NotSupported
+        × AcceptsFlag result ClientSupports }
+    ensures bound { any_header ≡ true → bound ≡ true → AcceptsFlag result (Required TlsUnique)
+        × AcceptsFlag result (Required TlsServerEndPoint) × AcceptsFlag result (Required TlsExporter) }
 {
     // The parser only asks of which kinds the server has data.
     let known = Some(ChannelData {
@@ -80,12 +80,18 @@ pub fn read_final<'a>(
     message: &'a [u8],
 ) -> Result<(ClientChannel, ClientFinal<'a>), ServerScramErrorKind>
     ensures channel { IfOk result (λ read. flag_of read.0 ≡ header) }
-    ensures text { IfOk result (λ read. ReadsFinalText read.0 (is_bound read.0) nonce.now message.now
+    ensures text { IfOk result (λ read. ReadsFinalText (record { channel = read.0; acts_for = None }) (is_bound read.0) nonce.now message.now
         (Ok (client_final_values read.1))) }
 {
     let channel = channel_in(alloc, header, message)?;
     let strict = channel.is_bound();
-    let last = ClientFinal::parse_with_channel(alloc, &channel, strict, nonce, message)?;
+    let last = ClientFinal::parse_with_header(
+        alloc,
+        &ClientHeader::new(channel, None),
+        strict,
+        nonce,
+        message,
+    )?;
     Ok((channel, last))
 }
 

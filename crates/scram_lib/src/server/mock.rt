@@ -1,10 +1,10 @@
 //! Mock records, with which a server answers unknown users like known ones.
 
-ghost use Rattle.std.specs.Prelude.{◌≡◌, ◌≤◌, IfOk, Some, option_map};
-ghost use Rattle.fe2o3_scram.specs.ScramServer.{mock_in};
+ghost use Rattle.std.specs.Prelude.{◌≡◌, ◌≤◌, IfOk, IfSome, Some, option_map};
+ghost use Rattle.fe2o3_scram.specs.ScramServer.{mock_in, provider_in, state_in};
 
 use crate::record::{ITERATIONS, SALT_LEN};
-use fe2o3_scram::{RecordStore, ScramAuthenticator, ScramRecord, ScramVersion};
+use fe2o3_scram::{RecordStore, RecordTextError, ScramAuthenticator, ScramRecord, ScramVersion};
 use scram_base_lib::lines::UserLine;
 use scram_base_lib::stop::Stop;
 use std::alloc::Global;
@@ -23,14 +23,16 @@ pub struct Shape {
 }
 
 impl Shape {
-    /// Returns the shape of the first record for the mechanism in a valid text, or, if there is none, of the records
-    /// that `users add` makes by default.
+    /// Returns the shape of the first record for the mechanism in a text, or, if there is none, of the records that
+    /// `users add` makes by default.
     pub fn of(alloc: Global, text: &str, version: ScramVersion) -> Result<Shape, Stop>
         ensures { IfOk result (λ shape. shape.salt_len ≤ 64) }
     {
         for line in text.lines() {
             if UserLine::of(line).mechanism == version.mechanism() {
-                return Shape::of_line(alloc, line);
+                if let Some(shape) = Shape::of_line(alloc, line)? {
+                    return Ok(shape);
+                }
             }
         }
         Ok(Shape {
@@ -39,35 +41,42 @@ impl Shape {
         })
     }
 
-    /// Returns the shape of a line's record. A longer salt than a mock record can have is cut to that length.
-    fn of_line(alloc: Global, line: &str) -> Result<Shape, Stop>
-        ensures { IfOk result (λ shape. shape.salt_len ≤ 64) }
+    /// Returns the shape of a line's record, or `None` if the line has no record. A longer salt than a mock record can
+    /// have is cut to that length.
+    fn of_line(alloc: Global, line: &str) -> Result<Option<Shape>, Stop>
+        ensures { IfOk result (λ found. IfSome found (λ shape. shape.salt_len ≤ 64)) }
     {
         let (_, record) = line.rsplit_once(' ').unwrap_or(("", ""));
-        // The line is valid, so only memory can fail.
-        let Ok(record) = ScramRecord::parse(alloc, record) else {
-            return Err(Stop::OutOfMemory);
+        let record = match ScramRecord::parse(alloc, record) {
+            Ok(record) => record,
+            Err(RecordTextError::OutOfMemory) => return Err(Stop::OutOfMemory),
+            Err(_) => return Ok(None),
         };
         let kept = record.as_stored_password();
         let (len, iterations) = (kept.salt.len(), kept.iterations);
-        Ok(Shape {
-            salt_len: if len < LONGEST_SALT {
-                len
-            } else {
-                LONGEST_SALT
-            },
+        let salt_len = if len < LONGEST_SALT {
+            len
+        } else {
+            LONGEST_SALT
+        };
+        Ok(Some(Shape {
+            salt_len,
             iterations,
-        })
+        }))
     }
 
-    /// Returns the server of these users, with mock records made with a secret.
-    pub fn hide(self, users: RecordStore, secret: Vec<u8>) -> ScramAuthenticator<RecordStore>
+    /// Returns this server, with mock records made with a secret.
+    pub fn hide(
+        self,
+        server: ScramAuthenticator<RecordStore>,
+        secret: Vec<u8>,
+    ) -> ScramAuthenticator<RecordStore>
         requires { self.salt_len ≤ 64 }
         ensures secret { option_map (λ mock. mock.secret) (mock_in result) ≡ Some secret.items }
         ensures salt_len { option_map (λ mock. mock.salt_len) (mock_in result) ≡ Some self.salt_len }
         ensures iterations { option_map (λ mock. mock.count) (mock_in result) ≡ Some self.iterations }
+        ensures same { (provider_in result ≡ provider_in server) × (state_in result ≡ state_in server) }
     {
-        let server = ScramAuthenticator::new(users);
         match server.mock_unknown_users(secret, self.salt_len, self.iterations) {
             Ok(server) => server,
             Err(_) => unreachable!(),

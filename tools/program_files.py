@@ -1,0 +1,213 @@
+#!/usr/bin/env python3
+"""Tries the built program `scram` on real files, streams and terminals: what no run over files in memory shows.
+
+    tools/program_files.py [PROGRAM]    the program defaults to crates/scram/out/scram
+
+The trials of owners need root, those of relays `socat`, and those of many lines `/usr/bin/time`. They are left out
+otherwise.
+"""
+import base64
+import os
+import pty
+import shutil
+import socket
+import subprocess
+import sys
+import tempfile
+import time
+from pathlib import Path
+
+TOP = Path(__file__).resolve().parent.parent
+PROGRAM = str(Path(sys.argv[1] if len(sys.argv) > 1 else TOP / "crates/scram/out/scram").resolve())
+SECONDS = 60
+NOBODY = 65534
+
+
+def scram(*words, password="pencil", **streams):
+    """Runs the program, and answers its status, its output and its errors."""
+    streams.setdefault("stdout", subprocess.PIPE)
+    run = subprocess.run([PROGRAM, *words], input=(password + "\n").encode(), stderr=subprocess.PIPE, timeout=SECONDS,
+                         **streams)
+    return run.returncode, (run.stdout or b"").decode(), run.stderr.decode()
+
+
+def devices(folder):
+    """A device and a pipe are not changed."""
+    os.mkfifo(folder / "pipe")
+    for name in ("/dev/null", str(folder / "pipe")):
+        status, _, errors = scram("users", "add", name, "alice")
+        assert status == 4 and name in errors and "not a regular file" in errors, errors
+    assert Path("/dev/null").is_char_device()
+    assert not Path("/dev/null.new").exists()
+
+
+def links(folder):
+    """A link stays a link, and the file that it leads to is changed. A link to no file is an error."""
+    (folder / "below").mkdir()
+    (folder / "link").symlink_to("below/users.txt")
+    status, _, errors = scram("users", "add", str(folder / "link"), "alice")
+    assert status == 4 and "link" in errors, errors
+    (folder / "below/users.txt").touch(mode=0o640)
+    assert scram("users", "add", str(folder / "link"), "alice")[:2] == (0, "added\n")
+    assert (folder / "link").is_symlink()
+    assert (folder / "below/users.txt").read_text().startswith("alice SCRAM-SHA-256$")
+    assert sorted(path.name for path in (folder / "below").iterdir()) == ["users.txt"]
+
+
+def owners(folder):
+    """The new file has the owner, the group and the mode of the old one."""
+    users = folder / "users.txt"
+    users.touch()
+    users.chmod(0o640)
+    os.chown(users, NOBODY, NOBODY)
+    assert scram("users", "add", str(users), "alice")[0] == 0
+    found = users.stat()
+    assert (found.st_uid, found.st_gid, found.st_mode & 0o777) == (NOBODY, NOBODY, 0o640)
+
+
+def owner_lost(folder):
+    """Without the right to keep the owner, the old file stays."""
+    users = folder / "users.txt"
+    users.write_text("")
+    users.chmod(0o666)
+    folder.chmod(0o777)
+    status, _, errors = scram("users", "add", str(users), "alice", user=NOBODY, group=NOBODY)
+    assert status == 4 and "owner" in errors and str(users) in errors, errors
+    assert users.read_text() == "" and users.stat().st_uid == 0
+    assert [path.name for path in folder.iterdir()] == ["users.txt"]
+
+
+def changes_at_once(folder):
+    """Of changes that start at once each is made, if it may wait."""
+    users = str(folder / "users.txt")
+    runs = [subprocess.Popen([PROGRAM, "users", "add", users, f"user{number}", "--wait", "50"], stdin=subprocess.PIPE,
+                             stdout=subprocess.DEVNULL) for number in range(12)]
+    for run in runs:
+        run.communicate(b"pencil\n", timeout=SECONDS)
+    assert [run.returncode for run in runs] == [0] * 12
+    assert len(Path(users).read_text().splitlines()) == 12
+
+
+def left_over(folder):
+    """A left-over new file is named, and the file is unchanged."""
+    (folder / "users.txt.new").touch()
+    status, _, errors = scram("users", "add", str(folder / "users.txt"), "alice", "--wait", "1")
+    assert status == 4 and str(folder / "users.txt.new") in errors and "--wait" in errors, errors
+    assert not (folder / "users.txt").exists()
+
+
+def outputs(folder):
+    """After a change the errors say that it is made, also if the output cannot be written."""
+    users = str(folder / "users.txt")
+    with open("/dev/full", "wb") as full:
+        status, _, errors = scram("users", "add", users, "alice", stdout=full)
+    assert status == 4 and "The file is changed, but" in errors, errors
+    assert Path(users).read_text().startswith("alice ")
+    for closed, words in ((">&-", "Standard output is closed."), ("<&-", "Standard input is closed.")):
+        run = subprocess.run(["sh", "-c", f'exec "$0" record {closed}', PROGRAM], input=b"pencil\n",
+                             stdout=subprocess.DEVNULL, stderr=subprocess.PIPE, timeout=SECONDS)
+        assert run.returncode == 4 and words in run.stderr.decode(), run.stderr
+
+
+def quoted_names(folder):
+    """A shell passes each name that `users list` prints to `users remove`."""
+    users = str(folder / "users.txt")
+    names = ["alice", "a,b c=", "\x1b[31m'\\", "Müller", ""]
+    for name in names:
+        assert scram("users", "add", users, name)[0] == 0
+    listed = scram("users", "list", users)[1]
+    assert listed.isascii() and "\x1b" not in listed
+    for line, name in zip(listed.splitlines(), names):
+        word = line.split(" ", 2)[2]
+        shell = ["bash", "-c", f'exec "$0" users remove "$1" {word}', PROGRAM, users]
+        assert subprocess.run(shell, stdout=subprocess.DEVNULL, timeout=SECONDS).returncode == 0, name
+    assert Path(users).read_text() == ""
+
+
+def terminals(_folder):
+    """At a terminal the password is an error, or asked for on the errors."""
+    for words, status, text in ((["record"], 2, b"--echo"), (["record", "--echo"], 0, b"Password: ")):
+        above, below = pty.openpty()
+        os.write(above, b"pencil\n")
+        run = subprocess.run([PROGRAM, *words], stdin=below, stdout=subprocess.DEVNULL, stderr=subprocess.PIPE,
+                             timeout=SECONDS)
+        os.close(above)
+        os.close(below)
+        assert run.returncode == status and text in run.stderr, run.stderr
+
+
+def relays(folder):
+    """Behind `socat` a client receives the error of a server that rejects it."""
+    users = str(folder / "users.txt")
+    assert scram("users", "add", users, "alice")[0] == 0
+    with socket.socket() as free:
+        free.bind(("127.0.0.1", 0))
+        port = free.getsockname()[1]
+    command = f"SYSTEM:'{PROGRAM} server SCRAM-SHA-256 {users}; true'"
+    relay = subprocess.Popen(["socat", f"TCP-LISTEN:{port},bind=127.0.0.1,reuseaddr,fork", command],
+                             stderr=subprocess.DEVNULL)
+    try:
+        time.sleep(1)
+        for _ in range(10):
+            with socket.create_connection(("127.0.0.1", port), timeout=SECONDS) as client:
+                client.sendall(b"ZZZZ\n")
+                answer = b"".join(iter(lambda: client.recv(4096), b""))
+            assert answer == b"ZT1pbnZhbGlkLWVuY29kaW5n\n", answer  # e=invalid-encoding
+    finally:
+        relay.terminate()
+        relay.wait(timeout=SECONDS)
+
+
+def init(name):
+    """The start of a client over the bytes of AMQP: the header of SASL, and the init of a user."""
+    mechanism, message = b"SCRAM-SHA-256", f"n,,n={name},r=nonce".encode()
+    fields = b"\2\xa3" + bytes([len(mechanism)]) + mechanism + b"\xa0" + bytes([len(message)]) + message
+    body = b"\2\1\0\0\0\x53\x41\xc0" + bytes([len(fields)]) + fields
+    return b"AMQP\3\1\0\0" + (len(body) + 4).to_bytes(4, "big") + body
+
+
+def measured(given, *words):
+    """The output of the program for an input, its processor time in seconds, and its memory in kB."""
+    run = subprocess.run(["/usr/bin/time", "-f", "%U %S %M", PROGRAM, *words], input=given, capture_output=True,
+                         timeout=SECONDS)
+    user, system, memory = run.stderr.split()[-3:]
+    return run.stdout, float(user) + float(system), int(memory)
+
+
+def many_lines(folder):
+    """Among 200,000 lines a server parses only those of the client's user."""
+    users = folder / "users.txt"
+    assert scram("users", "add", str(users), "alice")[0] == 0
+    record = users.read_text().removeprefix("alice")
+    users.write_text("".join(f"user{number:07}{record}" for number in range(200_000)))
+    line = base64.b64encode(b"n,,n=user0199999,r=nonce") + b"\n"
+    for given, options in ((line, ()), (init("user0199999"), ("--frames",))):
+        answer, seconds, memory = measured(given, "server", "SCRAM-SHA-256", str(users), *options)
+        print(f"  {seconds:.2f} s of the processor, {memory} kB of memory {' '.join(options)}")
+        assert b"r=nonce" in (answer if options else base64.b64decode(answer)), answer
+        assert seconds < 1 and memory < 64_000, (seconds, memory)
+
+
+def main():
+    trials = [devices, links, changes_at_once, left_over, outputs, quoted_names, terminals]
+    if os.geteuid() == 0:
+        trials += [owners, owner_lost]
+    if shutil.which("socat"):
+        trials.append(relays)
+    if os.path.exists("/usr/bin/time"):
+        trials.append(many_lines)
+    wrong = 0
+    for trial in trials:
+        with tempfile.TemporaryDirectory() as folder:
+            os.chmod(folder, 0o755)
+            try:
+                trial(Path(folder))
+                print(f"{trial.__name__}: as expected")
+            except AssertionError as error:
+                wrong += 1
+                print(f"{trial.__name__}: WRONG: {error}")
+    sys.exit(1 if wrong else 0)
+
+
+if __name__ == "__main__":
+    main()
