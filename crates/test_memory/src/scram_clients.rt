@@ -11,7 +11,7 @@ use fe2o3_scram::credentials::RecordError;
 use fe2o3_scram::hmac::{Meter, ScramVersion};
 use fe2o3_scram::passwords::Password;
 use fe2o3_scram::scram_client::ScramClient;
-use fe2o3_scram::scram_messages::{ClientChannel, ScramErrorKind};
+use fe2o3_scram::scram_messages::{ClientHeader, ScramErrorKind};
 use std::alloc::Global;
 use std::test::Fail;
 
@@ -182,7 +182,7 @@ fn answer_server_first(alloc: Global, by: Secret, keys: &CachedKeys) -> Answer {
         SERVER_FIRST,
         bare,
         limits,
-        &ClientChannel::Absent,
+        &ClientHeader::plain(),
         false,
         &mut meter,
     );

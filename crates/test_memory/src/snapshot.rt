@@ -53,6 +53,7 @@ fn kept(expected: Expected, limit: usize, held: &[u8]) -> Snapshot<'_> {
         progress: Progress::InProgress,
         expected,
         limit,
+        extended_headers: false,
         held,
         user: None,
     }
