@@ -32,7 +32,7 @@ pub record AcceptedTexts (provider : Provider) (nonce init response last : List 
   pub done : ServerState
   pub first : List ℕ
   pub challenges : ChallengesFrom state provider nonce init (Ok (Some first)) waiting
-  pub accepts : ConcludesFrom waiting provider.version provider.rules response (Ok (Some last)) done
+  pub accepts : ConcludesFrom waiting provider.version provider.rules provider.rights response (Ok (Some last)) done
 
 -- what the client knows: what the server-first message named to it
 pub record ClientKnows (side : ClientSide) (nonce text : List ℕ) : Type 0 where
@@ -48,7 +48,7 @@ pub record ServerKnows (provider : Provider) (nonce init response : List ℕ) : 
   pub reads_init : ReadsClientFirst provider.rules init (Ok client)
   pub known : provider.records client.user ≡ Some stored
   pub reads : let challenge = challenge_of client (base64_text nonce) stored in
-      ReadsClientFinal (server_against provider.version provider.rules challenge stored) response (Ok final)
+      ReadsClientFinal (server_against provider.version provider.rules provider.rights challenge stored) response (Ok final)
 
 -- the keys that the client answered by (RFC 5802, section 3)
 abbrev pub keys_known : {side : ClientSide} {nonce text : List ℕ} → ClientKnows side nonce text → ClientKeys

@@ -14,6 +14,7 @@ use Rattle.fe2o3_scram.specs.declared.scram_messages.channel_binding_flag.Channe
 use Rattle.fe2o3_scram.specs.declared.scram_messages.channel_binding_flag.ChannelBindingFlag.TheVariants.{NotSupported, ClientSupports, Required}
 use Rattle.fe2o3_scram.specs.declared.scram_messages.server_rules.ServerRules.{ServerRules}
 use Rattle.fe2o3_scram.specs.Escape.{escaped}
+use Rattle.fe2o3_scram.specs.Grammar.{is_value}
 use Rattle.fe2o3_scram.specs.Hmac.{mechanism_name}
 
 -- the registered name of a kind of channel binding (RFC 5929, sections 3 and 4; RFC 9266, section 2)
@@ -148,9 +149,15 @@ TakesFlag (Some channels) accept_y flag = TakesBound channels flag
 abbrev pub AcceptsFlag : ServerRules → ChannelBindingFlag → Type 0
 AcceptsFlag rules flag = TakesFlag rules.channels rules.accept_cbind_flag_y flag
 
--- a server accepts the header: that of a client that acts for itself
+-- whom a server lets a client name (RFC 5802, section 7, `authzid`): no one, or if it accepts identities, also one of one or
+-- more characters, none of which is NUL (`saslname`)
+abbrev pub TakesIdentity : Bool → Option (List ℕ) → Type 0
+TakesIdentity accept None = Unit {0}
+TakesIdentity accept (Some name) = T accept × (is_value name ≡ true)
+
+-- a server accepts the header
 abbrev pub TakesHeader : ServerRules → Gs2Header → Type 0
-TakesHeader rules header = AcceptsFlag rules header.flag × (header.acts_for ≡ None)
+TakesHeader rules header = AcceptsFlag rules header.flag × TakesIdentity rules.accept_authzid header.acts_for
 
 -- the data of a kind that a server has, if it binds channels
 abbrev pub data_of_server : Option ChannelBindings → ChannelKind → Option ChannelData
@@ -174,9 +181,9 @@ abbrev pub expected_header : Option ChannelBindings → Gs2Header → ClientHead
 expected_header channels header =
     record { channel = expected_channel channels header.flag; acts_for = header.acts_for }
 
--- a server is strict if it binds a channel, or is set to
+-- a server is strict if it binds a channel, accepts identities, or is set to
 abbrev pub is_strict : ServerRules → Bool
-is_strict rules = is_some rules.channels || rules.strict
+is_strict rules = is_some rules.channels || (rules.accept_authzid || rules.strict)
 
 -- the mechanism of a server (RFC 5802, section 6): the one with channel binding if it binds channels
 abbrev pub server_mechanism : ScramVersion → ServerRules → List ℕ

@@ -1,5 +1,5 @@
 -- The client-final message (RFC 5802, section 7), as the client writes it and as the server reads it.
-use Rattle.std.specs.Prelude.{ℕ, List, [], ◌∷◌, ◌++◌, ◌≡◌, codes, Result, Ok, Err, ◌≢◌, ◌⊎◌, length, Bool, false, ◌&&◌, ◌||◌, if◌then◌else◌, nat_eq, T}
+use Rattle.std.specs.Prelude.{ℕ, List, [], ◌∷◌, ◌++◌, ◌≡◌, codes, Result, Ok, Err, ◌≢◌, ◌⊎◌, length, Bool, true, false, ◌&&◌, ◌||◌, if◌then◌else◌, nat_eq, T}
 use Rattle.std.specs.Cmp.Lexicographic.{pointwise}
 use Rattle.fe2o3_scram.specs.declared.scram_messages.client_final.ClientAnswer.{ClientAnswer}
 use Rattle.fe2o3_scram.specs.declared.hmac.ScramVersion.{ScramVersion}
@@ -84,7 +84,8 @@ abbrev pub client_final_values : CodeClientFinal → ClientFinal
 client_final_values final = record { without = final.without_proof.now; proof = final.proof.items }
 
 -- what a server knows when it reads a client-final message (RFC 5802, section 5): its version, the header that it
--- expects, whether it is strict, the two messages before, the nonce of both sides, and the user's record
+-- expects, whether it is strict, the two messages before, the nonce of both sides, the user's record, and whether the user
+-- may act for the identity of the header
 pub record Server : Type 0 where
   pub version : ScramVersion
   pub header : ClientHeader
@@ -93,10 +94,11 @@ pub record Server : Type 0 where
   pub first : List ℕ
   pub nonce : List ℕ
   pub stored : Record
+  pub may_act : Bool
 
 -- a server with these values; one that expects a channel or an identity is strict
-abbrev pub server_of : ScramVersion → ClientHeader → Bool → List ℕ → List ℕ → List ℕ → Record → Server
-server_of version header strict bare first nonce stored = record {
+abbrev pub server_of : ScramVersion → ClientHeader → Bool → List ℕ → List ℕ → List ℕ → Record → Bool → Server
+server_of version header strict bare first nonce stored may_act = record {
   version = version;
   header = header;
   strict = needs_strict header || strict;
@@ -104,6 +106,7 @@ server_of version header strict bare first nonce stored = record {
   first = first;
   nonce = nonce;
   stored = stored;
+  may_act = may_act;
 }
 
 -- the last part is this proof, and this is the text before it (RFC 5802, section 5.1)
@@ -176,18 +179,24 @@ unfoldable pub ReadsFinalText : ClientHeader → Bool → List ℕ → List ℕ 
 ReadsFinalText header strict nonce text answer =
     Reads (final_text_tests header strict nonce text) (NamesClientFinal header nonce text) answer
 
--- the server's tests of the proof that was read, in order (RFC 5802, section 3)
+-- the login is accepted: the proof meets the stored key (RFC 5802, section 3), and the user may act for the identity (RFC
+-- 4422, section 2)
+abbrev pub IsAccepted : Server → ClientFinal → Type 0
+IsAccepted server final = Meets server final × (server.may_act ≡ true)
+
+-- the server's tests of the proof that was read, in order (RFC 5802, section 3); the second is one test of the proof and of
+-- the identity (RFC 4422, section 2), so that a client does not learn which of both is wrong
 abbrev pub proof_tests : Server → ClientFinal → List (ServerScramErrorKind × Type 0)
 proof_tests server final =
     (XorLengthMismatch, length final.proof ≢ digest_len server.version)
-    ∷ (AuthenticationFailed, ¬ Meets server final)
+    ∷ (AuthenticationFailed, ¬ IsAccepted server final)
     ∷ []
 
--- what the server reads (RFC 5802, section 5): the first error of the text, otherwise of its proof, or the values of a
--- text whose proof meets the stored key
+-- what the server reads (RFC 5802, section 5): the first error of the text, otherwise of its proof and of the identity, or
+-- the values of a text whose proof meets the stored key, of a user who may act for the identity
 unfoldable pub ReadsClientFinal : Server → List ℕ → Result ClientFinal ServerScramErrorKind → Type 0
 ReadsClientFinal server text (Ok final) = ReadsFinalText server.header server.strict server.nonce text (Ok final)
-    × (length final.proof ≡ digest_len server.version) × Meets server final
+    × (length final.proof ≡ digest_len server.version) × IsAccepted server final
 ReadsClientFinal server text (Err fault) = ReadsFinalText server.header server.strict server.nonce text (Err fault)
     ⊎ ((final : ClientFinal) × ReadsFinalText server.header server.strict server.nonce text (Ok final)
     × IsFirst (proof_tests server final) fault)

@@ -1,5 +1,5 @@
 -- The client-first message (RFC 5802, section 7), as the client writes it and as the server reads it.
-use Rattle.std.specs.Prelude.{ℕ, List, [], ◌∷◌, ◌++◌, ◌≡◌, T, codes, Result, None, true, false}
+use Rattle.std.specs.Prelude.{ℕ, List, [], ◌∷◌, ◌++◌, ◌≡◌, ◌⊎◌, T, codes, Result, None, Some, true, false, option_map}
 use Rattle.std.specs.Cow.{cow_str_bytes}
 use Rattle.std.specs.Str.{IsUtf8}
 use Rattle.fe2o3_scram.specs.declared.scram_messages.error.ServerScramErrorKind.{ServerScramErrorKind}
@@ -7,7 +7,8 @@ use Rattle.fe2o3_scram.specs.declared.scram_messages.error.ServerScramErrorKind.
 use Rattle.fe2o3_scram.specs.declared.scram_messages.server_rules.ServerRules.{ServerRules}
 use Rattle.fe2o3_scram.specs.declared.scram_messages.client_first_reading.ClientFirst.{ClientFirst as CodeClientFirst}
 use Rattle.fe2o3_scram.specs.declared.scram_messages.channel_binding_flag.ChannelBindingFlag.TheVariants.{NotSupported}
-use Rattle.fe2o3_scram.specs.ChannelBinding.{Gs2Header, TakesHeader, header_text, is_strict, own_header}
+use Rattle.fe2o3_scram.specs.declared.scram_messages.channel_binding_flag.ChannelBindingFlag.{ChannelBindingFlag}
+use Rattle.fe2o3_scram.specs.ChannelBinding.{AcceptsFlag, Gs2Header, TakesHeader, header_text, is_strict, own_header}
 use Rattle.fe2o3_scram.specs.Escape.{escaped, NoEquals}
 use Rattle.fe2o3_scram.specs.Grammar.{HasMisplacedFrom, is_nonce, is_value}
 use Rattle.fe2o3_scram.specs.Readings.{Reads}
@@ -17,13 +18,13 @@ use Rattle.fe2o3_scram.specs.Texts.{joined, Part, StartsWith}
 abbrev pub client_first_bare : List ℕ → List ℕ → List ℕ
 client_first_bare username nonce = joined ((codes "n=" ++ escaped username) ∷ (codes "r=" ++ nonce) ∷ [])
 
--- a server that accepts no `y,,`, is not strict and binds no channel
+-- a server that accepts no `y,,` and no identity, is not strict and binds no channel
 abbrev pub default_rules : ServerRules
-default_rules = record { accept_cbind_flag_y = false; strict = false; channels = None }
+default_rules = record { accept_cbind_flag_y = false; strict = false; channels = None; accept_authzid = false }
 
 -- a reader that accepts both GS2 headers of clients that bind no channel, and is not strict
 abbrev pub either_header : ServerRules
-either_header = record { accept_cbind_flag_y = true; strict = false; channels = None }
+either_header = record { accept_cbind_flag_y = true; strict = false; channels = None; accept_authzid = false }
 
 -- client-first-message with a GS2 header (RFC 5802, section 7)
 abbrev pub client_first_with : Gs2Header → List ℕ → List ℕ → List ℕ
@@ -44,7 +45,7 @@ pub record ClientFirst : Type 0 where
 -- the values that the code's value holds
 abbrev pub client_first_values : CodeClientFirst → ClientFirst
 client_first_values first = record {
-  header = own_header first.header;
+  header = record { flag = first.header; acts_for = option_map cow_str_bytes first.acts_for };
   user = cow_str_bytes first.username;
   nonce = first.client_nonce.now;
   bare =
@@ -90,10 +91,17 @@ client_first_tests rules text =
     ∷ (MisplacedAttribute, T (is_strict rules) × HasMisplacedAfterNonce rules text)
     ∷ []
 
--- the server allocates for a name that is sent with escapes (RFC 5802, section 5.1)
+-- after a flag that is accepted the message names an identity that is sent with escapes, to a server that accepts
+-- identities (RFC 5802, section 5.1)
+abbrev pub HasEscapedIdentity : ServerRules → List ℕ → Type 0
+HasEscapedIdentity rules text = (flag : ChannelBindingFlag) × (name : List ℕ) × (bare : List ℕ) × AcceptsFlag rules flag
+    × T rules.accept_authzid × (text ≡ header_text (record { flag = flag; acts_for = Some name }) ++ bare)
+    × ¬ NoEquals (escaped name)
+
+-- the server allocates for an identity or a user name that is sent with escapes (RFC 5802, section 5.1)
 abbrev pub HasEscapes : ServerRules → List ℕ → Type 0
-HasEscapes rules text = IsUtf8 text
-    × ((user : List ℕ) × BarePart rules text 0 (codes "n=" ++ escaped user) × ¬ NoEquals (escaped user))
+HasEscapes rules text = IsUtf8 text × (HasEscapedIdentity rules text
+    ⊎ ((user : List ℕ) × BarePart rules text 0 (codes "n=" ++ escaped user) × ¬ NoEquals (escaped user)))
 
 -- what the server reads (RFC 5802, section 5.1): the first error that applies, or the values that are named; extensions
 -- are ignored

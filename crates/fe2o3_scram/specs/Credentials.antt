@@ -5,6 +5,7 @@ use Rattle.fe2o3_scram.specs.declared.hmac.ScramVersion.{ScramVersion}
 use Rattle.fe2o3_scram.specs.declared.provider.StoredPassword.{StoredPassword}
 use Rattle.fe2o3_scram.specs.declared.scram_messages.server_rules.ServerRules.{ServerRules}
 use Rattle.fe2o3_scram.specs.declared.keys.RecordError.{RecordError}
+use Rattle.fe2o3_scram.specs.ActingRights.{Rights}
 use Rattle.fe2o3_scram.specs.declared.keys.RecordError.TheVariants.{NormalizeError, ZeroIterations, OutOfMemory}
 use Rattle.fe2o3_scram.specs.Keys.{client_key, stored_key, server_key}
 use Rattle.fe2o3_scram.specs.Pbkdf2Hi.{salted_of}
@@ -101,21 +102,33 @@ pub record Store : Type 0 where
   pub version : ScramVersion
   pub records : Records
 
--- what a server answers by: a version, the record of each user name, how many HMAC values a look-up makes, and what it
--- accepts in a client's messages (RFC 5802, sections 6 and 7)
+-- what a server answers by: a version, the record of each user name, how many HMAC values a look-up makes, what it accepts
+-- in a client's messages (RFC 5802, sections 6 and 7), and who may act as whom (RFC 4422, section 2)
 pub record Provider : Type 0 where
   pub version : ScramVersion
   pub records : List ℕ → Option Record
   pub look_up_cost : ℕ
   pub rules : ServerRules
+  pub rights : Rights
 
--- a server over this store
+-- a server over this store, in which each user may act only for itself
 abbrev pub serving : ServerRules → Store → Provider
 serving rules store = record {
   version = store.version;
   records = record_at store.records;
   look_up_cost = 0;
   rules = rules;
+  rights = [];
+}
+
+-- a server in which these users may act for these identities
+abbrev pub with_rights : Rights → Provider → Provider
+with_rights rights provider = record {
+  version = provider.version;
+  records = provider.records;
+  look_up_cost = provider.look_up_cost;
+  rules = provider.rules;
+  rights = rights;
 }
 
 -- the record that a stored password is

@@ -4,6 +4,7 @@ use Rattle.std.specs.Str.{IsUtf8}
 use Rattle.base64.specs.GeneralPurpose.{IsBytes}
 use Rattle.fe2o3_scram.specs.declared.hmac.ScramVersion.{ScramVersion}
 use Rattle.fe2o3_scram.specs.declared.scram_messages.server_rules.ServerRules.{ServerRules}
+use Rattle.fe2o3_scram.specs.ActingRights.{Rights, may_act}
 use Rattle.fe2o3_scram.specs.ServerFirst.{server_first_of, Client, ServerFirst, ReadsServerFirst, client_of}
 use Rattle.fe2o3_scram.specs.ClientFinal.{Answer, answer_by, keys_for, Server, server_of, ClientFinal, ReadsClientFinal, without_proof_with}
 use Rattle.fe2o3_scram.specs.ClientFirst.{client_first_bare, client_first_with, ReadsClientFirst}
@@ -30,11 +31,12 @@ OpensRecord version (Both own keys) password salt count =
     ⊎ (((salt ≢ keys.salt) ⊎ (count ≢ keys.count)) × (password_bytes own ≡ password) × IsNormal own)
 
 -- the start of an exchange (RFC 5802, section 5): the client's header, its user, secret and limits, whether
--- it is set to be strict, what the server accepts, the password, the salt and the count of the record, and the nonces
+-- it is set to be strict, what the server accepts, who may act as whom, the password, the salt and the count of the record, and the nonces
 pub record Exchange : Type 0 where
   pub version : ScramVersion
   pub header : ClientHeader
   pub rules : ServerRules
+  pub rights : Rights
   pub user : List ℕ
   pub secret : Secret
   pub limits : IterationLimits
@@ -49,10 +51,11 @@ pub record Exchange : Type 0 where
 abbrev pub binding_expected : Exchange → List ℕ
 binding_expected x = cbind_input (expected_header x.rules.channels (header_of x.header))
 
--- the server accepts the header, the secret opens the record, the client accepts the count, and names, nonces and salts
+-- the server accepts the header, the user may act for the identity that it names, the secret opens the record, the client accepts the count, and names, nonces and salts
 -- are what the code holds; a strict side receives a name and nonces that the grammar allows (RFC 5802, section 7)
 pub record IsSound (x : Exchange) : Type 0 where
   pub header : TakesHeader x.rules (header_of x.header)
+  pub right : may_act x.rights x.user x.header.acts_for ≡ true
   pub channel : binding_expected x ≡ cbind_input x.header
   pub bytes : HoldsHeaderBytes x.header
   pub opens : OpensRecord x.version x.secret x.password x.salt x.count
@@ -103,7 +106,7 @@ answer_in x = answer_by (keys_for x.version x.secret (named_in x)) (bare_in x) (
 -- what the server knows when it reads the client-final message
 abbrev pub server_in : Exchange → Server
 server_in x = server_of x.version (expected_header x.rules.channels (header_of x.header)) (is_strict x.rules) (bare_in x)
-    (first_in x) (nonce_in x) (record_in x)
+    (first_in x) (nonce_in x) (record_in x) (may_act x.rights x.user x.header.acts_for)
 
 -- the values that the client-final message names
 abbrev pub final_in : Exchange → ClientFinal

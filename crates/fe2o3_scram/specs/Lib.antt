@@ -5,6 +5,7 @@ pub mod Escape
 pub mod SaslprepAscii
 pub mod Passwords
 pub mod Hmac
+pub mod ActingRights
 pub mod ChannelBinding
 pub mod Pbkdf2Hi
 pub mod Keys

@@ -43,4 +43,5 @@ mocking settings provider = record {
   records = λ name. stored_or (option_map (λ mock. mock_record mock name) settings) (provider.records name);
   look_up_cost = mock_cost settings;
   rules = provider.rules;
+  rights = provider.rights;
 }

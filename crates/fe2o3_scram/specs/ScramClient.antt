@@ -1,5 +1,5 @@
 -- A SCRAM client from message to message (RFC 5802, section 5).
-use Rattle.std.specs.Prelude.{ℕ, Bool, true, false, ◌&&◌, ◌||◌, List, Option, Some, None, ◌≡◌, Result, Ok, Err}
+use Rattle.std.specs.Prelude.{ℕ, Bool, true, false, ◌&&◌, ◌||◌, List, [], ◌∷◌, Option, Some, None, ◌≡◌, Result, Ok, Err}
 use Rattle.fe2o3_scram.specs.declared.client_secret.IterationLimits.{IterationLimits}
 use Rattle.fe2o3_scram.specs.declared.hmac.ScramVersion.{ScramVersion}
 use Rattle.fe2o3_scram.specs.declared.scram_client.ScramClientState.{ScramClientState}
@@ -125,6 +125,12 @@ with_signature_by_challenge side accept = record {
   state = side.state;
 }
 
+-- the identity that a client names: none if it is empty, which means the user itself (RFC 4422, section 2)
+abbrev pub identity_named : Option (List ℕ) → Option (List ℕ)
+identity_named None = None
+identity_named (Some []) = None
+identity_named (Some (byte ∷ name)) = Some (byte ∷ name)
+
 -- a client that acts for this identity, or for itself
 abbrev pub acting_for : ClientSide → Option (List ℕ) → ClientSide
 acting_for side acts_for = record {
@@ -133,7 +139,7 @@ acting_for side acts_for = record {
   version = side.version;
   limits = side.limits;
   channel = side.channel;
-  acts_for = acts_for;
+  acts_for = identity_named acts_for;
   strict = side.strict;
   signature_by_challenge = side.signature_by_challenge;
   state = side.state;

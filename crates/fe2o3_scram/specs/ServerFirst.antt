@@ -1,5 +1,5 @@
 -- The server-first message (RFC 5802, section 7), as the client reads it and as the server writes it.
-use Rattle.std.specs.Prelude.{ℕ, List, [], ◌∷◌, ◌++◌, ◌<◌, codes, Result, ◌≡◌, ◌⊎◌, Option, Some, None, Ok, Err, Bool, false, ◌||◌, T}
+use Rattle.std.specs.Prelude.{ℕ, List, [], ◌∷◌, ◌++◌, ◌<◌, codes, Result, ◌≡◌, ◌⊎◌, Option, Some, None, Ok, Err, Bool, false, ◌||◌, T, option_map}
 use Rattle.fe2o3_scram.specs.declared.scram_messages.error.ScramErrorKind.{ScramErrorKind}
 use Rattle.fe2o3_scram.specs.declared.scram_messages.error.ScramErrorKind.TheVariants.{InsufficientParts, ExtensionNotSupported, NonceNotFound, ClientNonceMismatch, SaltNotFound, Base64DecodeError, IterationCountNotFound, IterationCountParseError, IterationCountTooSmall, IterationCountTooLarge, NormalizeError, StaleKeys, MisplacedAttribute}
 use Rattle.fe2o3_scram.specs.declared.scram_messages.server_first.ServerFirstMessage.{ServerFirstMessage}
@@ -10,7 +10,7 @@ use Rattle.fe2o3_scram.specs.Readings.{NoneHolds, Reads}
 use Rattle.fe2o3_scram.specs.Passwords.{IsNormal}
 use Rattle.std.specs.Fmt.{decimal}
 use Rattle.fe2o3_scram.specs.declared.scram_messages.error.ServerScramErrorKind.{ServerScramErrorKind}
-use Rattle.fe2o3_scram.specs.ChannelBinding.{ClientHeader, Gs2Header, needs_strict, own_header}
+use Rattle.fe2o3_scram.specs.ChannelBinding.{ClientHeader, Gs2Header, needs_strict}
 use Rattle.fe2o3_scram.specs.Grammar.{HasMisplacedFrom, is_nonce}
 use Rattle.fe2o3_scram.specs.ClientFirst.{ClientFirst, ReadsClientFirst, HasEscapes}
 use Rattle.fe2o3_scram.specs.Credentials.{Record, Provider}
@@ -141,7 +141,7 @@ pub record ServerChallenge : Type 0 where
 abbrev pub challenge_values : ServerFirstMessage → ServerChallenge
 challenge_values message = record {
   user = cow_str_bytes message.username;
-  header = own_header message.header;
+  header = record { flag = message.header; acts_for = option_map cow_str_bytes message.acts_for };
   bare = message.client_first_message_bare.now;
   first = message.message;
   nonce = message.client_server_nonce;
@@ -159,7 +159,7 @@ challenge_of client server_nonce stored =
       nonce = nonce;
     }
 
--- the server allocates: for an escaped name, or for the challenge to a known user (RFC 5802, section 5.1)
+-- the server allocates: for an escaped identity or name, or for the challenge to a known user (RFC 5802, section 5.1)
 abbrev pub ReachesChallenge : Provider → List ℕ → Type 0
 ReachesChallenge provider text = HasEscapes provider.rules text
     ⊎ ((client : ClientFirst) × (stored : Record) × ReadsClientFirst provider.rules text (Ok client)

@@ -2,6 +2,7 @@
 pub mod Answers
 pub mod ByName
 pub mod Hashers
+pub mod Headers
 pub mod Pieces
 pub mod Serving
 pub mod Tests

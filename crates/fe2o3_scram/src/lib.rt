@@ -13,6 +13,7 @@
 //! are in [`keys`].
 #![tactic(auto)]
 
+mod acting_rights;
 pub mod cached_keys;
 pub mod channel_binding;
 pub mod client_secret;
@@ -31,6 +32,7 @@ pub mod scram_server;
 pub mod secrets;
 mod texts;
 
+pub use crate::acting_rights::ActingRights;
 pub use crate::channel_binding::{
     ChannelBinding, ChannelBindings, ChannelData, ChannelDataLength, ChannelKind,
 };

@@ -8,7 +8,7 @@ ghost use Rattle.fe2o3_scram.specs.ClientFirst.{client_first_with};
 ghost use Rattle.fe2o3_scram.specs.ClientKeys.{ClientKeys};
 ghost use Rattle.fe2o3_scram.specs.ClientSecret.{Password as ByPassword, IsOfVersion, kept_secret, secret_of};
 ghost use Rattle.fe2o3_scram.specs.Passwords.{Typed};
-ghost use Rattle.fe2o3_scram.specs.ScramClient.{ClientFirstSent, ClientFinalSent, SignatureVerified, AnswersIn, AnswerCostsIn, ChecksSignatureIn, ConcludesIn, VerifiesIn, ReachesSaltIn, ReachesVerifierIn, expects_signature, fresh_client, acting_for, header_in, started, client_state_of, answer_keys, is_complete, is_signature_verified, login_keys, with_channel, with_signature_by_challenge, with_state, with_limits, with_strict};
+ghost use Rattle.fe2o3_scram.specs.ScramClient.{ClientFirstSent, ClientFinalSent, SignatureVerified, AnswersIn, AnswerCostsIn, ChecksSignatureIn, ConcludesIn, VerifiesIn, ReachesSaltIn, ReachesVerifierIn, expects_signature, fresh_client, acting_for, header_in, identity_named, started, client_state_of, answer_keys, is_complete, is_signature_verified, login_keys, with_channel, with_signature_by_challenge, with_state, with_limits, with_strict};
 ghost use Rattle.fe2o3_scram.specs.Readings.{Gives};
 
 use crate::OutOfMemory;
@@ -238,9 +238,9 @@ impl ScramClient {
         self.channel
     }
 
-    /// Returns this client, but it acts for this identity (RFC 5802, section 5.1, `a=`), or for itself if there is none. Set
-    /// it before the client-first message is sent. The server has to accept that its user acts for the identity. A client
-    /// that names one tests extensions like a strict one, so that nobody on the way can change it.
+    /// Returns this client, but it acts for this identity (RFC 5802, section 5.1, `a=`), or for itself if there is none or
+    /// it is empty. Set it before the client-first message is sent. The server has to accept that its user acts for the
+    /// identity. A client that names one tests extensions like a strict one, so that nobody on the way can change it.
     pub fn acting_for(self, acts_for: Option<String>) -> Self
         ensures { result ≡ acting_for self (option_map (λ name. string_bytes name) acts_for) }
     {
@@ -250,7 +250,7 @@ impl ScramClient {
             scram: self.scram,
             limits: self.limits,
             channel: self.channel,
-            acts_for,
+            acts_for: identity_named(acts_for),
             strict: self.strict,
             signature_by_challenge: self.signature_by_challenge,
             state: self.state,
@@ -639,6 +639,14 @@ impl ScramClient {
             keys,
         }
     }
+}
+
+/// Returns the identity that a client names: none if it is empty.
+fn identity_named(acts_for: Option<String>) -> Option<String>
+    ensures { option_map string_bytes result ≡ identity_named (option_map string_bytes acts_for) }
+{
+    let name = acts_for?;
+    if name.is_empty() { None } else { Some(name) }
 }
 
 impl fmt::Debug for ScramClient {

@@ -11,6 +11,7 @@ mod client_header;
 pub mod error;
 pub mod escape;
 mod grammar;
+mod gs2_header;
 mod server_error;
 mod server_final;
 mod server_final_reading;

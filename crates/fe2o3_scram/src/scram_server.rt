@@ -1,10 +1,11 @@
 //! The SCRAM server as a state machine over messages (RFC 5802, section 5).
 
-ghost use Rattle.std.specs.Prelude.{◌≡◌, ◌≤◌, ◌^◌, IfOk, OnErr, Some, None, option_map};
+ghost use Rattle.std.specs.Prelude.{◌≡◌, ◌≤◌, ◌^◌, [], IfOk, OnErr, Some, None, option_map, string_bytes};
+ghost use Rattle.std.specs.Cow.{cow_str_bytes};
 ghost use Rattle.fe2o3_scram.specs.ClientFirst.{client_first_values, default_rules};
 ghost use Rattle.fe2o3_scram.specs.ChannelBinding.{server_mechanism};
 ghost use Rattle.fe2o3_scram.specs.Credentials.{Record, kept};
-ghost use Rattle.fe2o3_scram.specs.ScramServer.{provider_in, served_by, state_in, rules_in, mock_in, Initial, ServerFirstSent, ServerFinalSent, logged_in, ChallengesFrom, ConcludesFrom, FirstCosts, FinalCostsFrom, ReachesBase64In, server_state_of};
+ghost use Rattle.fe2o3_scram.specs.ScramServer.{provider_in, served_by, state_in, rules_in, rights_in, mock_in, Initial, ServerFirstSent, ServerFinalSent, logged_in_for, logged_in, ChallengesFrom, ConcludesFrom, FirstCosts, FinalCostsFrom, ReachesBase64In, server_state_of};
 ghost use Rattle.fe2o3_scram.specs.ServerFirst.{ServerChallenge, ReachesChallenge, challenge_of, challenge_values};
 ghost use Rattle.fe2o3_scram.specs.Readings.{Gives};
 
@@ -13,6 +14,7 @@ mod mock_users;
 pub mod open_challenge;
 
 use crate::OutOfMemory;
+use crate::acting_rights::{ActingRights, SharedRights};
 use crate::channel_binding::ChannelBindings;
 use crate::hmac::Meter;
 use crate::provider::{ScramCredentialProvider, StoredPassword};
@@ -26,6 +28,8 @@ use crate::scram_server::mock_users::{MockUsers, look_up, mock_values};
 use crate::texts::base64_of_nonce;
 use bytes::Bytes;
 use std::alloc::{AllocError, Global};
+use std::borrow::CowStr;
+use std::sync::Arc;
 use std::{fmt, mem};
 
 /// What a server has sent last. An open challenge keeps the record that it was made with: the store may change before
@@ -36,6 +40,7 @@ enum ScramAuthenticatorState {
     ServerFirstSent {
         username: String,
         header: ChannelBindingFlag,
+        acts_for: Option<String>,
         client_first_message_bare: Bytes,
         client_server_nonce: Bytes,
         server_first_message: Bytes,
@@ -43,6 +48,7 @@ enum ScramAuthenticatorState {
     },
     ServerFinalSent {
         username: String,
+        acts_for: Option<String>,
     },
 }
 
@@ -56,6 +62,7 @@ impl ScramAuthenticatorState {
             ScramAuthenticatorState::ServerFirstSent {
                 username,
                 header,
+                acts_for,
                 client_first_message_bare,
                 client_server_nonce,
                 server_first_message,
@@ -63,29 +70,33 @@ impl ScramAuthenticatorState {
             } => ScramAuthenticatorState::ServerFirstSent {
                 username: username.clone()?,
                 header: *header,
+                acts_for: acts_for.clone()?,
                 client_first_message_bare: client_first_message_bare.clone()?,
                 client_server_nonce: client_server_nonce.clone()?,
                 server_first_message: server_first_message.clone()?,
                 stored: stored.clone()?,
             },
-            ScramAuthenticatorState::ServerFinalSent { username } => {
+            ScramAuthenticatorState::ServerFinalSent { username, acts_for } => {
                 ScramAuthenticatorState::ServerFinalSent {
                     username: username.clone()?,
+                    acts_for: acts_for.clone()?,
                 }
             }
         })
     }
 
-    /// Returns the state after the open challenge is accepted: its user has logged in.
+    /// Returns the state after the open challenge is accepted: its user has logged in, for the identity that it named.
     fn accepted(self) -> ScramAuthenticatorState
         ensures { (challenge : ServerChallenge) (stored : Record)
             → server_state_of self ≡ ServerFirstSent challenge stored
-            → server_state_of result ≡ ServerFinalSent challenge.user }
+            → server_state_of result ≡ ServerFinalSent challenge.user challenge.header.acts_for }
     {
         match self {
-            ScramAuthenticatorState::ServerFirstSent { username, .. } => {
-                ScramAuthenticatorState::ServerFinalSent { username }
-            }
+            ScramAuthenticatorState::ServerFirstSent {
+                username,
+                acts_for,
+                ..
+            } => ScramAuthenticatorState::ServerFinalSent { username, acts_for },
             other => other,
         }
     }
@@ -121,15 +132,18 @@ fn opened(
     let ServerFirstMessage {
         username,
         header,
+        acts_for,
         client_first_message_bare,
         client_server_nonce,
         message,
     } = server_first;
     let username = username.into_owned(alloc)?;
+    let acts_for = owned(alloc, acts_for)?;
     let answer = message.to_vec(alloc)?;
     let state = ScramAuthenticatorState::ServerFirstSent {
         username,
         header,
+        acts_for,
         client_first_message_bare: Bytes::copy_from_slice(
             alloc,
             client_first_message_bare.as_bytes(),
@@ -139,6 +153,16 @@ fn opened(
         stored: KeptRecord::of(alloc, stored)?,
     };
     Ok((answer, state))
+}
+
+/// Returns an owned copy of the identity, if there is one.
+fn owned(alloc: Global, acts_for: Option<CowStr<'_>>) -> Result<Option<String>, OutOfMemory>
+    ensures { IfOk result (λ name. option_map string_bytes name ≡ option_map cow_str_bytes acts_for.entry) }
+{
+    match acts_for {
+        Some(name) => Ok(Some(name.into_owned(alloc)?)),
+        None => Ok(None),
+    }
 }
 
 /// A server over a store of credentials. A client-first message opens a challenge, in place of an
@@ -152,6 +176,7 @@ fn opened(
 pub struct ScramAuthenticator<C: ScramCredentialProvider> {
     credentials: C,
     rules: ServerRules,
+    rights: SharedRights,
     mock: Option<MockUsers>,
     state: ScramAuthenticatorState,
 }
@@ -162,12 +187,14 @@ impl<C: ScramCredentialProvider> ScramAuthenticator<C> {
     pub fn new(credentials: C) -> Self
         ensures provider { provider_in result ≡ credentials }
         ensures rules { rules_in result ≡ default_rules }
+        ensures rights { rights_in result ≡ [] }
         ensures mock { mock_in result ≡ None }
         ensures state { state_in result ≡ Initial }
     {
         Self {
             credentials,
             rules: ServerRules::new(),
+            rights: SharedRights::none(),
             mock: None,
             state: ScramAuthenticatorState::Initial,
         }
@@ -180,6 +207,7 @@ impl<C: ScramCredentialProvider> ScramAuthenticator<C> {
     pub fn accept_cbind_flag_y(self, accept: bool) -> Self
         ensures provider { provider_in result ≡ provider_in self }
         ensures rules { rules_in result ≡ record (rules_in self) { accept_cbind_flag_y = accept } }
+        ensures rights { rights_in result ≡ rights_in self }
         ensures mock { mock_in result ≡ mock_in self }
         ensures state { state_in result ≡ state_in self }
     {
@@ -202,6 +230,7 @@ impl<C: ScramCredentialProvider> ScramAuthenticator<C> {
     pub fn strict(self, strict: bool) -> Self
         ensures provider { provider_in result ≡ provider_in self }
         ensures rules { rules_in result ≡ record (rules_in self) { strict = strict } }
+        ensures rights { rights_in result ≡ rights_in self }
         ensures mock { mock_in result ≡ mock_in self }
         ensures state { state_in result ≡ state_in self }
     {
@@ -219,6 +248,7 @@ impl<C: ScramCredentialProvider> ScramAuthenticator<C> {
     pub fn with_channels(self, channels: ChannelBindings) -> Self
         ensures provider { provider_in result ≡ provider_in self }
         ensures rules { rules_in result ≡ record (rules_in self) { channels = Some channels } }
+        ensures rights { rights_in result ≡ rights_in self }
         ensures mock { mock_in result ≡ mock_in self }
         ensures state { state_in result ≡ state_in self }
     {
@@ -227,6 +257,43 @@ impl<C: ScramCredentialProvider> ScramAuthenticator<C> {
             ..self.rules
         };
         self.with_rules(rules)
+    }
+
+    /// Returns this server, but with this option: whether a client may name an identity to act for (RFC 5802, section 5.1,
+    /// `a=`). By itself the option lets each user name only itself: `with_acting_rights` lets users act for others. The
+    /// server tests extensions like a strict one, so that both sides agree on the identity
+    /// (`laws::accepted_messages`). Without the option such a client gets `CannotParseGs2Header`.
+    pub fn accept_authzid(self, accept: bool) -> Self
+        ensures provider { provider_in result ≡ provider_in self }
+        ensures rules { rules_in result ≡ record (rules_in self) { accept_authzid = accept } }
+        ensures rights { rights_in result ≡ rights_in self }
+        ensures mock { mock_in result ≡ mock_in self }
+        ensures state { state_in result ≡ state_in self }
+    {
+        let rules = ServerRules {
+            accept_authzid: accept,
+            ..self.rules
+        };
+        self.with_rules(rules)
+    }
+
+    /// Returns this server, but by these rights users may act for other identities than their own. A client names one only
+    /// with `accept_authzid`. The right is tested after the proof: a user without it gets `AuthenticationFailed`, like
+    /// one with a wrong password, at the same cost.
+    pub fn with_acting_rights(self, rights: Arc<ActingRights>) -> Self
+        ensures provider { provider_in result ≡ provider_in self }
+        ensures rules { rules_in result ≡ rules_in self }
+        ensures rights { rights_in result ≡ rights.value }
+        ensures mock { mock_in result ≡ mock_in self }
+        ensures state { state_in result ≡ state_in self }
+    {
+        Self {
+            credentials: self.credentials,
+            rules: self.rules,
+            rights: SharedRights::of(rights),
+            mock: self.mock,
+            state: self.state,
+        }
     }
 
     /// Returns the name of the server's mechanism (RFC 5802, sections 4 and 6), which ends with `-PLUS` if the server
@@ -243,12 +310,14 @@ impl<C: ScramCredentialProvider> ScramAuthenticator<C> {
     pub fn with_rules(self, rules: ServerRules) -> Self
         ensures provider { provider_in result ≡ provider_in self }
         ensures rules { rules_in result ≡ rules }
+        ensures rights { rights_in result ≡ rights_in self }
         ensures mock { mock_in result ≡ mock_in self }
         ensures state { state_in result ≡ state_in self }
     {
         Self {
             credentials: self.credentials,
             rules,
+            rights: self.rights,
             mock: self.mock,
             state: self.state,
         }
@@ -269,7 +338,25 @@ impl<C: ScramCredentialProvider> ScramAuthenticator<C> {
         ensures { option_map (λ user. user.now) result ≡ logged_in (state_in self.now) }
     {
         match &self.state {
-            ScramAuthenticatorState::ServerFinalSent { username } => Some(username),
+            ScramAuthenticatorState::ServerFinalSent {
+                username,
+                acts_for: _,
+            } => Some(username),
+            _ => None,
+        }
+    }
+
+    /// Returns the identity that the user of `authenticated_user` acts for, if the client named one (RFC 4422, section 2).
+    /// `None` beside a user is a client that acts for itself. Read it where you read the user. A connection belongs to
+    /// this identity, and to the user if there is none.
+    pub fn acts_for(&self) -> Option<&str>
+        ensures { option_map (λ name. name.now) result ≡ logged_in_for (state_in self.now) }
+    {
+        match &self.state {
+            ScramAuthenticatorState::ServerFinalSent {
+                username: _,
+                acts_for,
+            } => acts_for.as_deref(),
             _ => None,
         }
     }
@@ -294,6 +381,7 @@ impl<C: ScramCredentialProvider> ScramAuthenticator<C> {
             client_first_message.now answer (state_in self.new)) }
         ensures provider { provider_in self.new ≡ provider_in self.old }
         ensures rules { rules_in self.new ≡ rules_in self.old }
+        ensures rights { rights_in self.new ≡ rights_in self.old }
         ensures mock { mock_in self.new ≡ mock_in self.old }
         ensures err { OnErr result (state_in self.new ≡ state_in self.old) }
     {
@@ -323,6 +411,7 @@ impl<C: ScramCredentialProvider> ScramAuthenticator<C> {
             client_first_message.now answer (state_in self.new)) }
         ensures provider { provider_in self.new ≡ provider_in self.old }
         ensures rules { rules_in self.new ≡ rules_in self.old }
+        ensures rights { rights_in self.new ≡ rights_in self.old }
         ensures mock { mock_in self.new ≡ mock_in self.old }
         ensures err { OnErr result (state_in self.new ≡ state_in self.old) }
         ensures cost { FirstCosts (served_by C.meaning self.old) client_first_message.now result meter.old meter.new }
@@ -348,8 +437,8 @@ impl<C: ScramCredentialProvider> ScramAuthenticator<C> {
     ///
     /// The errors are, in this order: `IllegalAuthenticatorState` if no challenge is open; those of
     /// `ClientFinal::parse`, in its order; `XorLengthMismatch` if the proof is not as long as a digest; and
-    /// `AuthenticationFailed` if the proof does not meet the stored key. `OutOfMemory` is returned only where
-    /// `ClientFinal::parse` allocates.
+    /// `AuthenticationFailed` if the proof does not meet the stored key, or the user may not act for the identity that
+    /// the client named. `OutOfMemory` is returned only where `ClientFinal::parse` allocates.
     pub fn compute_server_final_message(
         &mut self,
         alloc: Global,
@@ -359,9 +448,10 @@ impl<C: ScramCredentialProvider> ScramAuthenticator<C> {
             (ReachesBase64In (state_in self.old) (rules_in self.old) client_final_message.now)
             (option_map (λ message. message.items)) result
             (λ answer. ConcludesFrom (state_in self.old) (served_by C.meaning self.old).version
-            (rules_in self.old) client_final_message.now answer (state_in self.new)) }
+            (rules_in self.old) (rights_in self.old) client_final_message.now answer (state_in self.new)) }
         ensures provider { provider_in self.new ≡ provider_in self.old }
         ensures rules { rules_in self.new ≡ rules_in self.old }
+        ensures rights { rights_in self.new ≡ rights_in self.old }
         ensures mock { mock_in self.new ≡ mock_in self.old }
         ensures err { OnErr result (state_in self.new ≡ state_in self.old) }
     {
@@ -380,35 +470,39 @@ impl<C: ScramCredentialProvider> ScramAuthenticator<C> {
             (ReachesBase64In (state_in self.old) (rules_in self.old) client_final_message.now)
             (option_map (λ message. message.items)) result
             (λ answer. ConcludesFrom (state_in self.old) (served_by C.meaning self.old).version
-            (rules_in self.old) client_final_message.now answer (state_in self.new)) }
+            (rules_in self.old) (rights_in self.old) client_final_message.now answer (state_in self.new)) }
         ensures provider { provider_in self.new ≡ provider_in self.old }
         ensures rules { rules_in self.new ≡ rules_in self.old }
+        ensures rights { rights_in self.new ≡ rights_in self.old }
         ensures mock { mock_in self.new ≡ mock_in self.old }
         ensures err { OnErr result (state_in self.new ≡ state_in self.old) }
         ensures cost { FinalCostsFrom (state_in self.old) (served_by C.meaning self.old).version
-            (rules_in self.old) client_final_message.now result meter.old meter.new }
+            (rules_in self.old) (rights_in self.old) client_final_message.now result meter.old meter.new }
     {
         match &self.state {
             ScramAuthenticatorState::ServerFirstSent {
-                username: _,
+                username,
                 header,
+                acts_for,
                 client_first_message_bare,
                 client_server_nonce,
                 server_first_message,
                 stored,
             } => {
+                let acts_for = acts_for.as_deref();
                 let server_final_message = self
                     .credentials
                     .scram_version()
                     .compute_server_final_message_with_header(
                         alloc,
-                        &ClientHeader::new(self.rules.expected_channel(*header), None),
+                        &ClientHeader::new(self.rules.expected_channel(*header), acts_for),
                         self.rules.is_strict(),
                         client_final_message,
                         client_server_nonce,
                         client_first_message_bare,
                         server_first_message,
                         &stored.as_stored_password(),
+                        self.rights.may_act(username, acts_for),
                         meter,
                     )?;
                 let open = mem::replace(&mut self.state, ScramAuthenticatorState::Initial);
@@ -431,12 +525,13 @@ impl<C: ScramCredentialProvider> fmt::Debug for ScramAuthenticator<C> {
 impl<C: ScramCredentialProvider> Clone for ScramAuthenticator<C> {
     ghost is_clone = { λ authenticator copy. C.is_clone (provider_in authenticator) (provider_in copy)
         × (rules_in copy ≡ rules_in authenticator) × (state_in copy ≡ state_in authenticator)
-        × (mock_in copy ≡ mock_in authenticator) };
+        × (mock_in copy ≡ mock_in authenticator) × (rights_in copy ≡ rights_in authenticator) };
 
     fn clone(&self) -> Result<Self, AllocError> {
         Ok(Self {
             credentials: self.credentials.clone()?,
             rules: self.rules,
+            rights: self.rights.clone()?,
             mock: self.mock.clone()?,
             state: self.state.copy()?,
         })

@@ -21,6 +21,21 @@ pub(crate) const SERVER_END_POINT_GS2_HEADER: &str = "p=tls-server-end-point,,";
 /// The GS2 header of a client that binds its channel by `tls-exporter`.
 pub(crate) const EXPORTER_GS2_HEADER: &str = "p=tls-exporter,,";
 
+/// The flag `n` and its comma.
+pub(crate) const NOT_SUPPORTED_FLAG: &str = "n,";
+
+/// The flag `y` and its comma.
+pub(crate) const CLIENT_SUPPORTS_FLAG: &str = "y,";
+
+/// The flag of a client that binds its channel by `tls-unique`, and its comma.
+pub(crate) const UNIQUE_FLAG: &str = "p=tls-unique,";
+
+/// The flag of a client that binds its channel by `tls-server-end-point`, and its comma.
+pub(crate) const SERVER_END_POINT_FLAG: &str = "p=tls-server-end-point,";
+
+/// The flag of a client that binds its channel by `tls-exporter`, and its comma.
+pub(crate) const EXPORTER_FLAG: &str = "p=tls-exporter,";
+
 /// The identity that a client acts for.
 pub(crate) const AUTHZID_KEY: &str = "a=";
 

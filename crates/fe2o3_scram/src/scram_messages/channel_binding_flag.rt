@@ -1,13 +1,14 @@
 //! What a GS2 header says of channel binding (RFC 5802, sections 6 and 7).
 
-ghost use Rattle.std.specs.Prelude.{◌≡◌, ◌++◌, IsTrue, MatchOption};
-ghost use Rattle.fe2o3_scram.specs.ChannelBinding.{Gs2Header, TakesBound, TakesHeader, TakesUnbound, flag_text, header_text, is_required, own_header};
+ghost use Rattle.std.specs.Prelude.{◌≡◌, ◌++◌, IsTrue, MatchOption, codes};
+ghost use Rattle.fe2o3_scram.specs.ChannelBinding.{AcceptsFlag, TakesBound, TakesUnbound, flag_text, header_text, is_required, own_header};
 ghost use Rattle.fe2o3_scram.specs.declared.channel_binding.ChannelKind.{ChannelKind as KindOf};
 ghost use Rattle.fe2o3_scram.specs.Texts.{StartsWith};
 
 use crate::channel_binding::{ChannelBindings, ChannelKind};
 use crate::scram_messages::attributes::{
-    EXPORTER_GS2_HEADER, GS2_HEADER, SERVER_END_POINT_GS2_HEADER, UNIQUE_GS2_HEADER,
+    CLIENT_SUPPORTS_FLAG, EXPORTER_FLAG, EXPORTER_GS2_HEADER, GS2_HEADER, NOT_SUPPORTED_FLAG,
+    SERVER_END_POINT_FLAG, SERVER_END_POINT_GS2_HEADER, UNIQUE_FLAG, UNIQUE_GS2_HEADER,
     UNOFFERED_GS2_HEADER,
 };
 use crate::scram_messages::server_rules::ServerRules;
@@ -65,11 +66,10 @@ impl ChannelBindingFlag {
     }
 }
 
-/// Splits the header off a client-first message, if the rules accept it.
-pub(crate) fn cut_header(text: &str, rules: ServerRules) -> Option<(ChannelBindingFlag, &str)>
-    ensures { MatchOption result
-        ((header : Gs2Header) → TakesHeader rules header → ¬ StartsWith text.now (header_text header))
-        (λ cut. TakesHeader rules (own_header cut.0) × (text.now ≡ header_text (own_header cut.0) ++ cut.1.now)) }
+/// Splits the flag and its comma off a client-first message, if the rules accept it.
+pub(crate) fn cut_flag(text: &str, rules: ServerRules) -> Option<(ChannelBindingFlag, &str)>
+    ensures { MatchOption result ((flag : ChannelBindingFlag) → AcceptsFlag rules flag → ¬ StartsWith text.now (flag_text flag ++ codes ","))
+        (λ cut. AcceptsFlag rules cut.0 × (text.now ≡ (flag_text cut.0 ++ codes ",") ++ cut.1.now)) }
 {
     match rules.channels {
         Some(channels) => cut_bound(text, channels),
@@ -77,45 +77,43 @@ pub(crate) fn cut_header(text: &str, rules: ServerRules) -> Option<(ChannelBindi
     }
 }
 
-/// Splits off the header of a client that binds no channel: `n,,`, or `y,,` if that is accepted.
+/// Splits off the flag of a client that binds no channel: `n`, or `y` if that is accepted.
 fn cut_unbound(text: &str, accept_y: bool) -> Option<(ChannelBindingFlag, &str)>
-    ensures { MatchOption result
-        ((flag : ChannelBindingFlag) → TakesUnbound accept_y flag → ¬ StartsWith text.now (header_text (own_header flag)))
-        (λ cut. TakesUnbound accept_y cut.0 × (text.now ≡ header_text (own_header cut.0) ++ cut.1.now)) }
+    ensures { MatchOption result ((flag : ChannelBindingFlag) → TakesUnbound accept_y flag → ¬ StartsWith text.now (flag_text flag ++ codes ","))
+        (λ cut. TakesUnbound accept_y cut.0 × (text.now ≡ (flag_text cut.0 ++ codes ",") ++ cut.1.now)) }
 {
-    if let Some(bare) = after(text, GS2_HEADER) {
-        return Some((ChannelBindingFlag::NotSupported, bare));
+    if let Some(rest) = after(text, NOT_SUPPORTED_FLAG) {
+        return Some((ChannelBindingFlag::NotSupported, rest));
     }
     if !accept_y {
         return None;
     }
-    let bare = after(text, UNOFFERED_GS2_HEADER)?;
-    Some((ChannelBindingFlag::ClientSupports, bare))
+    let rest = after(text, CLIENT_SUPPORTS_FLAG)?;
+    Some((ChannelBindingFlag::ClientSupports, rest))
 }
 
-/// Splits off the header of a client that binds a channel, if the server has the data of its kind.
+/// Splits off the flag of a client that binds a channel, if the server has the data of its kind.
 fn cut_bound(text: &str, channels: ChannelBindings) -> Option<(ChannelBindingFlag, &str)>
-    ensures { MatchOption result
-        ((flag : ChannelBindingFlag) → TakesBound channels flag → ¬ StartsWith text.now (header_text (own_header flag)))
-        (λ cut. TakesBound channels cut.0 × (text.now ≡ header_text (own_header cut.0) ++ cut.1.now)) }
+    ensures { MatchOption result ((flag : ChannelBindingFlag) → TakesBound channels flag → ¬ StartsWith text.now (flag_text flag ++ codes ","))
+        (λ cut. TakesBound channels cut.0 × (text.now ≡ (flag_text cut.0 ++ codes ",") ++ cut.1.now)) }
 {
-    let (kind, bare) = cut_kind(text)?;
+    let (kind, rest) = cut_kind(text)?;
     let _ = channels.data(kind)?;
-    Some((ChannelBindingFlag::Required(kind), bare))
+    Some((ChannelBindingFlag::Required(kind), rest))
 }
 
-/// Splits off the header of a client that binds a channel, of any kind.
+/// Splits off the flag of a client that binds a channel, of any kind.
 fn cut_kind(text: &str) -> Option<(ChannelKind, &str)>
     ensures { MatchOption result
-        ((kind : KindOf) → ¬ StartsWith text.now (header_text (own_header (ChannelBindingFlag.Required kind))))
-        (λ cut. text.now ≡ header_text (own_header (ChannelBindingFlag.Required cut.0)) ++ cut.1.now) }
+        ((kind : KindOf) → ¬ StartsWith text.now (flag_text (ChannelBindingFlag.Required kind) ++ codes ","))
+        (λ cut. text.now ≡ (flag_text (ChannelBindingFlag.Required cut.0) ++ codes ",") ++ cut.1.now) }
 {
-    if let Some(bare) = after(text, UNIQUE_GS2_HEADER) {
-        return Some((ChannelKind::TlsUnique, bare));
+    if let Some(rest) = after(text, UNIQUE_FLAG) {
+        return Some((ChannelKind::TlsUnique, rest));
     }
-    if let Some(bare) = after(text, SERVER_END_POINT_GS2_HEADER) {
-        return Some((ChannelKind::TlsServerEndPoint, bare));
+    if let Some(rest) = after(text, SERVER_END_POINT_FLAG) {
+        return Some((ChannelKind::TlsServerEndPoint, rest));
     }
-    let bare = after(text, EXPORTER_GS2_HEADER)?;
-    Some((ChannelKind::TlsExporter, bare))
+    let rest = after(text, EXPORTER_FLAG)?;
+    Some((ChannelKind::TlsExporter, rest))
 }

@@ -7,10 +7,11 @@ ghost use Rattle.fe2o3_scram.specs.Readings.{Gives, IsFirst, NoneHolds};
 ghost use Rattle.fe2o3_scram.specs.private.Tests.{bare_grammar_tests};
 
 use crate::scram_messages::attributes::{NONCE_KEY, USERNAME_KEY};
-use crate::scram_messages::channel_binding_flag::{ChannelBindingFlag, cut_header};
+use crate::scram_messages::channel_binding_flag::ChannelBindingFlag;
 use crate::scram_messages::error::ServerScramErrorKind;
 use crate::scram_messages::escape::{UnescapeError, unescape_username};
 use crate::scram_messages::grammar::{is_misplaced, is_nonce, is_value};
+use crate::scram_messages::gs2_header::{CutHeader, cut_header};
 use crate::scram_messages::server_rules::ServerRules;
 use crate::texts::attribute;
 use std::alloc::Global;
@@ -19,8 +20,12 @@ use std::borrow::CowStr;
 /// What a client-first message names (RFC 5802, section 7).
 #[derive(Debug, Drop)]
 pub struct ClientFirst<'a> {
-    /// The GS2 header.
+    /// What the GS2 header says of channel binding.
     pub header: ChannelBindingFlag,
+
+    /// The identity that the client acts for, plain, not escaped, or `None` if it acts for itself. It is borrowed if the
+    /// client escaped nothing.
+    pub acts_for: Option<CowStr<'a>>,
 
     /// The plain user name, unescaped like by `unescape_username`. It is borrowed if the client escaped nothing.
     pub username: CowStr<'a>,
@@ -48,11 +53,12 @@ impl<'a> ClientFirst<'a> {
         ClientFirst::parse_with_rules(alloc, text, ServerRules::new())
     }
 
-    /// Like `parse`, but by these rules: the GS2 header may be `y,,` too, or has to bind a channel.
+    /// Like `parse`, but by these rules: the GS2 header may be `y,,` too, or has to bind a channel, and may name an
+    /// identity. An identity with escapes takes memory too.
     ///
     /// After the other errors, a strict server returns `CannotParseUsername` if the name is empty or has NUL, and
-    /// `CannotParseClientNonce` if the nonce is empty or not printable. Last, a server that is strict or binds channels
-    /// returns `MisplacedAttribute` if a part after the nonce is no extension (RFC 5802, section 7).
+    /// `CannotParseClientNonce` if the nonce is empty or not printable. Last, a server that is strict, binds channels or
+    /// accepts identities returns `MisplacedAttribute` if a part after the nonce is no extension (RFC 5802, section 7).
     pub fn parse_with_rules(
         alloc: Global,
         text: &'a [u8],
@@ -66,10 +72,16 @@ impl<'a> ClientFirst<'a> {
         let Ok(client_first) = str::from_utf8(text) else {
             return Err(ServerScramErrorKind::Utf8Error);
         };
-        let Some((header, client_first_message_bare)) = cut_header(client_first, rules) else {
-            return Err(ServerScramErrorKind::CannotParseGs2Header);
+        let CutHeader {
+            flag,
+            acts_for,
+            rest,
+        } = match cut_header(alloc, client_first, rules) {
+            Ok(cut) => cut,
+            Err(UnescapeError::Invalid) => return Err(ServerScramErrorKind::CannotParseGs2Header),
+            Err(UnescapeError::OutOfMemory) => return Err(ServerScramErrorKind::OutOfMemory),
         };
-        let Some(escaped) = attribute(client_first_message_bare, 0, USERNAME_KEY) else {
+        let Some(escaped) = attribute(rest, 0, USERNAME_KEY) else {
             return Err(ServerScramErrorKind::CannotParseUsername);
         };
         let username = match unescape_username(alloc, escaped) {
@@ -77,14 +89,15 @@ impl<'a> ClientFirst<'a> {
             Err(UnescapeError::Invalid) => return Err(ServerScramErrorKind::CannotParseUsername),
             Err(UnescapeError::OutOfMemory) => return Err(ServerScramErrorKind::OutOfMemory),
         };
-        let Some(client_nonce) = attribute(client_first_message_bare, 1, NONCE_KEY) else {
+        let Some(client_nonce) = attribute(rest, 1, NONCE_KEY) else {
             return Err(ServerScramErrorKind::CannotParseClientNonce);
         };
         let first = ClientFirst {
-            header,
+            header: flag,
+            acts_for,
             username,
             client_nonce,
-            client_first_message_bare,
+            client_first_message_bare: rest,
         };
         test_grammar(rules, &first)?;
         Ok(first)

@@ -1,6 +1,6 @@
 //! The server-final message, which answers a client-final message.
 
-ghost use Rattle.std.specs.Prelude.{◌≡◌, ◌≤◌, ◌<◌, ◌+◌, ◌++◌, ◌^◌, Bool, ℕ, List, length, IfOk, codes, false};
+ghost use Rattle.std.specs.Prelude.{◌≡◌, ◌≤◌, ◌<◌, ◌+◌, ◌++◌, ◌^◌, Bool, ℕ, List, length, IfOk, codes, false, true};
 ghost use Rattle.fe2o3_scram.specs.ChannelBinding.{ClientHeader as HeaderOf, plain_header};
 ghost use Rattle.fe2o3_scram.specs.Texts.{base64_text};
 ghost use Rattle.fe2o3_scram.specs.Hmac.{digest_len};
@@ -48,7 +48,7 @@ impl ScramVersion {
             (ReachesBase64 plain_header client_server_nonce.now client_final.now)
             (λ message. message.items) result
             (AnswersClientFinal (server_of self.now plain_header false client_first_message_bare.now
-            server_first_message.now client_server_nonce.now (kept stored_password.now)) client_final.now) }
+            server_first_message.now client_server_nonce.now (kept stored_password.now) true) client_final.now) }
     {
         self.compute_server_final_message_metered(
             alloc,
@@ -77,9 +77,9 @@ impl ScramVersion {
             (ReachesBase64 plain_header client_server_nonce.now client_final.now)
             (λ message. message.items) result
             (AnswersClientFinal (server_of self.now plain_header false client_first_message_bare.now
-            server_first_message.now client_server_nonce.now (kept stored_password.now)) client_final.now) }
+            server_first_message.now client_server_nonce.now (kept stored_password.now) true) client_final.now) }
         ensures cost { FinalCosts (server_of self.now plain_header false client_first_message_bare.now
-            server_first_message.now client_server_nonce.now (kept stored_password.now)) client_final.now result
+            server_first_message.now client_server_nonce.now (kept stored_password.now) true) client_final.now result
             meter.old meter.new }
     {
         self.compute_server_final_message_with_header(
@@ -91,12 +91,14 @@ impl ScramVersion {
             client_first_message_bare,
             server_first_message,
             stored_password,
+            true,
             meter,
         )
     }
 
     /// Like `compute_server_final_message_metered`, to a client with this header, of a server that is `strict` or not
-    /// (`ClientFinal::parse_with_header`). A server that expects a channel or an identity is strict in any case.
+    /// (`ClientFinal::parse_with_header`). A server that expects a channel or an identity is strict in any case. A user who
+    /// may not act for the identity gets `AuthenticationFailed`, after the proof is tested and before the answer is signed.
     pub fn compute_server_final_message_with_header(
         &self,
         alloc: Global,
@@ -107,15 +109,16 @@ impl ScramVersion {
         client_first_message_bare: &[u8],
         server_first_message: &[u8],
         stored_password: &StoredPassword<'_>,
+        may_act: bool,
         meter: &mut Meter,
     ) -> Result<Vec<u8>, ServerScramErrorKind>
         requires { meter.old ≤ 2 ^ 63 }
         ensures answer { Gives ServerScramErrorKind.OutOfMemory
             (ReachesBase64 header.now client_server_nonce.now client_final.now) (λ message. message.items) result
             (AnswersClientFinal (server_of self.now header.now strict client_first_message_bare.now
-            server_first_message.now client_server_nonce.now (kept stored_password.now)) client_final.now) }
+            server_first_message.now client_server_nonce.now (kept stored_password.now) may_act) client_final.now) }
         ensures cost { FinalCosts (server_of self.now header.now strict client_first_message_bare.now
-            server_first_message.now client_server_nonce.now (kept stored_password.now)) client_final.now result
+            server_first_message.now client_server_nonce.now (kept stored_password.now) may_act) client_final.now result
             meter.old meter.new }
     {
         let strict = header.is_strict(strict);
@@ -132,11 +135,12 @@ impl ScramVersion {
             client_first_message_bare,
             server_first_message,
             stored_password,
+            may_act,
             meter,
         )
     }
 
-    /// Tests the proof of a parsed message, and signs.
+    /// Tests the proof of a parsed message and the right to act for the identity, and signs.
     fn answer_proof(
         &self,
         alloc: Global,
@@ -144,12 +148,13 @@ impl ScramVersion {
         client_first_message_bare: &[u8],
         server_first_message: &[u8],
         stored_password: &StoredPassword<'_>,
+        may_act: bool,
         meter: &mut Meter,
     ) -> Result<Vec<u8>, ServerScramErrorKind>
         requires { meter.old ≤ 2 ^ 63 }
         ensures answer { (header : HeaderOf) (strict : Bool) (nonce : List ℕ) →
             let server = server_of self.now header strict client_first_message_bare.now server_first_message.now nonce
-            (kept stored_password.now) in
+            (kept stored_password.now) may_act in
             Gives ServerScramErrorKind.OutOfMemory (IsMet server (client_final_values client_final.now))
             (λ message. message.items) result (AnswersProof server (client_final_values client_final.now)) }
         ensures cost { ProofCosts result meter.old meter.new }
@@ -162,12 +167,13 @@ impl ScramVersion {
             server_first_message,
             client_final.without_proof.as_bytes(),
         );
-        if !self.meets_stored_key(
+        let meets = self.meets_stored_key(
             stored_password.stored_key,
             &client_final.proof,
             &auth_message,
             meter,
-        )? {
+        )?;
+        if !meets || !may_act {
             return Err(ServerScramErrorKind::AuthenticationFailed);
         }
         Ok(self.server_final(alloc, stored_password.server_key, &auth_message, meter)?)

@@ -28,8 +28,12 @@ pub struct ServerFirstMessage<'a> {
     /// The plain user name, as `ClientFirst::parse` returns it.
     pub username: CowStr<'a>,
 
-    /// The GS2 header of the client-first message.
+    /// What the GS2 header of the client-first message says of channel binding.
     pub header: ChannelBindingFlag,
+
+    /// The identity that the client names to act for, plain, not escaped, or `None` if it acts for itself. It is only
+    /// claimed: nothing is proved yet.
+    pub acts_for: Option<CowStr<'a>>,
 
     /// The client-first message without its GS2 header.
     pub client_first_message_bare: &'a str,
@@ -131,6 +135,7 @@ pub(crate) fn challenge_to<'a>(
     Ok(ServerFirstMessage {
         username: client_first.username,
         header: client_first.header,
+        acts_for: client_first.acts_for,
         client_first_message_bare: client_first.client_first_message_bare,
         client_server_nonce,
         message,

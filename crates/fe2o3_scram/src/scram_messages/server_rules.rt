@@ -24,6 +24,10 @@ pub struct ServerRules {
     /// The channel, if the server is of a mechanism with `-PLUS` (RFC 5802, section 6). It then accepts only clients
     /// that bind that channel, by a kind of which it has the data.
     pub channels: Option<ChannelBindings>,
+
+    /// Whether a client may name an identity to act for (RFC 5802, section 5.1, `a=`), of one or more characters and
+    /// without NUL. Such a server tests extensions like a strict one. Who may act as whom is decided after the proof.
+    pub accept_authzid: bool,
 }
 
 impl ServerRules {
@@ -35,14 +39,16 @@ impl ServerRules {
             accept_cbind_flag_y: false,
             strict: false,
             channels: None,
+            accept_authzid: false,
         }
     }
 
-    /// Returns whether the server rejects what is no extension in the place of one: it is strict, or binds channels.
+    /// Returns whether the server rejects what is no extension in the place of one: it is strict, binds channels, or
+    /// accepts identities.
     pub fn is_strict(&self) -> bool
         ensures { result ≡ is_strict self.now }
     {
-        self.channels.is_some() || self.strict
+        self.channels.is_some() || (self.accept_authzid || self.strict)
     }
 
     /// Returns the channel that the server expects of a client with this flag in its GS2 header. If the server has no

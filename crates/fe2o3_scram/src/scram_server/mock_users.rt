@@ -3,7 +3,7 @@
 ghost use Rattle.std.specs.Prelude.{◌≡◌, ◌≤◌, ◌<◌, ◌+◌, ◌^◌, Option, Some, MatchResult, option_map};
 ghost use Rattle.fe2o3_scram.specs.Credentials.{Record, record_at, kept};
 ghost use Rattle.fe2o3_scram.specs.MockSettings.{mock_cost, mock_record, stored_or};
-ghost use Rattle.fe2o3_scram.specs.ScramServer.{provider_in, state_in, rules_in, mock_in};
+ghost use Rattle.fe2o3_scram.specs.ScramServer.{provider_in, state_in, rights_in, rules_in, mock_in};
 
 use crate::credentials::MockValues;
 use crate::hmac::{Meter, ScramVersion};
@@ -73,7 +73,7 @@ impl<C: ScramCredentialProvider> ScramAuthenticator<C> {
         iterations: u32,
     ) -> Result<Self, SaltTooLong>
         ensures { MatchResult result (λ server. (salt_len ≤ 64) × (provider_in server ≡ provider_in self)
-            × (rules_in server ≡ rules_in self) × (state_in server ≡ state_in self)
+            × (rules_in server ≡ rules_in self) × (state_in server ≡ state_in self) × (rights_in server ≡ rights_in self)
             × (mock_in server ≡ Some (record {
               version = (C.meaning (provider_in self)).version;
               secret = secret.items;
@@ -88,6 +88,7 @@ impl<C: ScramCredentialProvider> ScramAuthenticator<C> {
         Ok(Self {
             credentials: self.credentials,
             rules: self.rules,
+            rights: self.rights,
             mock: Some(MockUsers {
                 scram_version,
                 secret: SecretBytes::new(secret),

@@ -1,8 +1,8 @@
 //! Saves a server between two messages as plain texts, and restores it.
 
-ghost use Rattle.std.specs.Prelude.{◌≡◌, IfOk, option_map};
+ghost use Rattle.std.specs.Prelude.{◌≡◌, IfOk, option_map, string_bytes};
 ghost use Rattle.fe2o3_scram.specs.Credentials.{kept};
-ghost use Rattle.fe2o3_scram.specs.ScramServer.{ServerFinalSent, ServerFirstSent, challenge_kept, open_challenge, provider_in, state_in, rules_in, mock_in};
+ghost use Rattle.fe2o3_scram.specs.ScramServer.{ServerFinalSent, ServerFirstSent, challenge_kept, open_challenge, provider_in, state_in, rights_in, rules_in, mock_in};
 
 use crate::OutOfMemory;
 use crate::provider::{ScramCredentialProvider, StoredPassword};
@@ -19,8 +19,11 @@ pub struct OpenChallenge<'a> {
     /// The user's name, plain, not escaped.
     pub username: &'a str,
 
-    /// The GS2 header of the client-first message.
+    /// What the GS2 header of the client-first message says of channel binding.
     pub header: ChannelBindingFlag,
+
+    /// The identity that the client names to act for, plain, not escaped, or `None` if it acts for itself.
+    pub acts_for: Option<&'a str>,
 
     /// The client-first message without its GS2 header.
     pub client_first_message_bare: &'a [u8],
@@ -42,6 +45,7 @@ impl<C: ScramCredentialProvider> ScramAuthenticator<C> {
             ScramAuthenticatorState::ServerFirstSent {
                 username,
                 header,
+                acts_for,
                 client_first_message_bare,
                 client_server_nonce,
                 server_first_message,
@@ -49,6 +53,7 @@ impl<C: ScramCredentialProvider> ScramAuthenticator<C> {
             } => Some(OpenChallenge {
                 username,
                 header: *header,
+                acts_for: acts_for.as_deref(),
                 client_first_message_bare,
                 client_server_nonce,
                 server_first_message,
@@ -66,7 +71,8 @@ impl<C: ScramCredentialProvider> ScramAuthenticator<C> {
     /// made with, as after a change of the password, a login with the old password fails with
     /// `AuthenticationFailed`. Texts that no server has sent are a challenge like any other, and a
     /// client has to prove its password for it. The caller vouches for the texts: they name the user. The GS2 header is not
-    /// tested against the rules of this server: restore a challenge only at a server with the same rules.
+    /// tested against the rules of this server: restore a challenge only at a server with the same rules. By the acting
+    /// rights of this server its user may or may not act for the identity.
     ///
     /// The only error is `OutOfMemory`.
     pub fn restore_challenge(
@@ -77,6 +83,7 @@ impl<C: ScramCredentialProvider> ScramAuthenticator<C> {
     ) -> Result<Self, OutOfMemory>
         ensures provider { IfOk result (λ server. provider_in server ≡ provider_in self) }
         ensures rules { IfOk result (λ server. rules_in server ≡ rules_in self) }
+        ensures rights { IfOk result (λ server. rights_in server ≡ rights_in self) }
         ensures mock { IfOk result (λ server. mock_in server ≡ mock_in self) }
         ensures state { IfOk result (λ server. state_in server
             ≡ ServerFirstSent (challenge_kept challenge.now) (kept stored.now)) }
@@ -84,10 +91,12 @@ impl<C: ScramCredentialProvider> ScramAuthenticator<C> {
         Ok(Self {
             credentials: self.credentials,
             rules: self.rules,
+            rights: self.rights,
             mock: self.mock,
             state: ScramAuthenticatorState::ServerFirstSent {
                 username: challenge.username.to_string(alloc)?,
                 header: challenge.header,
+                acts_for: copied(alloc, challenge.acts_for)?,
                 client_first_message_bare: Bytes::copy_from_slice(
                     alloc,
                     challenge.client_first_message_bare,
@@ -102,24 +111,43 @@ impl<C: ScramCredentialProvider> ScramAuthenticator<C> {
         })
     }
 
-    /// Returns this server in the state after a login of this user, whom it then names. The caller vouches for the
-    /// name, since no message is checked. Pass the name that `authenticated_user` returned when the server was saved.
-    /// No password, key or record is needed.
+    /// Returns this server in the state after a login of this user, who acts for this identity. The caller vouches for
+    /// both, since no message is checked. Pass what `authenticated_user` and `acts_for` returned when the server was
+    /// saved. No password, key or record is needed.
     ///
     /// The only error is `OutOfMemory`.
-    pub fn restore_authenticated(self, alloc: Global, username: &str) -> Result<Self, OutOfMemory>
+    pub fn restore_authenticated(
+        self,
+        alloc: Global,
+        username: &str,
+        acts_for: Option<&str>,
+    ) -> Result<Self, OutOfMemory>
         ensures provider { IfOk result (λ server. provider_in server ≡ provider_in self) }
         ensures rules { IfOk result (λ server. rules_in server ≡ rules_in self) }
+        ensures rights { IfOk result (λ server. rights_in server ≡ rights_in self) }
         ensures mock { IfOk result (λ server. mock_in server ≡ mock_in self) }
-        ensures state { IfOk result (λ server. state_in server ≡ ServerFinalSent username.now) }
+        ensures state { IfOk result (λ server. state_in server
+            ≡ ServerFinalSent username.now (option_map (λ name. name.now) acts_for.entry)) }
     {
         Ok(Self {
             credentials: self.credentials,
             rules: self.rules,
+            rights: self.rights,
             mock: self.mock,
             state: ScramAuthenticatorState::ServerFinalSent {
                 username: username.to_string(alloc)?,
+                acts_for: copied(alloc, acts_for)?,
             },
         })
+    }
+}
+
+/// Returns a copy of the identity, if there is one.
+fn copied(alloc: Global, acts_for: Option<&str>) -> Result<Option<String>, OutOfMemory>
+    ensures { IfOk result (λ name. option_map string_bytes name ≡ option_map (λ text. text.now) acts_for.entry) }
+{
+    match acts_for {
+        Some(name) => Ok(Some(name.to_string(alloc)?)),
+        None => Ok(None),
     }
 }

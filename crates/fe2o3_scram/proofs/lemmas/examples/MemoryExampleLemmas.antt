@@ -1,11 +1,11 @@
 -- Texts to which running out of memory is no answer.
-use Rattle.std.proofs.Common.{◌≡◌, Bool, ◌≢◌, ◌⊎◌, ℕ, List, [], ◌∷◌, ◌++◌, length, get_or, refl, ◌∙◌, ap, subst, arith, codes, inl, inr}
+use Rattle.std.proofs.Common.{◌≡◌, Option, Some, None, Bool, ◌≢◌, ◌⊎◌, ℕ, List, [], ◌∷◌, ◌++◌, length, get_or, refl, ◌∙◌, ap, subst, arith, codes, inl, inr}
 use Rattle.std.proofs.lemmas.List.{append_cancel_left}
 use Rattle.fe2o3_scram.specs.declared.scram_messages.server_rules.ServerRules.{ServerRules}
 use Rattle.fe2o3_scram.specs.declared.hmac.ScramVersion.{ScramVersion}
 use Rattle.fe2o3_scram.specs.declared.hmac.ScramVersion.TheVariants.{Sha1, Sha256, Sha512}
 use Rattle.fe2o3_scram.specs.ClientFinal.{ReachesBinding, ReachesProof, client_final_of, without_proof}
-use Rattle.fe2o3_scram.specs.ChannelBinding.{own_header, plain_header}
+use Rattle.fe2o3_scram.specs.ChannelBinding.{Gs2Header, own_header, plain_header}
 use Rattle.fe2o3_scram.specs.declared.scram_messages.channel_binding_flag.ChannelBindingFlag.TheVariants.{NotSupported}
 use Rattle.fe2o3_scram.specs.ClientFirst.{HasEscapes}
 use Rattle.fe2o3_scram.specs.Escape.{escaped, NoEquals}
@@ -44,16 +44,20 @@ user_parts = two_joined (codes "n=user") (codes "r=abc") (codes "n=user" ∷ [])
     (only_part (codes "r=abc") (no_comma-test (codes "r=abc") refl))
 
 no_escapes : (rules : ServerRules) → ¬ HasEscapes rules (codes "n,,n=user,r=abc")
-no_escapes rules has =
-    let bare = has.1.1 in
-    let spelling = escaped has.1.0 in
+no_escapes rules (utf8, inl (flag, name, bare, takes, on, is, some)) =
+    let same = (one_header (record { flag = flag; acts_for = Some name }) (own_header NotSupported)
+    (codes "n,,n=user,r=abc") bare (codes "n=user,r=abc") is refl).0 in
+    let wrong : ◌≡◌ {A = Option (List ℕ)} (Some name) None = ap (λ (header : Gs2Header). header.acts_for) same in
+    absurd (cc)
+no_escapes rules (utf8, inr (user, bare, some)) =
+    let spelling = escaped user in
     let behind : bare.1 ≡ codes "n=user,r=abc" =
     (one_header bare.0 (own_header NotSupported) (codes "n,,n=user,r=abc") bare.1 (codes "n=user,r=abc") bare.3 refl).1 in
     let part = subst (λ (text : List ℕ). Part text 0 (codes "n=" ++ spelling)) behind bare.4 in
     let same = one_part (codes "n=user,r=abc") 0 (codes "n=user") (codes "n=" ++ spelling)
     (_, user_parts, refl) part in
     let name = append_cancel_left (codes "n=") (codes "user") spelling same in
-    has.1.2 (subst NoEquals name (without-test 61 (codes "user") refl))
+    some (subst NoEquals name (without-test 61 (codes "user") refl))
 
 pub unknown_users_take_none : UnknownUsersTakeNone
 unknown_users_take_none version rules (inl escapes) = no_escapes rules escapes

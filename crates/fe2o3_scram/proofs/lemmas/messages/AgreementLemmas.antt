@@ -9,6 +9,7 @@ use Rattle.fe2o3_scram.specs.declared.hmac.ScramVersion.TheVariants.{Sha1, Sha25
 use Rattle.fe2o3_scram.specs.declared.scram_messages.channel_binding_flag.ChannelBindingFlag.{ChannelBindingFlag}
 use Rattle.fe2o3_scram.specs.declared.scram_messages.channel_binding_flag.ChannelBindingFlag.TheVariants.{NotSupported, ClientSupports, Required}
 use Rattle.base64.specs.GeneralPurpose.{IsBytes}
+use Rattle.fe2o3_scram.specs.ActingRights.{Rights}
 use Rattle.fe2o3_scram.specs.Agreement.{AcceptedTexts, TextsAgree, VerifiedTextsAgree, ClientKnows, InParts, IsPlain, ServerKnows, challenge_known, client_auth_message, keys_known, server_auth_message}
 use Rattle.fe2o3_scram.specs.ClientFinal.{Answer, ClientFinal, answer_of, without_proof_with}
 use Rattle.fe2o3_scram.specs.ClientFirst.{ClientFirst, NamesClientFirst, client_first_bare}
@@ -106,14 +107,14 @@ without_parts without text binding nonce proof bound named plain whole = go (pie
 
 -- what a server has of an exchange: with this nonce it answered a message that names the client's values by a challenge
 -- of this record, and then a message that names these
-pub record ServerHas (version : ScramVersion) (rules : ServerRules) (client : ClientFirst) (its : List ℕ)
+pub record ServerHas (version : ScramVersion) (rules : ServerRules) (rights : Rights) (client : ClientFirst) (its : List ℕ)
     (stored : Record) (final : ClientFinal) : Type 0 where
   pub init : List ℕ
   pub response : List ℕ
   pub plain : NoComma its
   pub first : NamesClientFirst rules init client
   pub names : let challenge = challenge_of client its stored in
-      NamesAcceptedFinal (server_against version rules challenge stored) response final
+      NamesAcceptedFinal (server_against version rules rights challenge stored) response final
 
 -- the channel binding that a server expects
 abbrev expected : ServerRules → ClientFirst → List ℕ
@@ -134,8 +135,8 @@ record ServerParts (rules : ServerRules) (client : ClientFirst) (its : List ℕ)
       ∷ (codes "i=" ++ decimal stored.count) ∷ [])
       ++ ((codes "c=" ++ base64_text (expected rules client)) ∷ (codes "r=" ++ challenge.nonce) ∷ middle)))
 
-server_parts : (version : ScramVersion) (rules : ServerRules) (client : ClientFirst) (its : List ℕ) (stored : Record) (final : ClientFinal)
-    → stored.count < 2 ^ 32 → ServerHas version rules client its stored final → ServerParts rules client its stored final.without
+server_parts : {rights : Rights} (version : ScramVersion) (rules : ServerRules) (client : ClientFirst) (its : List ℕ) (stored : Record) (final : ClientFinal)
+    → stored.count < 2 ^ 32 → ServerHas version rules rights client its stored final → ServerParts rules client its stored final.without
 server_parts version rules client its stored final small has =
     let wide : stored.count < 2 ^ 64 = omega (arith, small) in
     let challenge = challenge_of client its stored in
@@ -276,10 +277,10 @@ same_binding header rules client bytes its same =
       one.1,
     )
 
-pub same_login : (header : ClientHeader) (rules : ServerRules) (name own text : List ℕ) (first : ServerFirst)
+pub same_login : {rights : Rights} (header : ClientHeader) (rules : ServerRules) (name own text : List ℕ) (first : ServerFirst)
     (version : ScramVersion) (client : ClientFirst) (its : List ℕ) (stored : Record) (final : ClientFinal)
     → HoldsBytes (client.user, stored)
-    → ClientHas own text first → ServerHas version rules client its stored final
+    → ClientHas own text first → ServerHas version rules rights client its stored final
     → auth_message (client_first_bare name own) text (without_proof_with header first.nonce)
     ≡ auth_message client.bare (challenge_of client its stored).first final.without
     → SameLogin header rules name own text first client its stored final.without
@@ -333,10 +334,10 @@ pub record SameValues (its_header : ClientHeader) (name own text : List ℕ) (fi
   pub not_four : ¬ InParts 4 client.bare
 
 -- the law over frames cites it
-pub same_values : (header : ClientHeader) (rules : ServerRules) (name own text : List ℕ) (first : ServerFirst)
+pub same_values : {rights : Rights} (header : ClientHeader) (rules : ServerRules) (name own text : List ℕ) (first : ServerFirst)
     (version : ScramVersion) (client : ClientFirst) (its : List ℕ) (stored : Record) (final : ClientFinal)
     → HoldsBytes (client.user, stored)
-    → ClientHas own text first → ServerHas version rules client its stored final
+    → ClientHas own text first → ServerHas version rules rights client its stored final
     → auth_message (client_first_bare name own) text (without_proof_with header first.nonce)
     ≡ auth_message client.bare (challenge_of client its stored).first final.without
     → SameValues header name own text first client its stored
@@ -397,7 +398,7 @@ client_has side own text client = record {
 }
 
 server_has : (provider : Provider) (its init response : List ℕ) (server : ServerKnows provider its init response)
-    → ServerHas provider.version provider.rules server.client (base64_text its) server.stored server.final
+    → ServerHas provider.version provider.rules provider.rights server.client (base64_text its) server.stored server.final
 server_has provider its init response server =
     let challenge = challenge_known server in
     record {
@@ -405,7 +406,7 @@ server_has provider its init response server =
       response = response;
       plain = no_comma-base64_text its;
       first = names_client_first provider.rules init server.client server.reads_init;
-      names = names_client_final (server_against provider.version provider.rules challenge server.stored) response server.final
+      names = names_client_final (server_against provider.version provider.rules provider.rights challenge server.stored) response server.final
           server.reads;
     }
 
@@ -444,20 +445,20 @@ concluded : (provider : Provider) (waiting done : ServerState) (challenge : Serv
     (nonce response last : List ℕ) (stored own : Record) → waiting ≡ ServerFirstSent challenge own
     → provider.records challenge.user ≡ Some own
     → challenge ≡ challenge_of client nonce stored → provider.records client.user ≡ Some stored
-    → ConcludesFrom waiting provider.version provider.rules response (Ok (Some last)) done
+    → ConcludesFrom waiting provider.version provider.rules provider.rights response (Ok (Some last)) done
     → let known = challenge_of client nonce stored in
-    AnswersClientFinal (server_against provider.version provider.rules known stored) response (Ok last)
+    AnswersClientFinal (server_against provider.version provider.rules provider.rights known stored) response (Ok last)
 concluded provider waiting done challenge client nonce response last stored own is has same known from =
     let user : challenge.user ≡ client.user = ap (λ (x : ServerChallenge). x.user) same in
     let one : own ≡ stored = same_Some own stored (sym has ∙ (ap provider.records user ∙ known)) in
-    (subst (λ (state : ServerState). ConcludesFrom state provider.version provider.rules response (Ok (Some last)) done)
+    (subst (λ (state : ServerState). ConcludesFrom state provider.version provider.rules provider.rights response (Ok (Some last)) done)
     (is ∙ (λ i. ServerFirstSent (same i) (one i))) from).0
 
 -- what a server knows that accepted, and that its message is that of its answer
 pub server_knows : (provider : Provider) (its init response verifier : List ℕ)
     → AcceptedTexts provider its init response verifier
     → (server : ServerKnows provider its init response) × (verifier ≡ server_final_of
-    (server_against provider.version provider.rules (challenge_known server) server.stored) server.final)
+    (server_against provider.version provider.rules provider.rights (challenge_known server) server.stored) server.final)
 server_knows provider its init response verifier accepted =
     let opened = accepted.challenges.1 in
     let final = concluded provider accepted.waiting accepted.done accepted.challenges.0 opened.0 (base64_text its)

@@ -26,7 +26,7 @@ use Rattle.fe2o3_scram.proofs.lemmas.messages.StrictSideLemmas.{one_strict_side_
 accepted_proof : (server : Server) (text : List ℕ) (final : ClientFinal) → ReadsClientFinal server text (Ok final)
     → (length final.proof ≡ digest_len server.version) × Meets server final
 unfolding ReadsClientFinal
-accepted_proof server text final reads = (reads.1, reads.2)
+accepted_proof server text final reads = (reads.1, reads.2.0)
 
 -- a key, masked by one value, which another unmasks to the same key
 one_mac : (version : ScramVersion) (stored key proof auth its : List ℕ) → length key ≡ digest_len version
@@ -43,7 +43,7 @@ shown_texts_agree side provider own text its init response verifier client accep
     let server = (server_knows provider its init response verifier accepted).0 in
     let keys = keys_known client in
     let stored = server.stored.stored_key in
-    let met = accepted_proof (server_against provider.version provider.rules (challenge_known server) server.stored)
+    let met = accepted_proof (server_against provider.version provider.rules provider.rights (challenge_known server) server.stored)
     response server.final server.reads in (
       server,
       λ holds sized is shows.

@@ -11,7 +11,7 @@ use Rattle.fe2o3_scram.specs.ChannelBinding.{ClientHeader, cbind_input, is_bound
 use Rattle.fe2o3_scram.specs.Texts.{base64_text, IsBase64, Part, LastPart, StartsWith, HasBase64}
 use Rattle.fe2o3_scram.specs.Hmac.{digest_len}
 use Rattle.fe2o3_scram.specs.Readings.{IsFirst, NoneHolds, Gives}
-use Rattle.fe2o3_scram.specs.ClientFinal.{Server, ClientFinal, HasProof, Meets, NamesClientFinal, ReachesBase64, ReachesBinding, ReadsFinalText, ReadsClientFinal, final_text_tests, proof_tests}
+use Rattle.fe2o3_scram.specs.ClientFinal.{Server, ClientFinal, HasProof, NamesClientFinal, ReachesBase64, ReachesBinding, ReadsFinalText, ReadsClientFinal, final_text_tests, proof_tests, IsAccepted}
 use Rattle.fe2o3_scram.specs.ServerFinal.{AnswersClientFinal, FinalCosts}
 use Rattle.fe2o3_scram.specs.private.Answers.{AnswersProof, IsMet, ProofCosts}
 use Rattle.fe2o3_scram.proofs.lemmas.hashes.DigestLemmas.{IsBytes-nil, IsBytes-cons}
@@ -271,7 +271,7 @@ pub record NamesAcceptedFinal (server : Server) (text : List ℕ) (final : Clien
   pub nonce : Part text 1 (codes "r=" ++ server.nonce)
   pub proof : HasProof text final
   pub sized : length final.proof ≡ digest_len server.version
-  pub meets : Meets server final
+  pub accepted : IsAccepted server final
 
 module _ (server : Server) (text : List ℕ) where
   pub text_refused : (fault : ServerScramErrorKind) → ReadsFinalText server.header server.strict server.nonce text (Err fault)
@@ -301,7 +301,7 @@ module _ (server : Server) (text : List ℕ) where
         nonce = names.nonce;
         proof = names.proof;
         sized = reads.1;
-        meets = reads.2;
+        accepted = reads.2;
       }
 
   -- of one text no proof is both accepted and rejected

@@ -114,7 +114,7 @@ module _ (rules : ServerRules) (header : Gs2Header) (text bare : List ℕ) (utf8
       → ¬ NoEquals spelling → HasEscapes rules text
   has_escapes spelling user part spells some = (
     utf8,
-    (
+    inr (
       user,
       (header, bare, takes, is, user_part spelling user part spells),
       subst (λ (spelt : List ℕ). ¬ NoEquals spelt) (sym spells) some,

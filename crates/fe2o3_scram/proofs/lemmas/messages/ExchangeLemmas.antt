@@ -11,7 +11,7 @@ use Rattle.std.proofs.lemmas.Nat.{xor_of_8}
 use Rattle.std.proofs.lemmas.Str.{IsUtf8-append}
 use Rattle.base64.specs.GeneralPurpose.{IsBytes}
 use Rattle.fe2o3_scram.specs.Texts.{base64_text, IsCount, NoComma, Parts, Part, joined, HasBase64}
-use Rattle.fe2o3_scram.specs.ClientFinal.{Answer, answer_by, fit, keys_for, client_final_of, Server, ClientFinal, HasMisplacedBeforeProof, Meets, ReadsClientFinal, without_proof_with}
+use Rattle.fe2o3_scram.specs.ClientFinal.{Answer, answer_by, fit, keys_for, client_final_of, Server, ClientFinal, HasMisplacedBeforeProof, IsAccepted, ReadsClientFinal, without_proof_with}
 use Rattle.fe2o3_scram.specs.ClientFirst.{client_first_bare, client_first_with, ReadsClientFirst}
 use Rattle.fe2o3_scram.specs.ChannelBinding.{ClientHeader, HoldsHeaderBytes, cbind_input, header_of}
 use Rattle.fe2o3_scram.specs.Escape.{escaped}
@@ -269,17 +269,17 @@ final_read server text final utf8 names placed = (
       )
       (record { binding = names.binding; nonce = names.nonce; proof = names.proof }),
   names.sized,
-  names.meets,
+  names.accepted,
 )
 
 reads_final : (server : Server) (header : ClientHeader) (proof : List ℕ)
     → cbind_input server.header ≡ cbind_input header → HoldsHeaderBytes header
     → NoComma server.nonce → IsUtf8 server.nonce → IsBytes proof
-    → length proof ≡ digest_len server.version → Meets server
+    → length proof ≡ digest_len server.version → IsAccepted server
     (record { without = without_proof_with header server.nonce; proof = proof })
     → ReadsClientFinal server (client_final_of (without_proof_with header server.nonce) proof)
     (Ok (record { without = without_proof_with header server.nonce; proof = proof }))
-reads_final server header proof expected known plain utf8 bytes sized meets =
+reads_final server header proof expected known plain utf8 bytes sized accepted =
     let nonce = server.nonce in
     let text = client_final_of (without_proof_with header nonce) proof in
     let final : ClientFinal = record { without = without_proof_with header nonce; proof = proof } in
@@ -296,7 +296,7 @@ reads_final server header proof expected known plain utf8 bytes sized meets =
       proof =
           (bytes, (last, refl));
       sized = sized;
-      meets = meets;
+      accepted = accepted;
     })
     (λ wrong. none_after_all 2 (without_proof_with header nonce) _
     (two_parts (codes "c=" ++ base64_text (cbind_input header)) (codes "r=" ++ nonce) first second) refl
@@ -317,7 +317,7 @@ reads_client_final x sound =
     (IsBytes-exclusive_or key mac (IsBytes-hmac_of v salted (codes "Client Key"))
     (IsBytes-hmac_of v (stored_key v key) auth))
     (length-exclusive_or key mac (key_long ∙ sym mac_long) ∙ key_long)
-    (ap (digest v) (exclusive_or-back key mac (key_long ∙ sym mac_long)))
+    (ap (digest v) (exclusive_or-back key mac (key_long ∙ sym mac_long)), sound.right)
 
 -- server-final
 

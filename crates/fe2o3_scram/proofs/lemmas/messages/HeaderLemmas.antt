@@ -1,11 +1,15 @@
 -- GS2 headers and channel bindings: no two have one text, and all are bytes and UTF-8.
-use Rattle.std.proofs.Common.{◌≡◌, ℕ, Bool, false, Option, Some, None, is_some, option_map, List, [], ◌∷◌, ◌++◌, append_assoc, get_or, refl, sym, ap, ◌∙◌, subst, codes, nat_eq, if◌then◌else◌}
+use Rattle.std.proofs.Common.{◌≡◌, ◌≢◌, ◌⊎◌, inl, inr, T, ℕ, Bool, true, false, Option, Some, None, is_some, option_map, List, [], ◌∷◌, ◌++◌, append_assoc, get_or, refl, sym, ap, ◌∙◌, subst, codes, nat_eq, if◌then◌else◌}
 use Rattle.std.proofs.lemmas.List.{append_cancel_left}
 use Rattle.std.specs.Str.{IsUtf8}
 use Rattle.base64.specs.GeneralPurpose.{IsBytes}
-use Rattle.fe2o3_scram.specs.ChannelBinding.{AcceptsFlag, ClientHeader, Gs2Header, HoldsHeaderBytes, TakesBound, TakesHeader, authzid_text, cbind_data, cbind_input, data_of_kind, flag_text, header_of, header_text, own_header}
-use Rattle.fe2o3_scram.specs.Escape.{escaped}
-use Rattle.fe2o3_scram.specs.Texts.{NoComma, StartsWith}
+use Rattle.fe2o3_scram.specs.ChannelBinding.{AcceptsFlag, ClientHeader, Gs2Header, HoldsHeaderBytes, TakesBound, TakesHeader, TakesIdentity, authzid_text, cbind_data, cbind_input, data_of_kind, flag_text, header_of, header_text, own_header}
+use Rattle.fe2o3_scram.specs.ClientFirst.{HasEscapedIdentity}
+use Rattle.fe2o3_scram.specs.Escape.{NoEquals, SpellsName, escaped}
+use Rattle.fe2o3_scram.specs.declared.scram_messages.escape.UnescapeError.{UnescapeError}
+use Rattle.fe2o3_scram.specs.declared.scram_messages.escape.UnescapeError.TheVariants.{Invalid, OutOfMemory}
+use Rattle.fe2o3_scram.specs.Grammar.{is_value}
+use Rattle.fe2o3_scram.specs.Texts.{Cut, NoComma, StartsWith}
 use Rattle.fe2o3_scram.specs.declared.channel_binding.ChannelBindings.{ChannelBindings}
 use Rattle.fe2o3_scram.specs.declared.channel_binding.ChannelData.{ChannelData}
 use Rattle.fe2o3_scram.specs.declared.channel_binding.ChannelKind.{ChannelKind}
@@ -107,36 +111,182 @@ header_utf8 header bare identity utf8 = subst IsUtf8 (sym (in_pieces header bare
     (utf8_behind (codes ",") _ refl (IsUtf8-append (authzid_text header.acts_for) (44 ∷ bare) identity
     (utf8_behind (codes ",") bare refl utf8))))
 
--- a text that begins with no header of a client that acts for itself begins with none that is accepted
-pub no_other : (rules : ServerRules) (text : List ℕ)
-    → ((flag : ChannelBindingFlag) → AcceptsFlag rules flag → ¬ StartsWith text (header_text (own_header flag)))
-    → (header : Gs2Header) → TakesHeader rules header → ¬ StartsWith text (header_text header)
-no_other rules text none header takes begins = none header.flag takes.0
-    (subst (λ (acts_for : Option (List ℕ)). StartsWith text (header_text (record { flag = header.flag; acts_for = acts_for })))
-    takes.1 begins)
+-- a flag and its comma, and a text after it
+after_flag : (header : Gs2Header) (bare : List ℕ) → header_text header ++ bare
+    ≡ (flag_text header.flag ++ codes ",") ++ ((authzid_text header.acts_for ++ codes ",") ++ bare)
+after_flag header bare = in_pieces header bare
+    ∙ (sym (append_assoc (flag_text header.flag) (codes ",") (authzid_text header.acts_for ++ (44 ∷ bare)))
+    ∙ ap (λ (z : List ℕ). (flag_text header.flag ++ codes ",") ++ z) (sym (append_assoc (authzid_text header.acts_for) (codes ",") bare)))
 
--- a text that begins with the header of no kind begins with none that a server of the mechanism with channel binding
--- accepts
+-- a text that begins with a header begins with its flag and a comma
+pub flag_begins : (header : Gs2Header) (text : List ℕ) → StartsWith text (header_text header)
+    → StartsWith text (flag_text header.flag ++ codes ",")
+flag_begins header text begins = ((authzid_text header.acts_for ++ codes ",") ++ begins.0, begins.1 ∙ after_flag header begins.0)
+
+-- a text begins with one flag and a comma, and one text follows them
+pub one_flag : (flag own : ChannelBindingFlag) (text rest other : List ℕ) → text ≡ (flag_text flag ++ codes ",") ++ rest
+    → text ≡ (flag_text own ++ codes ",") ++ other → (flag ≡ own) × (rest ≡ other)
+one_flag flag own text rest other is too =
+    let both : (flag_text flag ++ codes ",") ++ rest ≡ (flag_text own ++ codes ",") ++ other = sym is ∙ too in
+    let same : flag ≡ own = sym (flag_read flag (codes ",") rest) ∙ (ap flag_at both ∙ flag_read own (codes ",") other) in
+    let apart : (flag_text own ++ codes ",") ++ rest ≡ (flag_text own ++ codes ",") ++ other =
+    ap (λ (z : ChannelBindingFlag). (flag_text z ++ codes ",") ++ rest) (sym same) ∙ both in (
+      same,
+      append_cancel_left (flag_text own ++ codes ",") rest other apart,
+    )
+
+-- a text that begins with no flag that is accepted begins with no header that is
+pub no_flag : (rules : ServerRules) (text : List ℕ)
+    → ((flag : ChannelBindingFlag) → AcceptsFlag rules flag → ¬ StartsWith text (flag_text flag ++ codes ","))
+    → (header : Gs2Header) → TakesHeader rules header → ¬ StartsWith text (header_text header)
+no_flag rules text none header takes begins = none header.flag takes.0 (flag_begins header text begins)
+
+-- what follows the flag that a text begins with is what the header leaves
+pub identity_begins : (header : Gs2Header) (flag : ChannelBindingFlag) (text rest : List ℕ)
+    → text ≡ (flag_text flag ++ codes ",") ++ rest → StartsWith text (header_text header)
+    → StartsWith rest (authzid_text header.acts_for ++ codes ",")
+identity_begins header flag text rest is begins = (
+  begins.0,
+  (one_flag flag header.flag text rest ((authzid_text header.acts_for ++ codes ",") ++ begins.0) is
+      (begins.1 ∙ after_flag header begins.0)).1,
+)
+
+-- a text whose rest after the flag begins with no identity that is accepted begins with no header that is
+pub no_identity : (rules : ServerRules) (flag : ChannelBindingFlag) (text rest : List ℕ)
+    → text ≡ (flag_text flag ++ codes ",") ++ rest
+    → ((acts_for : Option (List ℕ)) → TakesIdentity rules.accept_authzid acts_for
+    → ¬ StartsWith rest (authzid_text acts_for ++ codes ","))
+    → (header : Gs2Header) → TakesHeader rules header → ¬ StartsWith text (header_text header)
+no_identity rules flag text rest is none header takes begins =
+    none header.acts_for takes.1 (identity_begins header flag text rest is begins)
+
+-- a flag and an identity that are split off one after the other are a header
+pub joined_header : (flag : ChannelBindingFlag) (acts_for : Option (List ℕ)) (text rest bare : List ℕ)
+    → text ≡ (flag_text flag ++ codes ",") ++ rest → rest ≡ (authzid_text acts_for ++ codes ",") ++ bare
+    → text ≡ header_text (record { flag = flag; acts_for = acts_for }) ++ bare
+joined_header flag acts_for text rest bare is too = is
+    ∙ (ap (λ (z : List ℕ). (flag_text flag ++ codes ",") ++ z) too
+    ∙ sym (after_flag (record { flag = flag; acts_for = acts_for }) bare))
+
+-- a text that begins with the flag of no kind begins with none that a server of the mechanism with channel binding accepts
 pub no_kind : (channels : ChannelBindings) (text : List ℕ)
-    → ((kind : ChannelKind) → ¬ StartsWith text (header_text (own_header (Required kind))))
-    → (flag : ChannelBindingFlag) → TakesBound channels flag → ¬ StartsWith text (header_text (own_header flag))
+    → ((kind : ChannelKind) → ¬ StartsWith text (flag_text (Required kind) ++ codes ","))
+    → (flag : ChannelBindingFlag) → TakesBound channels flag → ¬ StartsWith text (flag_text flag ++ codes ",")
 no_kind channels text none NotSupported takes begins = takes
 no_kind channels text none ClientSupports takes begins = takes
 no_kind channels text none (Required kind) takes begins = none kind begins
 
--- a server that has no data of the kind that a text begins with accepts no header of it
-pub no_data_of : (channels : ChannelBindings) (text bare : List ℕ) (kind : ChannelKind)
-    → text ≡ header_text (own_header (Required kind)) ++ bare → data_of_kind channels kind ≡ None
-    → (flag : ChannelBindingFlag) → TakesBound channels flag → ¬ StartsWith text (header_text (own_header flag))
-no_data_of channels text bare kind is absent NotSupported takes begins = takes
-no_data_of channels text bare kind is absent ClientSupports takes begins = takes
-no_data_of channels text bare kind is absent (Required other) takes begins =
-    let same = (one_header (own_header (Required kind)) (own_header (Required other)) text bare begins.0 is begins.1).0 in
-    let flags : Required kind ≡ Required other = ap (λ (header : Gs2Header). header.flag) same in
+-- a server that has no data of the kind that a text begins with accepts no flag of it
+pub no_data_of : (channels : ChannelBindings) (text rest : List ℕ) (kind : ChannelKind)
+    → text ≡ (flag_text (Required kind) ++ codes ",") ++ rest → data_of_kind channels kind ≡ None
+    → (flag : ChannelBindingFlag) → TakesBound channels flag → ¬ StartsWith text (flag_text flag ++ codes ",")
+no_data_of channels text rest kind is absent NotSupported takes begins = takes
+no_data_of channels text rest kind is absent ClientSupports takes begins = takes
+no_data_of channels text rest kind is absent (Required other) takes begins =
+    let flags = (one_flag (Required kind) (Required other) text rest begins.0 is begins.1).0 in
     let one : kind ≡ other = cc in
     let wrong : ◌≡◌ {A = Option ChannelData} None (Some takes.0) =
     sym absent ∙ (ap (data_of_kind channels) one ∙ takes.1) in
     absurd (cc)
+
+-- ---- the identity, after the flag and its comma
+
+-- a text that begins with no comma begins with no identity that a server accepts which accepts none
+pub none_accepted : (text : List ℕ) → ¬ StartsWith text (codes ",") → (acts_for : Option (List ℕ))
+    → TakesIdentity false acts_for → ¬ StartsWith text (authzid_text acts_for ++ codes ",")
+none_accepted text comma None takes begins = comma begins
+none_accepted text comma (Some name) takes begins = takes.0
+
+-- a text that begins with neither a comma nor an identity begins with none
+pub none_named : (accept : Bool) (text : List ℕ) → ¬ StartsWith text (codes ",") → ¬ StartsWith text (codes "a=")
+    → (acts_for : Option (List ℕ)) → TakesIdentity accept acts_for → ¬ StartsWith text (authzid_text acts_for ++ codes ",")
+none_named accept text comma key None takes begins = comma begins
+none_named accept text comma key (Some name) takes begins = key (
+  escaped name ++ (44 ∷ begins.0),
+  begins.1 ∙ (append_assoc (codes "a=" ++ escaped name) (codes ",") begins.0
+      ∙ append_assoc (codes "a=") (escaped name) (44 ∷ begins.0)),
+)
+
+module _ (accept : Bool) (text named : List ℕ) (comma : ¬ StartsWith text (codes ",")) (is : text ≡ codes "a=" ++ named) where
+  -- the identity of a text that names one
+  identity_cut : (name rest : List ℕ) → text ≡ (authzid_text (Some name) ++ codes ",") ++ rest
+      → Cut 44 named (escaped name) rest
+  identity_cut name rest begins = (
+    no_comma-escaped name,
+    append_cancel_left (codes "a=") named (escaped name ++ (44 ∷ rest)) (sym is ∙ (begins
+        ∙ (append_assoc (codes "a=" ++ escaped name) (codes ",") rest
+        ∙ append_assoc (codes "a=") (escaped name) (44 ∷ rest)))),
+  )
+
+  -- no comma ends the identity
+  pub none_ended : ((before rest : List ℕ) → ¬ Cut 44 named before rest) → (acts_for : Option (List ℕ))
+      → TakesIdentity accept acts_for → ¬ StartsWith text (authzid_text acts_for ++ codes ",")
+  none_ended none None takes begins = comma begins
+  none_ended none (Some name) takes begins = none (escaped name) begins.0 (identity_cut name begins.0 begins.1)
+
+  module _ (spelling rest : List ℕ) (cut : Cut 44 named spelling rest) where
+    -- what ends it is no name
+    pub none_spelled : ((name : List ℕ) → escaped name ≢ spelling) → (acts_for : Option (List ℕ))
+        → TakesIdentity accept acts_for → ¬ StartsWith text (authzid_text acts_for ++ codes ",")
+    none_spelled bad None takes begins = comma begins
+    none_spelled bad (Some name) takes begins =
+        let mine = identity_cut name begins.0 begins.1 in
+        bad name (one_cut 44 named (escaped name) begins.0 spelling rest mine cut).0
+
+    -- its name is empty or has NUL
+    pub none_valued : (name : List ℕ) → escaped name ≡ spelling → is_value name ≡ false → (acts_for : Option (List ℕ))
+        → TakesIdentity accept acts_for → ¬ StartsWith text (authzid_text acts_for ++ codes ",")
+    none_valued name spells bad None takes begins = comma begins
+    none_valued name spells bad (Some other) takes begins =
+        let mine = identity_cut other begins.0 begins.1 in
+        let same : escaped other ≡ escaped name =
+        (one_cut 44 named (escaped other) begins.0 spelling rest mine cut).0 ∙ sym spells in
+        let one : other ≡ name = one_escaped other name same in
+        let wrong : ◌≡◌ {A = Bool} true false = sym takes.1 ∙ (ap is_value one ∙ bad) in
+        absurd (cc)
+
+    -- the name that it spells is split off
+    pub identity_spelled : (name : List ℕ) → escaped name ≡ spelling
+        → text ≡ (authzid_text (Some name) ++ codes ",") ++ rest
+    identity_spelled name spells = is ∙ (ap (λ (z : List ℕ). codes "a=" ++ z)
+        (cut.1 ∙ ap (λ (z : List ℕ). z ++ (44 ∷ rest)) (sym spells))
+        ∙ (sym (append_assoc (codes "a=") (escaped name) (44 ∷ rest))
+        ∙ sym (append_assoc (codes "a=" ++ escaped name) (codes ",") rest)))
+
+    -- why no name is unescaped
+    pub identity_error : (error : UnescapeError) → T accept
+        → ((error ≡ Invalid) × ((name : List ℕ) → escaped name ≢ spelling)) ⊎ ((error ≡ OutOfMemory) × ¬ NoEquals spelling)
+        → (error ≡ OutOfMemory → SpellsName spelling)
+        → ((error ≡ Invalid) × ((acts_for : Option (List ℕ)) → TakesIdentity accept acts_for
+        → ¬ StartsWith text (authzid_text acts_for ++ codes ","))) ⊎ ((error ≡ OutOfMemory) × T accept
+        × ((name : List ℕ) × (after : List ℕ) × (text ≡ (authzid_text (Some name) ++ codes ",") ++ after)
+        × ¬ NoEquals (escaped name)))
+    identity_error error on (inl (kind, bad)) spells = inl (kind, none_spelled bad)
+    identity_error error on (inr (kind, some)) spells =
+        let named = spells kind in
+        inr (
+          kind,
+          on,
+          (
+            named.0,
+            rest,
+            identity_spelled named.0 named.1,
+            subst (λ (spelt : List ℕ). ¬ NoEquals spelt) (sym named.1) some,
+          ),
+        )
+
+-- why a header is not split off
+pub header_error : (rules : ServerRules) (flag : ChannelBindingFlag) (text rest : List ℕ) (error : UnescapeError)
+    → AcceptsFlag rules flag → text ≡ (flag_text flag ++ codes ",") ++ rest
+    → ((error ≡ Invalid) × ((acts_for : Option (List ℕ)) → TakesIdentity rules.accept_authzid acts_for
+    → ¬ StartsWith rest (authzid_text acts_for ++ codes ","))) ⊎ ((error ≡ OutOfMemory) × T rules.accept_authzid
+    × ((name : List ℕ) × (after : List ℕ) × (rest ≡ (authzid_text (Some name) ++ codes ",") ++ after)
+    × ¬ NoEquals (escaped name)))
+    → ((error ≡ Invalid) × ((header : Gs2Header) → TakesHeader rules header → ¬ StartsWith text (header_text header)))
+    ⊎ ((error ≡ OutOfMemory) × HasEscapedIdentity rules text)
+header_error rules flag text rest error takes is (inl (kind, none)) = inl (kind, no_identity rules flag text rest is none)
+header_error rules flag text rest error takes is (inr (kind, on, (name, after, begins, some))) =
+    inr (kind, (flag, name, after, takes, on, joined_header flag (Some name) text rest after is begins, some))
 
 -- a header that names nobody
 pub no_name : {X : Type 0} (found : Option X) (text : X → List ℕ) → is_some found ≡ false → option_map text found ≡ None

@@ -7,20 +7,22 @@ use Rattle.fe2o3_scram.specs.ScramClient.{is_strict_client, ClientSide, ClientSt
 use Rattle.fe2o3_scram.specs.ScramServer.{ServerFirstSent}
 
 pub accepted_texts_log_in : AcceptedTextsLogIn
-accepted_texts_log_in (ServerFirstSent challenge stored) next version rules text (Some message) from = (
+accepted_texts_log_in (ServerFirstSent challenge stored) next version rules rights text (Some message) from = (
   challenge.user,
+  challenge.header.acts_for,
   record {
     challenge = challenge;
     stored = stored;
     final = from.0.0;
     opened = refl;
     named = refl;
+    identity = refl;
     reads = from.0.1;
   },
   from.1,
 )
-accepted_texts_log_in (ServerFirstSent challenge stored) next version rules text None from = absurd from
-accepted_texts_log_in state next version rules text answer from = absurd from
+accepted_texts_log_in (ServerFirstSent challenge stored) next version rules rights text None from = absurd from
+accepted_texts_log_in state next version rules rights text answer from = absurd from
 
 -- ---- a client
 

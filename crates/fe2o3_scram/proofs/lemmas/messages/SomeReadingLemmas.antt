@@ -14,7 +14,7 @@ use Rattle.fe2o3_scram.specs.declared.channel_binding.ChannelBindings.{ChannelBi
 use Rattle.fe2o3_scram.specs.declared.channel_binding.ChannelData.{ChannelData}
 use Rattle.fe2o3_scram.specs.declared.channel_binding.ChannelKind.TheVariants.{TlsUnique, TlsServerEndPoint, TlsExporter}
 use Rattle.fe2o3_scram.specs.ClientFirst.{ClientFirst, BarePart, HasMisplacedAfterNonce, NamesClientFirst, NamesNoNonce, NamesNoValue, ReadsClientFirst, client_first_tests}
-use Rattle.fe2o3_scram.specs.ChannelBinding.{AcceptsFlag, ClientHeader, Gs2Header, TakesFlag, TakesHeader, cbind_input, data_of_kind, header_text, is_strict, own_header}
+use Rattle.fe2o3_scram.specs.ChannelBinding.{AcceptsFlag, ClientHeader, Gs2Header, TakesFlag, TakesHeader, TakesIdentity, authzid_text, cbind_input, data_of_kind, flag_text, header_text, is_strict}
 use Rattle.fe2o3_scram.specs.Escape.{escaped}
 use Rattle.fe2o3_scram.specs.Hmac.{digest, digest_len}
 use Rattle.fe2o3_scram.specs.Readings.{IsFirst, NoneHolds, Reads}
@@ -24,15 +24,17 @@ use Rattle.fe2o3_scram.specs.ServerFirst.{AddsNoNonce, Client, ServerFirst, HasC
 use Rattle.fe2o3_scram.specs.declared.client_secret.IterationLimits.{IterationLimits}
 use Rattle.fe2o3_scram.specs.ClientKeys.{ClientKeys}
 use Rattle.fe2o3_scram.specs.ClientSecret.{Secret, Password, Keys, Both}
-use Rattle.fe2o3_scram.specs.Texts.{IsPlainCount, base64_text, StartsWith, Part, LastPart, HasBase64}
+use Rattle.fe2o3_scram.specs.Texts as texts
+use Rattle.fe2o3_scram.specs.Texts.{IsPlainCount, base64_text, StartsWith, Part, LastPart, HasBase64, Without}
 use Rattle.fe2o3_scram.specs.Passwords.{PasswordText, Typed, Prepared, IsNormal}
 use Rattle.base64.specs.GeneralPurpose.{IsBytes}
 use Rattle.fe2o3_scram.proofs.lemmas.messages.ClientFirstLemmas.{after_nonce, name_of_bare, nonce_of_bare}
-use Rattle.fe2o3_scram.proofs.lemmas.messages.HeaderLemmas.{no_other, one_header}
+use Rattle.fe2o3_scram.proofs.lemmas.messages.HeaderLemmas.{identity_spelled, joined_header, no_flag, no_identity, none_ended, none_named, none_spelled, none_valued, one_header}
 use Rattle.fe2o3_scram.proofs.lemmas.messages.ClientFinalLemmas.{no_proof, has_proof, proof_part, unread_proof}
 use Rattle.fe2o3_scram.proofs.lemmas.messages.ServerFirstLemmas.{one_has_count, no_count, no_plain}
 use Rattle.fe2o3_scram.proofs.lemmas.texts.CountLemmas.{one_count, plain_is_count}
 use Rattle.fe2o3_scram.proofs.lemmas.texts.PartsLemmas.{one_behind}
+use Rattle.fe2o3_scram.proofs.lemmas.texts.CutLemmas as cuts
 use Rattle.fe2o3_scram.proofs.lemmas.texts.CutLemmas.{last_part_or, one_last_cut}
 use Rattle.fe2o3_scram.proofs.lemmas.texts.GrammarLemmas.{misplaced_from_or}
 use Rattle.std.specs.Prelude.{T}
@@ -79,21 +81,34 @@ true_or : (b : Bool) → Decided (T b)
 true_or true = inl tt
 true_or false = inr (λ wrong. wrong)
 
+-- whether a condition of code is true
+true_bool : (b : Bool) → Decided (b ≡ true)
+true_bool true = inl refl
+true_bool false = inr (λ wrong. absurd (cc))
+
 -- ---- the client-first message
 
 -- a header that is accepted, and what follows it
 abbrev Cut : ServerRules → List ℕ → Gs2Header × List ℕ → Type 0
 Cut rules text cut = TakesHeader rules cut.0 × (text ≡ header_text cut.0 ++ cut.1)
 
--- whether the header with a flag that is accepted is at the beginning, and what follows it
+-- a flag that is accepted, and what follows its comma
+abbrev FlagCut : ServerRules → List ℕ → ChannelBindingFlag × List ℕ → Type 0
+FlagCut rules text cut = AcceptsFlag rules cut.0 × (text ≡ (flag_text cut.0 ++ codes ",") ++ cut.1)
+
+-- an identity that is accepted, or none, and what follows its comma
+abbrev IdentityCut : Bool → List ℕ → Option (List ℕ) × List ℕ → Type 0
+IdentityCut accept text cut = TakesIdentity accept cut.0 × (text ≡ (authzid_text cut.0 ++ codes ",") ++ cut.1)
+
+-- whether a flag that is accepted is at the beginning, and what follows it
 abbrev Of : ServerRules → List ℕ → ChannelBindingFlag → Type 0
-Of rules text flag = Found (λ (bare : List ℕ). Cut rules text (own_header flag, bare))
+Of rules text flag = Found (λ (rest : List ℕ). FlagCut rules text (flag, rest))
 
 taken_or : (rules : ServerRules) (text : List ℕ) (flag : ChannelBindingFlag)
     → Decided (AcceptsFlag rules flag) → Of rules text flag
-taken_or rules text flag (inl takes) = found_with (rest_or (header_text (own_header flag)) text)
-    (λ bare is. inl (bare, ((takes, refl), is))) (λ bare cut. (bare, cut.1))
-taken_or rules text flag (inr refuses) = inr (λ bare cut. refuses cut.0.0)
+taken_or rules text flag (inl takes) = found_with (rest_or (flag_text flag ++ codes ",") text)
+    (λ rest is. inl (rest, (takes, is))) (λ rest cut. (rest, cut.1))
+taken_or rules text flag (inr refuses) = inr (λ rest cut. refuses cut.0)
 
 -- whether a server accepts a flag
 takes_data : (known : Option ChannelData) → Decided ((its : ChannelData) × (known ≡ Some its))
@@ -109,39 +124,88 @@ takes_or (Some channels) accept_y NotSupported = inr (λ wrong. wrong)
 takes_or (Some channels) accept_y ClientSupports = inr (λ wrong. wrong)
 takes_or (Some channels) accept_y (Required kind) = takes_data (data_of_kind channels kind)
 
-cut_or : (rules : ServerRules) (text : List ℕ) → Found (Cut rules text)
-cut_or rules text = go (found NotSupported) (found ClientSupports) (found (Required TlsUnique))
+flag_or : (rules : ServerRules) (text : List ℕ) → Found (FlagCut rules text)
+flag_or rules text = go (found NotSupported) (found ClientSupports) (found (Required TlsUnique))
     (found (Required TlsServerEndPoint)) (found (Required TlsExporter))
   where
     found : (flag : ChannelBindingFlag) → Of rules text flag
     found flag = taken_or rules text flag (takes_or rules.channels rules.accept_cbind_flag_y flag)
 
-    -- what begins with no header of a client that acts for itself
-    own : ((flag : ChannelBindingFlag) (bare : List ℕ) → ¬ Cut rules text (own_header flag, bare))
-        → (cut : Gs2Header × List ℕ) → ¬ Cut rules text cut
-    own none (header, bare) cut = no_other rules text
-        (λ flag takes begins. none flag begins.0 ((takes, refl), begins.1)) header cut.0 (bare, cut.1)
-
-    neither : ((bare : List ℕ) → ¬ Cut rules text (own_header NotSupported, bare))
-        → ((bare : List ℕ) → ¬ Cut rules text (own_header ClientSupports, bare))
-        → ((bare : List ℕ) → ¬ Cut rules text (own_header (Required TlsUnique), bare))
-        → ((bare : List ℕ) → ¬ Cut rules text (own_header (Required TlsServerEndPoint), bare))
-        → ((bare : List ℕ) → ¬ Cut rules text (own_header (Required TlsExporter), bare))
-        → (flag : ChannelBindingFlag) (bare : List ℕ) → ¬ Cut rules text (own_header flag, bare)
-    neither n y u s e NotSupported bare cut = n bare cut
-    neither n y u s e ClientSupports bare cut = y bare cut
-    neither n y u s e (Required TlsUnique) bare cut = u bare cut
-    neither n y u s e (Required TlsServerEndPoint) bare cut = s bare cut
-    neither n y u s e (Required TlsExporter) bare cut = e bare cut
+    neither : ((rest : List ℕ) → ¬ FlagCut rules text (NotSupported, rest))
+        → ((rest : List ℕ) → ¬ FlagCut rules text (ClientSupports, rest))
+        → ((rest : List ℕ) → ¬ FlagCut rules text (Required TlsUnique, rest))
+        → ((rest : List ℕ) → ¬ FlagCut rules text (Required TlsServerEndPoint, rest))
+        → ((rest : List ℕ) → ¬ FlagCut rules text (Required TlsExporter, rest))
+        → (cut : ChannelBindingFlag × List ℕ) → ¬ FlagCut rules text cut
+    neither n y u s e (NotSupported, rest) cut = n rest cut
+    neither n y u s e (ClientSupports, rest) cut = y rest cut
+    neither n y u s e (Required TlsUnique, rest) cut = u rest cut
+    neither n y u s e (Required TlsServerEndPoint, rest) cut = s rest cut
+    neither n y u s e (Required TlsExporter, rest) cut = e rest cut
 
     go : Of rules text NotSupported → Of rules text ClientSupports → Of rules text (Required TlsUnique)
-        → Of rules text (Required TlsServerEndPoint) → Of rules text (Required TlsExporter) → Found (Cut rules text)
-    go (inl (bare, cut)) y u s e = inl ((own_header NotSupported, bare), cut)
-    go (inr n) (inl (bare, cut)) u s e = inl ((own_header ClientSupports, bare), cut)
-    go (inr n) (inr y) (inl (bare, cut)) s e = inl ((own_header (Required TlsUnique), bare), cut)
-    go (inr n) (inr y) (inr u) (inl (bare, cut)) e = inl ((own_header (Required TlsServerEndPoint), bare), cut)
-    go (inr n) (inr y) (inr u) (inr s) (inl (bare, cut)) = inl ((own_header (Required TlsExporter), bare), cut)
-    go (inr n) (inr y) (inr u) (inr s) (inr e) = inr (own (neither n y u s e))
+        → Of rules text (Required TlsServerEndPoint) → Of rules text (Required TlsExporter) → Found (FlagCut rules text)
+    go (inl (rest, cut)) y u s e = inl ((NotSupported, rest), cut)
+    go (inr n) (inl (rest, cut)) u s e = inl ((ClientSupports, rest), cut)
+    go (inr n) (inr y) (inl (rest, cut)) s e = inl ((Required TlsUnique, rest), cut)
+    go (inr n) (inr y) (inr u) (inl (rest, cut)) e = inl ((Required TlsServerEndPoint, rest), cut)
+    go (inr n) (inr y) (inr u) (inr s) (inl (rest, cut)) = inl ((Required TlsExporter, rest), cut)
+    go (inr n) (inr y) (inr u) (inr s) (inr e) = inr (neither n y u s e)
+
+value_or : (text : List ℕ) → Decided (is_value text ≡ true)
+value_or text = true_bool (is_value text)
+
+-- whether a text that begins with `a=` names an identity that is accepted
+named_or : (accept : Bool) (text named : List ℕ) → ¬ StartsWith text (codes ",") → text ≡ codes "a=" ++ named
+    → Decided (T accept) → Found (IdentityCut accept text)
+named_or accept text named comma is (inr off) = inr none
+  where
+    none : (cut : Option (List ℕ) × List ℕ) → ¬ IdentityCut accept text cut
+    none (None, rest) cut = comma (rest, cut.1)
+    none (Some name, rest) cut = off cut.0.0
+named_or accept text named comma is (inl on) = elim (cuts.cut_or 44 named) [
+  | inr whole ↦ inr (λ cut has. none_ended accept text named comma is (no_cut whole) cut.0 has.0 (cut.1, has.1))
+  | inl (spelling, rest, ends) ↦ elim (name_or spelling) [
+    | inr bad ↦ inr (λ cut has. none_spelled accept text named comma is spelling rest ends
+        (λ name spells. bad name (sym spells)) cut.0 has.0 (cut.1, has.1))
+    | inl (name, spells) ↦ elim (value_or name) [
+      | inl value ↦ inl ((Some name, rest), ((on, value), identity_spelled accept text named comma is spelling rest ends name (sym spells)))
+      | inr empty ↦ inr (λ cut has. none_valued accept text named comma is spelling rest ends name (sym spells)
+          (not_true (is_value name) empty) cut.0 has.0 (cut.1, has.1))
+    ]
+  ]
+]
+  where
+    not_true : (b : Bool) → ¬ (b ≡ true) → b ≡ false
+    not_true true not = absurd (not refl)
+    not_true false not = refl
+
+    no_cut : Without 44 named → (before rest : List ℕ) → ¬ texts.Cut 44 named before rest
+    no_cut = cuts.uncut 44 named
+
+identity_or : (accept : Bool) (text : List ℕ) → Found (IdentityCut accept text)
+identity_or accept text = elim (rest_or (codes ",") text) [
+  | inl (rest, is) ↦ inl ((None, rest), (tt, is))
+  | inr comma ↦ elim (rest_or (codes "a=") text) [
+    | inl (named, is) ↦ named_or accept text named (λ begins. comma begins.0 begins.1) is (true_or accept)
+    | inr key ↦ inr (λ cut has. none_named accept text (λ begins. comma begins.0 begins.1) (λ begins. key begins.0 begins.1)
+        cut.0 has.0 (cut.1, has.1))
+  ]
+]
+
+cut_or : (rules : ServerRules) (text : List ℕ) → Found (Cut rules text)
+cut_or rules text = elim (flag_or rules text) [
+  | inr none ↦ inr (λ cut has. no_flag rules text (λ flag takes begins. none (flag, begins.0) (takes, begins.1))
+      cut.0 has.0 (cut.1, has.1))
+  | inl ((flag, rest), has) ↦ elim (identity_or rules.accept_authzid rest) [
+    | inl ((acts_for, bare), named) ↦ inl (
+      (record { flag = flag; acts_for = acts_for }, bare),
+      ((has.0, named.0), joined_header flag acts_for text rest bare has.1 named.1),
+    )
+    | inr none ↦ inr (λ cut too. no_identity rules flag text rest has.1
+        (λ acts_for takes begins. none (acts_for, begins.0) (takes, begins.1)) cut.0 too.0 (cut.1, too.1))
+  ]
+]
 
 -- whether the message begins with no header that is taken
 no_header_or : (rules : ServerRules) (text : List ℕ)
@@ -478,9 +542,17 @@ some_client_final server text = go (some_final_text server.header server.strict 
     go (Ok final, reads) = elim (same_number_or (length final.proof) (digest_len server.version)) [
       | inr other ↦ (Err XorLengthMismatch, inr (final, reads, inl (other, refl)))
       | inl sized ↦ elim (same_or (digest server.version (recovered_key server final)) server.stored.stored_key) [
-        | inl meets ↦ (Ok final, (reads, sized, meets))
-        | inr fails ↦
-            (Err AuthenticationFailed, inr (final, reads, inr ((λ other. other sized), inl (fails, refl))))
+        | inl meets ↦ elim (true_bool server.may_act) [
+          | inl may ↦ (Ok final, (reads, sized, (meets, may)))
+          | inr barred ↦ (
+            Err AuthenticationFailed,
+            inr (final, reads, inr ((λ other. other sized), inl (λ accepted. barred accepted.1, refl))),
+          )
+        ]
+        | inr fails ↦ (
+          Err AuthenticationFailed,
+          inr (final, reads, inr ((λ other. other sized), inl (λ accepted. fails accepted.0, refl))),
+        )
       ]
     ]
 

@@ -50,6 +50,6 @@ one_strict_side_of_texts_is_enough side provider own text its init response clie
     let challenge = challenge_of server.client (base64_text its) server.stored in
     inr (
       none_after_nonce provider.rules init server.client strict server.reads_init,
-      none_before_proof (server_against provider.version provider.rules challenge server.stored) response server.final
+      none_before_proof (server_against provider.version provider.rules provider.rights challenge server.stored) response server.final
           (strict_or (needs_strict (expected_header provider.rules.channels server.client.header)) (is_strict provider.rules) strict) server.reads,
     )

@@ -9,7 +9,7 @@ use Rattle.fe2o3_scram.proofs.hmac.ScramVersion.compute_server_final_message_wit
 pub returns-in_err-client_final-clause-answer : goal.returns-in_err-client_final-clause-answer
 returns-in_err-client_final-clause-answer c =
     let server : Server = server_of c.args.self.now c.args.header.now c.args.strict c.args.client_first_message_bare.now
-    c.args.server_first_message.now c.args.client_server_nonce.now (kept c.args.stored_password.now) in
+    c.args.server_first_message.now c.args.client_server_nonce.now (kept c.args.stored_password.now) c.args.may_act in
     let from = err_from_is_err_and c.from_residual.result c.from_residual.ensures.1 in
     rw (from.1, from.2) (
       (rw c.is_strict-strict.ensures at c.in_err-client_final.ensures).0,
@@ -20,7 +20,7 @@ returns-in_err-client_final-clause-answer c =
 pub returns-in_err-client_final-clause-cost : goal.returns-in_err-client_final-clause-cost
 returns-in_err-client_final-clause-cost c =
     let server : Server = server_of c.args.self.now c.args.header.now c.args.strict c.args.client_first_message_bare.now
-    c.args.server_first_message.now c.args.client_server_nonce.now (kept c.args.stored_password.now) in
+    c.args.server_first_message.now c.args.client_server_nonce.now (kept c.args.stored_password.now) c.args.may_act in
     let from = err_from_is_err_and c.from_residual.result c.from_residual.ensures.1 in
     rw (from.1, from.2) (text_costs_nothing (Vec ℕ Global) server c.args.client_final.now
     c.in_err-client_final.field-0.0 c.args.meter.now (rw c.is_strict-strict.ensures at c.in_err-client_final.ensures).1)
@@ -28,7 +28,7 @@ returns-in_err-client_final-clause-cost c =
 pub returns-clause-answer : goal.returns-clause-answer
 returns-clause-answer c =
     let server : Server = server_of c.args.self.now c.args.header.now c.args.strict c.args.client_first_message_bare.now
-    c.args.server_first_message.now c.args.client_server_nonce.now (kept c.args.stored_password.now) in
+    c.args.server_first_message.now c.args.client_server_nonce.now (kept c.args.stored_password.now) c.args.may_act in
     proof_answered server c.args.client_final.now (λ (message : Vec ℕ Global). message.items)
     (client_final_values c.in_ok-client_final.client_final) c.answer_proof.result (rw c.is_strict-strict.ensures at c.in_ok-client_final.ensures)
     (c.answer_proof.ensures.answer c.args.header.now c.args.strict c.args.client_server_nonce.now)
@@ -36,7 +36,7 @@ returns-clause-answer c =
 pub returns-clause-cost : goal.returns-clause-cost
 returns-clause-cost c =
     let server : Server = server_of c.args.self.now c.args.header.now c.args.strict c.args.client_first_message_bare.now
-    c.args.server_first_message.now c.args.client_server_nonce.now (kept c.args.stored_password.now) in
+    c.args.server_first_message.now c.args.client_server_nonce.now (kept c.args.stored_password.now) c.args.may_act in
     proof_costs server c.args.client_final.now (λ (message : Vec ℕ Global). message.items)
     (client_final_values c.in_ok-client_final.client_final) c.answer_proof.result _ _ (rw c.is_strict-strict.ensures at c.in_ok-client_final.ensures)
     (c.answer_proof.ensures.answer c.args.header.now c.args.strict c.args.client_server_nonce.now) c.answer_proof.ensures.cost
